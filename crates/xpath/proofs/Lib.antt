@@ -1,0 +1,10 @@
+pub mod Reflect
+pub mod Tree
+pub mod Facts
+pub mod Order
+pub mod Search
+pub mod Lent
+pub mod Refusal
+pub mod Climb
+pub mod Axes
+pub mod Cases

@@ -1,0 +1,155 @@
+-- Laws of document order and of the axes on every well-formed document, of any length. Assumes nothing.
+use Prim.Native.Nat.{ℕ, zero, suc, _+_, _≤_, _<_}
+use mathlib.Core.Path.{_≡_, refl, sym, _∙_}
+use mathlib.Core.Bool.{Bool, true, false, not, cond}
+use mathlib.Core.List.{List, [], _∷_}
+use mathlib.Core.Logic.{_↔_, inl, inr, ⊎-elim}
+use native.Mathlib.Omega.{arith}
+use lib.Dec.{T}
+use lib.ListN.{length}
+use borrow.Author.Tests.{eq-eqb, ne-eqb, lt-ltb, le-ltb}
+use Rattle.xpath.specs.Document.{Document, parentAt, isAncestor, wellFormed}
+use Rattle.xpath.specs.Axis.{self, descendant, ancestor, descendant-or-self, ancestor-or-self, following-sibling, preceding-sibling, following, preceding, onAxis}
+use Rattle.xpath.proofs.Reflect.{le-or-lt, eq-or-ne}
+use Rattle.xpath.proofs.Tree.{Ancestor, parent-is, ancestor-trans, ancestor-cases, descendant-positive, child-toward, parent-smaller, ancestor-smaller, no-later-ancestor, subtree-contiguous}
+use Rattle.xpath.proofs.Facts.{AncestorOrSelf, FollowingSibling, Following, OnAxis}
+
+pub or-self-trans : {d : Document} {x y z : ℕ} → AncestorOrSelf d x y → AncestorOrSelf d y z → AncestorOrSelf d x z
+or-self-trans (inl e) (inl f) = inl (e ∙ f)
+or-self-trans (inl e) (inr b) = inr (rw e b)
+or-self-trans (inr a) (inl f) = inr (rw f at a)
+or-self-trans (inr a) (inr b) = inr (ancestor-trans a b)
+
+pub ancestor-of-or-self : {d : Document} {x y z : ℕ} → Ancestor d x y → AncestorOrSelf d y z → Ancestor d x z
+ancestor-of-or-self a (inl e) = rw e at a
+ancestor-of-or-self a (inr b) = ancestor-trans a b
+
+pub or-self-of-ancestor : {d : Document} {x y z : ℕ} → AncestorOrSelf d x y → Ancestor d y z → Ancestor d x z
+or-self-of-ancestor (inl e) b = rw e b
+or-self-of-ancestor (inr a) b = ancestor-trans a b
+
+-- s is a following sibling of a, x is a or below a, y is s or below s
+abbrev AcrossSiblings : Document → ℕ → ℕ → Type 0
+AcrossSiblings d x y =
+    (a s : ℕ) × (a < length d) × (s < length d) × AncestorOrSelf d a x × FollowingSibling d a s × AncestorOrSelf d s y
+
+-- how many of the tests pass
+abbrev pub countTrue : List Bool → ℕ
+countTrue [] = 0
+countTrue (b ∷ bs) = cond b 1 0 + countTrue bs
+
+module _ (d : Document) (w : T (wellFormed d)) where
+  ancestor-to-parent : {x y : ℕ} → y < length d → Ancestor d x y → x ≤ parentAt d y
+  ancestor-to-parent {x} {y} l a =
+      let p : parentAt d y < y = parent-smaller d w y l (descendant-positive a) in
+      ⊎-elim (λ e. omega arith) (λ b. let q = ancestor-smaller d w {y = parentAt d y} (omega arith) b in omega arith) (ancestor-cases a)
+
+  or-self-le : {x y : ℕ} → y < length d → AncestorOrSelf d x y → x ≤ y
+  or-self-le l (inl e) = omega arith
+  or-self-le l (inr a) = let h = ancestor-smaller d w l a in omega arith
+
+  -- an ancestor-or-self of a row of the document is a row of the document
+  pub or-self-in-document : {x y : ℕ} → y < length d → AncestorOrSelf d x y → x < length d
+  or-self-in-document l o = let h = or-self-le l o in omega arith
+
+  -- a following sibling follows
+  pub following-sibling-follows : {x y : ℕ} → y < length d → FollowingSibling d x y → Following d x y
+  following-sibling-follows {x} {y} l s =
+      let p : parentAt d x < x = parent-smaller d w x (omega arith) (s .0) in
+      (s .2, λ a. omega (arith, ancestor-to-parent l a, s .1))
+
+  following-sibling-trans : {x y z : ℕ} → FollowingSibling d x y → FollowingSibling d y z → FollowingSibling d x z
+  following-sibling-trans s t = (s .0, t .1 ∙ s .1, omega arith)
+
+  following-trans : {x y z : ℕ} → z < length d → Following d x y → Following d y z → Following d x z
+  following-trans {x} {y} {z} l a b = (omega arith, λ c. a .1 (subtree-contiguous d w x y z (a .0) (omega arith) l c))
+
+  -- the highest ancestor-or-self of y that comes after x
+  highest-after : (n x y : ℕ) → y ≤ n → y < length d → x < y →
+      (s : ℕ) × AncestorOrSelf d s y × (x < s) × (s < length d) × (parentAt d s ≤ x)
+  highest-after zero x y h l k = absurd (omega arith)
+  highest-after (suc n) x y h l k =
+      let q : parentAt d y < y = parent-smaller d w y l (omega arith) in
+      ⊎-elim
+      (λ t. (y, inl refl, k, l, t))
+      (λ g. let r = highest-after n x (parentAt d y) (omega arith) (omega arith) g in
+      (r .0, inr (or-self-of-ancestor (r .1) (parent-is (omega arith) refl)), r .2, r .3, r .4))
+      (le-or-lt (parentAt d y) x)
+
+  following-to-across : {x y : ℕ} → y < length d → Following d x y → AcrossSiblings d x y
+  following-to-across {x} {y} l f =
+      let (s, below, h, m, q) = highest-after y x y (omega arith) l (f .0) in
+      let up : Ancestor d (parentAt d s) s = parent-is {y = s} (omega arith) refl in
+      let across : Ancestor d (parentAt d s) x → AcrossSiblings d x y = λ b.
+      let (a, c, above) = child-toward b in
+      let v : a ≤ x = or-self-le (omega arith) above in
+      (a, s, omega arith, m, above, (c .0, sym (c .1), omega arith), below) in
+      ⊎-elim
+      (λ e. absurd (f .1 (ancestor-of-or-self (rw e at up) below)))
+      (λ ne. across (subtree-contiguous d w (parentAt d s) x s (omega arith) (omega arith) m up))
+      (eq-or-ne (parentAt d s) x)
+
+  across-to-following : {x y : ℕ} → x < length d → y < length d → AcrossSiblings d x y → Following d x y
+  across-to-following {x} {y} k l (a, s, n, m, above, across, below) =
+      let apart : ¬ (Ancestor d a s) = (following-sibling-follows m across) .1 in
+      let h : x < s = ⊎-elim
+      (λ e. omega arith)
+      (λ c. ⊎-elim (λ g. absurd (apart (subtree-contiguous d w a s x (across .2) g k c))) (λ g. g) (le-or-lt s x))
+      above in
+      let v : s ≤ y = or-self-le l below in
+      (omega arith, λ c. apart (or-self-of-ancestor above (subtree-contiguous d w x s y h v l c)))
+
+  -- rule 54: what follows x is a descendant-or-self of a following sibling of an ancestor-or-self of x
+  pub following-by-siblings : (x y : ℕ) → x < length d → y < length d →
+      OnAxis following d x y
+      ↔ ((a s : ℕ) × (a < length d) × (s < length d) × OnAxis ancestor-or-self d x a × OnAxis following-sibling d a s × OnAxis descendant-or-self d s y)
+  unfolding OnAxis
+  following-by-siblings x y k l = (following-to-across l, across-to-following k l)
+
+  -- rule 55, which is rule 54 from y: what precedes x is a descendant-or-self of a preceding sibling of an ancestor-or-self of x
+  pub preceding-by-siblings : (x y : ℕ) → x < length d → y < length d →
+      OnAxis preceding d x y
+      ↔ ((a s : ℕ) × (a < length d) × (s < length d) × OnAxis ancestor-or-self d x a × OnAxis preceding-sibling d a s × OnAxis descendant-or-self d s y)
+  unfolding OnAxis
+  preceding-by-siblings x y k l = (
+    λ f. let (s, a, m, n, below, across, above) = following-to-across k f in (a, s, n, m, above, across, below),
+    λ (a, s, n, m, above, across, below). across-to-following l k (s, a, m, n, below, across, above),
+  )
+
+  -- the axes 3 to 10 are transitive
+  pub axis-transitive : (b : ℕ) → 3 ≤ b → b ≤ 10 → (x y z : ℕ) → x < length d → z < length d →
+      OnAxis b d x y → OnAxis b d y z → OnAxis b d x z
+  unfolding OnAxis
+  axis-transitive zero h g x y z k m s t = absurd (omega arith)
+  axis-transitive (suc zero) h g x y z k m s t = absurd (omega arith)
+  axis-transitive (suc (suc zero)) h g x y z k m s t = absurd (omega arith)
+  axis-transitive (suc (suc (suc zero))) h g x y z k m s t = ancestor-trans s t
+  axis-transitive (suc (suc (suc (suc zero)))) h g x y z k m s t = ancestor-trans t s
+  axis-transitive (suc (suc (suc (suc (suc zero))))) h g x y z k m s t = or-self-trans s t
+  axis-transitive (suc (suc (suc (suc (suc (suc zero)))))) h g x y z k m s t = or-self-trans t s
+  axis-transitive (suc (suc (suc (suc (suc (suc (suc zero))))))) h g x y z k m s t = following-sibling-trans s t
+  axis-transitive (suc (suc (suc (suc (suc (suc (suc (suc zero)))))))) h g x y z k m s t = following-sibling-trans t s
+  axis-transitive (suc (suc (suc (suc (suc (suc (suc (suc (suc zero))))))))) h g x y z k m s t = following-trans m s t
+  axis-transitive (suc (suc (suc (suc (suc (suc (suc (suc (suc (suc zero)))))))))) h g x y z k m s t = following-trans k t s
+  axis-transitive (suc (suc (suc (suc (suc (suc (suc (suc (suc (suc (suc b))))))))))) h g x y z k m s t = absurd (omega arith)
+
+  -- self, ancestor, descendant, following and preceding share no node and leave none out: from x, each node is on exactly one of them
+  pub five-axes-partition : (x y : ℕ) → x < length d → y < length d →
+      countTrue (onAxis self d x y ∷ onAxis ancestor d x y ∷ onAxis descendant d x y ∷ onAxis following d x y ∷ onAxis preceding d x y ∷ []) ≡ 1
+  unfolding onAxis
+  five-axes-partition x y k l =
+      ⊎-elim
+      (λ e. rw (e, eq-eqb y y refl, le-ltb y y (omega arith), no-later-ancestor d w y y l (omega arith)))
+      (λ ne. ⊎-elim
+      (λ h. rw (ne-eqb x y ne, le-ltb y x h, lt-ltb x y (omega arith), no-later-ancestor d w y x k h) (later (isAncestor d x y)))
+      (λ h. rw (ne-eqb x y ne, lt-ltb y x h, le-ltb x y (omega arith), no-later-ancestor d w x y l (omega arith)) (earlier (isAncestor d y x)))
+      (le-or-lt x y))
+      (eq-or-ne x y)
+    where
+      later : (b : Bool) → countTrue (false ∷ false ∷ b ∷ not b ∷ false ∷ []) ≡ 1
+      later true = refl
+      later false = refl
+
+      earlier : (b : Bool) → countTrue (false ∷ b ∷ false ∷ false ∷ not b ∷ []) ≡ 1
+      earlier true = refl
+      earlier false = refl

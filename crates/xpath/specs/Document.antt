@@ -1,0 +1,95 @@
+-- Documents: rows `kind parent name` in document order. Assumes nothing.
+use Prim.Native.Nat.{ℕ, zero, suc, _+_, _*_, _/_}
+use mathlib.Core.Bool.{Bool, false, not, cond, _&&_, _||_}
+use mathlib.Core.List.{List, [], _∷_}
+use mathlib.Core.Option.{Option, some}
+use lib.Dec.{leb, ltb, eqb}
+use lib.ListN.{length, getD}
+use Rattle.xpath.specs.Bounded.{allBelow, firstBelow}
+
+-- kinds: 0 root, 1 element, 2 text, 3 comment, 4 processing instruction
+pub record Node : Type 0 where
+  pub kind : ℕ
+  pub parent : ℕ
+  pub name : ℕ
+
+abbrev pub Document : Type 0
+Document = List Node
+
+abbrev pub node : ℕ → ℕ → ℕ → Node
+node k p n = record { kind = k; parent = p; name = n }
+
+abbrev pub rootNode : Node
+rootNode = node 0 0 0
+
+-- the fields of row n; past the last row, those of the root
+unfoldable pub kindAt : Document → ℕ → ℕ
+kindAt d n = (getD d n rootNode) .kind
+
+unfoldable pub parentAt : Document → ℕ → ℕ
+parentAt d n = (getD d n rootNode) .parent
+
+unfoldable pub nameAt : Document → ℕ → ℕ
+nameAt d n = (getD d n rootNode) .name
+
+-- y is a child of x; row 0 is no one's child
+unfoldable pub isChild : Document → ℕ → ℕ → Bool
+isChild d x y = not (eqb y 0) && eqb (parentAt d y) x
+
+-- the climb from y to its parent, as far as the root, meets x; it takes at most `most` parents
+unfoldable pub climbMeets : ℕ → Document → ℕ → ℕ → Bool
+climbMeets zero d x y = false
+climbMeets (suc most) d x y = isChild d x y || not (eqb y 0) && climbMeets most d x (parentAt d y)
+
+-- x is an ancestor of y: a parent's row is the smaller one, so y parents are enough to reach the root
+unfoldable pub isAncestor : Document → ℕ → ℕ → Bool
+isAncestor d x y = climbMeets y d x y
+
+-- x and y are siblings: they have the same parent and are two; row 0 has no parent
+unfoldable pub areSiblings : Document → ℕ → ℕ → Bool
+areSiblings d x y = not (eqb x 0) && isChild d (parentAt d x) y && not (eqb x y)
+
+-- an element's name is 1 to 65535, any other's 0; the kinds of the rows after row 0 are 1 to 4
+unfoldable pub kindAndNameOk : ℕ → ℕ → Bool
+kindAndNameOk kind name =
+    eqb kind 1 && leb 1 name && leb name 65535
+    || leb 2 kind && leb kind 4 && eqb name 0
+
+-- row n is as it must be: row 0 is `0 0 0`; the parent of a later row is the row before it or an ancestor of that one, and is the root or an element
+unfoldable pub rowOk : Document → ℕ → Bool
+rowOk d zero = eqb (kindAt d 0) 0 && eqb (parentAt d 0) 0 && eqb (nameAt d 0) 0
+rowOk d (suc n) =
+    (eqb (parentAt d (suc n)) n || isAncestor d (parentAt d (suc n)) n)
+    && leb (kindAt d (parentAt d (suc n))) 1
+    && kindAndNameOk (kindAt d (suc n)) (nameAt d (suc n))
+
+-- a document of any size
+unfoldable pub wellFormed : Document → Bool
+wellFormed d = leb 1 (length d) && allBelow (length d) (rowOk d)
+
+-- Documents as calls take them: lent 16-bit numbers, three a row.
+
+-- the document of the lent numbers, without an incomplete last row
+unfoldable pub documentOf : List ℕ → Document
+documentOf [] = []
+documentOf (k ∷ []) = []
+documentOf (k ∷ p ∷ []) = []
+documentOf (k ∷ p ∷ n ∷ xs) = node k p n ∷ documentOf xs
+
+-- how many rows are lent: an incomplete last row counts
+unfoldable pub lentRows : List ℕ → ℕ
+lentRows xs = (length xs + 2) / 3
+
+abbrev pub maxNodes : ℕ
+maxNodes = 512
+
+-- row n of the lent numbers is bad; an incomplete row is
+unfoldable pub badRow : List ℕ → ℕ → Bool
+badRow xs n = ltb (length xs) (3 * n + 3) || not (rowOk (documentOf xs) n)
+
+-- the value of refusal 8, where it applies: no rows 0, too many 512, else the first bad row
+unfoldable pub documentRefusal : List ℕ → Option ℕ
+documentRefusal xs =
+    cond (eqb (lentRows xs) 0) (some 0)
+    (cond (ltb maxNodes (lentRows xs)) (some maxNodes)
+    (firstBelow (lentRows xs) (badRow xs)))

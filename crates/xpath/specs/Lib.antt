@@ -1,0 +1,12 @@
+pub mod Bounded
+pub mod Document
+pub mod Axis
+pub mod Term
+pub mod Meaning
+pub mod Visits
+pub mod Check
+pub mod Expected
+pub mod LogCases
+pub mod DocumentCases
+pub mod MeaningCases
+pub mod VisitCases

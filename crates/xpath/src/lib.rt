@@ -1,0 +1,217 @@
+// Documents lent as 16-bit numbers, three a row: their check, the axes and the node tests. Every function takes every input; a
+// number that no whole row has is read as 0.
+ghost use mathlib.Core.Path.{_≡_};
+ghost use mathlib.Core.Bool.{_&&_, _||_, cond};
+ghost use mathlib.Core.Option.{none, some};
+ghost use Prim.Native.Nat.{suc, _+_, _*_, _/_, _<_, _≤_};
+ghost use lib.ListN.{length, getD};
+ghost use lib.Dec.{ltb};
+ghost use Rattle.xpath.specs.Bounded.{firstBelow};
+ghost use Rattle.xpath.specs.Document.{kindAt, parentAt, nameAt, isChild, isAncestor, areSiblings, kindAndNameOk, rowOk, documentOf, badRow, documentRefusal, maxNodes};
+ghost use Rattle.xpath.specs.Axis.{onAxis, passes};
+ghost use Rattle.xpath.specs.Check.{refusalOf};
+
+// The largest document that a call takes.
+pub const MAX_NODES: usize = 512;
+
+// What the check of lent numbers finds: a document, or refusal 8 with its value.
+pub enum DocumentCheck {
+    Accepted,
+    Refused(u16),
+}
+
+pub fn wide(x: u16) -> usize
+    ensures { λ r. ⌜ r ≡ x ⌝ }
+{
+    x as usize
+}
+
+pub fn and(a: bool, b: bool) -> bool
+    ensures { λ r. ⌜ r ≡ (a && b) ⌝ }
+{
+    if a { b } else { false }
+}
+
+pub fn or(a: bool, b: bool) -> bool
+    ensures { λ r. ⌜ r ≡ (a || b) ⌝ }
+{
+    if a { true } else { b }
+}
+
+// The number of whole rows.
+pub fn node_count(d: &[u16]) -> usize
+    ensures { λ r. ⌜ r ≡ length (documentOf (now (d .entry))) ⌝ }
+{
+    d.len() / 3
+}
+
+// Number j of row y, if that row is whole.
+fn number_at(d: &[u16], y: usize, j: usize) -> usize
+    requires { ⌜ j < 3 ⌝ }
+    ensures { λ r. ⌜ r ≡ cond (ltb y (length (now (d .entry)) / 3)) (getD (now (d .entry)) (3 * y + j) 0) 0 ⌝ }
+{
+    if y < d.len() / 3 {
+        let i = 3 * y + j;
+        return wide(d[i]);
+    }
+    0
+}
+
+fn kind_at(d: &[u16], y: usize) -> usize
+    ensures { λ r. ⌜ r ≡ kindAt (documentOf (now (d .entry))) y ⌝ }
+{
+    number_at(d, y, 0)
+}
+
+fn parent_at(d: &[u16], y: usize) -> usize
+    ensures { λ r. ⌜ r ≡ parentAt (documentOf (now (d .entry))) y ⌝ }
+{
+    number_at(d, y, 1)
+}
+
+fn name_at(d: &[u16], y: usize) -> usize
+    ensures { λ r. ⌜ r ≡ nameAt (documentOf (now (d .entry))) y ⌝ }
+{
+    number_at(d, y, 2)
+}
+
+fn is_child(d: &[u16], x: usize, y: usize) -> bool
+    ensures { λ r. ⌜ r ≡ isChild (documentOf (now (d .entry))) x y ⌝ }
+{
+    and(y != 0, parent_at(d, y) == x)
+}
+
+// Whether the climb from y to the root meets x.
+pub fn is_ancestor(d: &[u16], x: usize, y: usize) -> bool
+    ensures { λ r. ⌜ r ≡ isAncestor (documentOf (now (d .entry))) x y ⌝ }
+{
+    let mut at = y;
+    let mut left = y;
+    while 0 < left {
+        if at == 0 {
+            return false;
+        }
+        at = parent_at(d, at);
+        if at == x {
+            return true;
+        }
+        left -= 1;
+    }
+    false
+}
+
+fn are_siblings(d: &[u16], x: usize, y: usize) -> bool
+    ensures { λ r. ⌜ r ≡ areSiblings (documentOf (now (d .entry))) x y ⌝ }
+{
+    and(and(x != 0, is_child(d, parent_at(d, x), y)), x != y)
+}
+
+pub fn on_axis(d: &[u16], axis: usize, x: usize, y: usize) -> bool
+    ensures { λ r. ⌜ r ≡ onAxis axis (documentOf (now (d .entry))) x y ⌝ }
+{
+    match axis {
+        0 => x == y,
+        1 => is_child(d, x, y),
+        2 => is_child(d, y, x),
+        3 => is_ancestor(d, x, y),
+        4 => is_ancestor(d, y, x),
+        5 => or(x == y, is_ancestor(d, x, y)),
+        6 => or(x == y, is_ancestor(d, y, x)),
+        7 => and(are_siblings(d, x, y), x < y),
+        8 => and(are_siblings(d, x, y), y < x),
+        9 => and(x < y, !is_ancestor(d, x, y)),
+        10 => and(y < x, !is_ancestor(d, y, x)),
+        _ => false,
+    }
+}
+
+pub fn passes_test(d: &[u16], test: usize, name: usize, y: usize) -> bool
+    ensures { λ r. ⌜ r ≡ passes test name (documentOf (now (d .entry))) y ⌝ }
+{
+    let kind = kind_at(d, y);
+    match test {
+        0 => and(kind == 1, name_at(d, y) == name),
+        1 => kind == 1,
+        2 => true,
+        3 => kind == 2,
+        4 => kind == 3,
+        5 => kind == 4,
+        _ => false,
+    }
+}
+
+fn kind_and_name_ok(kind: usize, name: usize) -> bool
+    ensures { λ r. ⌜ r ≡ kindAndNameOk kind name ⌝ }
+{
+    let element = and(and(kind == 1, 1 <= name), name <= 65535);
+    let other = and(and(2 <= kind, kind <= 4), name == 0);
+    or(element, other)
+}
+
+// Whether row n + 1 is as it must be.
+fn later_row_ok(d: &[u16], n: usize) -> bool
+    requires { ⌜ n < maxNodes ⌝ }
+    ensures { λ r. ⌜ r ≡ rowOk (documentOf (now (d .entry))) (suc n) ⌝ }
+{
+    let i = n + 1;
+    let parent = parent_at(d, i);
+    let placed = or(parent == n, is_ancestor(d, parent, n));
+    let under = kind_at(d, parent) <= 1;
+    and(
+        and(placed, under),
+        kind_and_name_ok(kind_at(d, i), name_at(d, i)),
+    )
+}
+
+fn row_ok(d: &[u16], n: usize) -> bool
+    requires { ⌜ n < maxNodes ⌝ }
+    ensures { λ r. ⌜ r ≡ rowOk (documentOf (now (d .entry))) n ⌝ }
+{
+    if n == 0 {
+        return and(
+            and(kind_at(d, 0) == 0, parent_at(d, 0) == 0),
+            name_at(d, 0) == 0,
+        );
+    }
+    later_row_ok(d, n - 1)
+}
+
+fn bad_row(d: &[u16], n: usize) -> bool
+    requires { ⌜ n < maxNodes ⌝ }
+    ensures { λ r. ⌜ r ≡ badRow (now (d .entry)) n ⌝ }
+{
+    or(d.len() < 3 * n + 3, !row_ok(d, n))
+}
+
+// The first bad one of n rows, n if there is none.
+fn first_bad_row(d: &[u16], n: usize) -> usize
+    requires { ⌜ n ≤ maxNodes ⌝ }
+    ensures { λ r. ⌜ firstBelow n (badRow (now (d .entry))) ≡ cond (ltb r n) (some r) none ⌝ }
+    ensures { λ r. ⌜ r ≤ n ⌝ }
+{
+    let mut i: usize = 0;
+    while i < n {
+        if bad_row(d, i) {
+            return i;
+        }
+        i += 1;
+    }
+    i
+}
+
+pub fn check_document(d: &[u16]) -> DocumentCheck
+    ensures { λ r. ⌜ refusalOf r ≡ documentRefusal (now (d .entry)) ⌝ }
+{
+    let n = (d.len() + 2) / 3;
+    if n == 0 {
+        return DocumentCheck::Refused(0);
+    }
+    if MAX_NODES < n {
+        return DocumentCheck::Refused(MAX_NODES as u16);
+    }
+    let bad = first_bad_row(d, n);
+    if bad < n {
+        return DocumentCheck::Refused(bad as u16);
+    }
+    DocumentCheck::Accepted
+}
