@@ -1,0 +1,78 @@
+-- `field_ok` meets its contract, case by case. Assumes nothing.
+use borrow.Author.Tests.{eq-eqb, ne-eqb}
+use Rattle.terms.specs.Fields.{fieldOk}
+use borrow.Author.Needs.{needs}
+use Rattle.terms.proofs.field_ok.Statement.{statement}
+use Rattle.terms.proofs.field_ok.Tie as tie
+
+enum-told : tie.Need-enum-told
+enum-told c = search needs
+
+enum-told-2 : tie.Need-enum-told-2
+enum-told-2 c = search needs
+
+enum-told-3 : tie.Need-enum-told-3
+enum-told-3 c = search needs
+
+enum-told-4 : tie.Need-enum-told-4
+enum-told-4 c = search needs
+
+returns : tie.Need-returns
+unfolding fieldOk
+returns c = rw (c .before .enum-told4 .given .1, eq-eqb _ _ (c .if1 .taken))
+
+enum-told-5 : tie.Need-enum-told-5
+enum-told-5 c = search needs
+
+is-held-path-requires : tie.Need-is-held-path-requires
+is-held-path-requires c κs = search needs
+
+enum-told-6 : tie.Need-enum-told-6
+enum-told-6 c = search needs
+
+is-held-qualifier-requires : tie.Need-is-held-qualifier-requires
+is-held-qualifier-requires c κs = search needs
+
+returns-2 : tie.Need-returns-2
+unfolding fieldOk
+returns-2 c = rw (c .enum-told .given .1)
+
+returns-3 : tie.Need-returns-3
+unfolding fieldOk
+returns-3 c = rw (c .enum-told2 .given .1)
+
+returns-4 : tie.Need-returns-4
+unfolding fieldOk
+returns-4 c = rw (c .enum-told3 .given .1)
+
+returns-5 : tie.Need-returns-5
+unfolding fieldOk
+returns-5 c = rw (c .before .enum-told4 .given .1, ne-eqb _ _ (c .if1 .left))
+
+returns-6 : tie.Need-returns-6
+unfolding fieldOk
+returns-6 c = rw (c .before .enum-told5 .given .1) (c .is-held-path .ensures)
+
+returns-7 : tie.Need-returns-7
+unfolding fieldOk
+returns-7 c = rw (c .before .enum-told6 .given .1) (c .is-held-qualifier .ensures)
+
+pub field-ok-spec : {M : Type 1} → statement M
+field-ok-spec =
+    tie.close
+    (tie.spec
+    enum-told
+    enum-told-2
+    enum-told-3
+    enum-told-4
+    returns
+    enum-told-5
+    is-held-path-requires
+    enum-told-6
+    is-held-qualifier-requires
+    returns-2
+    returns-3
+    returns-4
+    returns-5
+    returns-6
+    returns-7)
