@@ -18,7 +18,7 @@ pub const MAX_NESTING: u16 = 32;
 pub const ROW_WIDTH: usize = 4;
 
 // Kinds 0 to LAST_PATH are paths, FIRST_QUALIFIER to MAX_KIND qualifiers.
-const LAST_PATH: u16 = 5;
+pub const LAST_PATH: u16 = 5;
 
 const FIRST_QUALIFIER: u16 = 6;
 

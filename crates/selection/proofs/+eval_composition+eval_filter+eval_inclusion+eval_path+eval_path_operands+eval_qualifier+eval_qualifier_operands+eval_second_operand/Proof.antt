@@ -1,0 +1,41 @@
+-- The functions that evaluate a row meet their contracts. Assumes nothing.
+mod Calls
+mod Composition
+mod Filter
+mod Inclusion
+mod PathRow
+mod PathOperands
+mod QualifierRow
+mod QualifierOperands
+mod SecondOperand
+use Rattle.selection.proofs.+eval_composition+eval_filter+eval_inclusion+eval_path+eval_path_operands+eval_qualifier+eval_qualifier_operands+eval_second_operand.{statement}
+use Rattle.selection.proofs.+eval_composition+eval_filter+eval_inclusion+eval_path+eval_path_operands+eval_qualifier+eval_qualifier_operands+eval_second_operand.Tie.{close}
+use Rattle.selection.proofs.+eval_composition+eval_filter+eval_inclusion+eval_path+eval_path_operands+eval_qualifier+eval_qualifier_operands+eval_second_operand.Proof.Calls.{μ-composition, μ-filter, μ-inclusion, μ-path, μ-path-operands, μ-qualifier, μ-qualifier-operands, μ-second-operand}
+use Rattle.selection.proofs.+eval_composition+eval_filter+eval_inclusion+eval_path+eval_path_operands+eval_qualifier+eval_qualifier_operands+eval_second_operand.Proof.Composition as composition
+use Rattle.selection.proofs.+eval_composition+eval_filter+eval_inclusion+eval_path+eval_path_operands+eval_qualifier+eval_qualifier_operands+eval_second_operand.Proof.Filter as filter
+use Rattle.selection.proofs.+eval_composition+eval_filter+eval_inclusion+eval_path+eval_path_operands+eval_qualifier+eval_qualifier_operands+eval_second_operand.Proof.Inclusion as inclusion
+use Rattle.selection.proofs.+eval_composition+eval_filter+eval_inclusion+eval_path+eval_path_operands+eval_qualifier+eval_qualifier_operands+eval_second_operand.Proof.PathRow as path
+use Rattle.selection.proofs.+eval_composition+eval_filter+eval_inclusion+eval_path+eval_path_operands+eval_qualifier+eval_qualifier_operands+eval_second_operand.Proof.PathOperands as path-operands
+use Rattle.selection.proofs.+eval_composition+eval_filter+eval_inclusion+eval_path+eval_path_operands+eval_qualifier+eval_qualifier_operands+eval_second_operand.Proof.QualifierRow as qualifier
+use Rattle.selection.proofs.+eval_composition+eval_filter+eval_inclusion+eval_path+eval_path_operands+eval_qualifier+eval_qualifier_operands+eval_second_operand.Proof.QualifierOperands as qualifier-operands
+use Rattle.selection.proofs.+eval_composition+eval_filter+eval_inclusion+eval_path+eval_path_operands+eval_qualifier+eval_qualifier_operands+eval_second_operand.Proof.SecondOperand as second-operand
+
+pub +eval-composition+eval-filter+eval-inclusion+eval-path+eval-path-operands+eval-qualifier+eval-qualifier-operands+eval-second-operand-spec : {M : Type 1} → statement M
++eval-composition+eval-filter+eval-inclusion+eval-path+eval-path-operands+eval-qualifier+eval-qualifier-operands+eval-second-operand-spec =
+    close
+    μ-composition
+    μ-filter
+    μ-inclusion
+    μ-path
+    μ-path-operands
+    μ-qualifier
+    μ-qualifier-operands
+    μ-second-operand
+    (λ t. composition.spec t)
+    (λ t. filter.spec t)
+    (λ t. inclusion.spec t)
+    (λ t. path.spec t)
+    (λ t. path-operands.spec t)
+    (λ t. qualifier.spec t)
+    (λ t. qualifier-operands.spec t)
+    (λ t. second-operand.spec t)
