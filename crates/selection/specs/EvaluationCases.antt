@@ -4,7 +4,7 @@ use mathlib.Core.Path.{refl}
 use mathlib.Core.List.{List, [], _∷_}
 use lib.ListN.{replicate}
 use Rattle.xpath.specs.Bounded.{anyBelow, sumBelow}
-use Rattle.xpath.specs.Document.{Document, rootNode, maxNodes, kindAt, parentAt, nameAt, isChild, documentOf}
+use Rattle.xpath.specs.Document.{rootNode, maxNodes, kindAt, parentAt, nameAt, isChild, documentOf}
 use Rattle.xpath.specs.Axis.{onAxis, passes}
 use Rattle.xpath.specs.Meaning.{selects}
 use Rattle.xpath.specs.Visits.{visits}

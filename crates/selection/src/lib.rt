@@ -488,11 +488,11 @@ pub fn evaluate(
     if marks.len() < n {
         return Evaluated::NoRoom;
     }
-    let m = eval_path(rows, d, terms::row_count(rows), row, x, limit);
-    if !m.finished {
+    let found = eval_path(rows, d, terms::row_count(rows), row, x, limit);
+    if !found.finished {
         return Evaluated::LimitPassed;
     }
-    let out = m.marks;
+    let out = found.marks;
     copy_out(out, n, marks);
-    Evaluated::Selected(m.visits)
+    Evaluated::Selected(found.visits)
 }

@@ -1,13 +1,13 @@
 -- The document of lent numbers, row by row. Assumes nothing.
-use Prim.Native.Nat.{ℕ, zero, suc, _+_, _*_, _/_, _<_, _≤_}
-use mathlib.Core.Path.{_≡_, refl, sym, _∙_, ap}
+use Prim.Native.Nat.{ℕ, zero, suc, _+_, _*_, _/_, _<_}
+use mathlib.Core.Path.{_≡_, refl, _∙_, ap}
 use mathlib.Core.Bool.{Bool, true, false, cond}
 use mathlib.Core.List.{List, [], _∷_}
 use native.Mathlib.Omega.{arith}
 use lib.Dec.{ltb}
 use lib.ListN.{length, getD, List·getD-eq-default}
 use borrow.Author.Tests.{ltb-true, ltb-false}
-use Rattle.xpath.specs.Document.{Document, Node, node, rootNode, kindAt, parentAt, nameAt, documentOf}
+use Rattle.xpath.specs.Document.{Node, node, rootNode, kindAt, parentAt, nameAt, documentOf}
 
 -- a whole row is three numbers
 pub nodes-lent : (xs : List ℕ) → length (documentOf xs) ≡ length xs / 3

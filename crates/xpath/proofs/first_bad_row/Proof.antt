@@ -5,7 +5,7 @@ use mathlib.Core.Option.{none}
 use native.Mathlib.Omega.{arith}
 use borrow.Author.Tests.{lt-ltb, le-ltb}
 use Rattle.xpath.specs.Bounded.{firstBelow}
-use Rattle.xpath.specs.Document.{badRow, maxNodes}
+use Rattle.xpath.specs.Document.{badRow}
 use Rattle.xpath.proofs.Search.{first-not-yet, first-found}
 use Rattle.xpath.proofs.first_bad_row.Statement.{statement}
 use Rattle.xpath.proofs.first_bad_row.Tie as tie

@@ -1,0 +1,16 @@
+pub mod Entries
+pub mod RuleSound
+pub mod Orders
+pub mod Rules
+pub mod AxisRules
+pub mod Sound
+mod Table
+mod AxisOrder
+mod Decoded
+mod FormSearch
+mod Agreement
+mod Letters
+mod RowForms
+pub mod RowYields
+mod Matcher
+mod Conditions

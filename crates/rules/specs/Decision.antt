@@ -1,0 +1,157 @@
+-- Whether a rule yields a step is decided: `yields-dec`, at the end. Assumes nothing.
+use Prim.Native.Nat.{ℕ}
+use mathlib.Core.Path.{_≡_, refl, sym, _∙_, subst, subst₂, ap, ap₂}
+use mathlib.Core.Bool.{Bool, true, false, cond, _&&_}
+use mathlib.Core.List.{List, [], _∷_, map, List·Memᴰ, List·Memᴰ·head, List·Memᴰ·tail, List·Memᴰ·not-nil, List·Memᴰ·cases-cons, head-eq-of-cons-eq, tail-eq-of-cons-eq}
+use mathlib.Core.Logic.{inl, inr, ⊎-elim, ite}
+use native.Mathlib.Decide.{ℕ-discrete}
+use lib.Dec.{T, eqb}
+use mir.Facts.{and-yes, yes-and, or-yes}
+use Rattle.xpath.specs.Term.{Path-discrete, Qualifier-discrete}
+use Rattle.xpath.proofs.Reflect.{yes-or}
+use Rattle.rules.specs.Lists.{allOf, anyOf}
+use Rattle.rules.specs.Order.{axisPairs, isPair, axisBelow, testBelow}
+use Rattle.rules.specs.Form.{Form, Rule}
+use Rattle.rules.specs.Table.{rules}
+use Rattle.rules.specs.Claim.{Claim, Claim-discrete}
+use Rattle.rules.specs.Instance.{Letters, axisFor, testFor, pathFor, claimFor, meets}
+use Rattle.rules.specs.Yields.{formsIn, formsOf, Yields}
+use Rattle.rules.specs.Reading.{readPath, readClaim, readClaims, claimForms, lettersIn}
+
+unfoldable pub sameClaims : List Claim → List Claim → Bool
+sameClaims [] [] = true
+sameClaims [] (c ∷ cs) = false
+sameClaims (b ∷ bs) [] = false
+sameClaims (b ∷ bs) (c ∷ cs) = ite (Claim-discrete (Path-discrete ℕ-discrete) (Qualifier-discrete ℕ-discrete) b c) true false && sameClaims bs cs
+
+-- for the letters that are read off, the conditions are met and the conclusion and the premises are cs
+unfoldable pub fits : List Claim → Form → Bool
+fits cs w =
+    let e = lettersIn w cs in
+    allOf (meets e) (w .conditions) && sameClaims (map (claimFor e) (claimForms w)) cs
+
+-- the test: a form of rule n fits; to unfold it is to unfold all that it computes with
+unfoldable pub isYielded : ℕ → Claim → List Claim → Bool
+unfolding anyOf fits sameClaims readClaims readClaim readPath formsOf formsIn rules allOf meets axisBelow isPair axisPairs testBelow claimFor pathFor axisFor testFor ℕ-discrete
+isYielded n c cs = anyOf (fits (c ∷ cs)) (formsOf n)
+
+-- a form for a choice of the letters: whether its conditions are met, its conclusion and its premises
+record FormInstance : Type 0 where
+  met : Bool
+  claims : List Claim
+
+abbrev formFor : Letters → Form → FormInstance
+formFor e w = record { met = allOf (meets e) (w .conditions); claims = map (claimFor e) (claimForms w) }
+
+-- the same for the letters that are read off it
+abbrev formRead : Letters → Form → FormInstance
+formRead e w = formFor (lettersIn w (map (claimFor e) (claimForms w))) w
+
+abbrev tableInstances : (Form → FormInstance) → List Rule → List (List FormInstance)
+tableInstances f rs = map (λ r. map f (r .forms)) rs
+
+-- the letters that are read off serve as well as any, in every form of the table
+table-recovered : (e : Letters) → tableInstances (formRead e) rules ≡ tableInstances (formFor e) rules
+unfolding rules allOf meets claimFor pathFor axisFor testFor readClaims readClaim readPath
+table-recovered e = refl
+
+recovered-in : (f g : Form → FormInstance) (rs : List Rule) → tableInstances f rs ≡ tableInstances g rs → (n : ℕ) → map f (formsIn rs n) ≡ map g (formsIn rs n)
+unfolding formsIn
+recovered-in f g [] q n = refl
+recovered-in f g (r ∷ rs) q n = by-number (eqb (r .number) n) (recovered-in f g rs (tail-eq-of-cons-eq q) n)
+  where
+    by-number : (b : Bool) → map f (formsIn rs n) ≡ map g (formsIn rs n) → map f (cond b (r .forms) (formsIn rs n)) ≡ map g (cond b (r .forms) (formsIn rs n))
+    by-number true h = head-eq-of-cons-eq q
+    by-number false h = h
+
+equal-at : (f g : Form → FormInstance) {w : Form} (ws : List Form) → map f ws ≡ map g ws → List·Memᴰ w ws → f w ≡ g w
+equal-at f g [] q m = absurd (List·Memᴰ·not-nil m)
+equal-at f g (v ∷ ws) q m =
+    ⊎-elim (λ e. rw e (head-eq-of-cons-eq q)) (λ m. equal-at f g ws (tail-eq-of-cons-eq q) m) (List·Memᴰ·cases-cons m)
+
+recovered : (n : ℕ) {w : Form} → List·Memᴰ w (formsOf n) → (e : Letters) → formRead e w ≡ formFor e w
+unfolding formsOf
+recovered n m e = equal-at (formRead e) (formFor e) (formsOf n) (recovered-in (formRead e) (formFor e) rules (table-recovered e) n) m
+
+-- choices for which a form says the same meet its conditions alike
+pub settled : (n : ℕ) {w : Form} → List·Memᴰ w (formsOf n) → (e e₁ : Letters) → map (claimFor e) (claimForms w) ≡ map (claimFor e₁) (claimForms w) →
+    allOf (meets e) (w .conditions) ≡ allOf (meets e₁) (w .conditions)
+settled n {w} m e e₁ q =
+    sym (ap (λ s. s .met) (recovered n m e)) ∙ ap (λ cs. allOf (meets (lettersIn w cs)) (w .conditions)) q ∙ ap (λ s. s .met) (recovered n m e₁)
+
+same-yes : (bs cs : List Claim) → T (sameClaims bs cs) → bs ≡ cs
+unfolding sameClaims
+same-yes [] [] t = refl
+same-yes [] (c ∷ cs) t = absurd t
+same-yes (b ∷ bs) [] t = absurd t
+same-yes (b ∷ bs) (c ∷ cs) t = heads (Claim-discrete (Path-discrete ℕ-discrete) (Qualifier-discrete ℕ-discrete) b c) (same-yes bs cs) t
+  where
+    heads : (d : Dec (b ≡ c)) → (T (sameClaims bs cs) → bs ≡ cs) → T (ite d true false && sameClaims bs cs) → b ∷ bs ≡ c ∷ cs
+    heads (yes q) h t = ap₂ _∷_ q (h t)
+    heads (no n) h t = absurd t
+
+yes-same : (cs : List Claim) → T (sameClaims cs cs)
+unfolding sameClaims
+yes-same [] = tt
+yes-same (c ∷ cs) = heads (Claim-discrete (Path-discrete ℕ-discrete) (Qualifier-discrete ℕ-discrete) c c) (yes-same cs)
+  where
+    heads : (d : Dec (c ≡ c)) → T (sameClaims cs cs) → T (ite d true false && sameClaims cs cs)
+    heads (yes q) h = h
+    heads (no n) h = absurd (n refl)
+
+pub any-of-yes : {A : Type 0} (f : A → Bool) (xs : List A) → T (anyOf f xs) → (x : A) × List·Memᴰ x xs × T (f x)
+unfolding anyOf
+any-of-yes f [] t = absurd t
+any-of-yes f (x ∷ xs) t =
+    ⊎-elim
+    (λ s. (x, List·Memᴰ·head refl, s))
+    (λ s. let (y, m, u) = any-of-yes f xs s in (y, List·Memᴰ·tail m, u))
+    (or-yes (f x) (anyOf f xs) t)
+
+pub yes-any-of : {A : Type 0} (f : A → Bool) {x : A} (xs : List A) → List·Memᴰ x xs → T (f x) → T (anyOf f xs)
+unfolding anyOf
+yes-any-of f [] m t = absurd (List·Memᴰ·not-nil m)
+yes-any-of f (y ∷ ys) m t =
+    yes-or (f y) (anyOf f ys) (⊎-elim (λ e. inl (rw e at t)) (λ m. inr (yes-any-of f ys m t)) (List·Memᴰ·cases-cons m))
+
+-- a test that every entry passes, each passes
+pub all-of-yes : {A : Type 0} (f : A → Bool) {x : A} (xs : List A) → T (allOf f xs) → List·Memᴰ x xs → T (f x)
+unfolding allOf
+all-of-yes f [] t m = absurd (List·Memᴰ·not-nil m)
+all-of-yes f (y ∷ ys) t m =
+    let r = and-yes (f y) (allOf f ys) t in
+    ⊎-elim (λ e. rw e (r .0)) (λ m. all-of-yes f ys (r .1) m) (List·Memᴰ·cases-cons m)
+
+pub yielded-yes : (n : ℕ) (c : Claim) (cs : List Claim) → T (isYielded n c cs) → Yields n c cs
+unfolding isYielded
+yielded-yes n c cs t =
+    let (w, m, f) = any-of-yes (fits (c ∷ cs)) (formsOf n) t in
+    let e : Letters = lettersIn w (c ∷ cs) in
+    let r = and-yes (allOf (meets e) (w .conditions)) (sameClaims (map (claimFor e) (claimForms w)) (c ∷ cs)) f in
+    let q = same-yes (map (claimFor e) (claimForms w)) (c ∷ cs) (r .1) in
+    record { form = w; of-rule = m; letters = e; conditions = r .0; conclusion = head-eq-of-cons-eq q; premises = tail-eq-of-cons-eq q }
+
+-- what a form says for e fits it
+said-fits : (w : Form) (e : Letters) → formRead e w ≡ formFor e w → T (allOf (meets e) (w .conditions)) → T (fits (map (claimFor e) (claimForms w)) w)
+unfolding fits
+said-fits w e q t =
+    let cs : List Claim = map (claimFor e) (claimForms w) in
+    let e₁ : Letters = lettersIn w cs in
+    yes-and (allOf (meets e₁) (w .conditions)) (sameClaims (map (claimFor e₁) (claimForms w)) cs)
+    (subst T (sym (ap (λ s. s .met) q)) t)
+    (subst (λ bs. T (sameClaims bs cs)) (sym (ap (λ s. s .claims) q)) (yes-same cs))
+
+pub yes-yielded : (n : ℕ) (c : Claim) (cs : List Claim) → Yields n c cs → T (isYielded n c cs)
+unfolding isYielded
+yes-yielded n c cs y =
+    yes-any-of (fits (c ∷ cs)) (formsOf n) (y .of-rule)
+    (subst₂ (λ c cs. T (fits (c ∷ cs) (y .form))) (y .conclusion) (y .premises)
+    (said-fits (y .form) (y .letters) (recovered n (y .of-rule) (y .letters)) (y .conditions)))
+
+abbrev decided : {A : Type 0} (b : Bool) → (T b → A) → (A → T b) → Dec A
+decided true f g = yes (f tt)
+decided false f g = no g
+
+-- rule n yields a step that says c, from premises that say cs, or it doesn't
+unfoldable pub yields-dec : (n : ℕ) (c : Claim) (cs : List Claim) → Dec (Yields n c cs)
+yields-dec n c cs = decided (isYielded n c cs) (yielded-yes n c cs) (yes-yielded n c cs)

@@ -1,0 +1,63 @@
+-- Five mistakes of document 000, each shown false by a document. Assumes nothing.
+use Prim.Native.Nat.{ℕ}
+use mathlib.Core.List.{[], _∷_}
+use native.Mathlib.Omega.{arith}
+use Rattle.xpath.specs.Bounded.{anyBelow, allBelow}
+use Rattle.xpath.specs.Document.{Document, node, rootNode, kindAt, parentAt, nameAt, isChild, climbMeets, isAncestor, areSiblings, kindAndNameOk, rowOk, wellFormed}
+use Rattle.xpath.specs.Axis.{child, parent, descendant, descendant-or-self, ancestor-or-self, following-sibling, following, onAxis, name-test, star-test, text-test, passes}
+use Rattle.xpath.specs.Term.{Path, Qualifier, Void, Step, Union, Composition, Filter, True, Not, And, Or, In, some-of}
+use Rattle.xpath.specs.Meaning.{selects}
+use Rattle.rules.specs.Claim.{Containment, Implication, TrueOn, IsTrue}
+
+-- not A; to unfold it is to unfold what computes on a document
+unfoldable pub IsFalse : Type 0 → Type 0
+unfolding IsTrue TrueOn selects onAxis passes kindAt parentAt nameAt isChild climbMeets isAncestor areSiblings anyBelow allBelow wellFormed rowOk kindAndNameOk
+IsFalse A = ¬ A
+
+-- two elements under the root
+abbrev twoChildren : Document
+twoChildren = rootNode ∷ node 1 0 1 ∷ node 1 0 2 ∷ []
+
+-- r3r splits "p in (q|r)" into an or
+pub r3r-false :
+    IsFalse ((p q r : Path) → IsTrue (Implication (In p (Union q r)) (Or (In p q) (In p r))))
+unfolding IsFalse
+r3r-false rule = rule (Step child star-test 0) (Step child name-test 1) (Step child name-test 2) twoChildren tt 0 (omega arith) tt
+
+-- f3 orders the paths backwards
+pub f3-false :
+    IsFalse ((p q : Path) (f g : Qualifier) → IsTrue (Containment p q) → IsTrue (Implication (Not f) (Not g)) →
+    IsTrue (Implication (In (Filter p f) Void) (In (Filter q g) Void)))
+unfolding IsFalse
+f3-false rule = rule Void (Step child star-test 0) True True (λ d w x k y t. absurd t) (λ d w x k t. t) twoChildren tt 0 (omega arith) tt
+
+-- g2b takes "not f => g" in rule 25
+pub g2b-false :
+    IsFalse ((p : Path) (f g : Qualifier) → IsTrue (Implication (Not f) g) → IsTrue (Containment (Filter p (And f g)) Void))
+unfolding IsFalse
+g2b-false rule = rule (Step child star-test 0) True True (λ d w x k t. tt) twoChildren tt 0 (omega arith) 1 tt
+
+-- an element, and an element in it
+abbrev nested : Document
+nested = rootNode ∷ node 1 0 1 ∷ node 1 1 2 ∷ []
+
+-- rule 51 used as an equality
+pub rule51-back-false :
+    IsFalse ((N M : ℕ) (f : Qualifier) →
+    IsTrue (Containment
+    (Filter (Step descendant name-test M) (some-of (Filter (Step parent name-test N) f)))
+    (Composition (Filter (Step descendant name-test N) f) (Step child name-test M))))
+unfolding IsFalse
+rule51-back-false rule = rule 1 2 True nested tt 1 (omega arith) 2 tt
+
+-- an element with an element and a text in it
+abbrev withText : Document
+withText = rootNode ∷ node 1 0 1 ∷ node 1 1 2 ∷ node 2 1 0 ∷ []
+
+-- r_a13 has `*` in rule 54
+pub r-a13-false :
+    IsFalse (IsTrue (Containment
+    (Step following text-test 0)
+    (Composition (Composition (Step ancestor-or-self star-test 0) (Step following-sibling star-test 0)) (Step descendant-or-self text-test 0))))
+unfolding IsFalse
+r-a13-false claim = claim withText tt 2 (omega arith) 3 tt

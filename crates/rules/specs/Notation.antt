@@ -1,0 +1,106 @@
+-- The words and signs of the rule table. Assumes nothing.
+use Prim.Native.Nat.{ℕ}
+use mathlib.Core.List.{List, [], _∷_, _++_}
+use Rattle.xpath.specs.Axis
+use Rattle.rules.specs.Form.{PathLetter, QualifierLetter, AxisLetter, TestLetter, AxisForm, axis, axis-letter, TestForm, test, test-letter, PathForm, path-letter, Void, QualifierForm, qualifier-letter, Not_, _In_, ClaimForm, _<=_, _=>_, Condition, Form, Rule}
+
+infix 79 _≐_ _⇔_
+infixl 66 _from_ _if_
+infix 60 _▸_
+-- the letters
+abbrev pub p : PathForm
+p = path-letter PathLetter.p
+
+abbrev pub q : PathForm
+q = path-letter PathLetter.q
+
+abbrev pub r : PathForm
+r = path-letter PathLetter.r
+
+abbrev pub s : PathForm
+s = path-letter PathLetter.s
+
+abbrev pub f : QualifierForm
+f = qualifier-letter QualifierLetter.f
+
+abbrev pub g : QualifierForm
+g = qualifier-letter QualifierLetter.g
+
+abbrev pub h : QualifierForm
+h = qualifier-letter QualifierLetter.h
+
+abbrev pub a : AxisForm
+a = axis-letter AxisLetter.a
+
+abbrev pub b : AxisForm
+b = axis-letter AxisLetter.b
+
+abbrev pub N : TestForm
+N = test-letter TestLetter.N
+
+abbrev pub M : TestForm
+M = test-letter TestLetter.M
+
+-- the axes, and the tests `*` and node()
+abbrev pub self : AxisForm
+self = axis Axis.self
+
+abbrev pub child : AxisForm
+child = axis Axis.child
+
+abbrev pub parent : AxisForm
+parent = axis Axis.parent
+
+abbrev pub descendant : AxisForm
+descendant = axis Axis.descendant
+
+abbrev pub ancestor : AxisForm
+ancestor = axis Axis.ancestor
+
+abbrev pub descendant-or-self : AxisForm
+descendant-or-self = axis Axis.descendant-or-self
+
+abbrev pub ancestor-or-self : AxisForm
+ancestor-or-self = axis Axis.ancestor-or-self
+
+abbrev pub following-sibling : AxisForm
+following-sibling = axis Axis.following-sibling
+
+abbrev pub preceding-sibling : AxisForm
+preceding-sibling = axis Axis.preceding-sibling
+
+abbrev pub following : AxisForm
+following = axis Axis.following
+
+abbrev pub preceding : AxisForm
+preceding = axis Axis.preceding
+
+abbrev pub star-test : TestForm
+star-test = test Axis.star-test
+
+abbrev pub node-test : TestForm
+node-test = test Axis.node-test
+
+-- "some p"
+abbrev pub some-of : PathForm → QualifierForm
+some-of x = Not (x In Void)
+
+-- a rule with its number and its forms
+abbrev pub _▸_ : ℕ → List Form → Rule
+n ▸ ws = record { number = n; forms = ws }
+
+-- one form: a conclusion from its premises, with no condition
+abbrev pub _from_ : ClaimForm → List ClaimForm → List Form
+c from cs = record { conclusion = c; premises = cs; conditions = [] } ∷ []
+
+-- the forms, under conditions
+abbrev pub _if_ : List Form → List Condition → List Form
+[] if ts = []
+(w ∷ ws) if ts = record { conclusion = w .conclusion; premises = w .premises; conditions = ts } ∷ (ws if ts)
+
+-- `=` may be used from either side: of two paths, and of two qualifiers
+abbrev pub _≐_ : PathForm → PathForm → List Form
+x ≐ y = x <= y from [] ++ y <= x from []
+
+abbrev pub _⇔_ : QualifierForm → QualifierForm → List Form
+x ⇔ y = x => y from [] ++ y => x from []

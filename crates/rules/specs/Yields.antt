@@ -1,0 +1,55 @@
+-- When a rule yields a step, and how many premises a rule has. Assumes nothing.
+use Prim.Native.Nat.{ℕ}
+use mathlib.Core.Path.{_≡_, refl}
+use mathlib.Core.Bool.{Bool, cond}
+use mathlib.Core.List.{List, [], _∷_, map, List·Memᴰ}
+use lib.Dec.{T, eqb}
+use lib.ListN.{length}
+use Rattle.rules.specs.Lists.{allOf}
+use Rattle.rules.specs.Form.{Form, Rule}
+use Rattle.rules.specs.Table.{rules}
+use Rattle.rules.specs.Claim.{Claim}
+use Rattle.rules.specs.Instance.{Letters, claimFor, meets}
+
+-- the forms of rule n in a table; none, where there is no such rule
+unfoldable pub formsIn : List Rule → ℕ → List Form
+formsIn [] n = []
+formsIn (r ∷ rs) n = cond (eqb (r .number) n) (r .forms) (formsIn rs n)
+
+unfoldable pub formsOf : ℕ → List Form
+formsOf n = formsIn rules n
+
+-- rule n yields a step that says c, from premises that say cs: in one of its forms and for some choice of its letters that meets
+-- its conditions, its conclusion is c and its premises, in order, are cs
+pub record Yields (n : ℕ) (c : Claim) (cs : List Claim) : Type 0 where
+  pub form : Form
+  pub of-rule : List·Memᴰ form (formsOf n)
+  pub letters : Letters
+  pub conditions : T (allOf (meets letters) (form .conditions))
+  pub conclusion : claimFor letters (form .conclusion) ≡ c
+  pub premises : map (claimFor letters) (form .premises) ≡ cs
+
+-- the rules are 1 to 58
+abbrev pub maxRule : ℕ
+maxRule = 58
+
+pub rules-counted : length rules ≡ maxRule
+unfolding rules
+rules-counted = refl
+
+-- how many premises the first form has
+unfoldable pub firstCount : List Form → ℕ
+firstCount [] = 0
+firstCount (w ∷ ws) = length (w .premises)
+
+-- how many premises rule n has
+unfoldable pub premiseCount : ℕ → ℕ
+premiseCount n = firstCount (formsOf n)
+
+-- all forms of a rule have as many premises
+unfoldable pub sameCounts : Rule → Bool
+sameCounts r = allOf (λ w. eqb (length (w .premises)) (firstCount (r .forms))) (r .forms)
+
+pub same-counts : T (allOf sameCounts rules)
+unfolding allOf sameCounts firstCount rules
+same-counts = tt

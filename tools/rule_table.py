@@ -1,0 +1,407 @@
+#!/usr/bin/env python3
+"""Holds the rule table of crate `rules` against the text of document 01. Run it at the repository's root:
+
+    tools/rule_table.py ../shared/01-scope.md
+
+It reads three things apart from each other, each with a grammar of its own, and compares them form by form, in order:
+  1. the sentences of 01 under "Rules", with 01's binding: a filter, `/`, `|`; `not`, `and`, `or`;
+  2. crates/rules/specs/Table.antt, with the fixities that specs/Form.antt and specs/Notation.antt declare;
+  3. the numbers of crates/rules/src/tables.rt.
+It compares the axis order in the same way: 01's sentence, specs/Order.antt, AXIS_PAIRS.
+
+Read off 01's text: each rule's number, its conclusion, its premises in order, both directions of `=`, "the same from", and that
+`some p` and `.` stand for terms. Written out here by hand, so that a reader has to look at it: rule 3 for `=>`, rules 22 and 23 (the
+two cases of T), rules 53 and 55 ("so for .."), which phrase is which side condition, the numbers of axes, tests, kinds and letters.
+Not covered: what the words of Notation.antt, the side conditions and the orders mean (specs/Instance.antt, specs/Order.antt: read
+these), and the test order.
+"""
+import re, sys
+
+AXES = ['self', 'child', 'parent', 'descendant', 'ancestor', 'descendant-or-self', 'ancestor-or-self', 'following-sibling',
+        'preceding-sibling', 'following', 'preceding']
+TESTS = {'*': 1, 'node()': 2, 'star-test': 1, 'node-test': 2}
+KINDS = ['void', 'root', 'step', 'union', 'composition', 'filter', 'true', 'false', 'not', 'and', 'or', 'in']
+LETTERS = ['p', 'q', 'r', 's', 'f', 'g', 'h', 'a', 'b', 'N', 'name of N', 'M', 'name of M']
+CONDITIONS = [None, 'a-below-b', 'N-below-M', 'b-from-3-to-10', 'N-a-name-or-star', 'N-not-node']
+
+
+def some(path):
+    return ('not', ('in', path, ('void',)))
+
+
+# 1. Document 01.
+
+WORD = re.compile(r'\s*(node\(\)|<=|=>|::|[()\[\]|/.*=]|[A-Za-z][A-Za-z-]*)')
+
+
+def words(text):
+    found, at = [], 0
+    text = text.strip()
+    while at < len(text):
+        match = WORD.match(text, at)
+        if not match:
+            raise SystemExit('01: cannot read %r' % text[at:])
+        found.append(match.group(1))
+        at = match.end()
+    return found
+
+
+class Sentence:
+    """An expression of 01, read by its words."""
+
+    def __init__(self, text):
+        self.words, self.at = words(text), 0
+
+    def next(self):
+        return self.words[self.at] if self.at < len(self.words) else None
+
+    def take(self, word=None):
+        found = self.next()
+        if found is None or word not in (None, found):
+            raise SystemExit('01: expected %r at word %d of %r' % (word, self.at, self.words))
+        self.at += 1
+        return found
+
+    def chain(self, word, kind, part):
+        left = part()
+        while self.next() == word:
+            self.take()
+            left = (kind, left, part())
+        return left
+
+    def disjunction(self):
+        return self.chain('or', 'or', self.conjunction)
+
+    def conjunction(self):
+        return self.chain('and', 'and', self.negation)
+
+    def negation(self):
+        if self.next() == 'not':
+            self.take()
+            return ('not', self.negation())
+        if self.next() == 'some':
+            self.take()
+            return some(self.union())
+        left = self.union()
+        if self.next() == 'in':
+            self.take()
+            return ('in', left, self.union())
+        return left
+
+    def union(self):
+        return self.chain('|', 'union', self.composition)
+
+    def composition(self):
+        return self.chain('/', 'composition', self.filtered)
+
+    def filtered(self):
+        path = self.simple()
+        while self.next() == '[':
+            self.take()
+            path = ('filter', path, self.disjunction())
+            self.take(']')
+        return path
+
+    def simple(self):
+        word = self.take()
+        if word == '(':
+            inner = self.disjunction()
+            self.take(')')
+            return inner
+        if word == '.':
+            return ('step', 0, 2)
+        if word in ('V', 'R', 'true', 'false'):
+            return ({'V': 'void', 'R': 'root'}.get(word, word),)
+        if self.next() == '::':
+            self.take()
+            test = self.take()
+            return ('step', AXES.index(word) if word in AXES else word, TESTS.get(test, test))
+        if word not in LETTERS[:7]:
+            raise SystemExit('01: %r is no letter' % word)
+        return ('letter', word)
+
+
+def expression(text):
+    sentence = Sentence(text)
+    found = sentence.disjunction()
+    if sentence.next() is not None:
+        raise SystemExit('01: words left in %r' % text)
+    return found
+
+
+def claim(text):
+    sign = '<=' if '<=' in text else '=>'
+    left, right = text.split(sign)
+    return (sign, expression(left), expression(right))
+
+
+def is_path(term):
+    return term[0] in KINDS[:6] or term[0] == 'letter' and term[1] in 'pqrs'
+
+
+# the phrases that are side conditions
+PHRASES = [(' if a is below b, N below M', ['a-below-b', 'N-below-M']), (', b from 3 to 10,', ['b-from-3-to-10']),
+           (" if N is below M and N isn't node()", ['N-below-M', 'N-not-node'])]
+
+# the sentences that refer to others, written out
+WRITTEN_OUT = {
+    3: ['p <= r from p <= q, q <= r', 'f => h from f => g, g => h'],
+    53: ['ancestor-or-self::N = ancestor::N|self::N'],
+    55: ['preceding::N = (ancestor-or-self::node()/preceding-sibling::node())/descendant-or-self::N'],
+}
+REFERRING = {3: 'p <= r from p <= q, q <= r; so for =>', 53: 'so for ancestors', 55: 'so for preceding',
+             22: '(child::T in V) => (descendant::N in V);', 23: 'the same with parent, ancestor. T is node(), or T is `*` and N a name or `*`'}
+
+
+def two_cases(rule, near, far):
+    text = '(%s::%s in V) => (%s::N in V)'
+    return [(rule, claim(text % (near, 'node()', far)), [], []), (rule, claim(text % (near, '*', far)), [], ['N-a-name-or-star'])]
+
+
+def forms_of(rule, text, before):
+    """The forms of a sentence; before is the conclusion of the rule before it."""
+    conditions = []
+    for phrase, names in PHRASES:
+        if phrase in text:
+            text, conditions = text.replace(phrase, ''), names
+    if text.startswith('the same from '):
+        return [(rule, before, [claim(x) for x in text[len('the same from '):].split(',')], conditions)]
+    if '<=' in text or '=>' in text:
+        conclusion, _, premises = text.partition(' from ')
+        return [(rule, claim(conclusion), [claim(x) for x in premises.split(',')] if premises else [], conditions)]
+    left, right = [expression(x) for x in text.split(' = ')]
+    sign = '<=' if is_path(left) and is_path(right) else '=>'
+    return [(rule, (sign, left, right), [], conditions), (rule, (sign, right, left), [], conditions)]
+
+
+def document(path):
+    text = open(path, encoding='utf-8').read().split('## Rules')[1].split('A step is `rule left')[0]
+    body = ' '.join(line[2:].strip() for line in text.split('\n') if line.startswith('- '))
+    starts, at = [], 0
+    for rule in range(1, 59):
+        match = re.compile(r'(?:^|(?<=[.;] ))%d (?=\S)' % rule).search(body, at)
+        if not match:
+            raise SystemExit('01: no rule %d' % rule)
+        starts.append((match.start(), match.end()))
+        at = match.end()
+    starts.append((len(body), 0))
+    forms = []
+    for rule in range(1, 59):
+        sentence = re.sub(r'\.$', '', body[starts[rule - 1][1]:starts[rule][0]].strip())
+        if rule in REFERRING and sentence != REFERRING[rule]:
+            raise SystemExit('01: rule %d reads %r' % (rule, sentence))
+        if rule in (22, 23):
+            forms += two_cases(rule, *(('child', 'descendant') if rule == 22 else ('parent', 'ancestor')))
+            continue
+        parts = WRITTEN_OUT.get(rule, [x.strip() for x in sentence.split(';')])
+        for part in parts:
+            forms += forms_of(rule, part, forms[-1][1] if forms else None)
+    return forms
+
+
+def document_axes(path):
+    text = re.search(r'Axis order: each below itself; (.*?)\. Test order', open(path, encoding='utf-8').read(), re.S).group(1)
+    number = lambda word: int(word) if word.isdigit() else AXES.index(word)
+    pairs = [(a, a) for a in range(len(AXES))]
+    for part in text.split(';'):
+        low, high = part.split(' below ')
+        pairs += [(number(low.strip()), number(x.strip())) for x in high.split(',')]
+    return pairs
+
+
+# 2. specs/Table.antt.
+
+LIBRARY = {'∷': (67, 'r'), '++': (65, 'l')}
+
+
+def fixities(*paths):
+    """The binary operators' precedences and sides; a prefix operator has the side 'p'."""
+    found = dict(LIBRARY)
+    for path in paths:
+        for line in open(path, encoding='utf-8'):
+            match = re.match(r'infix([lr]?) (\d+) (.*)', line)
+            for name in match.group(3).split() if match else []:
+                parts = [x for x in name.split('_') if x]
+                found[parts[0]] = (int(match.group(2)), match.group(1) if name.startswith('_') else 'p')
+    return found
+
+
+class Antt:
+    """A term of Table.antt, read by the operators' precedences."""
+
+    def __init__(self, text, operators):
+        self.words, self.at, self.operators = re.findall(r'[()]|[^\s()]+', text), 0, operators
+
+    def next(self):
+        return self.words[self.at] if self.at < len(self.words) else None
+
+    def take(self):
+        self.at += 1
+        return self.words[self.at - 1]
+
+    def term(self, least):
+        word = self.take()
+        if word == '(':
+            left = self.term(0)
+            self.take()
+        elif self.operators.get(word, (0, ''))[1] == 'p':
+            left = (word, self.term(self.operators[word][0] + 1))
+        elif word == 'some-of':
+            left = (word, self.term(1000))
+        else:
+            left = (word,)
+        while self.next() in self.operators and self.operators[self.next()][0] >= least:
+            sign = self.take()
+            level, side = self.operators[sign]
+            if sign == '⟦':
+                left = (sign, left, self.term(0))
+                self.take()
+            else:
+                left = (sign, left, self.term(level + (0 if side == 'r' else 1)))
+        return left
+
+
+NAMES = {'Void': 'void', 'Root': 'root', 'True': 'true', 'False': 'false', 'Not': 'not', 'And': 'and', 'Or': 'or', 'In': 'in',
+         '¦': 'union', '∕': 'composition', '⟦': 'filter'}
+
+
+def as_term(tree):
+    head = tree[0]
+    if head == '::':
+        axis, test = tree[1][0], tree[2][0]
+        return ('step', AXES.index(axis) if axis in AXES else axis, TESTS.get(test, test))
+    if head == 'some-of':
+        return some(as_term(tree[1]))
+    if len(tree) == 1 and head in LETTERS[:7]:
+        return ('letter', head)
+    return (NAMES[head],) + tuple(as_term(x) for x in tree[1:])
+
+
+def as_claim(tree):
+    return (tree[0], as_term(tree[1]), as_term(tree[2]))
+
+
+def as_list(tree):
+    return [] if tree == ('[]',) else [tree[1]] + as_list(tree[2])
+
+
+def as_forms(rule, tree):
+    head = tree[0]
+    if head == '++':
+        return as_forms(rule, tree[1]) + as_forms(rule, tree[2])
+    if head == 'if':
+        return [(n, c, ps, [x[0] for x in as_list(tree[2])]) for n, c, ps, _ in as_forms(rule, tree[1])]
+    if head == 'from':
+        return [(rule, as_claim(tree[1]), [as_claim(x) for x in as_list(tree[2])], [])]
+    sign = {'≐': '<=', '⇔': '=>'}[head]
+    left, right = as_term(tree[1]), as_term(tree[2])
+    return [(rule, (sign, left, right), [], []), (rule, (sign, right, left), [], [])]
+
+
+def specification(folder):
+    operators = fixities(folder + '/Form.antt', folder + '/Notation.antt')
+    text = open(folder + '/Table.antt', encoding='utf-8').read().split('rules =')[1]
+    forms = []
+    for tree in as_list(Antt(text, operators).term(0)):
+        forms += as_forms(int(tree[1][0]), tree[2])
+    return forms
+
+
+def specification_axes(folder):
+    text = open(folder + '/Order.antt', encoding='utf-8').read().split('axisPairs =')[1].split('[]')[0]
+    return [(AXES.index(a), AXES.index(b)) for a, b in re.findall(r'\(([a-z-]+), ([a-z-]+)\)', text)]
+
+
+# 3. src/tables.rt.
+
+def entries(path, name):
+    text = open(path, encoding='utf-8').read().split('const %s:' % name)[1].split('= [', 1)[1].split('];')[0]
+    return re.sub(r'//.*|_', '', text)
+
+
+def pairs_of(path, name):
+    return [(int(a), int(b)) for a, b in re.findall(r'\[(\d+), (\d+)\]', entries(path, name))]
+
+
+def fours_of(path, name):
+    """Four numbers of three digits in each entry."""
+    return [[word // 1000 ** k % 1000 for k in (3, 2, 1, 0)] for word in map(int, re.findall(r'\d+', entries(path, name)))]
+
+
+def number_of(path, name):
+    return int(re.search(r'const %s: \w+ = (\d+);' % name, open(path, encoding='utf-8').read()).group(1))
+
+
+def constants(path):
+    patterns, forms, premises = [fours_of(path, name) for name in ('PATTERNS', 'FORMS', 'PREMISES')]
+    letter, row = number_of(path, 'FIRST_LETTER'), number_of(path, 'FIRST_ROW')
+
+    def number(code, names):
+        if code < letter:
+            return code
+        if not letter <= code < row or LETTERS[code - letter] not in names:
+            raise SystemExit('tables.rt: %d where %s can stand' % (code, names))
+        return LETTERS[code - letter]
+
+    def term(code):
+        if letter <= code < row:
+            return ('letter', number(code, LETTERS[:7]))
+        kind, a, b, c = patterns[code - row]
+        name = KINDS[kind]
+        if name == 'step':
+            axis, test, called = number(a, LETTERS[7:9]), number(b, ['N', 'M']), number(c, ['name of N', 'name of M'])
+            if called != ('name of ' + test if isinstance(test, str) else 0):
+                raise SystemExit('tables.rt: a test with another name in pattern %d' % code)
+            return (name, axis, test)
+        arity = {'void': 0, 'root': 0, 'true': 0, 'false': 0, 'not': 1}.get(name, 2)
+        if any([a, b, c][arity:]):
+            raise SystemExit('tables.rt: a field too many in pattern %d' % code)
+        return (name,) + tuple(term(x) for x in [a, b, c][:arity])
+
+    def sides(left, right):
+        left, right = term(left), term(right)
+        if is_path(left) != is_path(right):
+            raise SystemExit('tables.rt: two sorts in one claim')
+        return ('<=' if is_path(left) else '=>', left, right)
+
+    def form(numbers, premise):
+        rule, left, right, digits = numbers
+        count = digits % 10
+        if any(premise[2 * count:]):
+            raise SystemExit('tables.rt: a premise too many for rule %d' % rule)
+        return (rule, sides(left, right), [sides(*premise[2 * i:2 * i + 2]) for i in range(count)],
+                [CONDITIONS[x] for x in (digits // 100, digits // 10 % 10) if x])
+
+    if len(forms) != len(premises):
+        raise SystemExit('tables.rt: as many premises as forms are due')
+    return [form(x, y) for x, y in zip(forms, premises)]
+
+
+def compare(what, left, right, found):
+    if left == right:
+        print('%s: %d, the same' % (what, len(found)))
+        return True
+    print('%s: DIFFERENT' % what)
+    for i, (x, y) in enumerate(zip(left, right)):
+        if x != y:
+            print('  first at place %d:\n    %s\n    %s' % (i, x, y))
+            return False
+    print('  %d and %d' % (len(left), len(right)))
+    return False
+
+
+def main():
+    if len(sys.argv) != 2:
+        raise SystemExit(__doc__)
+    specs, tables = 'crates/rules/specs', 'crates/rules/src/tables.rt'
+    forms, pairs = document(sys.argv[1]), document_axes(sys.argv[1])
+    checks = [compare('forms of 01 and of Table.antt', forms, specification(specs), forms),
+              compare('forms of 01 and of tables.rt', forms, constants(tables), forms),
+              compare('axis pairs of 01 and of Order.antt', pairs, specification_axes(specs), pairs),
+              compare('axis pairs of 01 and of tables.rt', pairs, pairs_of(tables, 'AXIS_PAIRS'), pairs)]
+    print('rules %d to %d; written out by hand: 3 for =>, 22, 23, 53, 55, and the phrases of the side conditions' % (forms[0][0], forms[-1][0]))
+    sys.exit(0 if all(checks) else 1)
+
+
+if __name__ == '__main__':
+    main()
