@@ -1,0 +1,24 @@
+-- The contracts that the toolchain reads off the source are the records that demand 3 speaks of. Assumes nothing.
+use mathlib.Core.Path.{_≡_}
+use denote.Ref.{now}
+use Rattle.terms.specs.Row.{row}
+use Rattle.session.specs.Book.{step}
+use Rattle.session.specs.View.{freshSession}
+use Rattle.session.specs.Promises.{TermMet, StepMet, SelectMet}
+use Rattle.session.proofs.Session.new.Reads as new-reads
+use Rattle.session.proofs.Session.term.Reads as term-reads
+use Rattle.session.proofs.Session.step.Reads as step-reads
+use Rattle.session.proofs.Session.select.Reads as select-reads
+
+pub new-tied : (κs : _) (a : _) (r : _) (s : _) → new-reads.Post κs a r s → r ≡ freshSession
+new-tied κs a r s m = m
+
+pub term-tied : (κs : _) (a : _) (r : _) (s : _) → term-reads.Post κs a r s → TermMet (a .0) (row (a .1 .0) (a .1 .1 .0) (a .1 .1 .1 .0) (a .1 .1 .1 .1 .0)) r
+term-tied κs a r s m = m
+
+pub step-tied : (κs : _) (a : _) (r : _) (s : _) → step-reads.Post κs a r s → StepMet (a .0) (step (a .1 .0) (a .1 .1 .0) (a .1 .1 .1 .0) (a .1 .1 .1 .1 .0) (a .1 .1 .1 .1 .1 .0)) r
+step-tied κs a r s m = m
+
+pub select-tied : (κs : _) (a : _) (r : _) (s : _) → select-reads.Post κs a r s →
+    SelectMet (a .0) (a .1 .0) (now (a .1 .1 .0)) (a .1 .1 .1 .0) (a .1 .1 .1 .1 .0) (now (a .1 .1 .1 .1 .1 .0)) r (now (s .1 .1 .1 .1 .1 .0))
+select-tied κs a r s m = m

@@ -1,0 +1,37 @@
+-- From a term call on a session's table to one on the session. Assumes nothing.
+use Prim.Native.Nat.{ℕ, _+_, _*_}
+use mathlib.Core.Path.{_≡_, sym, _∙_}
+use mathlib.Core.List.{List}
+use lib.Seq.{sets}
+use Rattle.terms.specs.Row.{Row}
+use Rattle.session.specs.declared.Session.{Session}
+use Rattle.session.specs.declared.TermAnswer.{TermAnswer}
+use Rattle.session.specs.TermCall.{termAnswer}
+use Rattle.session.specs.View.{rowWidth, rowsHeld, view, rowNumbers, withRow}
+use Rattle.session.specs.Answers.{termAnswerOf}
+use Rattle.session.specs.Promises.{TermMet, TermPlaced}
+use Rattle.session.proofs.Accepted.{if-accepted, if-refused}
+
+module _ (s : Session) (r : Row) (n : ℕ) (count : n ≡ rowsHeld s) (ys : List ℕ) (t : TermAnswer) (m : TermPlaced (s .rows) n r ys t) where
+  judged : termAnswerOf t ≡ termAnswer (view s .rows) r
+  unfolding view
+  judged = m .answer ∙ rw count
+
+  pub term-made-held : termAnswerOf t .number ≡ 0 →
+      TermMet s r (record { answer = t; session = record { rows = ys; «row_count» = n + 1; steps = s .steps; «step_count» = s .«step_count» } })
+  unfolding withRow view
+  term-made-held e =
+      let written : ys ≡ sets (s .rows) (rowWidth * rowsHeld s) (rowNumbers r) = m .numbers ∙ sym (if-accepted _ _ (m .answer) _ _ e) ∙ rw count in
+      record {
+        answer = judged;
+        session = (λ i. record { rows = written i; «row_count» = count i + 1; steps = s .steps; «step_count» = s .«step_count» }) ∙ if-accepted _ _ judged (withRow s r) s e;
+      }
+
+  pub term-made-refused : ¬ (termAnswerOf t .number ≡ 0) →
+      TermMet s r (record { answer = t; session = record { rows = ys; «row_count» = s .«row_count»; steps = s .steps; «step_count» = s .«step_count» } })
+  term-made-refused f =
+      let kept : ys ≡ s .rows = m .numbers ∙ sym (if-refused _ _ (m .answer) _ _ f) in
+      record {
+        answer = judged;
+        session = (λ i. record { rows = kept i; «row_count» = s .«row_count»; steps = s .steps; «step_count» = s .«step_count» }) ∙ if-refused _ _ judged (withRow s r) s f;
+      }

@@ -1,0 +1,43 @@
+-- The plain book of document 01: a list of rows and a list of steps. Assumes nothing.
+use Prim.Native.Nat.{ℕ}
+use mathlib.Core.Bool.{Bool}
+use mathlib.Core.List.{List, []}
+use lib.Dec.{eqb}
+use Rattle.terms.specs.Row.{Row}
+
+pub record Step : Type 0 where
+  pub rule : ℕ
+  pub left : ℕ
+  pub right : ℕ
+  pub first : ℕ
+  pub second : ℕ
+
+abbrev pub step : ℕ → ℕ → ℕ → ℕ → ℕ → Step
+step n l r i j = record { rule = n; left = l; right = r; first = i; second = j }
+
+abbrev pub noStep : Step
+noStep = step 0 0 0 0 0
+
+abbrev pub maxSteps : ℕ
+maxSteps = 2048
+
+pub record Book : Type 0 where
+  pub rows : List Row
+  pub steps : List Step
+
+abbrev pub book : List Row → List Step → Book
+book rs ps = record { rows = rs; steps = ps }
+
+abbrev pub emptyBook : Book
+emptyBook = book [] []
+
+-- an answer is a number and a value; 0 is acceptance
+pub record Answer : Type 0 where
+  pub number : ℕ
+  pub value : ℕ
+
+abbrev pub answer : ℕ → ℕ → Answer
+answer n v = record { number = n; value = v }
+
+abbrev pub accepted : Answer → Bool
+accepted t = eqb (t .number) 0
