@@ -9,13 +9,11 @@ use lib.Dec.{leb, ltb}
 use lib.ListN.{length}
 use borrow.Author.Tests.{lt-ltb, le-ltb, le-leb, lt-leb, leb-true, leb-false}
 use Rattle.xpath.specs.Document.{maxNodes, documentOf, documentRefusal}
-use Rattle.xpath.specs.Meaning.{selects}
 use Rattle.xpath.specs.Visits.{visits}
 use Rattle.xpath.proofs.Refusal.{accepted-iff}
 use Rattle.terms.specs.Row.{Row}
 use Rattle.terms.specs.Fields.{heldPath}
 use Rattle.terms.specs.Decode.{pathAt}
-use Rattle.selection.specs.Marks.{written}
 use Rattle.selection.specs.Evaluation.{Outcome, outcome, selected, no-room, limit-passed, pathEvaluated, evaluated}
 use Rattle.selection.specs.Evaluation as evaluation
 use Rattle.session.specs.declared.SelectAnswer.{SelectAnswer}

@@ -1,0 +1,125 @@
+// Each limit of a session, met and then passed by one. Prints what the calls answer, `NUMBER VALUE` a line, in pairs: the last call
+// within the limit, and the one beyond it.
+use session::Session;
+ghost use mathlib.Core.Path.{_≡_};
+ghost use lib.ListN.{length};
+
+const ROOT: u16 = 1;
+
+const STEP: u16 = 2;
+
+const COMPOSITION: u16 = 4;
+
+const TRUE: u16 = 6;
+
+const NOT: u16 = 8;
+
+const DESCENDANT: u16 = 3;
+
+const NODE: u16 = 2;
+
+// p <= p
+const REFLEXIVE: u16 = 2;
+
+fn print(number: u16, value: u32) {
+    io::print_decimal(1, number as u64);
+    io::write_all(1, b" ");
+    io::print_decimal(1, value as u64);
+    io::write_all(1, b"\n");
+}
+
+// Nesting 32 and 33: true, and each row `not` of the one before.
+fn nesting() {
+    let first = Session::new().term(TRUE, 0, 0, 0);
+    let mut s = first.session;
+    let mut i: u16 = 0;
+    while i < 32 {
+        let next = s.term(NOT, i, 0, 0);
+        let answer = next.answer;
+        if 30 <= i {
+            print(answer.number(), answer.value());
+        }
+        let after = next.session;
+        s = after;
+        i += 1;
+    }
+}
+
+// 1,024 rows and one more: steps child::NAME.
+fn rows() {
+    let mut s = Session::new();
+    let mut i: u16 = 0;
+    while i < 1025 {
+        let next = s.term(STEP, 1, 0, i + 1);
+        let answer = next.answer;
+        if 1023 <= i {
+            print(answer.number(), answer.value());
+        }
+        let after = next.session;
+        s = after;
+        i += 1;
+    }
+}
+
+// 2,048 steps and one more, of the same rule on the same row.
+fn steps() {
+    let first = Session::new().term(ROOT, 0, 0, 0);
+    let mut s = first.session;
+    let mut i: u16 = 0;
+    while i < 2049 {
+        let next = s.step(REFLEXIVE, 0, 0, 0, 0);
+        let answer = next.answer;
+        if 2047 <= i {
+            print(answer.number(), answer.value());
+        }
+        let after = next.session;
+        s = after;
+        i += 1;
+    }
+}
+
+// The root, and texts under it: the first n rows of it are a document of n nodes.
+fn texts() -> [u16; 1539]
+    ensures { λ r. ⌜ 1539 ≡ length r ⌝ }
+{
+    let mut d = [0u16; 1539];
+    let mut i: usize = 3;
+    while i < 1539 {
+        d[i] = 2;
+        i += 3;
+    }
+    d
+}
+
+// 512 nodes and 513.
+fn nodes() {
+    let made = Session::new().term(ROOT, 0, 0, 0);
+    let s = made.session;
+    let d = texts();
+    let mut marks = [7u8; 600];
+    let most = s.select(0, &d[..1536], 0, 1, &mut marks);
+    print(most.number(), most.value());
+    let more = s.select(0, &d, 0, 1, &mut marks);
+    print(more.number(), more.value());
+}
+
+// descendant::node()/descendant::node() from the root of a document of 511 texts makes 513 visits: the limit met, and one too few.
+fn visits() {
+    let path = Session::new().term(STEP, DESCENDANT, NODE, 0);
+    let made = path.session.term(COMPOSITION, 0, 0, 0);
+    let s = made.session;
+    let d = texts();
+    let mut marks = [7u8; 600];
+    let met = s.select(1, &d[..1536], 0, 513, &mut marks);
+    print(met.number(), met.value());
+    let passed = s.select(1, &d[..1536], 0, 512, &mut marks);
+    print(passed.number(), passed.value());
+}
+
+fn main() {
+    nesting();
+    rows();
+    steps();
+    nodes();
+    visits();
+}

@@ -1,0 +1,280 @@
+/* Measures the archive's read against the reference's on one bundle, and its select against libxml2's XPath with compiled
+ * expressions on a document nested 500 levels and on a flat one. Prints tables in Markdown. run.sh builds and runs it. */
+
+#include "archive.h"
+#include <libxml/tree.h>
+#include <libxml/xpath.h>
+#include <stdio.h>
+#include <stdlib.h>
+#include <string.h>
+#include <time.h>
+
+/* tools/reference/src/c.rs */
+uint16_t reference_read(const uint8_t *bytes, size_t length);
+void *reference_book(const uint16_t *rows, size_t count);
+uint16_t reference_select(const void *book, uint16_t row, const uint16_t *document, size_t nodes, uint16_t context,
+                          uint32_t limit, uint8_t *marks);
+
+enum { NODES = 512, DEPTH = 500, SAMPLES = 101, MOST_ROWS = 8 };
+static const double SAMPLE_SECONDS = 0.0002;
+
+static void check(bool ok, const char *what) {
+    if (ok) return;
+    fprintf(stderr, "bench: %s\n", what);
+    exit(1);
+}
+
+/* Time */
+
+typedef void Call(const void *);
+
+static double now(void) {
+    struct timespec t;
+    clock_gettime(CLOCK_MONOTONIC, &t);
+    return (double)t.tv_sec + (double)t.tv_nsec * 1e-9;
+}
+
+/* Seconds for one of n calls. */
+static double sample(Call *call, const void *of, long n) {
+    double start = now();
+    for (long i = 0; i < n; i++) call(of);
+    return (now() - start) / (double)n;
+}
+
+static int by_size(const void *x, const void *y) {
+    double a = *(const double *)x, b = *(const double *)y;
+    return (a > b) - (a < b);
+}
+
+typedef struct {
+    Call *call;
+    long n;
+    double samples[SAMPLES];
+} Timing;
+
+/* Times both in turns, so that what else the machine does falls on both alike. Samples are sorted. */
+static void measure(Timing *sides, int count, const void *of) {
+    for (int i = 0; i < count; i++)
+        for (sides[i].n = 1; sample(sides[i].call, of, sides[i].n) * (double)sides[i].n < SAMPLE_SECONDS;) sides[i].n *= 2;
+    for (int s = 0; s < SAMPLES; s++)
+        for (int i = 0; i < count; i++) sides[i].samples[s] = sample(sides[i].call, of, sides[i].n);
+    for (int i = 0; i < count; i++) qsort(sides[i].samples, SAMPLES, sizeof(double), by_size);
+}
+
+/* min and median of both sides in microseconds, and the ratio ours / theirs of each; dashes without ours. */
+static void print_timings(const Timing *theirs, const Timing *ours) {
+    double min = theirs->samples[0] * 1e6, median = theirs->samples[SAMPLES / 2] * 1e6;
+    printf(" %.2f | %.2f |", min, median);
+    if (!ours) {
+        printf(" - | - | - | - |\n");
+        return;
+    }
+    double our_min = ours->samples[0] * 1e6, our_median = ours->samples[SAMPLES / 2] * 1e6;
+    printf(" %.2f | %.2f | %.2f | %.2f |\n", our_min, our_median, our_min / min, our_median / median);
+}
+
+/* The text, with the mark that would end a table's cell escaped. */
+static void print_cell(const char *text) {
+    for (; *text; text++) printf(*text == '|' ? "\\|" : "%c", *text);
+}
+
+/* read */
+
+typedef struct {
+    uint8_t *bytes;
+    size_t length;
+} Bundle;
+
+static void run_reference_read(const void *of) {
+    const Bundle *bundle = of;
+    check(reference_read(bundle->bytes, bundle->length) == 0, "the reference refuses the bundle");
+}
+
+static void run_archive_read(const void *of) {
+    const Bundle *bundle = of;
+    check(archive_read(bundle->bytes, bundle->length) == 0, "the archive refuses the bundle");
+}
+
+static void bench_read(const char *file) {
+    static uint8_t bytes[1 << 20];
+    FILE *in = fopen(file, "rb");
+    check(in != NULL, "no bundle");
+    Bundle bundle = {bytes, fread(bytes, 1, sizeof bytes, in)};
+    fclose(in);
+    bool has_archive = archive_read(bytes, bundle.length) != ABSENT;
+    Timing sides[2] = {{.call = run_reference_read}, {.call = run_archive_read}};
+    measure(sides, has_archive ? 2 : 1, &bundle);
+    printf("Reading a full bundle, %zu bytes, in microseconds:\n\n", bundle.length);
+    printf("| | reference min | median | archive min | median | ratio of min | of median |\n|---|---|---|---|---|---|---|\n");
+    printf("| read |");
+    print_timings(&sides[0], has_archive ? &sides[1] : NULL);
+}
+
+/* Documents */
+
+typedef struct {
+    const char *name;
+    uint16_t rows[NODES][3];
+    xmlDocPtr tree;
+    xmlNodePtr nodes[NODES];
+} Document;
+
+static const char *const NAMES[] = {"", "e1", "e2", "e3"};
+
+static void put(Document *d, int n, int kind, int parent, int name) {
+    d->rows[n][0] = (uint16_t)kind;
+    d->rows[n][1] = (uint16_t)parent;
+    d->rows[n][2] = (uint16_t)name;
+}
+
+/* A row of any kind, the kinds and names in turn. */
+static void put_any(Document *d, int n, int parent) {
+    static const int kinds[] = {1, 1, 2, 1, 3, 1, 4}, names[] = {1, 2, 0, 3, 0, 1, 0};
+    put(d, n, kinds[n % 7], parent, names[n % 7]);
+}
+
+/* DEPTH elements one in the other, and the other rows at the ends of some of them. */
+static void make_nested(Document *d) {
+    d->name = "nested";
+    for (int n = 1; n <= DEPTH; n++) put(d, n, 1, n - 1, n % 50 == 0 ? 3 : 1 + n % 2);
+    for (int n = DEPTH + 1; n < NODES; n++) put_any(d, n, DEPTH - 1 - 49 * (n - DEPTH - 1));
+}
+
+/* One element with all other rows for its children. */
+static void make_flat(Document *d) {
+    d->name = "flat";
+    put(d, 1, 1, 0, 1);
+    for (int n = 2; n < NODES; n++) put_any(d, n, 1);
+}
+
+static xmlNodePtr new_node(xmlDocPtr tree, const uint16_t *row) {
+    switch (row[0]) {
+    case 1: return xmlNewDocNode(tree, NULL, (const xmlChar *)NAMES[row[2]], NULL);
+    case 2: return xmlNewDocText(tree, (const xmlChar *)"t");
+    case 3: return xmlNewDocComment(tree, (const xmlChar *)"c");
+    default: return xmlNewDocPI(tree, (const xmlChar *)"i", NULL);
+    }
+}
+
+/* The same document as libxml2's tree. A node's number is kept in _private. */
+static void make_tree(Document *d) {
+    d->tree = xmlNewDoc((const xmlChar *)"1.0");
+    d->nodes[0] = (xmlNodePtr)d->tree;
+    for (long n = 1; n < NODES; n++) {
+        d->nodes[n] = xmlAddChild(d->nodes[d->rows[n][1]], new_node(d->tree, d->rows[n]));
+        check(d->nodes[n] != NULL, "no node");
+    }
+    for (long n = 0; n < NODES; n++) d->nodes[n]->_private = (void *)n;
+    xmlXPathOrderDocElems(d->tree);
+}
+
+/* select */
+
+typedef struct {
+    const char *xpath;
+    uint16_t nested, flat; /* the context node in each document */
+    uint16_t rows[MOST_ROWS][4];
+    int count; /* the last of these rows is the path */
+} Selector;
+
+static const Selector SELECTORS[] = {
+    {"self::node()", 250, 256, {{2, 0, 2, 0}}, 1},
+    {"child::node()", 1, 1, {{2, 1, 2, 0}}, 1},
+    {"parent::*", 500, 511, {{2, 2, 1, 0}}, 1},
+    {"descendant::e1", 0, 0, {{2, 3, 0, 1}}, 1},
+    {"ancestor::*", 500, 511, {{2, 4, 1, 0}}, 1},
+    {"descendant-or-self::node()", 0, 0, {{2, 5, 2, 0}}, 1},
+    {"ancestor-or-self::e2", 500, 511, {{2, 6, 0, 2}}, 1},
+    {"following-sibling::node()", 10, 2, {{2, 7, 2, 0}}, 1},
+    {"preceding-sibling::*", 511, 511, {{2, 8, 1, 0}}, 1},
+    {"following::e1", 250, 256, {{2, 9, 0, 1}}, 1},
+    {"preceding::node()", 511, 511, {{2, 10, 2, 0}}, 1},
+    {"/descendant::text()", 511, 511, {{1, 0, 0, 0}, {2, 3, 3, 0}, {4, 0, 1, 0}}, 3},
+    {"descendant::e1/child::e2", 0, 0, {{2, 3, 0, 1}, {2, 1, 0, 2}, {4, 0, 1, 0}}, 3},
+    {"descendant::e1 | descendant::comment()", 0, 0, {{2, 3, 0, 1}, {2, 3, 4, 0}, {3, 0, 1, 0}}, 3},
+    {"descendant::*[child::text()]", 0, 0,
+     {{2, 3, 1, 0}, {2, 1, 3, 0}, {0, 0, 0, 0}, {11, 1, 2, 0}, {8, 3, 0, 0}, {5, 0, 4, 0}}, 6},
+    {"descendant::e3/preceding::e2", 0, 0, {{2, 3, 0, 3}, {2, 10, 0, 2}, {4, 0, 1, 0}}, 3},
+    {"descendant::e3/following::node()", 0, 0, {{2, 3, 0, 3}, {2, 9, 2, 0}, {4, 0, 1, 0}}, 3},
+};
+
+typedef struct {
+    const Selector *selector;
+    const Document *document;
+    uint16_t context;
+    xmlXPathCompExprPtr expression;
+    xmlXPathContextPtr evaluation;
+} Selection;
+
+static const uint32_t LIMIT = UINT32_MAX;
+
+static int our_select(const Selection *s, uint8_t *marks) {
+    uint16_t row = (uint16_t)(s->selector->count - 1);
+    return archive_select(s->selector->rows[0], (size_t)s->selector->count, row, s->document->rows[0], NODES, s->context,
+                          LIMIT, marks);
+}
+
+static void run_archive_select(const void *of) {
+    uint8_t marks[NODES];
+    check(our_select(of, marks) == 0, "the archive refuses a selection");
+}
+
+static xmlXPathObjectPtr evaluate(const Selection *s) {
+    s->evaluation->node = s->document->nodes[s->context];
+    xmlXPathObjectPtr result = xmlXPathCompiledEval(s->expression, s->evaluation);
+    check(result && result->type == XPATH_NODESET, "libxml2 gives no node set");
+    return result;
+}
+
+static void run_libxml2(const void *of) { xmlXPathFreeObject(evaluate(of)); }
+
+/* Sees that libxml2, the reference and the archive, if it selects, mark the same nodes; how many. */
+static int compare_marks(const Selection *s, bool has_archive) {
+    uint8_t theirs[NODES] = {0}, plain[NODES], ours[NODES];
+    xmlXPathObjectPtr result = evaluate(s);
+    int selected = result->nodesetval ? result->nodesetval->nodeNr : 0;
+    for (int i = 0; i < selected; i++) theirs[(long)result->nodesetval->nodeTab[i]->_private] = 1;
+    xmlXPathFreeObject(result);
+    void *book = reference_book(s->selector->rows[0], (size_t)s->selector->count);
+    uint16_t row = (uint16_t)(s->selector->count - 1);
+    check(reference_select(book, row, s->document->rows[0], NODES, s->context, LIMIT, plain) == 0, "a selection is refused");
+    check(memcmp(plain, theirs, NODES) == 0, s->selector->xpath);
+    check(!has_archive || (our_select(s, ours) == 0 && memcmp(ours, theirs, NODES) == 0), s->selector->xpath);
+    return selected;
+}
+
+static void bench_select(Document *d) {
+    xmlXPathContextPtr evaluation = xmlXPathNewContext(d->tree);
+    for (size_t i = 0; i < sizeof SELECTORS / sizeof SELECTORS[0]; i++) {
+        const Selector *selector = &SELECTORS[i];
+        uint16_t context = strcmp(d->name, "nested") == 0 ? selector->nested : selector->flat;
+        Selection s = {selector, d, context, xmlXPathCompile((const xmlChar *)selector->xpath), evaluation};
+        uint8_t marks[NODES];
+        bool has_archive = our_select(&s, marks) != ABSENT;
+        int selected = compare_marks(&s, has_archive);
+        Timing sides[2] = {{.call = run_libxml2}, {.call = run_archive_select}};
+        measure(sides, has_archive ? 2 : 1, &s);
+        printf("| %s | ", d->name);
+        print_cell(selector->xpath);
+        printf(" from %d | %d |", context, selected);
+        print_timings(&sides[0], has_archive ? &sides[1] : NULL);
+        xmlXPathFreeCompExpr(s.expression);
+    }
+    xmlXPathFreeContext(evaluation);
+}
+
+int main(int argc, char **argv) {
+    check(argc == 2, "usage: bench BUNDLE");
+    bench_read(argv[1]);
+    static Document documents[2];
+    make_nested(&documents[0]);
+    make_flat(&documents[1]);
+    printf("\nSelecting on documents of %d nodes, in microseconds:\n\n", NODES);
+    printf("| document | selector | nodes | libxml2 min | median | archive min | median | ratio of min | of median |\n");
+    printf("|---|---|---|---|---|---|---|---|---|\n");
+    for (int i = 0; i < 2; i++) {
+        make_tree(&documents[i]);
+        bench_select(&documents[i]);
+    }
+    return 0;
+}

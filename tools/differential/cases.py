@@ -1,0 +1,440 @@
+"""Random inputs for the programs replay and audit: derivations that are yielded, near misses, refused calls in between,
+documents and selects, full tables, and damaged text.
+
+    python3 cases.py full-bundle SEED     prints a bundle of 1,024 rows and 2,048 steps
+"""
+
+import random
+import re
+import sys
+from collections import namedtuple
+
+from rules import (AXES, AXIS_LETTERS, DEEPEST, FORMS, KINDS, MOST_ROWS, MOST_STEPS, PATH_LETTERS, ROOT, TEST_LETTERS, VOID,
+                   Book, Term, below, condition, fill, inclusion, looser_forms, match, match_both, step)
+
+MOST_BYTES, MOST_NODES, MOST_NUMBERS, MOST_MARKS, MOST_LIMIT = 65536, 512, 1539, 1024, 4294967295
+NAMES = [1, 2, 3, 65535]
+EDGES = [0, 1, 2, 3, 5, 6, 10, 11, 12, 31, 32, 33, 58, 59, 511, 512, 513, 1023, 1024, 1025, 2047, 2048, 2049, 65534, 65535]
+FORMS_WITH_PREMISES = [form for form in FORMS if form[2]]
+CONDITIONED = (8, 10, 22, 23, 26)
+# Rule 8 has most pairs to decide.
+FORMS_WITH_CONDITIONS = [form for form in FORMS for _ in range(5 if form[0] == 8 else 1) if form[0] in CONDITIONED]
+LOOSER_FORMS = [looser for form in FORMS for looser in looser_forms(form)]
+OTHER_KIND = {"union": "composition", "composition": "union", "and": "or", "or": "and"}
+ODD_LINES = [b"", b"fresh", b"document", b"document ", b"document" + b" 0" * MOST_NUMBERS,
+             b"document" + b" 0" * (MOST_NUMBERS + 1), b"select 0 0 0 1024", b"select 0 0 0 1025", b"select 0 0 4294967295 0",
+             b"select 0 0 4294967296 0", b"kind a b c", b"rule left right first second", b"term 65535 65536 0 0",
+             b"step 1 0 0 0 0 0", b"Term 0 0 0 0"]
+# A visit takes up to as many tests as the square of the nodes. A select that may need more tests gets a smaller limit.
+MANY_TESTS, FEW_VISITS = 10**8, 1000
+
+# accepted: for each printed line whether its call is accepted, None where the generator doesn't say; or None for all.
+Case = namedtuple("Case", "program input accepted")
+
+
+class Session:
+    """A list of random calls, as replay's lines, with the book that they lead to."""
+
+    def __init__(self, rng):
+        self.rng, self.book, self.nodes = rng, Book(), 0
+        self.calls = []  # (word, numbers, whether it is accepted)
+
+    # Random terms
+
+    def test(self):
+        test = self.rng.choice([0, 0, 1, 1, 2, 2, 2, 2, 3, 4, 5])
+        return (test, self.rng.choice(NAMES) if test == 0 else 0)
+
+    def path(self, depth):
+        rng = self.rng
+        if depth == 0 or rng.random() < 0.4:
+            return rng.choice([step(rng.randrange(len(AXES)), self.test())] * 6 + [VOID, ROOT])
+        left, kind = self.path(depth - 1), rng.choice(["union", "composition", "filter"])
+        return Term(kind, left, self.qualifier(depth - 1) if kind == "filter" else self.path(depth - 1))
+
+    def qualifier(self, depth):
+        rng = self.rng
+        if depth == 0 or rng.random() < 0.2:
+            return Term(rng.choice(["true", "false"]))
+        kind = rng.choice(["not", "and", "or", "in"])
+        if kind == "not":
+            return ~self.qualifier(depth - 1)
+        if kind == "in":
+            return inclusion(self.path(depth - 1), self.path(depth - 1))
+        return Term(kind, self.qualifier(depth - 1), self.qualifier(depth - 1))
+
+    def any_term(self, path):
+        """A held term of this sort, or a new one."""
+        for _ in range(8):
+            if self.book.terms and self.rng.random() < 0.8:
+                term = self.rng.choice(self.book.terms)
+                if term.is_path() == path and self.book.nestings[self.book.number_of_term[term]] < 20:
+                    return term
+        return self.path(2) if path else self.qualifier(2)
+
+    def altered(self, term):
+        """The term with a change somewhere in it."""
+        rng, args = self.rng, list(term.args)
+        if term.kind == "step":
+            place = rng.randrange(2)
+            args[place] = [rng.randrange(len(AXES)), self.test()][place]
+            return step(*args)
+        if args and rng.random() < 0.7:
+            place = rng.randrange(len(args))
+            args[place] = self.altered(args[place])
+            return Term(term.kind, *args)
+        if term.kind in OTHER_KIND and rng.random() < 0.6:
+            return rng.choice([Term(OTHER_KIND[term.kind], *args), Term(term.kind, *reversed(args))])
+        return self.any_term(term.is_path())
+
+    # Calls
+
+    def call(self, word, numbers, accepted=None):
+        self.calls.append((word, " ".join(map(str, numbers)), accepted))
+        return accepted
+
+    def term(self, row):
+        return self.call("term", row, self.book.term(row))
+
+    def step(self, numbers):
+        return self.call("step", numbers, self.book.step(numbers))
+
+    def hold(self, term):
+        """The term's row, after the calls that it takes; nothing if they are refused."""
+        number_of = self.book.number_of_term
+        if term not in number_of:
+            if term.kind == "step":
+                row = (2, term.args[0], *term.args[1])
+            else:
+                operands = [self.hold(x) for x in term.args]
+                if None in operands:
+                    return None
+                row = (KINDS.index(term.kind), *operands, 0, 0, 0)[:4]
+            self.term(row)
+        return number_of.get(term)
+
+    def say(self, rule, said, premises=()):
+        """The step call for these two terms; whether it is accepted."""
+        rows = [self.hold(term) for term in said]
+        return None not in rows and self.step((rule, *rows, *premises, 0, 0)[:5])
+
+    # Derivations
+
+    def choose(self, letters):
+        """A choice for each letter, the same one for the same letter."""
+        def choice(letter):
+            if letter not in letters:
+                if letter in AXIS_LETTERS:
+                    letters[letter] = self.rng.randrange(len(AXES))
+                elif letter in TEST_LETTERS:
+                    letters[letter] = self.test()
+                else:
+                    letters[letter] = self.any_term(letter in PATH_LETTERS)
+            return letters[letter]
+        return choice
+
+    def axiom(self, statement, letters):
+        """Makes a step by a rule without premises that says an instance of the statement; its number."""
+        for _ in range(40):
+            rule, conclusion, premises = self.rng.choice(FORMS if self.rng.random() < 0.6 else FORMS[:3])
+            if premises:
+                continue
+            near = self.rng.randrange(2)
+            trial, others = dict(letters), {}
+            said = [None, None]
+            said[near] = fill(statement[near], self.choose(trial))
+            if match(conclusion[near], said[near], others):
+                said[1 - near] = fill(conclusion[1 - near], self.choose(others))
+                if condition(rule, others) and match(statement[1 - near], said[1 - near], trial):
+                    letters.update(trial)
+                    return len(self.book.steps) if self.say(rule, said) else None
+        return None
+
+    def premise(self, statement, letters):
+        """The number of a step that says an instance of the statement: a held one, or a new one."""
+        steps = self.book.steps
+        if self.rng.random() < 0.7:
+            for place in self.rng.sample(range(len(steps)), min(40, len(steps))):
+                trial = dict(letters)
+                if match_both(statement, self.book.says(steps[place]), trial):
+                    letters.update(trial)
+                    return place + 1
+        return self.axiom(statement, letters)
+
+    def derive(self, near_misses=0.35):
+        """A step by a random form of a rule, or nearly one."""
+        rng = self.rng
+        letters, part, new = {}, None, None
+        if rng.random() >= near_misses:
+            form = rng.choice(FORMS if rng.random() < 0.6 else FORMS_WITH_PREMISES)
+            self.choose_axes_and_tests(form[0], letters, condition)
+        elif rng.random() < 0.8:
+            part, new, form = rng.choice(LOOSER_FORMS)
+            self.choose_axes_and_tests(form[0], letters, condition)
+        else:
+            form = rng.choice(FORMS_WITH_CONDITIONS)
+            self.choose_axes_and_tests(form[0], letters, lambda *_: True)
+        rule, conclusion, premises = form
+        if isinstance(part, Term) and rng.random() < 0.5:
+            letters[new] = self.altered(fill(part, self.choose(letters)))
+        numbers = [self.premise(statement, letters) for statement in premises]
+        said = [fill(side, self.choose(letters)) for side in conclusion]
+        if None not in numbers and rng.random() >= near_misses / 4:
+            self.say(rule, said, numbers)
+        else:
+            self.altered_step((rule, *map(self.hold, said), *numbers, 0, 0)[:5])
+
+    def choose_axes_and_tests(self, rule, letters, wanted):
+        """For a rule with a condition, chooses axes and tests as wanted; for rule 10 so that rule 8 yields its first premise."""
+        rng = self.rng
+        while rule in CONDITIONED:
+            letters.update({x: rng.randrange(len(AXES)) for x in "ab"}, **{x: self.test() for x in "NMT"})
+            same = rng.choice(["axis", "test", None])
+            if same == "axis":
+                letters["b"] = letters["a"]
+            elif same == "test":
+                letters["M"] = letters["N"]
+            if wanted(rule, letters) and (rule != 10 or below(letters)):
+                break
+
+    def altered_step(self, numbers):
+        """The step call with one or two numbers changed."""
+        numbers = [n or 0 for n in numbers]
+        for _ in range(self.rng.choice([1, 1, 2])):
+            place = self.rng.randrange(5)
+            held = len(self.book.rows) if place in (1, 2) else 58 if place == 0 else len(self.book.steps)
+            numbers[place] = self.rng.choice([self.rng.randrange(held + 2), self.rng.choice(EDGES), numbers[place] ^ 1])
+        if self.rng.random() < 0.2:
+            place = self.rng.choice([1, 3])
+            numbers[place], numbers[place + 1] = numbers[place + 1], numbers[place]
+        self.step(tuple(min(n, 65535) for n in numbers))
+
+    def altered_term(self):
+        """A term call with numbers at random places changed."""
+        rng, held = self.rng, len(self.book.rows)
+        row = list(rng.choice(self.book.rows)) if held and rng.random() < 0.7 else [rng.randrange(13), 0, 0, 0]
+        for _ in range(rng.choice([0, 1, 1, 2, 3])):
+            place = rng.randrange(4)
+            row[place] = rng.choice([row[place] ^ 1, rng.choice(EDGES), rng.randrange(held + 2), rng.randrange(13)])
+        self.term(tuple(row))
+
+    def deep_term(self):
+        """Terms nested one in the other until they are refused."""
+        rng = self.rng
+        number = self.hold(self.any_term(rng.random() < 0.5))
+        while number is not None:
+            path = self.book.terms[number].is_path()
+            kind = rng.choice([3, 4, 11] if path else [8, 9, 10])
+            row = (kind, number, 0 if kind == 8 else number, 0)
+            is_last = self.book.nestings[number] == DEEPEST
+            self.term(row)
+            number = None if is_last else self.book.number_of_row.get(row)
+
+    # Documents and selects
+
+    def document(self, damage=0.3):
+        rng = self.rng
+        most = MOST_NODES + rng.choice([-1, 0, 1])
+        nodes = rng.choice([1, 20, 40, 100, most]) if rng.random() < 0.15 else rng.randint(2, 16)
+        numbers = document(rng, nodes)
+        if rng.random() < damage:
+            row = rng.randrange(len(numbers) // 3)
+            place, choices = rng.choice([(0, range(7)), (1, range(row + 2)), (1, range(row + 2)), (2, range(2)), (2, EDGES)])
+            numbers[3 * row + place] = rng.choice(choices)
+            if rng.random() < 0.3:
+                numbers = numbers[:rng.randrange(len(numbers) + 1)]
+        self.nodes = (len(numbers) + 2) // 3
+        self.call("document", numbers)
+
+    def select(self):
+        rng, terms = self.rng, self.book.terms
+        paths = [number for number, term in enumerate(terms) if term.is_path()]
+        row = rng.choice(paths) if paths and rng.random() < 0.9 else rng.choice([rng.randrange(len(terms) + 2), *EDGES])
+        context = rng.randrange(self.nodes) if self.nodes and rng.random() < 0.9 else rng.choice([self.nodes, *EDGES])
+        marks = self.nodes + rng.choice([0, 0, 0, 1, 5, -1]) if rng.random() < 0.9 else rng.choice(EDGES)
+        limit = rng.choice([rng.randrange(10), rng.randrange(10), rng.randrange(100), rng.randrange(many_visits(self.nodes))])
+        if row >= len(terms) or is_quick(terms[row], self.nodes):
+            limit = rng.choice([limit, MOST_LIMIT, MOST_LIMIT - 1])
+        self.call("select", (row, context, limit, min(max(marks, 0), MOST_MARKS)))
+
+    def random_call(self):
+        n = self.rng.random()
+        if n < 0.5:
+            self.derive()
+        elif n < 0.6:
+            self.altered_term()
+        elif n < 0.65 and self.book.steps:
+            self.altered_step(self.rng.choice(self.book.steps))
+        elif n < 0.7:
+            self.document()
+        elif n < 0.98:
+            self.select()
+        else:
+            self.deep_term()
+
+    def fill_tables(self):
+        """Rows and steps until the tables are full, and a few calls more."""
+        name = 1000
+        while len(self.book.rows) < MOST_ROWS:
+            name += 1
+            self.term((2, self.rng.randrange(11), 0, name))
+        by_rule = {2: [(2, 0, 0, 0, 0)]}
+        for held in self.book.steps:
+            by_rule.setdefault(held[0], []).append(held)
+        while len(self.book.steps) < MOST_STEPS:
+            self.step(self.rng.choice(by_rule[self.rng.choice(list(by_rule))]))
+        for _ in range(4):
+            self.altered_term()
+            self.altered_step(self.book.steps[-1])
+            self.term((2, 0, 0, self.rng.randrange(2000, 3000)))
+            self.step(self.book.steps[-1])
+
+    def text(self):
+        return text_of(f"{word} {numbers}" if numbers else word for word, numbers, _ in self.calls)
+
+    def accepted(self):
+        """For each line that replay prints, whether the call is accepted, where the book says so."""
+        return [accepted for word, _, accepted in self.calls if word != "document"]
+
+    def bundle(self, refused=False):
+        """The accepted term and step calls as a bundle, with one of the refused ones in its place if so asked."""
+        places = [place for place, (_, _, accepted) in enumerate(self.calls) if accepted is False]
+        kept = self.rng.choice(places) if refused and places else None
+        calls = [call for place, call in enumerate(self.calls) if call[2] or place == kept]
+        terms, steps = ([numbers for word, numbers, _ in calls if word == wanted] for wanted in ("term", "step"))
+        return text_of(["kind a b c", *terms, "rule left right first second", *steps])
+
+
+def text_of(lines):
+    return "".join(line + "\n" for line in lines).encode()
+
+
+def document(rng, nodes):
+    """The numbers of a document with this many nodes."""
+    rows = [(0, 0, 0)]
+    deep = rng.random()
+    while len(rows) < nodes:
+        parent = len(rows) - 1
+        while parent and (rows[parent][0] != 1 or rng.random() > deep):
+            parent = rows[parent][1]
+        kind = rng.choice([1, 1, 1, 1, 2, 3, 4])
+        rows.append((kind, parent, rng.choice(NAMES) if kind == 1 else 0))
+    return [number for row in rows for number in row]
+
+
+def many_visits(nodes):
+    return FEW_VISITS + MANY_TESTS // (nodes + 1)**2
+
+
+def is_quick(term, nodes):
+    """Whether the term needs few enough visits on any document with so many nodes."""
+    return visits_at_most(term, nodes, {}) < many_visits(nodes)
+
+
+def visits_at_most(term, nodes, known):
+    if term not in known:
+        first, *rest = [visits_at_most(x, nodes, known) for x in term.args if isinstance(x, Term)] or [0]
+        known[term] = 1 + first + sum(rest) * (nodes if term.kind in ("composition", "filter") else 1)
+    return known[term]
+
+
+def damaged(rng, text):
+    """The text with a few bytes or lines changed."""
+    text = bytearray(text)
+    for _ in range(rng.choice([1, 1, 1, 2, 4])):
+        place = rng.randrange(len(text) + 1)
+        byte = rng.choice(b"0123456789012345678901234567899   \n\n\r\t-+.adkrst\0\xff")
+        change = rng.randrange(9)
+        if change == 0:
+            text[place:place + 1] = [byte]
+        elif change == 1:
+            text[place:place] = [byte]
+        elif change == 2:
+            del text[place:place + rng.choice([1, 1, 2, 5])]
+        elif change == 3:
+            del text[place:]
+        else:
+            lines = bytes(text).split(b"\n")
+            place = rng.randrange(len(lines))
+            words = lines[place].split(b" ")
+            if change == 4:
+                words[rng.randrange(len(words))] = rng.choice([b"65535", b"65536", b"00", b"01", b"", b"4294967296", b"0"])
+                lines[place] = b" ".join(words)
+            elif change == 5:
+                lines[place] = rng.choice([lines[place] + b" 0", b" ".join(words[:-1]), lines[place] + b" ", b""])
+            elif change == 6:
+                del lines[place]
+            elif change == 7:
+                lines.insert(rng.randrange(len(lines)), rng.choice(ODD_LINES))
+            else:
+                lines.insert(rng.randrange(len(lines) + 1), lines[place])
+            text = bytearray(b"\n".join(lines))
+    return with_low_limits(bytes(text))
+
+
+def with_low_limits(text):
+    """The text with a low limit in each select, since the damage may have changed its path or its document."""
+    def lowered(found):
+        is_limit = FEW_VISITS < int(found[2]) <= MOST_LIMIT
+        return found[1] + (b"%d" % FEW_VISITS if is_limit else found[2]) + found[3]
+    return re.sub(rb"(?m)^(select \d+ \d+ )(\d+)( \d+)$", lowered, text)
+
+
+def resized(rng, text):
+    """The text made as long as the longest input, or a byte or more longer, by its last term or step over and over."""
+    size = MOST_BYTES + rng.choice([0, 0, 1, 1, 2, 5000])
+    line = next((line for line in reversed(text.splitlines(True)) if not line.startswith((b"select", b"document"))), b"\n")
+    return (text + line * (size // len(line) + 1))[:size - 1] + rng.choice([b"\n", b"0"])
+
+
+def replay_case(rng):
+    session = Session(rng)
+    if rng.random() < 0.8:
+        session.document(damage=0)
+    for _ in range(rng.choice([1, 5, 20, 60])):
+        session.random_call()
+    if rng.random() < 0.01:
+        session.fill_tables()
+        session.select()
+    text, kind = session.text(), rng.random()
+    if kind < 0.72 and len(text) <= MOST_BYTES:
+        return Case("replay", text, session.accepted())
+    if kind < 0.99:
+        return Case("replay", damaged(rng, text), None)
+    return Case("replay", resized(rng, text), None)
+
+
+def audit_case(rng):
+    session = Session(rng)
+    for _ in range(rng.choice([0, 2, 10, 40])):
+        rng.choice([session.derive, session.derive, session.derive, session.altered_term])()
+    if rng.random() < 0.03:
+        session.deep_term()
+    if rng.random() < 0.02:
+        session.fill_tables()
+    kind = rng.random()
+    text = session.bundle(refused=kind < 0.3)
+    if kind < 0.6:
+        return Case("audit", text, [True] if kind >= 0.3 else None)
+    if kind < 0.98:
+        return Case("audit", damaged(rng, text), None)
+    return Case("audit", resized(rng, text), None)
+
+
+def random_case(rng):
+    return audit_case(rng) if rng.random() < 0.35 else replay_case(rng)
+
+
+def full_bundle(seed):
+    """A bundle with both tables full."""
+    session = Session(random.Random(seed))
+    while len(session.book.rows) < MOST_ROWS - 8:
+        session.derive(near_misses=0)
+    session.fill_tables()
+    return session.bundle()
+
+
+if __name__ == "__main__":
+    if len(sys.argv) != 3 or sys.argv[1] != "full-bundle":
+        sys.exit(__doc__)
+    sys.stdout.buffer.write(full_bundle(int(sys.argv[2])))

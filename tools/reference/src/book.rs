@@ -1,0 +1,171 @@
+//! The plain book: rows and steps, and the calls term, step and select with their refusals in 01's order.
+
+use crate::document::document;
+use crate::rules;
+use crate::selection::Evaluation;
+use crate::term::{Term, Test, AXES};
+use crate::Answer;
+use std::collections::HashMap;
+use std::rc::Rc;
+
+/// `kind a b c`
+pub type Row = [u16; 4];
+/// `rule left right first second`
+pub type Step = [u16; 5];
+
+pub const MOST_ROWS: usize = 1024;
+pub const MOST_STEPS: usize = 2048;
+pub const DEEPEST: u32 = 32;
+
+#[derive(Default)]
+pub struct Book {
+    numbers: HashMap<Row, usize>,
+    terms: Vec<Rc<Term>>,
+    nestings: Vec<u32>,
+    pub steps: Vec<Step>,
+}
+
+impl Book {
+    pub fn term(&mut self, row: Row) -> Answer {
+        if row[0] > 11 {
+            return (1, 0);
+        }
+        if let Some(place) = self.bad_place(row) {
+            return (2, place);
+        }
+        let nesting = self.nesting(row);
+        if nesting > DEEPEST {
+            return (3, 0);
+        }
+        if let Some(&number) = self.numbers.get(&row) {
+            return (12, number as u64);
+        }
+        let number = self.terms.len();
+        if number == MOST_ROWS {
+            return (11, 0);
+        }
+        self.terms.push(Rc::new(self.term_of(row)));
+        self.nestings.push(nesting);
+        self.numbers.insert(row, number);
+        (0, number as u64)
+    }
+
+    pub fn step(&mut self, step: Step) -> Answer {
+        let [rule, left, right, first, second] = step;
+        if !(1..=58).contains(&rule) {
+            return (4, 0);
+        }
+        let Some(l) = self.terms.get(left as usize) else { return (5, 1) };
+        if self.terms.get(right as usize).is_none_or(|r| r.is_path() != l.is_path()) {
+            return (5, 2);
+        }
+        let needed = rules::premises(rule);
+        for (place, premise) in [first as usize, second as usize].into_iter().enumerate() {
+            let ok = if place < needed { (1..=self.steps.len()).contains(&premise) } else { premise == 0 };
+            if !ok {
+                return (6, place as u64 + 1);
+            }
+        }
+        let premises = [first, second].map(|n| (n as usize).checked_sub(1).map(|i| self.says(&self.steps[i])));
+        if !rules::yields(rule, self.says(&step), premises) {
+            return (7, 0);
+        }
+        if self.steps.len() == MOST_STEPS {
+            return (13, 0);
+        }
+        self.steps.push(step);
+        (0, self.steps.len() as u64)
+    }
+
+    pub fn select(&self, row: u16, numbers: &[u16], context: u16, limit: u32, marks: &mut [u8]) -> Answer {
+        let document = match document(numbers) {
+            Ok(document) => document,
+            Err(value) => return (8, value),
+        };
+        if context as usize >= document.len() {
+            return (9, 1);
+        }
+        let Some(path) = self.terms.get(row as usize).filter(|t| t.is_path()) else { return (9, 2) };
+        if marks.len() < document.len() {
+            return (14, 0);
+        }
+        let (nodes, visits) = Evaluation::new(&document).path(path, context as usize);
+        if visits > limit as u64 {
+            return (15, 0);
+        }
+        for (y, mark) in marks[..document.len()].iter_mut().enumerate() {
+            *mark = nodes.contains(&y) as u8;
+        }
+        (0, visits)
+    }
+
+    /// What a step says: its two terms.
+    fn says(&self, step: &Step) -> (&Rc<Term>, &Rc<Term>) {
+        (&self.terms[step[1] as usize], &self.terms[step[2] as usize])
+    }
+
+    fn is_held_path(&self, number: u16) -> bool {
+        self.terms.get(number as usize).is_some_and(|t| t.is_path())
+    }
+
+    fn is_held_qualifier(&self, number: u16) -> bool {
+        self.terms.get(number as usize).is_some_and(|t| !t.is_path())
+    }
+
+    /// The first place, 1 to 3, whose field isn't what the kind asks for.
+    fn bad_place(&self, [kind, a, b, c]: Row) -> Option<u64> {
+        let path = |n| self.is_held_path(n);
+        let qualifier = |n| self.is_held_qualifier(n);
+        let good = match kind {
+            0 | 1 | 6 | 7 => [a == 0, b == 0, c == 0],
+            2 => [a <= 10, b <= 5, if b == 0 { c >= 1 } else { c == 0 }],
+            3 | 4 | 11 => [path(a), path(b), c == 0],
+            5 => [path(a), qualifier(b), c == 0],
+            8 => [qualifier(a), b == 0, c == 0],
+            9 | 10 => [qualifier(a), qualifier(b), c == 0],
+            _ => unreachable!("a kind above 11"),
+        };
+        good.iter().position(|good| !good).map(|place| place as u64 + 1)
+    }
+
+    fn nesting(&self, [kind, a, b, _]: Row) -> u32 {
+        let of = |n: u16| self.nestings[n as usize];
+        match kind {
+            0 | 1 | 2 | 6 | 7 => 1,
+            8 => 1 + of(a),
+            _ => 1 + of(a).max(of(b)),
+        }
+    }
+
+    /// The row with its operands' terms in place of their numbers.
+    fn term_of(&self, [kind, a, b, c]: Row) -> Term {
+        let at = |n: u16| self.terms[n as usize].clone();
+        match kind {
+            0 => Term::Void,
+            1 => Term::Root,
+            2 => Term::Step(AXES[a as usize].1, test_of(b, c)),
+            3 => Term::Union(at(a), at(b)),
+            4 => Term::Composition(at(a), at(b)),
+            5 => Term::Filter(at(a), at(b)),
+            6 => Term::True,
+            7 => Term::False,
+            8 => Term::Not(at(a)),
+            9 => Term::And(at(a), at(b)),
+            10 => Term::Or(at(a), at(b)),
+            11 => Term::Inclusion(at(a), at(b)),
+            _ => unreachable!("a kind above 11"),
+        }
+    }
+}
+
+fn test_of(test: u16, name: u16) -> Test {
+    match test {
+        0 => Test::Name(name),
+        1 => Test::AnyElement,
+        2 => Test::AnyNode,
+        3 => Test::Text,
+        4 => Test::Comment,
+        5 => Test::Instruction,
+        _ => unreachable!("a test above 5"),
+    }
+}

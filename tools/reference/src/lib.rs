@@ -1,0 +1,23 @@
+//! A plain implementation of the scope document ("01"), written from that document and its readings in docs/DECISIONS.md
+//! without a look at the proved code, to hold the proved programs against. It needs Rust's standard library alone.
+//!
+//! ```text
+//! cargo test                                  01's examples, log cases, limits and refusals
+//! cargo build --release
+//! target/release/reference audit < BUNDLE     what the program audit must print
+//! target/release/reference replay < CALLS     what the program replay must print
+//! ```
+
+pub mod book;
+pub mod bundle;
+mod c;
+pub mod document;
+pub mod programs;
+pub mod rules;
+pub mod selection;
+pub mod term;
+#[cfg(test)]
+mod tests;
+
+/// An answer: 01's number, 0 for acceptance, and its value.
+pub type Answer = (u16, u64);

@@ -1,0 +1,80 @@
+//! The programs audit and replay, from standard input to standard output.
+//!
+//! Of replay: its input is judged for length before any call is made, so too long a one prints `10 0` alone; `document`
+//! with no numbers is a call and lends none from then on; a last line that lacks its newline is of another form;
+//! empty input prints nothing.
+
+use crate::book::Book;
+use crate::bundle::{lines, number, read};
+
+pub const MOST_BYTES: usize = 65536;
+const MOST_NUMBERS: usize = 1539;
+const MOST_MARKS: u64 = 1024;
+/// What the marks buffer holds before a select.
+const FILL: u8 = 7;
+
+/// The heading, and answer, refused line or 0, steps held, the last step's rows.
+pub fn audit(input: &[u8]) -> String {
+    let heading = "answer line steps left right\n";
+    if input.len() > MOST_BYTES {
+        return format!("{heading}10 0 0 0 0\n");
+    }
+    let ((answer, value), book) = read(input);
+    let line = if answer == 0 { 0 } else { value };
+    let [_, left, right, _, _] = book.steps.last().copied().unwrap_or_default();
+    format!("{heading}{answer} {line} {} {left} {right}\n", book.steps.len())
+}
+
+/// A line for each call but document; `10 LINE` at the first line of another form, which ends the run.
+pub fn replay(input: &[u8]) -> String {
+    if input.len() > MOST_BYTES {
+        return "10 0\n".to_string();
+    }
+    let mut run = Run::default();
+    let mut output = String::new();
+    for (count, line) in (1..).zip(lines(input)) {
+        match line.and_then(|line| run.call(line)) {
+            Some(printed) => output += &printed,
+            None => return format!("{output}10 {count}\n"),
+        }
+    }
+    output
+}
+
+#[derive(Default)]
+struct Run {
+    book: Book,
+    document: Vec<u16>,
+}
+
+impl Run {
+    /// What the call of this line prints, or nothing if the line has no call's form.
+    fn call(&mut self, line: &[u8]) -> Option<String> {
+        let words: Vec<&[u8]> = line.split(|&b| b == b' ').collect();
+        let small = |word: &[u8]| number(word, 65535).map(|n| n as u16);
+        let (number, value) = match words[..] {
+            [b"term", kind, a, b, c] => self.book.term([small(kind)?, small(a)?, small(b)?, small(c)?]),
+            [b"step", rule, left, right, first, second] => {
+                self.book.step([small(rule)?, small(left)?, small(right)?, small(first)?, small(second)?])
+            }
+            [b"document", ref numbers @ ..] if numbers.len() <= MOST_NUMBERS => {
+                self.document = numbers.iter().map(|word| small(word)).collect::<Option<_>>()?;
+                return Some(String::new());
+            }
+            [b"select", row, context, limit, marks] => {
+                let limit = number(limit, u32::MAX as u64)? as u32;
+                let mut marks = vec![FILL; number(marks, MOST_MARKS)? as usize];
+                let answer = self.book.select(small(row)?, &self.document, small(context)?, limit, &mut marks);
+                return Some(format!("{} {}{}\n", answer.0, answer.1, marked(answer.0, &marks)));
+            }
+            _ => return None,
+        };
+        Some(format!("{number} {value}\n"))
+    }
+}
+
+/// The marked nodes, each after a space, if the select was accepted.
+fn marked(number: u16, marks: &[u8]) -> String {
+    let nodes = (0..marks.len()).filter(|&y| number == 0 && marks[y] == 1);
+    nodes.map(|y| format!(" {y}")).collect()
+}

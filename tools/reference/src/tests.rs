@@ -1,0 +1,247 @@
+//! 01's examples, log cases, limits and refusals.
+
+use crate::book::Book;
+use crate::bundle::read;
+use crate::programs::{audit, replay, MOST_BYTES};
+
+/// 01's document: root, log 1, mark 2, a text, zero 3, run 4, mark 2.
+const LOG: &str = "document 0 0 0 1 0 1 1 1 2 2 2 0 1 1 3 1 1 4 1 5 2\n";
+
+fn replayed(input: &str) -> Vec<String> {
+    replay(input.as_bytes()).lines().map(str::to_string).collect()
+}
+
+fn last(input: &str) -> String {
+    replayed(input).pop().unwrap()
+}
+
+#[test]
+fn example_bundle() {
+    let bundle = "kind a b c\n2 1 0 2\n2 3 1 0\nrule left right first second\n8 0 1 0 0\n";
+    assert_eq!(audit(bundle.as_bytes()), "answer line steps left right\n0 0 1 0 1\n");
+}
+
+#[test]
+fn log_cases() {
+    let cases = [
+        ("term 2 3 0 2\n", 0, 0, "0 1 2 6"),
+        ("term 2 1 0 2\n", 0, 0, "0 1"),
+        ("term 2 9 0 2\n", 0, 3, "0 1 6"),
+        ("term 2 10 2 0\n", 0, 6, "0 1 2 3 4"),
+        ("term 1 0 0 0\n", 0, 0, "0 1 0"),
+        ("term 2 7 2 0\n", 0, 2, "0 1 4 5"),
+        ("term 2 1 0 1\nterm 2 1 0 2\nterm 4 0 1 0\n", 2, 0, "0 3 2"),
+        ("term 2 3 0 4\nterm 2 1 0 2\nterm 4 0 1 0\n", 2, 5, "0 2"),
+        ("term 2 3 0 2\nterm 2 2 0 4\nterm 0 0 0 0\nterm 11 1 2 0\nterm 8 3 0 0\nterm 5 0 4 0\n", 5, 5, "0 6 6"),
+    ];
+    for (terms, row, context, answer) in cases {
+        assert_eq!(last(&format!("{LOG}{terms}select {row} {context} 100 7\n")), answer, "{terms}");
+    }
+}
+
+#[test]
+fn visit_limit_met_exactly_passes() {
+    let terms = "term 2 1 0 1\nterm 2 1 0 2\nterm 4 0 1 0\n";
+    assert_eq!(last(&format!("{LOG}{terms}select 2 0 3 7\n")), "0 3 2");
+    assert_eq!(last(&format!("{LOG}{terms}select 2 0 2 7\n")), "15 0");
+}
+
+#[test]
+fn visits_beyond_64_bits_are_refused() {
+    let mut calls = String::from("document 0 0 0 1 0 1 1 0 1\nterm 2 5 2 0\n");
+    for row in 0..31 {
+        calls += &format!("term 4 {row} {row} 0\n");
+    }
+    assert_eq!(last(&format!("{calls}select 31 0 4294967295 3\n")), "15 0");
+}
+
+#[test]
+fn refused_terms() {
+    let mut book = Book::default();
+    assert_eq!(book.term([12, 0, 0, 0]), (1, 0));
+    assert_eq!(book.term([0, 0, 1, 1]), (2, 2));
+    assert_eq!(book.term([2, 11, 6, 0]), (2, 1));
+    assert_eq!(book.term([2, 10, 6, 0]), (2, 2));
+    assert_eq!(book.term([2, 10, 0, 0]), (2, 3));
+    assert_eq!(book.term([2, 10, 1, 1]), (2, 3));
+    assert_eq!(book.term([2, 10, 0, 65535]), (0, 0));
+    assert_eq!(book.term([2, 10, 0, 65535]), (12, 0));
+    assert_eq!(book.term([6, 0, 0, 0]), (0, 1));
+    assert_eq!(book.term([3, 0, 1, 0]), (2, 2));
+    assert_eq!(book.term([5, 0, 1, 0]), (0, 2));
+    assert_eq!(book.term([5, 2, 1, 1]), (2, 3));
+    assert_eq!(book.term([8, 0, 0, 0]), (2, 1));
+    assert_eq!(book.term([11, 2, 0, 0]), (0, 3));
+    assert_eq!(book.term([9, 3, 4, 0]), (2, 2));
+}
+
+#[test]
+fn nesting_32_passes() {
+    let mut book = Book::default();
+    book.term([6, 0, 0, 0]);
+    for row in 0..31 {
+        assert_eq!(book.term([8, row, 0, 0]), (0, row as u64 + 1));
+    }
+    assert_eq!(book.term([8, 31, 0, 0]), (3, 0));
+}
+
+#[test]
+fn full_tables() {
+    let mut book = Book::default();
+    for name in 1..=1024 {
+        assert_eq!(book.term([2, 1, 0, name]), (0, name as u64 - 1));
+    }
+    assert_eq!(book.term([2, 1, 0, 1024]), (12, 1023));
+    assert_eq!(book.term([2, 1, 0, 1025]), (11, 0));
+    for number in 1..=2048 {
+        assert_eq!(book.step([2, 7, 7, 0, 0]), (0, number));
+    }
+    assert_eq!(book.step([2, 7, 8, 0, 0]), (7, 0));
+    assert_eq!(book.step([2, 7, 7, 0, 0]), (13, 0));
+}
+
+#[test]
+fn refused_steps() {
+    let mut book = Book::default();
+    for row in [[2, 1, 1, 0], [2, 3, 2, 0], [6, 0, 0, 0]] {
+        book.term(row);
+    }
+    assert_eq!(book.step([0, 9, 9, 9, 9]), (4, 0));
+    assert_eq!(book.step([59, 0, 0, 0, 0]), (4, 0));
+    assert_eq!(book.step([8, 3, 3, 0, 0]), (5, 1));
+    assert_eq!(book.step([8, 0, 3, 0, 0]), (5, 2));
+    assert_eq!(book.step([8, 0, 2, 0, 0]), (5, 2));
+    assert_eq!(book.step([8, 0, 1, 1, 1]), (6, 1));
+    assert_eq!(book.step([8, 0, 1, 0, 1]), (6, 2));
+    assert_eq!(book.step([3, 0, 1, 0, 0]), (6, 1));
+    assert_eq!(book.step([8, 1, 0, 0, 0]), (7, 0));
+    assert_eq!(book.step([8, 0, 1, 0, 0]), (0, 1));
+    assert_eq!(book.step([3, 0, 1, 1, 2]), (6, 2));
+    assert_eq!(book.step([3, 0, 1, 1, 1]), (7, 0));
+    assert_eq!(book.step([2, 1, 1, 0, 0]), (0, 2));
+    assert_eq!(book.step([3, 0, 1, 1, 2]), (0, 3));
+}
+
+#[test]
+fn refused_documents() {
+    let bad = |numbers: &str| last(&format!("term 1 0 0 0\ndocument{numbers}\nselect 0 0 9 9\n"));
+    assert_eq!(bad(""), "8 0");
+    assert_eq!(bad(" 0"), "8 0");
+    assert_eq!(bad(" 0 0 1"), "8 0");
+    assert_eq!(bad(" 0 0 0"), "0 1 0");
+    assert_eq!(bad(" 0 0 0 2 0"), "8 1");
+    assert_eq!(bad(" 0 0 0 0 0 0"), "8 1");
+    assert_eq!(bad(" 0 0 0 5 0 0"), "8 1");
+    assert_eq!(bad(" 0 0 0 1 0 0"), "8 1");
+    assert_eq!(bad(" 0 0 0 2 0 1"), "8 1");
+    assert_eq!(bad(" 0 0 0 1 1 1"), "8 1");
+    assert_eq!(bad(" 0 0 0 1 0 1 2 1 0 1 2 1"), "8 3");
+    assert_eq!(bad(" 0 0 0 1 0 1 1 0 1 1 1 1"), "8 3");
+    assert_eq!(bad(" 0 0 0 4 0 0 2 0 0 2 0 0 1 0 65535"), "0 1 0");
+}
+
+#[test]
+fn node_limit() {
+    let flat = |rows: usize| format!("term 1 0 0 0\ndocument 0 0 0{}", " 2 0 0".repeat(rows - 1));
+    let select = "\nselect 0 0 9 1024\n";
+    assert_eq!(last(&(flat(512) + select)), "0 1 0");
+    assert_eq!(last(&(flat(512) + " 9" + select)), "8 512");
+    assert_eq!(last(&(flat(513) + select)), "8 512");
+    assert_eq!(last(&(flat(513) + " 9" + select)), "10 2");
+}
+
+#[test]
+fn refused_selects() {
+    let calls = format!("{LOG}term 1 0 0 0\nterm 6 0 0 0\n");
+    assert_eq!(last(&format!("{calls}select 2 7 0 6\n")), "9 1");
+    assert_eq!(last(&format!("{calls}select 2 6 0 6\n")), "9 2");
+    assert_eq!(last(&format!("{calls}select 1 6 0 6\n")), "9 2");
+    assert_eq!(last(&format!("{calls}select 0 6 0 6\n")), "14 0");
+    assert_eq!(last(&format!("{calls}select 0 6 0 7\n")), "15 0");
+    assert_eq!(last(&format!("{calls}select 0 6 1 1024\n")), "0 1 0");
+}
+
+#[test]
+fn lines_of_another_form() {
+    for line in [
+        "",
+        "term",
+        "term 0 0 0",
+        "term 0 0 0 0 0",
+        "term  0 0 0",
+        "term 00 0 0 0",
+        "term 65536 0 0 0",
+        " term 0 0 0 0",
+        "term 0 0 0 0 ",
+        "term 0 0 0 0\r",
+        "Term 0 0 0 0",
+        "document ",
+        "document 65536",
+        "select 0 0 4294967296 0",
+        "select 0 0 0 1025",
+        "select 0 0 0",
+        "step 1 0 0 0",
+        "term +1 0 0 0",
+        "fresh",
+    ] {
+        assert_eq!(replay(format!("term 0 0 0 0\n{line}\nterm 1 0 0 0\n").as_bytes()), "0 0\n10 2\n", "{line}");
+    }
+    assert_eq!(replay(b"term 0 0 0 0"), "10 1\n");
+    assert_eq!(replay(b""), "");
+    assert_eq!(replay(&vec![b'\n'; MOST_BYTES + 1]), "10 0\n");
+    assert_eq!(replay(&vec![b'\n'; MOST_BYTES]), "10 1\n");
+}
+
+#[test]
+fn damaged_bundles() {
+    let answer = |bundle: &str| read(bundle.as_bytes()).0;
+    assert_eq!(answer(""), (10, 1));
+    assert_eq!(answer("kind a b c"), (10, 1));
+    assert_eq!(answer("kind a b c\n"), (10, 2));
+    assert_eq!(answer("kind a b c\nrule left right first second"), (10, 2));
+    assert_eq!(answer("kind a b c\nrule left right first second\n"), (0, 0));
+    assert_eq!(answer("kind a b c\nkind a b c\n"), (10, 2));
+    assert_eq!(answer("kind a b c\n1 0 0 0\n01 0 0 0\n"), (10, 3));
+    assert_eq!(answer("kind a b c\n1 0 0 0\n1 0 0 0\nx\n"), (12, 3));
+    assert_eq!(answer("kind a b c\n2 0 0 65535\n2 0 0 65536\n"), (10, 3));
+    assert_eq!(answer("kind a b c\n1 0 0 0\n"), (10, 3));
+    let steps = "kind a b c\n1 0 0 0\nrule left right first second\n2 0 0 0 0\n";
+    assert_eq!(answer(steps), (0, 1));
+    assert_eq!(answer(&format!("{steps}7 0 0 0 0\n")), (6, 5));
+    assert_eq!(answer(&format!("{steps}2 0 0 0\n")), (10, 5));
+    assert_eq!(answer(&format!("{steps}2 0 0 0 0 0\n")), (10, 5));
+    assert_eq!(answer(&format!("{steps}rule left right first second\n")), (10, 5));
+    assert_eq!(answer(&format!("{steps}2 0 0 0 0")), (10, 5));
+    assert_eq!(answer(&format!("{steps}\n")), (10, 5));
+    let (_, book) = read(format!("{steps}59 0 0 0 0\n").as_bytes());
+    assert!(book.steps.is_empty());
+    assert_eq!(audit(&vec![b'0'; MOST_BYTES + 1]), "answer line steps left right\n10 0 0 0 0\n");
+    assert_eq!(audit(&vec![b'0'; MOST_BYTES]), "answer line steps left right\n10 1 0 0 0\n");
+}
+
+/// The mistakes that 01 rules out, each as a step that its rule doesn't yield.
+#[test]
+fn mistakes_ruled_out() {
+    // 25 from "not f => g": p[true and true] <= V
+    let g2b = "term 1 0 0 0\nterm 6 0 0 0\nterm 7 0 0 0\nterm 8 1 0 0\nterm 9 1 1 0\nterm 5 0 4 0\nterm 0 0 0 0\n\
+               step 14 3 1 0 0\nstep 25 5 6 1 0\n";
+    assert_eq!(last(g2b), "7 0");
+    // p in (q|r) => (p in q) or (p in r)
+    let r3r = "term 2 1 1 0\nterm 2 3 1 0\nterm 1 0 0 0\nterm 3 1 2 0\nterm 11 0 3 0\nterm 11 0 1 0\nterm 11 0 2 0\n\
+               term 10 5 6 0\nstep 46 4 7 0 0\n";
+    assert_eq!(last(r3r), "7 0");
+    // 51 from right to left
+    let rewriting =
+        "term 2 3 1 0\nterm 6 0 0 0\nterm 5 0 1 0\nterm 2 1 2 0\nterm 4 2 3 0\nterm 2 3 2 0\nterm 2 2 1 0\n\
+                     term 5 6 1 0\nterm 0 0 0 0\nterm 11 7 8 0\nterm 8 9 0 0\nterm 5 5 10 0\n";
+    assert_eq!(last(&format!("{rewriting}step 51 4 11 0 0\n")), "0 1");
+    assert_eq!(last(&format!("{rewriting}step 51 11 4 0 0\n")), "7 0");
+    // 54 with `*` for node()
+    let following = |test: u16| {
+        format!(
+            "term 2 9 2 0\nterm 2 6 {test} 0\nterm 2 7 {test} 0\nterm 4 1 2 0\nterm 2 5 2 0\nterm 4 3 4 0\nstep 54 0 5 0 0\n"
+        )
+    };
+    assert_eq!(last(&following(2)), "0 1");
+    assert_eq!(last(&following(1)), "7 0");
+}
