@@ -469,6 +469,31 @@ fn eval_inclusion(
     }
 }
 
+// Writes 1 or 0 for each node of a document that the marks have room for.
+fn evaluate_within(
+    rows: &[u16],
+    row: usize,
+    d: &[u16],
+    x: usize,
+    limit: u32,
+    marks: &mut [u8],
+) -> Evaluated
+    requires { ⌜ length (documentOf (now d)) ≤ maxNodes ⌝ }
+    ensures { λ r. ⌜ outcome (answerOf r) (now (marks .exit)) ≡ evaluated (tableOf (now (rows .entry))) row (documentOf (now (d .entry))) x limit (now (marks .entry)) ⌝ }
+{
+    let n = xpath::node_count(d);
+    let found = eval_path(rows, d, terms::row_count(rows), row, x, limit);
+    if marks.len() < n {
+        return Evaluated::NoRoom;
+    }
+    if !found.finished {
+        return Evaluated::LimitPassed;
+    }
+    let out = found.marks;
+    copy_out(out, n, marks);
+    Evaluated::Selected(found.visits)
+}
+
 // Writes 1 or 0 for each node of the document into `marks`, as the path in row `row` selects it from x. Where it does not answer
 // Selected, `marks` is as it was.
 pub fn evaluate(
@@ -481,18 +506,9 @@ pub fn evaluate(
 ) -> Evaluated
     ensures { λ r. ⌜ outcome (answerOf r) (now (marks .exit)) ≡ evaluated (tableOf (now (rows .entry))) row (documentOf (now (d .entry))) x limit (now (marks .entry)) ⌝ }
 {
-    let n = xpath::node_count(d);
-    if MAX_NODES < n {
-        return Evaluated::NoRoom;
+    if MAX_NODES < xpath::node_count(d) {
+        Evaluated::NoRoom
+    } else {
+        evaluate_within(rows, row, d, x, limit, marks)
     }
-    if marks.len() < n {
-        return Evaluated::NoRoom;
-    }
-    let found = eval_path(rows, d, terms::row_count(rows), row, x, limit);
-    if !found.finished {
-        return Evaluated::LimitPassed;
-    }
-    let out = found.marks;
-    copy_out(out, n, marks);
-    Evaluated::Selected(found.visits)
 }

@@ -1,4 +1,4 @@
--- The contracts that the toolchain reads off the source are the records that demand 3 speaks of. Assumes nothing.
+-- The contracts that the toolchain reads off the source: they ask nothing, and promise the records that demand 3 speaks of. Assumes nothing.
 use mathlib.Core.Path.{_≡_}
 use denote.Ref.{now}
 use Rattle.terms.specs.Row.{row}
@@ -22,3 +22,16 @@ step-tied κs a r s m = m
 pub select-tied : (κs : _) (a : _) (r : _) (s : _) → select-reads.Post κs a r s →
     SelectMet (a .0) (a .1 .0) (now (a .1 .1 .0)) (a .1 .1 .1 .0) (a .1 .1 .1 .1 .0) (now (a .1 .1 .1 .1 .1 .0)) r (now (s .1 .1 .1 .1 .1 .0))
 select-tied κs a r s m = m
+
+-- every call takes every input
+pub new-takes : (κs : _) (a : _) → new-reads.Pre κs a
+new-takes κs a = tt
+
+pub term-takes : (κs : _) (a : _) → term-reads.Pre κs a
+term-takes κs a = tt
+
+pub step-takes : (κs : _) (a : _) → step-reads.Pre κs a
+step-takes κs a = tt
+
+pub select-takes : (κs : _) (a : _) → select-reads.Pre κs a
+select-takes κs a = tt

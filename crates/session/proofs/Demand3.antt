@@ -13,12 +13,11 @@ use Rattle.terms.specs.Row.{Row, rowAt}
 use Rattle.terms.specs.Fields.{isPath}
 use Rattle.terms.specs.Decode.{pathAt, qualifierAt}
 use Rattle.rules.specs.Claim.{Containment, Implication, says, TrueOn, IsTrue}
-use Rattle.session.specs.declared.Session.{Session}
 use Rattle.session.specs.Book.{noStep, Book, emptyBook}
 use Rattle.session.specs.StepCall.{claimOf}
-use Rattle.session.specs.Calls.{Call, Seen, bookSeen, bookAfter}
-use Rattle.session.specs.View.{view, freshSession}
-use Rattle.session.specs.Demand3.{Run, Demand3}
+use Rattle.session.specs.Calls.{bookSeen, bookAfter}
+use Rattle.session.specs.View.{view}
+use Rattle.session.specs.Demand3.{DemandThree}
 use Rattle.session.proofs.Reached.{BookLaws, reachable-laws}
 use Rattle.session.proofs.Views.{fresh-view}
 use Rattle.session.proofs.Simulation.{run-as-book, fresh-kept}
@@ -42,7 +41,7 @@ true-mark : (b : Bool) → T b → _≡_ {A = ℕ} (cond b 1 0) 1
 true-mark true t = refl
 true-mark false t = absurd t
 
-pub demand3 : (cs : List Call) (os : List Seen) (s : Session) → Run freshSession cs os s → Demand3 cs os s (bookAfter emptyBook cs)
+pub demand3 : DemandThree
 unfolding IsTrue TrueOn claimOf
 demand3 cs os s run =
     let (seen, held, kept) = run-as-book fresh-kept run in

@@ -18,8 +18,8 @@ use Rattle.session.specs.declared.SelectAnswer.{SelectAnswer}
 use Rattle.session.specs.Book.{Step, noStep, Book, emptyBook}
 use Rattle.session.specs.StepCall.{claimOf}
 use Rattle.session.specs.SelectCall.{selectAnswer}
-use Rattle.session.specs.Calls.{Call, term, step, Seen, bookSeen}
-use Rattle.session.specs.View.{view}
+use Rattle.session.specs.Calls.{Call, term, step, Seen, bookSeen, bookAfter}
+use Rattle.session.specs.View.{view, freshSession}
 use Rattle.session.specs.Answers.{termAnswerOf, stepAnswerOf, selectAnswerOf}
 use Rattle.session.specs.Promises.{TermMet, StepMet, SelectMet}
 
@@ -62,3 +62,7 @@ pub record Demand3 (cs : List Call) (os : List Seen) (s : Session) (b : Book) : 
       → SelectMet s (getD (b .steps) i noStep .left) xs x limit buffer t left → selectAnswerOf t .number ≡ 0
       → SelectMet s (getD (b .steps) i noStep .right) xs x limit′ buffer′ t′ left′ → selectAnswerOf t′ .number ≡ 0
       → (y : ℕ) → y < length (documentOf xs) → getD left y 0 ≡ 1 → getD left′ y 0 ≡ 1
+
+-- the demand: every list of calls, run from what `Session::new` gives
+abbrev pub DemandThree : Type 0
+DemandThree = (cs : List Call) (os : List Seen) (s : Session) → Run freshSession cs os s → Demand3 cs os s (bookAfter emptyBook cs)

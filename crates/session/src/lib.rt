@@ -4,6 +4,7 @@ use selection::Evaluated;
 use terms::Row;
 use xpath::DocumentCheck;
 ghost use mathlib.Core.Path.{_≡_};
+ghost use mathlib.Core.Bool.{not};
 ghost use Prim.Native.Nat.{_+_, _-_, _*_, _≤_, _<_, min};
 ghost use lib.ListN.{length, take};
 ghost use lib.Seq.{sets};
@@ -100,13 +101,13 @@ fn judge_term(rows: &[u16], row: Row) -> TermAnswer
     if 0 < place {
         return TermAnswer::BadField(place);
     }
-    if terms::MAX_NESTING < nesting {
+    if Session::NESTING < nesting {
         return TermAnswer::TooDeep;
     }
     if found < count {
         return TermAnswer::AlreadyHeld(found as u16);
     }
-    if terms::MAX_ROWS <= count {
+    if Session::ROWS <= count {
         return TermAnswer::TermsFull;
     }
     TermAnswer::Held(count as u16)
@@ -239,6 +240,13 @@ fn is_yielded(rows: &[u16], steps: &[u16], step: Step) -> bool
     rules::yields(rows, step.rule, step.left, step.right, first, second)
 }
 
+// Whether refusal 7 applies.
+fn rule_refuses(rows: &[u16], steps: &[u16], step: Step) -> bool
+    ensures { λ r. ⌜ r ≡ not (rowYielded (book (tableOf (now (rows .entry))) (stepsOf (now (steps .entry)))) (stepIn step)) ⌝ }
+{
+    !is_yielded(rows, steps, step)
+}
+
 // The answer of a step call on the rows and steps: the first refusal that applies, or the new step's number.
 fn judge_step(rows: &[u16], steps: &[u16], step: Step) -> StepAnswer
     requires { ⌜ length (stepsOf (now steps)) ≤ maxSteps ⌝ }
@@ -247,7 +255,7 @@ fn judge_step(rows: &[u16], steps: &[u16], step: Step) -> StepAnswer
     let held = step_count(steps);
     let side = bad_side(rows, step);
     let premise = bad_premise(held, step);
-    let yielded = is_yielded(rows, steps, step);
+    let not_yielded = rule_refuses(rows, steps, step);
     if xpath::or(step.rule == 0, rules::MAX_RULE < step.rule) {
         return StepAnswer::NoRule;
     }
@@ -257,10 +265,10 @@ fn judge_step(rows: &[u16], steps: &[u16], step: Step) -> StepAnswer
     if 0 < premise {
         return StepAnswer::BadPremise(premise);
     }
-    if !yielded {
+    if not_yielded {
         return StepAnswer::NotYielded;
     }
-    if MAX_STEPS <= held {
+    if Session::STEPS <= held {
         return StepAnswer::StepsFull;
     }
     StepAnswer::Held((held + 1) as u16)
@@ -518,13 +526,13 @@ impl Session {
             first,
             second,
         };
-        let answer = judge_in_tables(&self.rows, n, &self.steps, m, step);
-        if let StepAnswer::Held(_) = answer {
+        let judged = judge_in_tables(&self.rows, n, &self.steps, m, step);
+        if let StepAnswer::Held(_) = judged {
             put_in_table(&mut self.steps, m, step);
             self.step_count = m + 1;
         }
         StepResult {
-            answer,
+            answer: judged,
             session: self,
         }
     }

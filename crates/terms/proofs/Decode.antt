@@ -1,7 +1,7 @@
 -- The terms of the rows of a table. Assumes nothing.
 use Prim.Native.Nat.{ℕ, _<_, _≤_}
 use mathlib.Core.Path.{_≡_, sym, _∙_, ap}
-use mathlib.Core.List.{List, [], _∷_, _++_}
+use mathlib.Core.List.{List, _++_}
 use mathlib.Core.Logic.{⊎-elim}
 use native.Mathlib.Omega.{arith}
 use lib.ListN.{length, getD, take, List·getD-eq-default}
@@ -11,15 +11,7 @@ use Rattle.terms.specs.Row.{Row, noRow, rowAt}
 use Rattle.terms.specs.Fields.{maxKind}
 use Rattle.terms.specs.Decode.{ofPath, ofQualifier, noTerm, termBy, terms, termAt, pathAt, qualifierAt}
 use Rattle.terms.proofs.ByKind.{kind-of, term-path, term-qualifier}
-use Rattle.terms.proofs.Entries.{length-entries, entries-snoc, entries-take, entry-at, entry-past}
-
-pub length-terms : (rs : List Row) → length (terms rs) ≡ length rs
-unfolding terms
-length-terms rs = length-entries termBy rs
-
-pub terms-snoc : (rs : List Row) (r : Row) → terms (rs ++ (r ∷ [])) ≡ terms rs ++ (termBy (terms rs) r ∷ [])
-unfolding terms
-terms-snoc rs r = entries-snoc termBy rs r
+use Rattle.terms.proofs.Entries.{entries-take, entry-at, entry-past}
 
 pub terms-take : (n : ℕ) (rs : List Row) → terms (take n rs) ≡ take n (terms rs)
 unfolding terms

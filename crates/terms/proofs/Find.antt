@@ -36,17 +36,6 @@ find-le (s ∷ rs) r = by (sameRow s r) (find-le rs r)
     by true h = omega arith
     by false h = omega arith
 
--- what is found is the row that was looked for
-pub find-held : (rs : List Row) (r : Row) → find rs r < length rs → rowAt rs (find rs r) ≡ r
-unfolding find
-find-held [] r h = absurd (omega arith)
-find-held (s ∷ rs) r h = by (sameRow s r) refl h (find-held rs r)
-  where
-    by : (b : Bool) → sameRow s r ≡ b → cond b 0 (find rs r + 1) < suc (length rs)
-        → (find rs r < length rs → rowAt rs (find rs r) ≡ r) → rowAt (s ∷ rs) (cond b 0 (find rs r + 1)) ≡ r
-    by true e g ih = same-row-equal s r (rw e tt)
-    by false e g ih = rw (add-one (find rs r)) (ih (omega arith))
-
 -- no row before it is that row
 pub find-first : (rs : List Row) (r : Row) (i : ℕ) → i < find rs r → ¬ (rowAt rs i ≡ r)
 unfolding find

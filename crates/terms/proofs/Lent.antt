@@ -3,7 +3,7 @@ use Prim.Native.Nat.{ℕ, zero, suc, _+_, _*_, _/_, _<_, _≤_}
 use mathlib.Core.Path.{_≡_, refl, ap}
 use mathlib.Core.List.{List, [], _∷_, _++_}
 use native.Mathlib.Omega.{arith}
-use lib.ListN.{length, getD, take, List·getD-eq-default}
+use lib.ListN.{length, getD, List·getD-eq-default}
 use Rattle.terms.specs.Row.{Row, row, noRow, rowAt, tableOf}
 
 -- a row is four numbers
@@ -44,22 +44,3 @@ table-append (suc n) (k ∷ []) ys e = absurd (omega arith)
 table-append (suc n) (k ∷ x ∷ []) ys e = absurd (omega arith)
 table-append (suc n) (k ∷ x ∷ y ∷ []) ys e = absurd (omega arith)
 table-append (suc n) (k ∷ x ∷ y ∷ z ∷ xs) ys e = ap (λ (rs : List Row). row k x y z ∷ rs) (table-append n xs ys (omega arith))
-
-pub table-snoc : (n : ℕ) (xs : List ℕ) (k x y z : ℕ) → length xs ≡ 4 * n →
-    tableOf (xs ++ (k ∷ x ∷ y ∷ z ∷ [])) ≡ tableOf xs ++ (row k x y z ∷ [])
-unfolding tableOf
-table-snoc n xs k x y z e = table-append n xs (k ∷ x ∷ y ∷ z ∷ []) e
-
--- the first 4 * n numbers are the first n rows
-pub table-take : (n : ℕ) (xs : List ℕ) → tableOf (take (4 * n) xs) ≡ take n (tableOf xs)
-unfolding tableOf
-table-take zero xs = refl
-table-take (suc n) xs = let e : 4 * suc n ≡ suc (suc (suc (suc (4 * n)))) = omega arith in rw e (four-more xs (table-take n))
-  where
-    four-more : (xs : List ℕ) → ((ys : List ℕ) → tableOf (take (4 * n) ys) ≡ take n (tableOf ys)) →
-        tableOf (take (suc (suc (suc (suc (4 * n))))) xs) ≡ take (suc n) (tableOf xs)
-    four-more [] ih = refl
-    four-more (k ∷ []) ih = refl
-    four-more (k ∷ x ∷ []) ih = refl
-    four-more (k ∷ x ∷ y ∷ []) ih = refl
-    four-more (k ∷ x ∷ y ∷ z ∷ xs) ih = ap (λ (rs : List Row). row k x y z ∷ rs) (ih xs)

@@ -11,19 +11,11 @@ use Rattle.xpath.proofs.Reflect.{le-or-lt}
 use Rattle.terms.specs.Row.{Row, noRow, rowAt}
 use Rattle.terms.specs.Fields.{Field, unused, axis, test, name, path, qualifier, fieldsOf}
 use Rattle.terms.specs.Nesting.{operandNesting, nestingBy, nestings, nesting}
-use Rattle.terms.proofs.Entries.{length-entries, entries-snoc, entries-take, entry-at, entry-past}
-
-pub length-nestings : (rs : List Row) → length (nestings rs) ≡ length rs
-unfolding nestings
-length-nestings rs = length-entries nestingBy rs
+use Rattle.terms.proofs.Entries.{entries-snoc, entry-at, entry-past}
 
 pub nestings-snoc : (rs : List Row) (r : Row) → nestings (rs ++ (r ∷ [])) ≡ nestings rs ++ (nesting rs r ∷ [])
 unfolding nestings nesting
 nestings-snoc rs r = entries-snoc nestingBy rs r
-
-pub nestings-take : (n : ℕ) (rs : List Row) → nestings (take n rs) ≡ take n (nestings rs)
-unfolding nestings
-nestings-take n rs = entries-take nestingBy n rs
 
 pub nesting-at : (rs : List Row) (i : ℕ) → i < length rs → getD (nestings rs) i 0 ≡ nesting (take i rs) (rowAt rs i)
 unfolding nestings nesting

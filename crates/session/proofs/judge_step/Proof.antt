@@ -16,8 +16,8 @@ bad-side-requires c κs = search needs
 bad-premise-requires : tie.Need-bad-premise-requires
 bad-premise-requires c κs = search needs
 
-is-yielded-requires : tie.Need-is-yielded-requires
-is-yielded-requires c κs = search needs
+rule-refuses-requires : tie.Need-rule-refuses-requires
+rule-refuses-requires c κs = search needs
 
 or-requires : tie.Need-or-requires
 or-requires c κs = search needs
@@ -36,11 +36,11 @@ returns-3 c = bad-premise _ _ _ (sym (c .before .before .before .or .ensures) �
 
 returns-4 : tie.Need-returns-4
 unfolding rowStepAnswer
-returns-4 c = not-yielded _ _ _ (sym (c .before .before .before .before .or .ensures) ∙ c .before .before .before .if1 .left) _ (c .before .before .before .before .before .before .before .before .before .bad-side .ensures) (c .before .before .if2 .left) _ (c .before .before .before .before .before .before .before .before .before .before .step-count .ensures) _ (c .before .before .before .before .before .before .before .before .bad-premise .ensures) (c .before .if3 .left) (sym (c .before .before .before .before .before .before .before .is-yielded .ensures) ∙ not-true _ (c .if4 .taken))
+returns-4 c = not-yielded _ _ _ (sym (c .before .before .before .before .or .ensures) ∙ c .before .before .before .if1 .left) _ (c .before .before .before .before .before .before .before .before .before .bad-side .ensures) (c .before .before .if2 .left) _ (c .before .before .before .before .before .before .before .before .before .before .step-count .ensures) _ (c .before .before .before .before .before .before .before .before .bad-premise .ensures) (c .before .if3 .left) (not-true _ (sym (c .before .before .before .before .before .before .before .rule-refuses .ensures) ∙ c .if4 .taken))
 
 returns-5 : tie.Need-returns-5
 unfolding rowStepAnswer
-returns-5 c = steps-full _ _ _ (sym (c .before .before .before .before .before .or .ensures) ∙ c .before .before .before .before .if1 .left) _ (c .before .before .before .before .before .before .before .before .before .before .bad-side .ensures) (c .before .before .before .if2 .left) _ (c .before .before .before .before .before .before .before .before .before .before .before .step-count .ensures) _ (c .before .before .before .before .before .before .before .before .before .bad-premise .ensures) (c .before .before .if3 .left) (sym (c .before .before .before .before .before .before .before .before .is-yielded .ensures) ∙ not-false _ (c .before .if4 .left)) (c .if5 .taken)
+returns-5 c = steps-full _ _ _ (sym (c .before .before .before .before .before .or .ensures) ∙ c .before .before .before .before .if1 .left) _ (c .before .before .before .before .before .before .before .before .before .before .bad-side .ensures) (c .before .before .before .if2 .left) _ (c .before .before .before .before .before .before .before .before .before .before .before .step-count .ensures) _ (c .before .before .before .before .before .before .before .before .before .bad-premise .ensures) (c .before .before .if3 .left) (not-false _ (sym (c .before .before .before .before .before .before .before .before .rule-refuses .ensures) ∙ c .before .if4 .left)) (c .if5 .taken)
 
 add-t11 : tie.Need-add-t11
 add-t11 c = search needs
@@ -50,7 +50,7 @@ cast-t12 c = search needs
 
 returns-6 : tie.Need-returns-6
 unfolding rowStepAnswer
-returns-6 c = step-held _ _ _ (sym (c .before .before .before .before .before .or .ensures) ∙ c .before .before .before .before .if1 .left) _ (c .before .before .before .before .before .before .before .before .before .before .bad-side .ensures) (c .before .before .before .if2 .left) _ (c .before .before .before .before .before .before .before .before .before .before .before .step-count .ensures) _ (c .before .before .before .before .before .before .before .before .before .bad-premise .ensures) (c .before .before .if3 .left) (sym (c .before .before .before .before .before .before .before .before .is-yielded .ensures) ∙ not-false _ (c .before .if4 .left)) (c .if5 .left)
+returns-6 c = step-held _ _ _ (sym (c .before .before .before .before .before .or .ensures) ∙ c .before .before .before .before .if1 .left) _ (c .before .before .before .before .before .before .before .before .before .before .bad-side .ensures) (c .before .before .before .if2 .left) _ (c .before .before .before .before .before .before .before .before .before .before .before .step-count .ensures) _ (c .before .before .before .before .before .before .before .before .before .bad-premise .ensures) (c .before .before .if3 .left) (not-false _ (sym (c .before .before .before .before .before .before .before .before .rule-refuses .ensures) ∙ c .before .if4 .left)) (c .if5 .left)
 
 pub judge-step-spec : {M : Type 1} → statement M
 judge-step-spec =
@@ -59,7 +59,7 @@ judge-step-spec =
     step-count-requires
     bad-side-requires
     bad-premise-requires
-    is-yielded-requires
+    rule-refuses-requires
     or-requires
     returns
     returns-2
