@@ -7,3 +7,4 @@ pub mod View
 pub mod Answers
 pub mod Promises
 pub mod Demand3
+pub mod CallCases
