@@ -77,7 +77,7 @@ selects-exist s row xs x limit buffer =
     let t = select-case (view s .rows) row xs x limit (length buffer) in
     (t .0, selectBuffer (view s .rows) row xs x limit buffer, record { answer = t .1; bytes = refl })
 
-call-exists : (s : Session) (c : Call) → (t : Session) × (o : Seen) × Made s t c o
+pub call-exists : (s : Session) (c : Call) → (t : Session) × (o : Seen) × Made s t c o
 unfolding rowStepAnswer
 call-exists s (term r) =
     let t = term-case (view s .rows) r in

@@ -50,19 +50,19 @@ step-moves s size p = by-test (accepted (stepAnswer (view s) p)) refl
     by-test false e = record { size = size; book = refl }
 
 -- a call leaves the session of the book's next, and what is seen of it is what the book shows
-call-moves : {s t : Session} {c : Call} {o : Seen} → Kept s → Made s t c o → Moved t (bookNext (view s) c)
+pub call-moves : {s t : Session} {c : Call} {o : Seen} → Kept s → Made s t c o → Moved t (bookNext (view s) c)
 unfolding bookNext
 call-moves {s} k (term-made {r} {m} w e) = subst (λ u. Moved u (termBook (view s) r)) (sym (e ∙ w .session)) (term-moves s (k .size) r)
 call-moves {s} k (step-made {p} {m} w e) =
     let by-terms : rowStepAnswer (view s) p ≡ stepAnswer (view s) p = sym (w .answer) ∙ w .by-terms (k .reachable) in
     subst (λ u. Moved u (stepBook (view s) p)) (sym (e ∙ w .session ∙ rw by-terms)) (step-moves s (k .size) p)
 
-call-answers : {s t : Session} {c : Call} {o : Seen} → Kept s → Made s t c o → (o .answer ≡ bookAnswer (view s) c) × (o .book ≡ view t)
+pub call-answers : {s t : Session} {c : Call} {o : Seen} → Kept s → Made s t c o → (o .answer ≡ bookAnswer (view s) c) × (o .book ≡ view t)
 unfolding bookAnswer
 call-answers k (term-made w e) = (w .answer, refl)
 call-answers k (step-made w e) = (w .by-terms (k .reachable), refl)
 
-kept-on : {s t : Session} {c : Call} {o : Seen} → Kept s → Made s t c o → Kept t
+pub kept-on : {s t : Session} {c : Call} {o : Seen} → Kept s → Made s t c o → Kept t
 kept-on {s} {t} {c} k m = let w = call-moves k m in record { size = w .size; reachable = subst Reachable (sym (w .book)) (after c (k .reachable)) }
 
 -- all that is seen of a list of calls is what the book shows, and the session left is its last book

@@ -24,6 +24,10 @@ pub record Sized (s : Session) : Type 0 where
   pub rows : length (s .rows) ≡ rowWidth * maxRows
   pub steps : length (s .steps) ≡ stepWidth * maxSteps
 
+pub steps-viewed : (s : Session) → length (s .steps) ≡ stepWidth * maxSteps → length (view s .steps) ≡ stepsHeld s
+unfolding view
+steps-viewed s size = steps-held (s .steps) (stepsHeld s) (omega arith) size
+
 module _ (s : Session) (size : Sized s) where
   pub with-row-view : (r : Row) → rowsHeld s < maxRows → view (withRow s r) ≡ book (view s .rows ++ (r ∷ [])) (view s .steps)
   unfolding view withRow tableOf
@@ -60,8 +64,7 @@ module _ (s : Session) (size : Sized s) where
   rows-count = rows-held (s .rows) (rowsHeld s) (omega arith) (size .rows)
 
   pub steps-count : length (view s .steps) ≡ stepsHeld s
-  unfolding view
-  steps-count = steps-held (s .steps) (stepsHeld s) (omega arith) (size .steps)
+  steps-count = steps-viewed s (size .steps)
 
 -- a fresh session has its size, and holds nothing
 pub fresh-sized : Sized freshSession

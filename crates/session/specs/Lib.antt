@@ -6,5 +6,11 @@ pub mod Calls
 pub mod View
 pub mod Answers
 pub mod Promises
+pub mod Bundle
+pub mod Reading
+pub mod ReadCall
+pub mod Audit
+pub mod BundleCases
 pub mod Demand3
+pub mod ReadDemand
 pub mod CallCases

@@ -4,26 +4,46 @@ use selection::Evaluated;
 use terms::Row;
 use xpath::DocumentCheck;
 ghost use mathlib.Core.Path.{_≡_};
-ghost use mathlib.Core.Bool.{not};
+ghost use mathlib.Core.Bool.{not, cond};
 ghost use Prim.Native.Nat.{_+_, _-_, _*_, _≤_, _<_, min};
-ghost use lib.ListN.{length, take};
+ghost use lib.ListN.{length, take, drop};
 ghost use lib.Seq.{sets};
 ghost use Rattle.terms.specs.Row.{row, rowAt, tableOf, maxRows};
 ghost use Rattle.terms.specs.Fields.{isPath};
 ghost use Rattle.terms.specs.Lent.{rowOf};
 ghost use Rattle.rules.specs.Lent.{sidesOf as sidesIn};
-ghost use Rattle.session.specs.Book.{step, maxSteps, book};
+ghost use Rattle.session.specs.Book.{step, maxSteps, book, answer, accepted};
 ghost use Rattle.session.specs.StepCall.{sameSort, badSide, premiseOk, badPremise, stepNumbered};
 ghost use Rattle.session.specs.TermCall.{termAnswer};
-ghost use Rattle.session.specs.View.{rowWidth, stepWidth, stepsOf, freshSession, rowNumbers, stepNumbers};
+ghost use Rattle.session.specs.View.{rowWidth, stepWidth, stepsOf, view, freshSession, rowNumbers, stepNumbers};
 ghost use Rattle.selection.specs.Answer.{answerOf};
 ghost use Rattle.session.specs.Answers.{termAnswerOf, stepAnswerOf, selectAnswerOf, evaluationAnswer, stepIn};
+ghost use Rattle.lines.specs.Line.{lines, firstIs};
+ghost use Rattle.session.specs.Bundle.{rowNames, stepNames};
+ghost use Rattle.session.specs.Reading.{refusedAt, reading};
+ghost use Rattle.session.specs.ReadCall.{readAnswerOf, readingOf, ReadMet, RowsReadMet, StepsReadMet};
+ghost use Rattle.session.specs.Audit.{report};
 ghost use Rattle.session.specs.Promises.{TermMet, TermPlaced, sidesOf, rowYielded, rowStepAnswer, StepMet, SelectMade, SelectMet};
 
 // A step has five numbers.
 const STEP_WIDTH: usize = 5;
 
 const MAX_STEPS: usize = 2048;
+
+// Refusal 10: a line of the wrong form.
+const WRONG_FORM: u16 = 10;
+
+// The most bytes that audit takes.
+const AUDIT_LIMIT: usize = 65536;
+
+// The names lines of a bundle.
+const ROW_NAMES: [u8; ROW_NAMES_LENGTH] = *b"kind a b c";
+
+const ROW_NAMES_LENGTH: usize = 10;
+
+const STEP_NAMES: [u8; STEP_NAMES_LENGTH] = *b"rule left right first second";
+
+const STEP_NAMES_LENGTH: usize = 28;
 
 // The numbers of a session's tables.
 const ROW_NUMBERS: usize = terms::ROW_WIDTH * terms::MAX_ROWS;
@@ -76,6 +96,12 @@ pub enum SelectAnswer {
     LimitPassed,
 }
 
+// The answer of a read call: how many steps are held, or the number of the refusal and the refused line.
+pub enum ReadAnswer {
+    Held(u16),
+    Refused { number: u16, line: usize },
+}
+
 pub struct TermResult {
     pub answer: TermAnswer,
     pub session: Session,
@@ -84,6 +110,32 @@ pub struct TermResult {
 pub struct StepResult {
     pub answer: StepAnswer,
     pub session: Session,
+}
+
+pub struct ReadResult {
+    pub answer: ReadAnswer,
+    pub session: Session,
+}
+
+// What the program audit prints: the answer's number, the refused line or 0, the steps held, the rows of the last step or zeros.
+pub struct Report {
+    pub answer: u16,
+    pub line: usize,
+    pub steps: u16,
+    pub left: u16,
+    pub right: u16,
+}
+
+// Where the term lines of a bundle end: before line `line`, which starts at `at` and is the first step line, or at a refused line.
+enum RowsEnd {
+    Held { rows: usize, line: usize, at: usize },
+    Refused { number: u16, line: usize },
+}
+
+// Where the step lines of a bundle end: with the text, or at a refused line.
+enum StepsEnd {
+    Held(usize),
+    Refused { number: u16, line: usize },
 }
 
 // The answer of a term call on the rows: the first refusal that applies, or the new row's number.
@@ -390,6 +442,144 @@ fn select_in_table(
     select_first(rows, n, row, document, context, limit, marks)
 }
 
+// Whether the first names line stands at `at`.
+fn is_row_names(bytes: &[u8], at: usize) -> bool
+    ensures { λ r. ⌜ r ≡ firstIs rowNames (lines (drop at (now (bytes .entry)))) ⌝ }
+{
+    lines::is_line(bytes, at, &ROW_NAMES)
+}
+
+// Whether the second names line stands at `at`.
+fn is_step_names(bytes: &[u8], at: usize) -> bool
+    ensures { λ r. ⌜ r ≡ firstIs stepNames (lines (drop at (now (bytes .entry)))) ⌝ }
+{
+    lines::is_line(bytes, at, &STEP_NAMES)
+}
+
+// Makes the term calls of a bundle's lines from line 2 on, which starts at `start`, up to the second names line.
+fn read_rows(bytes: &[u8], start: usize, rows: &mut [u16]) -> RowsEnd
+    requires { ⌜ (2 ≤ start) × (start ≤ length (now bytes)) × (length (now rows) ≡ rowWidth * maxRows) ⌝ }
+    ensures { λ r. ⌜ RowsReadMet (now (bytes .entry)) start (now (rows .entry)) (now (rows .exit)) r ⌝ }
+{
+    let mut n = 0;
+    let mut line = 2;
+    let mut at = start;
+    while at < bytes.len() {
+        if is_step_names(bytes, at) {
+            return RowsEnd::Held {
+                rows: n,
+                line: line + 1,
+                at: at + (STEP_NAMES_LENGTH + 1),
+            };
+        }
+        let text = lines::row_line(bytes, at);
+        if !text.ok {
+            return RowsEnd::Refused {
+                number: WRONG_FORM,
+                line,
+            };
+        }
+        let row = Row {
+            kind: text.kind,
+            a: text.a,
+            b: text.b,
+            c: text.c,
+        };
+        let number = term_in_place(rows, n, row).number();
+        if number != 0 {
+            return RowsEnd::Refused { number, line };
+        }
+        n += 1;
+        line += 1;
+        at = text.next;
+    }
+    let number = WRONG_FORM;
+    RowsEnd::Refused { number, line }
+}
+
+// Makes the step calls of a bundle's lines from line `first` on, which starts at `start`, where the first n rows are held.
+fn read_steps(
+    bytes: &[u8],
+    start: usize,
+    first: usize,
+    rows: &[u16],
+    n: usize,
+    steps: &mut [u16],
+) -> StepsEnd
+    requires { ⌜ (first ≤ start) × (start ≤ length (now bytes)) ⌝ }
+    requires { ⌜ (n ≤ maxRows) × (length (now rows) ≡ rowWidth * maxRows) × (length (now steps) ≡ stepWidth * maxSteps) ⌝ }
+    ensures { λ r. ⌜ StepsReadMet (now (bytes .entry)) start first (now (rows .entry)) n (now (steps .entry)) (now (steps .exit)) r ⌝ }
+{
+    let mut m = 0;
+    let mut line = first;
+    let mut at = start;
+    while at < bytes.len() {
+        let text = lines::step_line(bytes, at);
+        if !text.ok {
+            return StepsEnd::Refused {
+                number: WRONG_FORM,
+                line,
+            };
+        }
+        let step = Step {
+            rule: text.rule,
+            left: text.left,
+            right: text.right,
+            first: text.first,
+            second: text.second,
+        };
+        let number = judge_first(rows, n, steps, m, step).number();
+        if number != 0 {
+            return StepsEnd::Refused { number, line };
+        }
+        put_step(steps, m, step);
+        m += 1;
+        line += 1;
+        at = text.next;
+    }
+    StepsEnd::Held(m)
+}
+
+fn no_rows() -> [u16; ROW_NUMBERS]
+    ensures { λ r. ⌜ r ≡ freshSession .rows ⌝ }
+{
+    [0u16; ROW_NUMBERS]
+}
+
+fn no_steps() -> [u16; STEP_NUMBERS]
+    ensures { λ r. ⌜ r ≡ freshSession .steps ⌝ }
+{
+    [0u16; STEP_NUMBERS]
+}
+
+// The result of a read call that is refused and leaves a fresh session.
+fn refused_read(number: u16, line: usize, fresh: Session) -> ReadResult
+    requires { ⌜ fresh ≡ freshSession ⌝ }
+    ensures { λ r. ⌜ readingOf r ≡ refusedAt number line ⌝ }
+{
+    ReadResult {
+        answer: ReadAnswer::Refused { number, line },
+        session: fresh,
+    }
+}
+
+// The rows of step m, the last of the first m steps; zeros where there is none.
+fn last_sides(steps: &[u16], m: usize) -> Sides
+    requires { ⌜ (m ≤ maxSteps) × (length (now steps) ≡ stepWidth * maxSteps) ⌝ }
+    ensures { λ r. ⌜ sidesIn r ≡ sidesOf (stepNumbered (stepsOf (take (stepWidth * m) (now (steps .entry)))) m) ⌝ }
+{
+    let end = STEP_WIDTH * m;
+    sides_of(&steps[..end], m as u16)
+}
+
+// The same in a session's table.
+fn last_in_table(steps: &[u16; STEP_NUMBERS], m: usize) -> Sides
+    requires { ⌜ m ≤ maxSteps ⌝ }
+    ensures { λ r. ⌜ sidesIn r ≡ sidesOf (stepNumbered (stepsOf (take (stepWidth * m) (now (steps .entry)))) m) ⌝ }
+{
+    last_sides(steps, m)
+}
+
 // A count, where it is no more than its limit; else the limit.
 fn clamp(count: usize, limit: usize) -> usize
     ensures { λ r. ⌜ r ≡ min count limit ⌝ }
@@ -479,6 +669,26 @@ impl SelectAnswer {
     }
 }
 
+impl ReadAnswer {
+    pub fn number(self) -> u16
+        ensures { λ r. ⌜ r ≡ readAnswerOf self .number ⌝ }
+    {
+        match self {
+            ReadAnswer::Held(_) => 0,
+            ReadAnswer::Refused { number, line: _ } => number,
+        }
+    }
+
+    pub fn value(self) -> usize
+        ensures { λ r. ⌜ r ≡ readAnswerOf self .value ⌝ }
+    {
+        match self {
+            ReadAnswer::Held(n) => n as usize,
+            ReadAnswer::Refused { number: _, line } => line,
+        }
+    }
+}
+
 impl Session {
     pub const ROWS: usize = terms::MAX_ROWS;
 
@@ -551,4 +761,94 @@ impl Session {
         let held = clamp(self.row_count, Session::ROWS);
         select_in_table(&self.rows, held, row, document, context, limit, marks)
     }
+
+    fn steps_held(self) -> u16
+        ensures { λ r. ⌜ r ≡ length (view self .steps) ⌝ }
+    {
+        clamp(self.step_count, Session::STEPS) as u16
+    }
+
+    // The rows of the last step; zeros where there is none.
+    fn last_step(self) -> Sides
+        ensures { λ r. ⌜ sidesIn r ≡ sidesOf (stepNumbered (view self .steps) (length (view self .steps))) ⌝ }
+    {
+        let held = clamp(self.step_count, Session::STEPS);
+        last_in_table(&self.steps, held)
+    }
+
+    // Makes the calls of a bundle's lines, from a fresh session.
+    pub fn read(bytes: &[u8]) -> ReadResult
+        ensures { λ r. ⌜ ReadMet (now (bytes .entry)) r ⌝ }
+    {
+        let fresh = Session::new();
+        if !is_row_names(bytes, 0) {
+            return refused_read(WRONG_FORM, 1, fresh);
+        }
+        let mut rows = no_rows();
+        let ended = read_rows(bytes, ROW_NAMES_LENGTH + 1, &mut rows);
+        match ended {
+            RowsEnd::Held { rows: n, line, at } => {
+                let mut steps = no_steps();
+                let last = read_steps(bytes, at, line, &rows, n, &mut steps);
+                match last {
+                    StepsEnd::Held(m) => ReadResult {
+                        answer: ReadAnswer::Held(m as u16),
+                        session: Session {
+                            rows,
+                            row_count: n,
+                            steps,
+                            step_count: m,
+                        },
+                    },
+                    StepsEnd::Refused { number, line } => refused_read(number, line, fresh),
+                }
+            }
+            RowsEnd::Refused { number, line } => refused_read(number, line, fresh),
+        }
+    }
+}
+
+// The value of a refusal, which is its line; 0 where nothing is refused.
+fn refused_line(number: u16, value: usize) -> usize
+    ensures { λ r. ⌜ r ≡ cond (accepted (answer number value)) 0 value ⌝ }
+{
+    if number == 0 { 0 } else { value }
+}
+
+// What the program audit prints of a bundle.
+pub fn audit(bytes: &[u8]) -> Report
+    ensures { λ r. ⌜ r ≡ report (now (bytes .entry)) ⌝ }
+{
+    if AUDIT_LIMIT < bytes.len() {
+        return Report {
+            answer: WRONG_FORM,
+            line: 0,
+            steps: 0,
+            left: 0,
+            right: 0,
+        };
+    }
+    let read = Session::read(bytes);
+    let answer = read.answer;
+    let session = read.session;
+    let number = answer.number();
+    let line = refused_line(number, answer.value());
+    let steps = session.steps_held();
+    let last = session.last_step();
+    Report {
+        answer: number,
+        line,
+        steps,
+        left: last.left,
+        right: last.right,
+    }
+}
+
+// The number of the answer to a bundle's bytes, for a host in C.
+#[no_mangle]
+pub extern "C" fn spinebriar_read(bytes: &[u8]) -> u16
+    ensures { λ r. ⌜ r ≡ reading (now (bytes .entry)) .answer .number ⌝ }
+{
+    let answer = Session::read(bytes).answer;
+    answer.number()
 }

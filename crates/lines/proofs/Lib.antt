@@ -1,0 +1,5 @@
+pub mod Cutting
+pub mod Scan
+pub mod LineRead
+pub mod Start
+pub mod Written

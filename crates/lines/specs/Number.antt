@@ -1,0 +1,55 @@
+-- Numbers in base ten, and lines of them. Assumes nothing.
+use Prim.Native.Nat.{ℕ, _+_, _-_, _*_}
+use mathlib.Core.Bool.{Bool, true, false, cond, not, _&&_}
+use mathlib.Core.List.{List, [], _∷_, map}
+use mathlib.Core.Option.{Option, none, some, Option·elim}
+use lib.Dec.{leb, eqb}
+use lib.ListN.{length}
+use Rattle.lines.specs.Line.{Line, parts}
+
+abbrev pub digit0 : ℕ
+digit0 = 48
+
+abbrev pub digit9 : ℕ
+digit9 = 57
+
+abbrev pub maxNumber : ℕ
+maxNumber = 65535
+
+unfoldable pub isDigit : ℕ → Bool
+isDigit x = leb digit0 x && leb x digit9
+
+unfoldable pub areDigits : List ℕ → Bool
+areDigits [] = true
+areDigits (x ∷ xs) = isDigit x && areDigits xs
+
+-- one digit, or several of which the first is not 0
+unfoldable pub isDecimal : List ℕ → Bool
+isDecimal [] = false
+isDecimal (x ∷ []) = isDigit x
+isDecimal (x ∷ y ∷ xs) = isDigit x && not (eqb x digit0) && areDigits (y ∷ xs)
+
+-- the number n with one more digit behind it
+abbrev pub andDigit : ℕ → ℕ → ℕ
+andDigit n x = 10 * n + (x - digit0)
+
+unfoldable pub andDigits : ℕ → List ℕ → ℕ
+andDigits n [] = n
+andDigits n (x ∷ xs) = andDigits (andDigit n x) xs
+
+-- the number that the bytes write; none where they write no number, or one above the largest
+unfoldable pub number : List ℕ → Option ℕ
+number xs = cond (isDecimal xs && leb (andDigits 0 xs) maxNumber) (some (andDigits 0 xs)) none
+
+-- all of them, where each is there
+unfoldable pub allSome : List (Option ℕ) → Option (List ℕ)
+allSome [] = some []
+allSome (o ∷ os) = Option·elim o none (λ n. Option·elim (allSome os) none (λ ns. some (n ∷ ns)))
+
+-- the numbers, where there are `count` of them
+unfoldable pub exactly : (count : ℕ) → Option (List ℕ) → Option (List ℕ)
+exactly count o = Option·elim o none (λ ns. cond (eqb (length ns) count) (some ns) none)
+
+-- the numbers of a line that has `count` numbers, with one space between two, and its newline; none of any other line
+unfoldable pub numbersOf : (count : ℕ) → Line → Option (List ℕ)
+numbersOf count l = cond (l .ended) (exactly count (allSome (map number (parts (l .bytes))))) none

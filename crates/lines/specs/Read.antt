@@ -1,0 +1,69 @@
+-- What the functions that read a text promise. Assumes nothing.
+use Prim.Native.Nat.{ℕ, _≤_, _<_}
+use mathlib.Core.Path.{_≡_}
+use mathlib.Core.Bool.{Bool, true, false, cond, _&&_}
+use mathlib.Core.List.{List, [], _∷_}
+use mathlib.Core.Option.{Option, none, some, Option·elim}
+use lib.Dec.{leb, ltb, eqb}
+use lib.ListN.{length, drop}
+use Rattle.lines.specs.declared.Digits.{Digits}
+use Rattle.lines.specs.declared.Digits.the-variants as DigitsCases
+use Rattle.lines.specs.Line.{Line, lines}
+use Rattle.lines.specs.Number.{maxNumber, isDigit, andDigit, number, numbersOf}
+
+-- the number n, of at least one digit, with one more digit x behind it; no digit stands behind a 0
+unfoldable pub oneMore : ℕ → ℕ → Option ℕ
+oneMore n x = cond (ltb 0 n && isDigit x && leb (andDigit n x) maxNumber) (some (andDigit n x)) none
+
+abbrev pub written : Digits → Option ℕ
+written (DigitsCases.Write n) = some n
+written DigitsCases.Nothing = none
+
+-- bytes, and the text after them
+pub record Cut : Type 0 where
+  pub bytes : List ℕ
+  pub rest : List ℕ
+
+abbrev pub bytesBefore : List ℕ → List ℕ → Cut
+bytesBefore xs ys = record { bytes = xs; rest = ys }
+
+-- the bytes before the first `end`, and the text after it
+unfoldable pub cut : (end : ℕ) → List ℕ → Option Cut
+cut end [] = none
+cut end (x ∷ xs) =
+    cond (eqb x end) (some (bytesBefore [] xs)) (Option·elim (cut end xs) none (λ c. some (bytesBefore (x ∷ c .bytes) (c .rest))))
+
+-- a number, and the text after the byte that ends it
+pub record NumberCut : Type 0 where
+  pub value : ℕ
+  pub rest : List ℕ
+
+abbrev pub numberBefore : ℕ → List ℕ → NumberCut
+numberBefore n xs = record { value = n; rest = xs }
+
+unfoldable pub numberCut : (end : ℕ) → List ℕ → Option NumberCut
+numberCut end xs =
+    Option·elim (cut end xs) none (λ c. Option·elim (number (c .bytes)) none (λ n. some (numberBefore n (c .rest))))
+
+-- the number that stands at `at` of the text xs and that the byte `end` ends: whether there is one, which, and where the text goes on
+pub record NumberMet (end : ℕ) (xs : List ℕ) (at : ℕ) (ok : Bool) (value next : ℕ) : Type 0 where
+  pub number : cond ok (some (numberBefore value (drop next xs))) none ≡ numberCut end (drop at xs)
+  pub right : ok ≡ true → (at < next) × (next ≤ length xs)
+  pub wrong : ok ≡ false → next ≡ length xs
+
+-- the first line, where it has `count` numbers
+unfoldable pub firstNumbers : (count : ℕ) → List Line → Option (List ℕ)
+firstNumbers count [] = none
+firstNumbers count (l ∷ ls) = numbersOf count l
+
+-- the line that starts at `at` of the text xs: whether it has `count` numbers, which, and where the next line starts
+pub record LineMet (count : ℕ) (xs : List ℕ) (at : ℕ) (ok : Bool) (ns : List ℕ) (next : ℕ) : Type 0 where
+  pub numbers : cond ok (some ns) none ≡ firstNumbers count (lines (drop at xs))
+  pub rest : ok ≡ true → lines (drop next xs) ≡ drop 1 (lines (drop at xs))
+  pub right : ok ≡ true → (at < next) × (next ≤ length xs)
+
+-- the text xs starts with the bytes ys
+unfoldable pub startsWith : (ys xs : List ℕ) → Bool
+startsWith [] xs = true
+startsWith (y ∷ ys) [] = false
+startsWith (y ∷ ys) (x ∷ xs) = eqb x y && startsWith ys xs

@@ -1,0 +1,189 @@
+// Lines of numbers in a text: base ten, no leading zeros, at most 65535, one space between two numbers, a newline after every line.
+// Every function takes every input. A text is read from a position on, and no line is searched for its end first.
+ghost use mathlib.Core.Path.{_≡_};
+ghost use mathlib.Core.Bool.{true, false};
+ghost use mathlib.Core.List.{[], _∷_, _++_};
+ghost use Prim.Native.Nat.{_-_, _<_, _≤_};
+ghost use lib.ListN.{length, drop};
+ghost use Rattle.lines.specs.Line.{newline};
+ghost use Rattle.lines.specs.Number.{digit0, maxNumber, isDigit};
+ghost use Rattle.lines.specs.Read.{oneMore, written, NumberMet, LineMet, startsWith};
+
+const NEWLINE: u8 = 10;
+
+const SPACE: u8 = 32;
+
+const DIGIT_0: u8 = 48;
+
+const DIGIT_9: u8 = 57;
+
+const MAX_NUMBER: u32 = 65535;
+
+// The number that some digits write, if they write one.
+enum Digits {
+    Write(u32),
+    Nothing,
+}
+
+// A number and the position after the byte that ends it; where there is none, `next` is the text's length.
+struct Number {
+    ok: bool,
+    value: u16,
+    next: usize,
+}
+
+// A line of four numbers, and the position of the next line; what `ok` denies, the rest doesn't say.
+pub struct RowLine {
+    pub ok: bool,
+    pub kind: u16,
+    pub a: u16,
+    pub b: u16,
+    pub c: u16,
+    pub next: usize,
+}
+
+// A line of five numbers.
+pub struct StepLine {
+    pub ok: bool,
+    pub rule: u16,
+    pub left: u16,
+    pub right: u16,
+    pub first: u16,
+    pub second: u16,
+    pub next: usize,
+}
+
+fn is_digit(b: u8) -> bool
+    ensures { λ r. ⌜ r ≡ isDigit b ⌝ }
+{
+    if b < DIGIT_0 {
+        return false;
+    }
+    b <= DIGIT_9
+}
+
+// The digit that b is.
+fn digit(b: u8) -> u32
+    requires { ⌜ isDigit b ≡ true ⌝ }
+    ensures { λ r. ⌜ r ≡ b - digit0 ⌝ }
+{
+    (b - DIGIT_0) as u32
+}
+
+// The digits that write `value`, and b behind them. No digit may stand behind a 0.
+fn one_more(value: u32, b: u8) -> Digits
+    requires { ⌜ value ≤ maxNumber ⌝ }
+    ensures { λ r. ⌜ written r ≡ oneMore value b ⌝ }
+{
+    if value == 0 {
+        return Digits::Nothing;
+    }
+    if !is_digit(b) {
+        return Digits::Nothing;
+    }
+    let more = 10 * value + digit(b);
+    if MAX_NUMBER < more {
+        return Digits::Nothing;
+    }
+    Digits::Write(more)
+}
+
+fn no_number(bytes: &[u8]) -> Number
+    ensures { λ r. ⌜ (r .ok ≡ false) × (r .next ≡ length (now (bytes .entry))) ⌝ }
+{
+    Number {
+        ok: false,
+        value: 0,
+        next: bytes.len(),
+    }
+}
+
+// The number at `at` that the byte `end` ends.
+fn number_at(bytes: &[u8], at: usize, end: u8) -> Number
+    requires { ⌜ isDigit end ≡ false ⌝ }
+    ensures { λ r. ⌜ NumberMet end (now (bytes .entry)) at (r .ok) (r .value) (r .next) ⌝ }
+{
+    if bytes.len() <= at {
+        return no_number(bytes);
+    }
+    let start = bytes[at];
+    if !is_digit(start) {
+        return no_number(bytes);
+    }
+    let mut value = digit(start);
+    let mut i = at + 1;
+    while i < bytes.len() {
+        let b = bytes[i];
+        if b == end {
+            return Number {
+                ok: true,
+                value: value as u16,
+                next: i + 1,
+            };
+        }
+        let Digits::Write(more) = one_more(value, b) else {
+            return no_number(bytes);
+        };
+        value = more;
+        i += 1;
+    }
+    no_number(bytes)
+}
+
+// The line at `at`, if it has four numbers.
+pub fn row_line(bytes: &[u8], at: usize) -> RowLine
+    ensures { λ r. ⌜ LineMet 4 (now (bytes .entry)) at (r .ok) (r .kind ∷ r .a ∷ r .b ∷ r .c ∷ []) (r .next) ⌝ }
+{
+    let kind = number_at(bytes, at, SPACE);
+    let a = number_at(bytes, kind.next, SPACE);
+    let b = number_at(bytes, a.next, SPACE);
+    let c = number_at(bytes, b.next, NEWLINE);
+    RowLine {
+        ok: c.ok,
+        kind: kind.value,
+        a: a.value,
+        b: b.value,
+        c: c.value,
+        next: c.next,
+    }
+}
+
+// The line at `at`, if it has five numbers.
+pub fn step_line(bytes: &[u8], at: usize) -> StepLine
+    ensures { λ r. ⌜ LineMet 5 (now (bytes .entry)) at (r .ok) (r .rule ∷ r .left ∷ r .right ∷ r .first ∷ r .second ∷ []) (r .next) ⌝ }
+{
+    let rule = number_at(bytes, at, SPACE);
+    let others = row_line(bytes, rule.next);
+    StepLine {
+        ok: others.ok,
+        rule: rule.value,
+        left: others.kind,
+        right: others.a,
+        first: others.b,
+        second: others.c,
+        next: others.next,
+    }
+}
+
+// Whether `line` and a newline stand at `at`.
+pub fn is_line(bytes: &[u8], at: usize, line: &[u8]) -> bool
+    ensures { λ r. ⌜ r ≡ startsWith (now (line .entry) ++ newline ∷ []) (drop at (now (bytes .entry))) ⌝ }
+{
+    if bytes.len() < at {
+        return false;
+    }
+    let mut i = 0;
+    while i < line.len() {
+        if bytes.len() - at <= i {
+            return false;
+        }
+        if bytes[at + i] != line[i] {
+            return false;
+        }
+        i += 1;
+    }
+    if bytes.len() - at <= i {
+        return false;
+    }
+    bytes[at + i] == NEWLINE
+}

@@ -1,0 +1,34 @@
+-- From the call read to what audit prints. Assumes nothing.
+use Prim.Native.Nat.{ℕ, _≤_, _<_}
+use mathlib.Core.Path.{_≡_, ap}
+use mathlib.Core.Bool.{cond}
+use mathlib.Core.List.{List}
+use lib.ListN.{length}
+use borrow.Author.Tests.{lt-ltb, le-ltb}
+use Rattle.rules.specs.RowYields.{Sides}
+use Rattle.session.specs.declared.ReadResult.{ReadResult}
+use Rattle.session.specs.Book.{answer, accepted}
+use Rattle.session.specs.StepCall.{stepNumbered}
+use Rattle.session.specs.View.{view}
+use Rattle.session.specs.Promises.{sidesOf}
+use Rattle.session.specs.Reading.{wrongForm, reading}
+use Rattle.session.specs.ReadCall.{readAnswerOf, readingOf, ReadMet}
+use Rattle.session.specs.Audit.{auditLimit, reportBy, readReport, report}
+
+module _ (bytes : List ℕ) where
+  pub too-long : auditLimit < length bytes → reportBy wrongForm 0 0 0 0 ≡ report bytes
+  unfolding report
+  too-long h = rw (lt-ltb auditLimit (length bytes) h)
+
+  met-reading : (t : ReadResult) → ReadMet bytes t → readingOf t ≡ reading bytes
+  met-reading t m = λ i. record { answer = m .answer i; session = m .session i }
+
+  -- what is printed of a result that read gives
+  module _ (short : length bytes ≤ auditLimit) (t : ReadResult) (met : ReadMet bytes t) where
+    pub reported : (number value line steps : ℕ) (last : Sides) → number ≡ readAnswerOf (t .answer) .number → value ≡ readAnswerOf (t .answer) .value
+        → line ≡ cond (accepted (answer number value)) 0 value → steps ≡ length (view (t .session) .steps)
+        → last ≡ sidesOf (stepNumbered (view (t .session) .steps) (length (view (t .session) .steps)))
+        → reportBy number line steps (last .left) (last .right) ≡ report bytes
+    unfolding report sidesOf
+    reported number value line steps last is-number is-value is-line is-steps is-last =
+        rw (is-line, is-number, is-value, is-steps, is-last, le-ltb auditLimit (length bytes) short) (ap readReport (met-reading t met))

@@ -1,0 +1,121 @@
+-- A well-written bundle: its lines read back, and reading it is making its calls. Assumes nothing.
+use Prim.Native.Nat.{ℕ, _+_}
+use mathlib.Core.Path.{_≡_, refl, sym, ap, _∙_}
+use mathlib.Core.Bool.{Bool, true, false}
+use mathlib.Core.List.{List, [], _∷_, _++_, map, append-assoc}
+use mathlib.Core.Option.{none, some, Option·elim, Option·none-ne-some}
+use native.Mathlib.Omega.{arith}
+use lib.ListN.{length, length-append}
+use Rattle.terms.specs.Row.{Row}
+use Rattle.rules.specs.Lists.{Every}
+use Rattle.lines.specs.Ascii.{ascii}
+use Rattle.lines.specs.Line.{newline, Line, line, inFirstPart, lines, parts, sameBytes, isLine, firstIs}
+use Rattle.lines.specs.Number.{isDigit, isDecimal, andDigits, number, allSome, exactly, numbersOf}
+use Rattle.lines.specs.Read.{firstNumbers}
+use Rattle.lines.proofs.Cutting.{lines-at}
+use Rattle.lines.proofs.Written.{line-reads-back}
+use Rattle.session.specs.declared.Session.{Session}
+use Rattle.session.specs.Book.{Step, answer}
+use Rattle.session.specs.TermCall.{termBook}
+use Rattle.session.specs.StepCall.{stepBook}
+use Rattle.session.specs.Calls.{term, step, Seen, bookAnswer, bookNext}
+use Rattle.session.specs.View.{rowWidth, view, freshSession, rowNumbers, stepNumbers}
+use Rattle.session.specs.Bundle.{rowNames, stepNames, rowText, rowsText, stepsText, bundleText}
+use Rattle.session.specs.Reading.{Reading, stepsRead, rowsRead, linesRead, reading}
+use Rattle.session.specs.Demand3.{Made, term-made, step-made, Run, done, then}
+use Rattle.session.specs.ReadDemand.{Accepted, callsOf, RowFits, StepFits, ReadDemand}
+use Rattle.session.proofs.Accepted.{if-accepted}
+use Rattle.session.proofs.LineCalls.{row-names-free, step-names-free}
+use Rattle.session.proofs.LinesRead.{names-read, row-held, step-held}
+use Rattle.session.proofs.ReadCalls.{is-line, read-accepted, read-refused}
+use Rattle.session.proofs.Simulation.{Kept, call-moves, call-answers, kept-on, fresh-kept}
+use Rattle.session.proofs.Views.{fresh-view}
+
+-- the second names line is no term line
+no-row-in-names : numbersOf rowWidth (line stepNames true) ≡ none
+unfolding numbersOf exactly allSome number isDecimal isDigit andDigits parts inFirstPart stepNames ascii Option·elim
+no-row-in-names = refl
+
+not-names : (ls : List Line) (ns : List ℕ) → firstNumbers rowWidth ls ≡ some ns → firstIs stepNames ls ≡ false
+unfolding firstIs firstNumbers
+not-names [] ns e = refl
+not-names (l ∷ ls) ns e = by-test (isLine stepNames l) refl
+  where
+    by-test : (b : Bool) → isLine stepNames l ≡ b → b ≡ false
+    by-test true is = absurd (Option·none-ne-some ns (sym no-row-in-names ∙ sym (ap (numbersOf rowWidth) (is-line stepNames l is)) ∙ e))
+    by-test false is = refl
+
+names-are-names : isLine stepNames (line stepNames true) ≡ true
+unfolding isLine sameBytes stepNames ascii
+names-are-names = refl
+
+first-names-are : isLine rowNames (line rowNames true) ≡ true
+unfolding isLine sameBytes rowNames ascii
+first-names-are = refl
+
+-- the reading that holds all
+abbrev allRead : Session → Reading
+allRead u = record { answer = answer 0 (length (view u .steps)); session = u }
+
+steps-written : (s : Session) (n : ℕ) (ps : List Step) (os : List Seen) (u : Session) → Every StepFits ps → Run s (map step ps) os u → Every Accepted os
+    → stepsRead s n (lines (stepsText ps)) ≡ allRead u
+unfolding stepsText stepsRead lines
+steps-written s n [] os u fits done taken = refl
+steps-written s n (p ∷ ps) os u fits (then {os = rest} (step-made {m = m} w e) run) taken =
+    let text = line-reads-back (p .rule) _ (fits .0) (stepsText ps) in
+    step-held s n _ (stepNumbers p) (sym (text .numbers)) m w (taken .0)
+    ∙ rw (text .next, ← e) (steps-written _ (n + 1) ps rest u (fits .1) run (taken .1))
+
+rows-written : (s : Session) (n : ℕ) (rs : List Row) (ps : List Step) (os : List Seen) (u : Session) → Every RowFits rs → Every StepFits ps
+    → Run s (callsOf rs ps) os u → Every Accepted os → rowsRead s n (lines (rowsText rs ++ (stepNames ++ newline ∷ stepsText ps))) ≡ allRead u
+unfolding rowsText firstIs
+rows-written s n [] ps os u rows steps run taken =
+    let text = lines-at stepNames (stepsText ps) step-names-free in
+    rw text (names-read s n _ names-are-names ∙ steps-written s (n + 1) ps os u steps run taken)
+rows-written s n (r ∷ rs) ps os u rows steps (then {os = rest} (term-made {m = m} w e) run) taken =
+    let after = rowsText rs ++ (stepNames ++ newline ∷ stepsText ps) in
+    let text = line-reads-back (r .kind) _ (rows .0) after in
+    rw (append-assoc (rowText r) (rowsText rs) (stepNames ++ newline ∷ stepsText ps))
+    (row-held s n _ (not-names _ (rowNumbers r) (text .numbers)) (rowNumbers r) (sym (text .numbers)) m w (taken .0)
+    ∙ rw (text .next, ← e) (rows-written _ (n + 1) rs ps rest u (rows .1) steps run (taken .1)))
+
+-- an accepted step call adds one step, and a term call none
+step-adds : {s t : Session} {p : Step} {o : Seen} → Kept s → Made s t (step p) o → Accepted o → length (view t .steps) ≡ length (view s .steps) + 1
+unfolding bookNext stepBook bookAnswer
+step-adds {s} {t} {p} k m e =
+    ap (λ b. length (b .steps)) (call-moves k m .book)
+    ∙ ap length (sym (if-accepted _ _ (call-answers k m .0) (view s .steps ++ p ∷ []) (view s .steps) e))
+    ∙ length-append (view s .steps) (p ∷ [])
+
+row-adds-none : {s t : Session} {r : Row} {o : Seen} → Kept s → Made s t (term r) o → length (view t .steps) ≡ length (view s .steps)
+unfolding bookNext termBook
+row-adds-none k m = ap (λ b. length (b .steps)) (call-moves k m .book)
+
+steps-added : (s : Session) (ps : List Step) (os : List Seen) (u : Session) → Kept s → Run s (map step ps) os u → Every Accepted os
+    → length (view u .steps) ≡ length (view s .steps) + length ps
+steps-added s [] os u k done taken = omega arith
+steps-added s (p ∷ ps) os u k (then {os = rest} m run) taken =
+    let later = steps-added _ ps rest u (kept-on k m) run (taken .1) in
+    let here = step-adds k m (taken .0) in
+    omega arith
+
+calls-added : (s : Session) (rs : List Row) (ps : List Step) (os : List Seen) (u : Session) → Kept s → Run s (callsOf rs ps) os u → Every Accepted os
+    → length (view u .steps) ≡ length (view s .steps) + length ps
+calls-added s [] ps os u k run taken = steps-added s ps os u k run taken
+calls-added s (r ∷ rs) ps os u k (then {os = rest} m run) taken =
+    let later = calls-added _ rs ps rest u (kept-on k m) run (taken .1) in
+    let here = row-adds-none k m in
+    omega arith
+
+well-written : (rs : List Row) (ps : List Step) (os : List Seen) (u : Session) → Every RowFits rs → Every StepFits ps
+    → Run freshSession (callsOf rs ps) os u → Every Accepted os → reading (bundleText rs ps) ≡ record { answer = answer 0 (length ps); session = u }
+unfolding reading bundleText linesRead
+well-written rs ps os u rows steps run taken =
+    let text = lines-at rowNames (rowsText rs ++ (stepNames ++ newline ∷ stepsText ps)) row-names-free in
+    let count = calls-added freshSession rs ps os u fresh-kept run taken in
+    let none-first : length (view freshSession .steps) ≡ 0 = rw fresh-view in
+    let held : length (view u .steps) ≡ length ps = omega arith in
+    rw (text, first-names-are) (rows-written freshSession 2 rs ps os u rows steps run taken ∙ ap (λ n. record { answer = answer 0 n; session = u }) held)
+
+pub read-demand : ReadDemand
+read-demand = record { accepted = read-accepted; refused = read-refused; written = well-written }

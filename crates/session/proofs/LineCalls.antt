@@ -1,0 +1,127 @@
+-- What the code does at a line of a bundle is what the reading does. Assumes nothing.
+use Prim.Native.Nat.{ℕ, _+_, _*_, _≤_, _<_, min}
+use mathlib.Core.Path.{_≡_, refl, sym, ap, subst, _∙_}
+use mathlib.Core.Bool.{Bool, true, false, cond}
+use mathlib.Core.List.{List}
+use mathlib.Core.Option.{none, some}
+use native.Mathlib.Omega.{arith}
+use lib.ListN.{length, take, drop}
+use lib.Seq.{sets}
+use Rattle.terms.specs.Row.{tableOf, maxRows}
+use Rattle.lines.specs.Ascii.{ascii}
+use Rattle.lines.specs.Line.{newline, lines, firstIs}
+use Rattle.lines.specs.Read.{firstNumbers, LineMet}
+use Rattle.lines.proofs.Cutting.{Free, lacks, lacks-free}
+use Rattle.lines.proofs.Start.{line-passed}
+use Rattle.session.specs.declared.Session.{Session}
+use Rattle.session.specs.declared.TermAnswer.{TermAnswer}
+use Rattle.session.specs.declared.StepAnswer.{StepAnswer}
+use Rattle.session.specs.Book.{maxSteps, book, answer}
+use Rattle.session.specs.View.{rowWidth, stepWidth, stepsOf, view, stepNumbers, freshSession}
+use Rattle.session.specs.Answers.{termAnswerOf, stepAnswerOf}
+use Rattle.session.specs.Promises.{TermPlaced, rowStepAnswer}
+use Rattle.session.specs.Bundle.{rowNames, stepNames, rowOfNumbers, stepOfNumbers}
+use Rattle.session.specs.Reading.{refusedAt, wrongForm, stepsRead, rowsRead}
+use Rattle.session.specs.ReadCall.{holding}
+use Rattle.session.proofs.Lent.{rows-held, steps-held}
+use Rattle.session.proofs.LinesRead.{names-read, row-wrong, row-held, row-refused, step-wrong, step-held, step-refused, no-lines, some-line}
+use Rattle.session.proofs.StepJudged.{step-accepted}
+use Rattle.session.proofs.StepMade.{step-made-held, step-made-refused}
+use Rattle.session.proofs.TermJudged.{term-accepted}
+use Rattle.session.proofs.TermMade.{term-made-held, term-made-refused}
+
+pub row-names-free : Free newline rowNames
+unfolding rowNames ascii lacks
+row-names-free = lacks-free newline rowNames refl
+
+pub step-names-free : Free newline stepNames
+unfolding stepNames ascii lacks
+step-names-free = lacks-free newline stepNames refl
+
+line-numbers : (count : ℕ) (xs : List ℕ) (at : ℕ) (ok b : Bool) (ns : List ℕ) (next : ℕ) → LineMet count xs at ok ns next → ok ≡ b
+    → cond b (some ns) none ≡ firstNumbers count (lines (drop at xs))
+line-numbers count xs at ok b ns next m e = subst (λ t. cond t (some ns) none ≡ firstNumbers count (lines (drop at xs))) e (m .numbers)
+
+-- term lines, where the first n rows of xs are held
+module _ (bytes xs : List ℕ) (n line at : ℕ) where
+  abbrev here : Session
+  here = holding xs n (freshSession .steps) 0
+
+  pub names-there : firstIs stepNames (lines (drop at bytes)) ≡ true
+      → (rowsRead here line (lines (drop at bytes)) ≡ stepsRead here (line + 1) (lines (drop (at + 29) bytes))) × (at + 29 ≤ length bytes)
+  unfolding stepNames ascii
+  names-there e =
+      let passed = line-passed stepNames bytes at step-names-free e in
+      (names-read here line _ e ∙ ap (stepsRead here (line + 1)) (sym (passed .rest)), passed .inside)
+
+  pub row-end : length bytes ≤ at → rowsRead here line (lines (drop at bytes)) ≡ refusedAt wrongForm line
+  unfolding rowsRead
+  row-end h = rw (no-lines bytes at h)
+
+  module _ (other : firstIs stepNames (lines (drop at bytes)) ≡ false) (ok : Bool) (ns : List ℕ) (next : ℕ) (m : LineMet rowWidth bytes at ok ns next) where
+    pub row-wrong-there : ok ≡ false → rowsRead here line (lines (drop at bytes)) ≡ refusedAt wrongForm line
+    row-wrong-there e = row-wrong here line _ other (line-numbers rowWidth bytes at ok false ns next m e)
+
+    module _ (right : ok ≡ true) (few : n ≤ maxRows) (ys : List ℕ) (t : TermAnswer) (placed : TermPlaced xs n (rowOfNumbers ns) ys t) where
+      count : n ≡ min n maxRows
+      count = omega arith
+
+      pub row-refused-there : ¬ (termAnswerOf t .number ≡ 0) → rowsRead here line (lines (drop at bytes)) ≡ refusedAt (termAnswerOf t .number) line
+      row-refused-there f =
+          row-refused here line _ other ns (line-numbers rowWidth bytes at ok true ns next m right) _ (term-made-refused here (rowOfNumbers ns) n count ys t placed f) f
+
+      module _ (e : termAnswerOf t .number ≡ 0) where
+        pub row-held-there : rowsRead here line (lines (drop at bytes)) ≡ rowsRead (holding ys (n + 1) (freshSession .steps) 0) (line + 1) (lines (drop next bytes))
+        row-held-there =
+            row-held here line _ other ns (line-numbers rowWidth bytes at ok true ns next m right) _ (term-made-held here (rowOfNumbers ns) n count ys t placed e) e
+            ∙ ap (rowsRead (holding ys (n + 1) (freshSession .steps) 0) (line + 1)) (sym (m .rest right))
+
+        pub row-room : length xs ≡ rowWidth * maxRows → n < maxRows
+        row-room size =
+            let room = term-accepted _ _ (sym (ap (λ a. a .number) (placed .answer)) ∙ e) .room in
+            omega (arith, room, rows-held xs n few size)
+
+-- step lines, where the first n rows of xs and the first k steps of ys are held
+module _ (bytes xs : List ℕ) (n : ℕ) (ys : List ℕ) (k line at : ℕ) where
+  abbrev now-held : Session
+  now-held = holding xs n ys k
+
+  pub step-end : length bytes ≤ at → k ≤ maxSteps → length ys ≡ stepWidth * maxSteps
+      → stepsRead now-held line (lines (drop at bytes)) ≡ record { answer = answer 0 k; session = now-held }
+  unfolding stepsRead view
+  step-end h few size =
+      let held = steps-held ys (min k maxSteps) (omega arith) size in
+      let same : min k maxSteps ≡ k = omega arith in
+      rw (no-lines bytes at h) (ap (λ j. record { answer = answer 0 j; session = now-held }) (held ∙ same))
+
+  module _ (ok : Bool) (ns : List ℕ) (next : ℕ) (m : LineMet stepWidth bytes at ok ns next) where
+    pub step-wrong-there : at < length bytes → ok ≡ false → stepsRead now-held line (lines (drop at bytes)) ≡ refusedAt wrongForm line
+    step-wrong-there inside e = step-wrong now-held line _ (some-line bytes at inside) (line-numbers stepWidth bytes at ok false ns next m e)
+
+    module _ (right : ok ≡ true) (rows : n ≤ maxRows) (few : k ≤ maxSteps) (t : StepAnswer)
+        (judged : stepAnswerOf t ≡ rowStepAnswer (book (tableOf (take (rowWidth * n) xs)) (stepsOf (take (stepWidth * k) ys))) (stepOfNumbers ns))
+      where
+        rows-counted : n ≡ min n maxRows
+        rows-counted = omega arith
+
+        steps-counted : k ≡ min k maxSteps
+        steps-counted = omega arith
+
+        pub step-refused-there : ¬ (stepAnswerOf t .number ≡ 0) → stepsRead now-held line (lines (drop at bytes)) ≡ refusedAt (stepAnswerOf t .number) line
+        step-refused-there f =
+            step-refused now-held line _ ns (line-numbers stepWidth bytes at ok true ns next m right) _
+            (step-made-refused now-held (stepOfNumbers ns) n k rows-counted steps-counted t judged f) f
+
+        module _ (e : stepAnswerOf t .number ≡ 0) where
+          pub step-held-there : (zs : List ℕ) → zs ≡ sets ys (stepWidth * k) (stepNumbers (stepOfNumbers ns))
+              → stepsRead now-held line (lines (drop at bytes)) ≡ stepsRead (holding xs n zs (k + 1)) (line + 1) (lines (drop next bytes))
+          step-held-there zs written =
+              step-held now-held line _ ns (line-numbers stepWidth bytes at ok true ns next m right) _
+              (step-made-held now-held (stepOfNumbers ns) n k rows-counted steps-counted t judged e zs written) e
+              ∙ ap (stepsRead (holding xs n zs (k + 1)) (line + 1)) (sym (m .rest right))
+
+          pub step-room : length ys ≡ stepWidth * maxSteps → k < maxSteps
+          unfolding rowStepAnswer
+          step-room size =
+              let room = step-accepted _ _ _ (sym (ap (λ a. a .number) judged) ∙ e) .room in
+              omega (arith, room, steps-held ys k few size)

@@ -1,0 +1,98 @@
+-- The reading of a bundle, call by call. Assumes nothing.
+use Prim.Native.Nat.{ℕ, suc, _+_, _≤_, _<_}
+use mathlib.Core.Path.{_≡_, refl, sym, ap, _∙_}
+use mathlib.Core.Bool.{Bool, true, false, cond, false≢true}
+use mathlib.Core.List.{List, [], _∷_}
+use mathlib.Core.Option.{none, some, Option·elim, Option·some-ne-none}
+use native.Mathlib.Omega.{arith}
+use lib.Dec.{eqb}
+use lib.ListN.{length, getD, drop, drop-of-length-le}
+use lib.Seq.{drop-cons}
+use Rattle.lines.specs.Line.{newline, Line, line, inFirstLine, lines, firstIs}
+use Rattle.lines.specs.Read.{firstNumbers}
+use Rattle.session.specs.declared.Session.{Session}
+use Rattle.session.specs.declared.TermResult.{TermResult}
+use Rattle.session.specs.declared.StepResult.{StepResult}
+use Rattle.session.specs.Book.{accepted}
+use Rattle.session.specs.TermCall.{termAnswer}
+use Rattle.session.specs.View.{rowWidth, stepWidth, view, withRow, withStep}
+use Rattle.session.specs.Answers.{termAnswerOf, stepAnswerOf}
+use Rattle.session.specs.Promises.{TermMet, rowStepAnswer, StepMet}
+use Rattle.session.specs.Bundle.{stepNames, rowOfNumbers, stepOfNumbers, rowOfLine, stepOfLine}
+use Rattle.session.specs.Reading.{refusedAt, wrongForm, stepsRead, rowsRead}
+use Rattle.session.proofs.Accepted.{if-accepted, if-refused}
+
+module _ (s : Session) (n : ℕ) where
+  -- the second names line
+  pub names-read : (ls : List Line) → firstIs stepNames ls ≡ true → rowsRead s n ls ≡ stepsRead s (n + 1) (drop 1 ls)
+  unfolding rowsRead firstIs
+  names-read [] e = absurd (false≢true e)
+  names-read (l ∷ ls) e = rw e
+
+  pub row-wrong : (ls : List Line) → firstIs stepNames ls ≡ false → none ≡ firstNumbers rowWidth ls → rowsRead s n ls ≡ refusedAt wrongForm n
+  unfolding rowsRead firstIs firstNumbers rowOfLine Option·elim
+  row-wrong [] e f = refl
+  row-wrong (l ∷ ls) e f = rw (e, ← f)
+
+  row-called : (ls : List Line) → firstIs stepNames ls ≡ false → (ns : List ℕ) → some ns ≡ firstNumbers rowWidth ls
+      → rowsRead s n ls
+      ≡ cond (accepted (termAnswer (view s .rows) (rowOfNumbers ns))) (rowsRead (withRow s (rowOfNumbers ns)) (n + 1) (drop 1 ls))
+      (refusedAt (termAnswer (view s .rows) (rowOfNumbers ns) .number) n)
+  unfolding rowsRead firstIs firstNumbers rowOfLine Option·elim
+  row-called [] e ns f = absurd (Option·some-ne-none _ f)
+  row-called (l ∷ ls) e ns f = rw (e, ← f)
+
+  -- a term line makes its call
+  module _ (ls : List Line) (other : firstIs stepNames ls ≡ false) (ns : List ℕ) (first : some ns ≡ firstNumbers rowWidth ls)
+      (t : TermResult) (m : TermMet s (rowOfNumbers ns) t)
+    where
+      pub row-held : termAnswerOf (t .answer) .number ≡ 0 → rowsRead s n ls ≡ rowsRead (t .session) (n + 1) (drop 1 ls)
+      row-held e =
+          row-called ls other ns first ∙ sym (if-accepted _ _ (m .answer) _ _ e)
+          ∙ ap (λ u. rowsRead u (n + 1) (drop 1 ls)) (if-accepted _ _ (m .answer) (withRow s (rowOfNumbers ns)) s e ∙ sym (m .session))
+
+      pub row-refused : ¬ (termAnswerOf (t .answer) .number ≡ 0) → rowsRead s n ls ≡ refusedAt (termAnswerOf (t .answer) .number) n
+      row-refused f = row-called ls other ns first ∙ sym (if-refused _ _ (m .answer) _ _ f) ∙ ap (λ a. refusedAt (a .number) n) (sym (m .answer))
+
+  pub step-wrong : (ls : List Line) → ¬ (ls ≡ []) → none ≡ firstNumbers stepWidth ls → stepsRead s n ls ≡ refusedAt wrongForm n
+  unfolding stepsRead firstNumbers stepOfLine Option·elim
+  step-wrong [] full f = absurd (full refl)
+  step-wrong (l ∷ ls) full f = rw (← f)
+
+  step-called : (ls : List Line) (ns : List ℕ) → some ns ≡ firstNumbers stepWidth ls
+      → stepsRead s n ls
+      ≡ cond (accepted (rowStepAnswer (view s) (stepOfNumbers ns))) (stepsRead (withStep s (stepOfNumbers ns)) (n + 1) (drop 1 ls))
+      (refusedAt (rowStepAnswer (view s) (stepOfNumbers ns) .number) n)
+  unfolding stepsRead firstNumbers stepOfLine Option·elim
+  step-called [] ns f = absurd (Option·some-ne-none _ f)
+  step-called (l ∷ ls) ns f = rw (← f)
+
+  -- a step line makes its call
+  module _ (ls : List Line) (ns : List ℕ) (first : some ns ≡ firstNumbers stepWidth ls) (t : StepResult) (m : StepMet s (stepOfNumbers ns) t) where
+    pub step-held : stepAnswerOf (t .answer) .number ≡ 0 → stepsRead s n ls ≡ stepsRead (t .session) (n + 1) (drop 1 ls)
+    step-held e =
+        step-called ls ns first ∙ sym (if-accepted _ _ (m .answer) _ _ e)
+        ∙ ap (λ u. stepsRead u (n + 1) (drop 1 ls)) (if-accepted _ _ (m .answer) (withStep s (stepOfNumbers ns)) s e ∙ sym (m .session))
+
+    pub step-refused : ¬ (stepAnswerOf (t .answer) .number ≡ 0) → stepsRead s n ls ≡ refusedAt (stepAnswerOf (t .answer) .number) n
+    step-refused f = step-called ls ns first ∙ sym (if-refused _ _ (m .answer) _ _ f) ∙ ap (λ a. refusedAt (a .number) n) (sym (m .answer))
+
+pub no-lines : (xs : List ℕ) (at : ℕ) → length xs ≤ at → lines (drop at xs) ≡ []
+unfolding lines
+no-lines xs at h = rw (drop-of-length-le xs {i = at} h)
+
+-- a text that is not empty has a line
+lines-some : (x : ℕ) (xs : List ℕ) → ¬ (lines (x ∷ xs) ≡ [])
+unfolding lines inFirstLine
+lines-some x xs = by-test (eqb x newline) (lines xs)
+  where
+    cons-nil : (l : Line) (ls : List Line) → ¬ (l ∷ ls ≡ [])
+    cons-nil l ls e = let z : length (l ∷ ls) ≡ 0 = ap length e in omega arith
+
+    by-test : (b : Bool) (ls : List Line) → ¬ (cond b (line [] true ∷ ls) (inFirstLine x ls) ≡ [])
+    by-test true ls = cons-nil _ ls
+    by-test false [] = cons-nil _ []
+    by-test false (l ∷ ls) = cons-nil _ ls
+
+pub some-line : (xs : List ℕ) (at : ℕ) → at < length xs → ¬ (lines (drop at xs) ≡ [])
+some-line xs at h = rw (drop-cons xs at 0 h) (lines-some (getD xs at 0) (drop (suc at) xs))

@@ -1,0 +1,116 @@
+-- `Session::read` meets its contract. Assumes nothing.
+use mathlib.Core.Path.{sym, ap, _∙_}
+use native.Mathlib.Omega.{arith}
+use lib.ListN.{length}
+use borrow.Author.Needs.{needs}
+use borrow.Author.Tests.{not-true, not-false}
+use Rattle.session.proofs.ReadMade.{read-met, no-names, first-line, rows-read, rows-bounds, steps-read, steps-bounds}
+use Rattle.session.proofs.Views.{fresh-sized}
+use Rattle.session.proofs.Session.read.Statement.{statement}
+use Rattle.session.proofs.Session.read.Tie as tie
+
+new-requires : tie.Need-new-requires
+new-requires c κs = search needs
+
+is-row-names-requires : tie.Need-is-row-names-requires
+is-row-names-requires c κs = search needs
+
+refused-read-requires : tie.Need-refused-read-requires
+refused-read-requires c κs = c .before .before .new .ensures
+
+returns : tie.Need-returns
+returns c = read-met _ _ (c .refused-read .ensures ∙ no-names (c .before .before .before .before .before .args .bytes .now) (sym (c .before .before .is-row-names .ensures) ∙ not-true _ (c .before .if1 .taken)))
+
+no-rows-requires : tie.Need-no-rows-requires
+no-rows-requires c κs = search needs
+
+add-read-rows : tie.Need-add-read-rows
+add-read-rows c = search needs
+
+slice-aggregate-read-rows : tie.Need-slice-aggregate-read-rows
+slice-aggregate-read-rows c = search needs
+
+read-rows-requires : tie.Need-read-rows-requires
+read-rows-requires c κs = (omega arith, first-line _ (sym (c .before .before .before .is-row-names .ensures) ∙ not-false _ (c .before .before .if1 .left)), ap length (c .before .no-rows .ensures) ∙ fresh-sized .rows)
+
+enum-known-ended : tie.Need-enum-known-ended
+enum-known-ended c = search needs
+
+no-steps-requires : tie.Need-no-steps-requires
+no-steps-requires c κs = search needs
+
+slice-aggregate-read-steps : tie.Need-slice-aggregate-read-steps
+slice-aggregate-read-steps c = search needs
+
+slice-aggregate-read-steps-2 : tie.Need-slice-aggregate-read-steps-2
+slice-aggregate-read-steps-2 c = search needs
+
+read-steps-requires : tie.Need-read-steps-requires
+read-steps-requires c κs = let bounds = rows-bounds (c .before .before .before .before .before .before .before .before .before .before .before .before .before .before .args .bytes .now) (sym (c .before .before .before .before .before .before .before .before .before .before .before .is-row-names .ensures) ∙ not-false _ (c .before .before .before .before .before .before .before .before .before .before .if1 .left)) _ _ (c .before .before .before .before .before .before .before .before .before .no-rows .ensures) _ _ (c .before .before .before .before .before .before .before .read-rows .ensures) (c .before .before .before .before .ended .given .1) in
+    ((bounds .1, bounds .2), (bounds .0, c .before .before .before .before .before .before .before .read-rows .kept .1 .1 .0 ∙ ap length (c .before .before .before .before .before .before .before .before .before .no-rows .ensures) ∙ fresh-sized .rows, ap length (c .before .before .no-steps .ensures) ∙ fresh-sized .steps))
+
+enum-known-last : tie.Need-enum-known-last
+enum-known-last c = search needs
+
+cast-t28 : tie.Need-cast-t28
+cast-t28 c = let few = steps-bounds _ _ _ _ _ _ _ (c .before .before .before .before .before .before .before .no-steps .ensures) _ _ (c .before .before .before .before .read-steps .ensures) (c .before .last .given .1) in omega arith
+
+enum-known-last-2 : tie.Need-enum-known-last-2
+enum-known-last-2 c = search needs
+
+refused-read-requires-2 : tie.Need-refused-read-requires-2
+refused-read-requires-2 c κs = c .before .before .before .before .before .before .before .before .before .before .before .before .before .before .before .before .before .new .ensures
+
+enum-known-ended-2 : tie.Need-enum-known-ended-2
+enum-known-ended-2 c = search needs
+
+refused-read-requires-3 : tie.Need-refused-read-requires-3
+refused-read-requires-3 c κs = c .before .before .before .before .before .before .before .before .before .new .ensures
+
+returns-2 : tie.Need-returns-2
+returns-2 c = let bytes = c .before .before .before .before .before .before .before .before .before .before .before .before .before .before .before .before .before .before .before .args .bytes .now in
+    let names = sym (c .before .before .before .before .before .before .before .before .before .before .before .before .before .before .before .before .is-row-names .ensures) ∙ not-false _ (c .before .before .before .before .before .before .before .before .before .before .before .before .before .before .before .if1 .left) in
+    let ended = c .before .before .before .before .before .before .before .before .before .ended .given .1 in
+    let rows = rows-read bytes names _ _ (c .before .before .before .before .before .before .before .before .before .before .before .before .before .before .no-rows .ensures) _ _ (c .before .before .before .before .before .before .before .before .before .before .before .before .read-rows .ensures) ended in
+    read-met _ _ (steps-read bytes _ _ _ _ _ _ (c .before .before .before .before .before .before .before .no-steps .ensures) _ _ (c .before .before .before .before .read-steps .ensures) (c .before .last .given .1) rows)
+
+returns-3 : tie.Need-returns-3
+returns-3 c = let bytes = c .before .before .before .before .before .before .before .before .before .before .before .before .before .before .before .before .before .before .before .before .args .bytes .now in
+    let names = sym (c .before .before .before .before .before .before .before .before .before .before .before .before .before .before .before .before .before .is-row-names .ensures) ∙ not-false _ (c .before .before .before .before .before .before .before .before .before .before .before .before .before .before .before .before .if1 .left) in
+    let ended = c .before .before .before .before .before .before .before .before .before .before .ended .given .1 in
+    let rows = rows-read bytes names _ _ (c .before .before .before .before .before .before .before .before .before .before .before .before .before .before .before .no-rows .ensures) _ _ (c .before .before .before .before .before .before .before .before .before .before .before .before .before .read-rows .ensures) ended in
+    read-met _ _ (c .refused-read2 .ensures ∙ steps-read bytes _ _ _ _ _ _ (c .before .before .before .before .before .before .before .before .no-steps .ensures) _ _ (c .before .before .before .before .before .read-steps .ensures) (c .before .before .last2 .given .1) rows)
+
+returns-4 : tie.Need-returns-4
+returns-4 c = let bytes = c .before .before .before .before .before .before .before .before .before .before .before .before .args .bytes .now in
+    let names = sym (c .before .before .before .before .before .before .before .before .before .is-row-names .ensures) ∙ not-false _ (c .before .before .before .before .before .before .before .before .if1 .left) in
+    let ended = c .before .before .ended2 .given .1 in
+    let rows = rows-read bytes names _ _ (c .before .before .before .before .before .before .before .no-rows .ensures) _ _ (c .before .before .before .before .before .read-rows .ensures) ended in
+    read-met _ _ (c .refused-read3 .ensures ∙ rows)
+
+pub read-spec : {M : Type 1} → statement M
+read-spec =
+    tie.close
+    (tie.spec
+    new-requires
+    is-row-names-requires
+    refused-read-requires
+    returns
+    no-rows-requires
+    add-read-rows
+    slice-aggregate-read-rows
+    read-rows-requires
+    enum-known-ended
+    no-steps-requires
+    slice-aggregate-read-steps
+    slice-aggregate-read-steps-2
+    read-steps-requires
+    enum-known-last
+    cast-t28
+    enum-known-last-2
+    refused-read-requires-2
+    enum-known-ended-2
+    refused-read-requires-3
+    returns-2
+    returns-3
+    returns-4)

@@ -1,0 +1,63 @@
+-- What the call read promises, and the functions that it is made of. Assumes nothing.
+use Prim.Native.Nat.{ℕ, _≤_}
+use mathlib.Core.Path.{_≡_}
+use mathlib.Core.List.{List}
+use lib.ListN.{length, drop}
+use Rattle.terms.specs.Row.{maxRows}
+use Rattle.lines.specs.Line.{lines}
+use Rattle.session.specs.declared.Session.{Session}
+use Rattle.session.specs.declared.ReadAnswer.{ReadAnswer}
+use Rattle.session.specs.declared.ReadAnswer.the-variants as ReadCases
+use Rattle.session.specs.declared.ReadResult.{ReadResult}
+use Rattle.session.specs.declared.RowsEnd.{RowsEnd}
+use Rattle.session.specs.declared.RowsEnd.the-variants as RowsCases
+use Rattle.session.specs.declared.StepsEnd.{StepsEnd}
+use Rattle.session.specs.declared.StepsEnd.the-variants as StepsCases
+use Rattle.session.specs.Book.{maxSteps, Answer, answer}
+use Rattle.session.specs.View.{freshSession}
+use Rattle.session.specs.Reading.{Reading, refusedAt, stepsRead, rowsRead, reading}
+
+abbrev pub readAnswerOf : ReadAnswer → Answer
+readAnswerOf (ReadCases.Held n) = answer 0 n
+readAnswerOf (ReadCases.Refused k n) = answer k n
+
+abbrev pub readingOf : ReadResult → Reading
+readingOf t = record { answer = readAnswerOf (t .answer); session = t .session }
+
+-- `Session::read` on the bytes: the answer, and the whole session
+pub record ReadMet (bytes : List ℕ) (t : ReadResult) : Type 0 where
+  pub answer : readAnswerOf (t .answer) ≡ reading bytes .answer
+  pub session : t .session ≡ reading bytes .session
+
+-- the session of n rows with the numbers xs, and m steps with the numbers ys
+abbrev pub holding : (xs : List ℕ) (n : ℕ) (ys : List ℕ) (m : ℕ) → Session
+holding xs n ys m = record { rows = xs; «row_count» = n; steps = ys; «step_count» = m }
+
+-- what is still to be read after the term lines, which left the numbers xs
+abbrev pub afterRows : List ℕ → (xs : List ℕ) → RowsEnd → Reading
+afterRows bytes xs (RowsCases.Held n line at) = stepsRead (holding xs n (freshSession .steps) 0) line (lines (drop at bytes))
+afterRows bytes xs (RowsCases.Refused k line) = refusedAt k line
+
+-- the numbers that the code goes on with
+abbrev pub RowsBounds : List ℕ → RowsEnd → Type 0
+RowsBounds bytes (RowsCases.Held n line at) = (n ≤ maxRows) × (line ≤ at) × (at ≤ length bytes)
+RowsBounds bytes (RowsCases.Refused k line) = Unit {0}
+
+-- the term lines from line 2 on, which starts at `start`, on the numbers xs, which become ys
+pub record RowsReadMet (bytes : List ℕ) (start : ℕ) (xs ys : List ℕ) (t : RowsEnd) : Type 0 where
+  pub reading : afterRows bytes ys t ≡ rowsRead (holding xs 0 (freshSession .steps) 0) 2 (lines (drop start bytes))
+  pub bounds : RowsBounds bytes t
+
+-- the reading after the step lines, which left the numbers ys
+abbrev pub afterSteps : (xs : List ℕ) (n : ℕ) (ys : List ℕ) → StepsEnd → Reading
+afterSteps xs n ys (StepsCases.Held m) = record { answer = answer 0 m; session = holding xs n ys m }
+afterSteps xs n ys (StepsCases.Refused k line) = refusedAt k line
+
+abbrev pub StepsBounds : StepsEnd → Type 0
+StepsBounds (StepsCases.Held m) = m ≤ maxSteps
+StepsBounds (StepsCases.Refused k line) = Unit {0}
+
+-- the step lines from line `first` on, which starts at `start`, on n rows with the numbers xs and the numbers ys, which become zs
+pub record StepsReadMet (bytes : List ℕ) (start first : ℕ) (xs : List ℕ) (n : ℕ) (ys zs : List ℕ) (t : StepsEnd) : Type 0 where
+  pub reading : afterSteps xs n zs t ≡ stepsRead (holding xs n ys 0) first (lines (drop start bytes))
+  pub bounds : StepsBounds t
