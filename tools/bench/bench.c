@@ -1,13 +1,18 @@
-/* Measures the archive's read against the reference's on one bundle, and its select against libxml2's XPath with compiled
+/* Measures the proved read against the reference's on one bundle, and the proved selection against libxml2's XPath with compiled
  * expressions on a document nested 500 levels and on a flat one. Prints tables in Markdown. run.sh builds and runs it. */
 
-#include "archive.h"
+#include "spinebriar.h"
 #include <libxml/tree.h>
 #include <libxml/xpath.h>
+#include <stdbool.h>
 #include <stdio.h>
 #include <stdlib.h>
 #include <string.h>
 #include <time.h>
+
+/* crates/bench_select: rows are four numbers each, a document's nodes three; counts are of numbers. */
+uint16_t bench_select(const uint16_t *rows, size_t row_numbers, uint16_t row, const uint16_t *document,
+                      size_t document_numbers, uint16_t context, uint32_t limit, uint8_t *marks, size_t room);
 
 /* tools/reference/src/c.rs */
 uint16_t reference_read(const uint8_t *bytes, size_t length);
@@ -52,7 +57,7 @@ typedef struct {
     double samples[SAMPLES];
 } Timing;
 
-/* Times both in turns, so that what else the machine does falls on both alike. Samples are sorted. */
+/* Times the sides in turns, so that what else the machine does falls on all alike. Samples are sorted. */
 static void measure(Timing *sides, int count, const void *of) {
     for (int i = 0; i < count; i++)
         for (sides[i].n = 1; sample(sides[i].call, of, sides[i].n) * (double)sides[i].n < SAMPLE_SECONDS;) sides[i].n *= 2;
@@ -61,16 +66,14 @@ static void measure(Timing *sides, int count, const void *of) {
     for (int i = 0; i < count; i++) qsort(sides[i].samples, SAMPLES, sizeof(double), by_size);
 }
 
-/* min and median of both sides in microseconds, and the ratio ours / theirs of each; dashes without ours. */
-static void print_timings(const Timing *theirs, const Timing *ours) {
-    double min = theirs->samples[0] * 1e6, median = theirs->samples[SAMPLES / 2] * 1e6;
-    printf(" %.2f | %.2f |", min, median);
-    if (!ours) {
-        printf(" - | - | - | - |\n");
-        return;
-    }
-    double our_min = ours->samples[0] * 1e6, our_median = ours->samples[SAMPLES / 2] * 1e6;
-    printf(" %.2f | %.2f | %.2f | %.2f |\n", our_min, our_median, our_min / min, our_median / median);
+static double min_us(const Timing *t) { return t->samples[0] * 1e6; }
+
+static double median_us(const Timing *t) { return t->samples[SAMPLES / 2] * 1e6; }
+
+/* min and median of the peer and of ours in microseconds, and the ratios ours / the peer's. */
+static void print_timings(const Timing *peer, const Timing *ours) {
+    printf(" %.2f | %.2f | %.2f | %.2f | %.2f | %.2f |\n", min_us(peer), median_us(peer), min_us(ours), median_us(ours),
+           min_us(ours) / min_us(peer), median_us(ours) / median_us(peer));
 }
 
 /* The text, with the mark that would end a table's cell escaped. */
@@ -90,24 +93,36 @@ static void run_reference_read(const void *of) {
     check(reference_read(bundle->bytes, bundle->length) == 0, "the reference refuses the bundle");
 }
 
-static void run_archive_read(const void *of) {
+static void run_read(const void *of) {
     const Bundle *bundle = of;
-    check(archive_read(bundle->bytes, bundle->length) == 0, "the archive refuses the bundle");
+    check(spinebriar_read(bundle->bytes, bundle->length) == 0, "the bundle is refused");
+}
+
+static void bench_bundle(const char *what, Bundle bundle) {
+    Timing sides[2] = {{.call = run_reference_read}, {.call = run_read}};
+    measure(sides, 2, &bundle);
+    printf("| %s, %zu bytes |", what, bundle.length);
+    print_timings(&sides[0], &sides[1]);
+}
+
+/* The length up to the end of the second names line. */
+static size_t without_steps(const char *text) {
+    static const char names[] = "rule left right first second\n";
+    const char *at = strstr(text, names);
+    check(at != NULL, "no steps in the bundle");
+    return (size_t)(at - text) + strlen(names);
 }
 
 static void bench_read(const char *file) {
     static uint8_t bytes[1 << 20];
     FILE *in = fopen(file, "rb");
     check(in != NULL, "no bundle");
-    Bundle bundle = {bytes, fread(bytes, 1, sizeof bytes, in)};
+    size_t length = fread(bytes, 1, sizeof bytes - 1, in);
     fclose(in);
-    bool has_archive = archive_read(bytes, bundle.length) != ABSENT;
-    Timing sides[2] = {{.call = run_reference_read}, {.call = run_archive_read}};
-    measure(sides, has_archive ? 2 : 1, &bundle);
-    printf("Reading a full bundle, %zu bytes, in microseconds:\n\n", bundle.length);
-    printf("| | reference min | median | archive min | median | ratio of min | of median |\n|---|---|---|---|---|---|---|\n");
-    printf("| read |");
-    print_timings(&sides[0], has_archive ? &sides[1] : NULL);
+    printf("Reading a bundle, in microseconds:\n\n");
+    printf("| bundle | reference min | median | ours min | median | ratio of min | of median |\n|---|---|---|---|---|---|---|\n");
+    bench_bundle("1,024 rows and 2,048 steps", (Bundle){bytes, length});
+    bench_bundle("its rows alone", (Bundle){bytes, without_steps((const char *)bytes)});
 }
 
 /* Documents */
@@ -208,15 +223,15 @@ typedef struct {
 
 static const uint32_t LIMIT = UINT32_MAX;
 
-static int our_select(const Selection *s, uint8_t *marks) {
+static uint16_t our_select(const Selection *s, uint8_t *marks) {
     uint16_t row = (uint16_t)(s->selector->count - 1);
-    return archive_select(s->selector->rows[0], (size_t)s->selector->count, row, s->document->rows[0], NODES, s->context,
-                          LIMIT, marks);
+    return bench_select(s->selector->rows[0], 4 * (size_t)s->selector->count, row, s->document->rows[0], 3 * NODES, s->context,
+                        LIMIT, marks, NODES);
 }
 
-static void run_archive_select(const void *of) {
+static void run_select(const void *of) {
     uint8_t marks[NODES];
-    check(our_select(of, marks) == 0, "the archive refuses a selection");
+    check(our_select(of, marks) == 0, "a selection is refused");
 }
 
 static xmlXPathObjectPtr evaluate(const Selection *s) {
@@ -228,8 +243,8 @@ static xmlXPathObjectPtr evaluate(const Selection *s) {
 
 static void run_libxml2(const void *of) { xmlXPathFreeObject(evaluate(of)); }
 
-/* Sees that libxml2, the reference and the archive, if it selects, mark the same nodes; how many. */
-static int compare_marks(const Selection *s, bool has_archive) {
+/* Sees that libxml2, the reference and the proved selection mark the same nodes; how many. */
+static int compare_marks(const Selection *s) {
     uint8_t theirs[NODES] = {0}, plain[NODES], ours[NODES];
     xmlXPathObjectPtr result = evaluate(s);
     int selected = result->nodesetval ? result->nodesetval->nodeNr : 0;
@@ -239,28 +254,35 @@ static int compare_marks(const Selection *s, bool has_archive) {
     uint16_t row = (uint16_t)(s->selector->count - 1);
     check(reference_select(book, row, s->document->rows[0], NODES, s->context, LIMIT, plain) == 0, "a selection is refused");
     check(memcmp(plain, theirs, NODES) == 0, s->selector->xpath);
-    check(!has_archive || (our_select(s, ours) == 0 && memcmp(ours, theirs, NODES) == 0), s->selector->xpath);
+    check(our_select(s, ours) == 0 && memcmp(ours, theirs, NODES) == 0, s->selector->xpath);
     return selected;
 }
 
-static void bench_select(Document *d) {
+static void bench_selectors(Document *d) {
     xmlXPathContextPtr evaluation = xmlXPathNewContext(d->tree);
     for (size_t i = 0; i < sizeof SELECTORS / sizeof SELECTORS[0]; i++) {
         const Selector *selector = &SELECTORS[i];
         uint16_t context = strcmp(d->name, "nested") == 0 ? selector->nested : selector->flat;
         Selection s = {selector, d, context, xmlXPathCompile((const xmlChar *)selector->xpath), evaluation};
-        uint8_t marks[NODES];
-        bool has_archive = our_select(&s, marks) != ABSENT;
-        int selected = compare_marks(&s, has_archive);
-        Timing sides[2] = {{.call = run_libxml2}, {.call = run_archive_select}};
-        measure(sides, has_archive ? 2 : 1, &s);
+        int selected = compare_marks(&s);
+        Timing sides[2] = {{.call = run_libxml2}, {.call = run_select}};
+        measure(sides, 2, &s);
         printf("| %s | ", d->name);
         print_cell(selector->xpath);
         printf(" from %d | %d |", context, selected);
-        print_timings(&sides[0], has_archive ? &sides[1] : NULL);
+        print_timings(&sides[0], &sides[1]);
         xmlXPathFreeCompExpr(s.expression);
     }
     xmlXPathFreeContext(evaluation);
+}
+
+/* The void path, for which libxml2 has no expression: what a call costs beside the evaluation. */
+static void bench_void(const Document *d) {
+    static const Selector nothing = {"", 0, 0, {{0, 0, 0, 0}}, 1};
+    Selection s = {&nothing, d, 0, NULL, NULL};
+    Timing side = {.call = run_select};
+    measure(&side, 1, &s);
+    printf("| %s | %.2f | %.2f |\n", d->name, min_us(&side), median_us(&side));
 }
 
 int main(int argc, char **argv) {
@@ -270,11 +292,13 @@ int main(int argc, char **argv) {
     make_nested(&documents[0]);
     make_flat(&documents[1]);
     printf("\nSelecting on documents of %d nodes, in microseconds:\n\n", NODES);
-    printf("| document | selector | nodes | libxml2 min | median | archive min | median | ratio of min | of median |\n");
+    printf("| document | selector | nodes | libxml2 min | median | ours min | median | ratio of min | of median |\n");
     printf("|---|---|---|---|---|---|---|---|---|\n");
     for (int i = 0; i < 2; i++) {
         make_tree(&documents[i]);
-        bench_select(&documents[i]);
+        bench_selectors(&documents[i]);
     }
+    printf("\nOurs on the void path, which selects nothing, in microseconds:\n\n| document | min | median |\n|---|---|---|\n");
+    for (int i = 0; i < 2; i++) bench_void(&documents[i]);
     return 0;
 }

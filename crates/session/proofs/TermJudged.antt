@@ -1,6 +1,7 @@
 -- The answer of a term call, test by test. Assumes nothing.
 use Prim.Native.Nat.{ℕ, _≤_, _<_}
-use mathlib.Core.Path.{_≡_}
+use mathlib.Core.Path.{_≡_, _∙_}
+use mathlib.Core.Bool.{cond}
 use mathlib.Core.List.{List}
 use native.Mathlib.Omega.{arith}
 use lib.Dec.{leb, ltb}
@@ -14,6 +15,10 @@ use Rattle.session.specs.TermCall.{termAnswer}
 use Rattle.session.proofs.Accepted.{test-failed}
 
 module _ (rs : List Row) (r : Row) where
+  -- what is told of the nesting, in a table that is not too long
+  pub nesting-told : (d : ℕ) → length rs ≤ maxRows → d ≡ cond (leb (length rs) maxRows) (nesting rs r) 0 → d ≡ nesting rs r
+  nesting-told d few e = e ∙ rw (le-leb (length rs) maxRows few)
+
   pub bad-kind : maxKind < r .kind → answer 1 0 ≡ termAnswer rs r
   unfolding termAnswer
   bad-kind h = rw (lt-ltb _ _ h)

@@ -1,6 +1,8 @@
 // Tables of rows lent as 16-bit numbers, four a row: what the fields of a row must be, its nesting, and the search for an equal
 // row. An incomplete last row is no row.
 ghost use mathlib.Core.Path.{_≡_};
+ghost use mathlib.Core.Bool.{cond};
+ghost use lib.Dec.{leb};
 ghost use Prim.Native.Nat.{_+_, _≤_};
 ghost use lib.ListN.{length, getD, take};
 ghost use Rattle.terms.specs.Row.{rowAt, tableOf, maxRows, sameRow, find};
@@ -239,7 +241,7 @@ fn fill_nestings(rows: &[u16], table: &mut [u16])
 
 // The nesting of a row whose operands are among the rows. These are at most MAX_ROWS: the table of their nestings has room for
 // no more.
-pub fn nesting_of(rows: &[u16], row: Row) -> u16
+fn nesting_within(rows: &[u16], row: Row) -> u16
     requires { ⌜ length (tableOf (now rows)) ≤ maxRows ⌝ }
     ensures { λ r. ⌜ r ≡ nesting (tableOf (now (rows .entry))) (rowOf row) ⌝ }
 {
@@ -247,4 +249,15 @@ pub fn nesting_of(rows: &[u16], row: Row) -> u16
     fill_nestings(rows, &mut table);
     let n = row_count(rows);
     deeper_operand(&table[..n], row) + 1
+}
+
+// The nesting of a row whose operands are among the rows; 0, which no row has, where these are more than MAX_ROWS.
+pub fn nesting_of(rows: &[u16], row: Row) -> u16
+    ensures { λ r. ⌜ r ≡ cond (leb (length (tableOf (now (rows .entry)))) maxRows) (nesting (tableOf (now (rows .entry))) (rowOf row)) 0 ⌝ }
+{
+    if MAX_ROWS < row_count(rows) {
+        0
+    } else {
+        nesting_within(rows, row)
+    }
 }

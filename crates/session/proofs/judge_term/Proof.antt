@@ -1,5 +1,5 @@
 -- `judge_term` meets its contract, test by test in the order of the definition. Assumes nothing.
-use Rattle.session.proofs.TermJudged.{bad-kind, bad-field, too-deep, already-held, terms-full, row-held}
+use Rattle.session.proofs.TermJudged.{nesting-told, bad-kind, bad-field, too-deep, already-held, terms-full, row-held}
 use borrow.Author.Needs.{needs}
 use Rattle.session.proofs.judge_term.Statement.{statement}
 use Rattle.session.proofs.judge_term.Tie as tie
@@ -23,22 +23,22 @@ returns-2 : tie.Need-returns-2
 returns-2 c = bad-field _ _ (c .before .if1 .left) _ (c .before .before .before .before .before .before .bad-place .ensures) (c .if2 .taken)
 
 returns-3 : tie.Need-returns-3
-returns-3 c = too-deep _ _ (c .before .before .if1 .left) _ (c .before .before .before .before .before .before .before .bad-place .ensures) (c .before .if2 .left) _ (c .before .before .before .before .before .before .nesting-of .ensures) (c .if3 .taken)
+returns-3 c = too-deep _ _ (c .before .before .if1 .left) _ (c .before .before .before .before .before .before .before .bad-place .ensures) (c .before .if2 .left) _ (nesting-told _ _ _ (c .before .before .before .before .before .before .before .before .before .pre) (c .before .before .before .before .before .before .nesting-of .ensures)) (c .if3 .taken)
 
 cast-t8 : tie.Need-cast-t8
 cast-t8 c = search needs
 
 returns-4 : tie.Need-returns-4
-returns-4 c = already-held _ _ (c .before .before .before .if1 .left) _ (c .before .before .before .before .before .before .before .before .bad-place .ensures) (c .before .before .if2 .left) _ (c .before .before .before .before .before .before .before .nesting-of .ensures) (c .before .if3 .left) _ (c .before .before .before .before .before .before .find-row .ensures) _ (c .before .before .before .before .before .row-count .ensures) (c .if4 .taken)
+returns-4 c = already-held _ _ (c .before .before .before .if1 .left) _ (c .before .before .before .before .before .before .before .before .bad-place .ensures) (c .before .before .if2 .left) _ (nesting-told _ _ _ (c .before .before .before .before .before .before .before .before .before .before .pre) (c .before .before .before .before .before .before .before .nesting-of .ensures)) (c .before .if3 .left) _ (c .before .before .before .before .before .before .find-row .ensures) _ (c .before .before .before .before .before .row-count .ensures) (c .if4 .taken)
 
 returns-5 : tie.Need-returns-5
-returns-5 c = terms-full _ _ (c .before .before .before .before .if1 .left) _ (c .before .before .before .before .before .before .before .before .before .bad-place .ensures) (c .before .before .before .if2 .left) _ (c .before .before .before .before .before .before .before .before .nesting-of .ensures) (c .before .before .if3 .left) _ (c .before .before .before .before .before .before .before .find-row .ensures) _ (c .before .before .before .before .before .before .row-count .ensures) (c .before .if4 .left) (c .if5 .taken)
+returns-5 c = terms-full _ _ (c .before .before .before .before .if1 .left) _ (c .before .before .before .before .before .before .before .before .before .bad-place .ensures) (c .before .before .before .if2 .left) _ (nesting-told _ _ _ (c .before .before .before .before .before .before .before .before .before .before .before .pre) (c .before .before .before .before .before .before .before .before .nesting-of .ensures)) (c .before .before .if3 .left) _ (c .before .before .before .before .before .before .before .find-row .ensures) _ (c .before .before .before .before .before .before .row-count .ensures) (c .before .if4 .left) (c .if5 .taken)
 
 cast-t9 : tie.Need-cast-t9
 cast-t9 c = search needs
 
 returns-6 : tie.Need-returns-6
-returns-6 c = row-held _ _ (c .before .before .before .before .if1 .left) _ (c .before .before .before .before .before .before .before .before .before .bad-place .ensures) (c .before .before .before .if2 .left) _ (c .before .before .before .before .before .before .before .before .nesting-of .ensures) (c .before .before .if3 .left) _ (c .before .before .before .before .before .before .before .find-row .ensures) _ (c .before .before .before .before .before .before .row-count .ensures) (c .before .if4 .left) (c .if5 .left)
+returns-6 c = row-held _ _ (c .before .before .before .before .if1 .left) _ (c .before .before .before .before .before .before .before .before .before .bad-place .ensures) (c .before .before .before .if2 .left) _ (nesting-told _ _ _ (c .before .before .before .before .before .before .before .before .before .before .before .pre) (c .before .before .before .before .before .before .before .before .nesting-of .ensures)) (c .before .before .if3 .left) _ (c .before .before .before .before .before .before .before .find-row .ensures) _ (c .before .before .before .before .before .before .row-count .ensures) (c .before .if4 .left) (c .if5 .left)
 
 pub judge-term-spec : {M : Type 1} → statement M
 judge-term-spec =

@@ -1,55 +1,26 @@
--- `nesting_of` meets its contract: the filled table holds the nestings of the rows. Assumes nothing.
-use mathlib.Core.Path.{refl, sym}
+-- `nesting_of` meets its contract. Assumes nothing.
+use mathlib.Core.Path.{_∙_}
 use native.Mathlib.Omega.{arith}
-use lib.Seq.{length-take-le}
-use Rattle.terms.specs.Row.{tableOf}
-use Rattle.terms.proofs.Nesting.{nesting-from, deeper-le}
 use borrow.Author.Needs.{needs}
+use borrow.Author.Tests.{le-leb, lt-leb}
+use lib.ListN.{length}
+use Rattle.terms.specs.Row.{tableOf, maxRows}
 use Rattle.terms.proofs.nesting_of.Statement.{statement}
 use Rattle.terms.proofs.nesting_of.Tie as tie
-
-slice-aggregate-fill-nestings : tie.Need-slice-aggregate-fill-nestings
-slice-aggregate-fill-nestings c = search needs
-
-fill-nestings-requires : tie.Need-fill-nestings-requires
-fill-nestings-requires c κs = search needs
 
 row-count-requires : tie.Need-row-count-requires
 row-count-requires c κs = search needs
 
-array-share-prefix-table : tie.Need-array-share-prefix-table
-array-share-prefix-table c = search needs
-
-slice-aggregate-deeper-operand : tie.Need-slice-aggregate-deeper-operand
-slice-aggregate-deeper-operand c =
-    sym (length-take-le (c .before .row-count .result) (c .before .before .before .fill-nestings .last .1 .0) (omega arith))
-
-deeper-operand-requires : tie.Need-deeper-operand-requires
-deeper-operand-requires c κs = search needs
-
-add-result : tie.Need-add-result
-add-result c =
-    let c₁ = c .before .before .before .before in
-    let l =
-    deeper-le (tableOf (c₁ .before .before .before .args .rows .now)) _ _ _ _
-    (rw (c .before .before .row-count .ensures) (c₁ .fill-nestings .ensures)) refl (c .deeper-operand .ensures) in
-    omega (arith, l)
+nesting-within-requires : tie.Need-nesting-within-requires
+nesting-within-requires c κs = search needs
 
 returns : tie.Need-returns
-returns c =
-    let c₁ = c .before .before .before .before in
-    nesting-from (tableOf (c₁ .before .before .before .args .rows .now)) _ _ _ _
-    (rw (c .before .before .row-count .ensures) (c₁ .fill-nestings .ensures)) refl (c .deeper-operand .ensures)
+returns c = let table = tableOf (c .before .before .before .args .rows .now) in
+    rw (lt-leb (length table) maxRows (omega (arith, c .if1 .taken, c .before .row-count .ensures)))
+
+returns-2 : tie.Need-returns-2
+returns-2 c = let table = tableOf (c .before .before .before .before .args .rows .now) in
+    c .nesting-within .ensures ∙ rw (le-leb (length table) maxRows (omega (arith, c .before .if1 .left, c .before .before .row-count .ensures)))
 
 pub nesting-of-spec : {M : Type 1} → statement M
-nesting-of-spec =
-    tie.close
-    (tie.spec
-    slice-aggregate-fill-nestings
-    fill-nestings-requires
-    row-count-requires
-    array-share-prefix-table
-    slice-aggregate-deeper-operand
-    deeper-operand-requires
-    add-result
-    returns)
+nesting-of-spec = tie.close (tie.spec row-count-requires nesting-within-requires returns returns-2)
