@@ -21,12 +21,14 @@ use Rattle.session.specs.StepCall.{stepBook}
 use Rattle.session.specs.Calls.{term, step, Seen, bookAnswer, bookNext}
 use Rattle.session.specs.View.{rowWidth, view, freshSession, rowNumbers, stepNumbers}
 use Rattle.session.specs.Bundle.{rowNames, stepNames, rowText, rowsText, stepsText, bundleText}
+use Rattle.session.specs.Promises.{rowStepAnswer}
 use Rattle.session.specs.Reading.{Reading, stepsRead, rowsRead, linesRead, reading}
 use Rattle.session.specs.Demand3.{Made, term-made, step-made, Run, done, then}
 use Rattle.session.specs.ReadDemand.{Accepted, callsOf, RowFits, StepFits, ReadDemand}
 use Rattle.session.proofs.Accepted.{if-accepted}
 use Rattle.session.proofs.LineCalls.{row-names-free, step-names-free}
 use Rattle.session.proofs.LinesRead.{names-read, row-held, step-held}
+use Rattle.session.proofs.ReadByRows.{reading-by-rows}
 use Rattle.session.proofs.ReadCalls.{is-line, read-accepted, read-refused}
 use Rattle.session.proofs.Simulation.{Kept, call-moves, call-answers, kept-on, fresh-kept}
 use Rattle.session.proofs.Views.{fresh-view}
@@ -58,7 +60,7 @@ abbrev allRead : Session → Reading
 allRead u = record { answer = answer 0 (length (view u .steps)); session = u }
 
 steps-written : (s : Session) (n : ℕ) (ps : List Step) (os : List Seen) (u : Session) → Every StepFits ps → Run s (map step ps) os u → Every Accepted os
-    → stepsRead s n (lines (stepsText ps)) ≡ allRead u
+    → stepsRead rowStepAnswer s n (lines (stepsText ps)) ≡ allRead u
 unfolding stepsText stepsRead lines
 steps-written s n [] os u fits done taken = refl
 steps-written s n (p ∷ ps) os u fits (then {os = rest} (step-made {m = m} w e) run) taken =
@@ -67,7 +69,7 @@ steps-written s n (p ∷ ps) os u fits (then {os = rest} (step-made {m = m} w e)
     ∙ rw (text .next, ← e) (steps-written _ (n + 1) ps rest u (fits .1) run (taken .1))
 
 rows-written : (s : Session) (n : ℕ) (rs : List Row) (ps : List Step) (os : List Seen) (u : Session) → Every RowFits rs → Every StepFits ps
-    → Run s (callsOf rs ps) os u → Every Accepted os → rowsRead s n (lines (rowsText rs ++ (stepNames ++ newline ∷ stepsText ps))) ≡ allRead u
+    → Run s (callsOf rs ps) os u → Every Accepted os → rowsRead rowStepAnswer s n (lines (rowsText rs ++ (stepNames ++ newline ∷ stepsText ps))) ≡ allRead u
 unfolding rowsText firstIs
 rows-written s n [] ps os u rows steps run taken =
     let text = lines-at stepNames (stepsText ps) step-names-free in
@@ -109,13 +111,13 @@ calls-added s (r ∷ rs) ps os u k (then {os = rest} m run) taken =
 
 well-written : (rs : List Row) (ps : List Step) (os : List Seen) (u : Session) → Every RowFits rs → Every StepFits ps
     → Run freshSession (callsOf rs ps) os u → Every Accepted os → reading (bundleText rs ps) ≡ record { answer = answer 0 (length ps); session = u }
-unfolding reading bundleText linesRead
+unfolding bundleText linesRead
 well-written rs ps os u rows steps run taken =
     let text = lines-at rowNames (rowsText rs ++ (stepNames ++ newline ∷ stepsText ps)) row-names-free in
     let count = calls-added freshSession rs ps os u fresh-kept run taken in
     let none-first : length (view freshSession .steps) ≡ 0 = rw fresh-view in
     let held : length (view u .steps) ≡ length ps = omega arith in
-    rw (text, first-names-are) (rows-written freshSession 2 rs ps os u rows steps run taken ∙ ap (λ n. record { answer = answer 0 n; session = u }) held)
+    reading-by-rows (bundleText rs ps) ∙ rw (text, first-names-are) (rows-written freshSession 2 rs ps os u rows steps run taken ∙ ap (λ n. record { answer = answer 0 n; session = u }) held)
 
 pub read-demand : ReadDemand
 read-demand = record { accepted = read-accepted; refused = read-refused; written = well-written }

@@ -1,6 +1,6 @@
 -- Every list of calls can be made, and every select has an answer: demand 3 is about something. Assumes nothing.
 use Prim.Native.Nat.{ℕ, _+_}
-use mathlib.Core.Path.{_≡_, refl, _∙_}
+use mathlib.Core.Path.{_≡_, refl, sym, ap, subst, _∙_}
 use mathlib.Core.Bool.{Bool, true, false, not, cond, _||_}
 use mathlib.Core.List.{List, [], _∷_}
 use mathlib.Core.Option.{Option, none, some, Option·elim}
@@ -28,7 +28,9 @@ use Rattle.session.specs.Calls.{Call, term, step, Seen}
 use Rattle.session.specs.View.{view, withRow, withStep}
 use Rattle.session.specs.Answers.{termAnswerOf, stepAnswerOf, selectAnswerOf}
 use Rattle.session.specs.Promises.{rowYielded, rowStepAnswer, SelectMet}
+use Rattle.session.specs.ReadDemand.{Accepted}
 use Rattle.session.specs.Demand3.{Made, term-made, step-made, Run, done, then}
+use Rattle.session.proofs.Accepted.{if-accepted}
 use Rattle.session.proofs.ByTerms.{row-answer-by-terms}
 
 -- some case of an enum has the answer t
@@ -77,7 +79,7 @@ selects-exist s row xs x limit buffer =
     let t = select-case (view s .rows) row xs x limit (length buffer) in
     (t .0, selectBuffer (view s .rows) row xs x limit buffer, record { answer = t .1; bytes = refl })
 
-pub call-exists : (s : Session) (c : Call) → (t : Session) × (o : Seen) × Made s t c o
+call-exists : (s : Session) (c : Call) → (t : Session) × (o : Seen) × Made s t c o
 unfolding rowStepAnswer
 call-exists s (term r) =
     let t = term-case (view s .rows) r in
@@ -89,6 +91,28 @@ call-exists s (step p) =
     let left = cond (accepted (rowStepAnswer (view s) p)) (withStep s p) s in
     let m : StepResult = record { answer = t .0; session = left } in
     (left, _, step-made {m = m} (record { answer = t .1; by-terms = λ h. t .1 ∙ row-answer-by-terms (view s) p h; session = refl }) refl)
+
+-- what a call that is made leaves, and what it answers
+row-made-is : {s t : Session} {r : Row} {o : Seen} → Made s t (term r) o
+    → (t ≡ cond (accepted (termAnswer (view s .rows) r)) (withRow s r) s) × (o .answer ≡ termAnswer (view s .rows) r)
+row-made-is (term-made w e) = (e ∙ w .session, w .answer)
+
+step-made-is : {s t : Session} {p : Step} {o : Seen} → Made s t (step p) o
+    → (t ≡ cond (accepted (rowStepAnswer (view s) p)) (withStep s p) s) × (o .answer ≡ rowStepAnswer (view s) p)
+step-made-is (step-made w e) = (e ∙ w .session, w .answer)
+
+-- an accepted call can be made, and leaves its row or step
+pub row-call : (s : Session) (r : Row) → termAnswer (view s .rows) r .number ≡ 0 → (o : Seen) × Made s (withRow s r) (term r) o × Accepted o
+row-call s r e =
+    let (t, o, m) = call-exists s (term r) in
+    let (left, told) = row-made-is m in
+    (o, subst (λ u. Made s u (term r) o) (left ∙ sym (if-accepted (termAnswer (view s .rows) r) _ refl (withRow s r) s e)) m, ap (λ a. a .number) told ∙ e)
+
+pub step-call : (s : Session) (p : Step) → rowStepAnswer (view s) p .number ≡ 0 → (o : Seen) × Made s (withStep s p) (step p) o × Accepted o
+step-call s p e =
+    let (t, o, m) = call-exists s (step p) in
+    let (left, told) = step-made-is m in
+    (o, subst (λ u. Made s u (step p) o) (left ∙ sym (if-accepted (rowStepAnswer (view s) p) _ refl (withStep s p) s e)) m, ap (λ a. a .number) told ∙ e)
 
 pub calls-exist : (s : Session) (cs : List Call) → (os : List Seen) × (t : Session) × Run s cs os t
 calls-exist s [] = ([], s, done)

@@ -14,11 +14,12 @@ pub mod Demand3
 pub mod Yielded
 pub mod ByTerms
 pub mod StepMade
+pub mod CallsExist
+pub mod ReadByRows
 pub mod LinesRead
 pub mod LineCalls
 pub mod ReadMade
 pub mod Audited
 pub mod Contracts
-pub mod CallsExist
 pub mod ReadCalls
 pub mod Bundles

@@ -48,33 +48,33 @@ module _ (bytes xs : List ℕ) (n line at : ℕ) where
   here = holding xs n (freshSession .steps) 0
 
   pub names-there : firstIs stepNames (lines (drop at bytes)) ≡ true
-      → (rowsRead here line (lines (drop at bytes)) ≡ stepsRead here (line + 1) (lines (drop (at + 29) bytes))) × (at + 29 ≤ length bytes)
+      → (rowsRead rowStepAnswer here line (lines (drop at bytes)) ≡ stepsRead rowStepAnswer here (line + 1) (lines (drop (at + 29) bytes))) × (at + 29 ≤ length bytes)
   unfolding stepNames ascii
   names-there e =
       let passed = line-passed stepNames bytes at step-names-free e in
-      (names-read here line _ e ∙ ap (stepsRead here (line + 1)) (sym (passed .rest)), passed .inside)
+      (names-read here line _ e ∙ ap (stepsRead rowStepAnswer here (line + 1)) (sym (passed .rest)), passed .inside)
 
-  pub row-end : length bytes ≤ at → rowsRead here line (lines (drop at bytes)) ≡ refusedAt wrongForm line
+  pub row-end : length bytes ≤ at → rowsRead rowStepAnswer here line (lines (drop at bytes)) ≡ refusedAt wrongForm line
   unfolding rowsRead
   row-end h = rw (no-lines bytes at h)
 
   module _ (other : firstIs stepNames (lines (drop at bytes)) ≡ false) (ok : Bool) (ns : List ℕ) (next : ℕ) (m : LineMet rowWidth bytes at ok ns next) where
-    pub row-wrong-there : ok ≡ false → rowsRead here line (lines (drop at bytes)) ≡ refusedAt wrongForm line
+    pub row-wrong-there : ok ≡ false → rowsRead rowStepAnswer here line (lines (drop at bytes)) ≡ refusedAt wrongForm line
     row-wrong-there e = row-wrong here line _ other (line-numbers rowWidth bytes at ok false ns next m e)
 
     module _ (right : ok ≡ true) (few : n ≤ maxRows) (ys : List ℕ) (t : TermAnswer) (placed : TermPlaced xs n (rowOfNumbers ns) ys t) where
       count : n ≡ min n maxRows
       count = omega arith
 
-      pub row-refused-there : ¬ (termAnswerOf t .number ≡ 0) → rowsRead here line (lines (drop at bytes)) ≡ refusedAt (termAnswerOf t .number) line
+      pub row-refused-there : ¬ (termAnswerOf t .number ≡ 0) → rowsRead rowStepAnswer here line (lines (drop at bytes)) ≡ refusedAt (termAnswerOf t .number) line
       row-refused-there f =
           row-refused here line _ other ns (line-numbers rowWidth bytes at ok true ns next m right) _ (term-made-refused here (rowOfNumbers ns) n count ys t placed f) f
 
       module _ (e : termAnswerOf t .number ≡ 0) where
-        pub row-held-there : rowsRead here line (lines (drop at bytes)) ≡ rowsRead (holding ys (n + 1) (freshSession .steps) 0) (line + 1) (lines (drop next bytes))
+        pub row-held-there : rowsRead rowStepAnswer here line (lines (drop at bytes)) ≡ rowsRead rowStepAnswer (holding ys (n + 1) (freshSession .steps) 0) (line + 1) (lines (drop next bytes))
         row-held-there =
             row-held here line _ other ns (line-numbers rowWidth bytes at ok true ns next m right) _ (term-made-held here (rowOfNumbers ns) n count ys t placed e) e
-            ∙ ap (rowsRead (holding ys (n + 1) (freshSession .steps) 0) (line + 1)) (sym (m .rest right))
+            ∙ ap (rowsRead rowStepAnswer (holding ys (n + 1) (freshSession .steps) 0) (line + 1)) (sym (m .rest right))
 
         pub row-room : length xs ≡ rowWidth * maxRows → n < maxRows
         row-room size =
@@ -87,7 +87,7 @@ module _ (bytes xs : List ℕ) (n : ℕ) (ys : List ℕ) (k line at : ℕ) where
   now-held = holding xs n ys k
 
   pub step-end : length bytes ≤ at → k ≤ maxSteps → length ys ≡ stepWidth * maxSteps
-      → stepsRead now-held line (lines (drop at bytes)) ≡ record { answer = answer 0 k; session = now-held }
+      → stepsRead rowStepAnswer now-held line (lines (drop at bytes)) ≡ record { answer = answer 0 k; session = now-held }
   unfolding stepsRead view
   step-end h few size =
       let held = steps-held ys (min k maxSteps) (omega arith) size in
@@ -95,7 +95,7 @@ module _ (bytes xs : List ℕ) (n : ℕ) (ys : List ℕ) (k line at : ℕ) where
       rw (no-lines bytes at h) (ap (λ j. record { answer = answer 0 j; session = now-held }) (held ∙ same))
 
   module _ (ok : Bool) (ns : List ℕ) (next : ℕ) (m : LineMet stepWidth bytes at ok ns next) where
-    pub step-wrong-there : at < length bytes → ok ≡ false → stepsRead now-held line (lines (drop at bytes)) ≡ refusedAt wrongForm line
+    pub step-wrong-there : at < length bytes → ok ≡ false → stepsRead rowStepAnswer now-held line (lines (drop at bytes)) ≡ refusedAt wrongForm line
     step-wrong-there inside e = step-wrong now-held line _ (some-line bytes at inside) (line-numbers stepWidth bytes at ok false ns next m e)
 
     module _ (right : ok ≡ true) (rows : n ≤ maxRows) (few : k ≤ maxSteps) (t : StepAnswer)
@@ -107,18 +107,18 @@ module _ (bytes xs : List ℕ) (n : ℕ) (ys : List ℕ) (k line at : ℕ) where
         steps-counted : k ≡ min k maxSteps
         steps-counted = omega arith
 
-        pub step-refused-there : ¬ (stepAnswerOf t .number ≡ 0) → stepsRead now-held line (lines (drop at bytes)) ≡ refusedAt (stepAnswerOf t .number) line
+        pub step-refused-there : ¬ (stepAnswerOf t .number ≡ 0) → stepsRead rowStepAnswer now-held line (lines (drop at bytes)) ≡ refusedAt (stepAnswerOf t .number) line
         step-refused-there f =
             step-refused now-held line _ ns (line-numbers stepWidth bytes at ok true ns next m right) _
             (step-made-refused now-held (stepOfNumbers ns) n k rows-counted steps-counted t judged f) f
 
         module _ (e : stepAnswerOf t .number ≡ 0) where
           pub step-held-there : (zs : List ℕ) → zs ≡ sets ys (stepWidth * k) (stepNumbers (stepOfNumbers ns))
-              → stepsRead now-held line (lines (drop at bytes)) ≡ stepsRead (holding xs n zs (k + 1)) (line + 1) (lines (drop next bytes))
+              → stepsRead rowStepAnswer now-held line (lines (drop at bytes)) ≡ stepsRead rowStepAnswer (holding xs n zs (k + 1)) (line + 1) (lines (drop next bytes))
           step-held-there zs written =
               step-held now-held line _ ns (line-numbers stepWidth bytes at ok true ns next m right) _
               (step-made-held now-held (stepOfNumbers ns) n k rows-counted steps-counted t judged e zs written) e
-              ∙ ap (stepsRead (holding xs n zs (k + 1)) (line + 1)) (sym (m .rest right))
+              ∙ ap (stepsRead rowStepAnswer (holding xs n zs (k + 1)) (line + 1)) (sym (m .rest right))
 
           pub step-room : length ys ≡ stepWidth * maxSteps → k < maxSteps
           unfolding rowStepAnswer

@@ -24,19 +24,19 @@ use Rattle.session.proofs.Accepted.{if-accepted, if-refused}
 
 module _ (s : Session) (n : ℕ) where
   -- the second names line
-  pub names-read : (ls : List Line) → firstIs stepNames ls ≡ true → rowsRead s n ls ≡ stepsRead s (n + 1) (drop 1 ls)
+  pub names-read : (ls : List Line) → firstIs stepNames ls ≡ true → rowsRead rowStepAnswer s n ls ≡ stepsRead rowStepAnswer s (n + 1) (drop 1 ls)
   unfolding rowsRead firstIs
   names-read [] e = absurd (false≢true e)
   names-read (l ∷ ls) e = rw e
 
-  pub row-wrong : (ls : List Line) → firstIs stepNames ls ≡ false → none ≡ firstNumbers rowWidth ls → rowsRead s n ls ≡ refusedAt wrongForm n
+  pub row-wrong : (ls : List Line) → firstIs stepNames ls ≡ false → none ≡ firstNumbers rowWidth ls → rowsRead rowStepAnswer s n ls ≡ refusedAt wrongForm n
   unfolding rowsRead firstIs firstNumbers rowOfLine Option·elim
   row-wrong [] e f = refl
   row-wrong (l ∷ ls) e f = rw (e, ← f)
 
   row-called : (ls : List Line) → firstIs stepNames ls ≡ false → (ns : List ℕ) → some ns ≡ firstNumbers rowWidth ls
-      → rowsRead s n ls
-      ≡ cond (accepted (termAnswer (view s .rows) (rowOfNumbers ns))) (rowsRead (withRow s (rowOfNumbers ns)) (n + 1) (drop 1 ls))
+      → rowsRead rowStepAnswer s n ls
+      ≡ cond (accepted (termAnswer (view s .rows) (rowOfNumbers ns))) (rowsRead rowStepAnswer (withRow s (rowOfNumbers ns)) (n + 1) (drop 1 ls))
       (refusedAt (termAnswer (view s .rows) (rowOfNumbers ns) .number) n)
   unfolding rowsRead firstIs firstNumbers rowOfLine Option·elim
   row-called [] e ns f = absurd (Option·some-ne-none _ f)
@@ -46,22 +46,22 @@ module _ (s : Session) (n : ℕ) where
   module _ (ls : List Line) (other : firstIs stepNames ls ≡ false) (ns : List ℕ) (first : some ns ≡ firstNumbers rowWidth ls)
       (t : TermResult) (m : TermMet s (rowOfNumbers ns) t)
     where
-      pub row-held : termAnswerOf (t .answer) .number ≡ 0 → rowsRead s n ls ≡ rowsRead (t .session) (n + 1) (drop 1 ls)
+      pub row-held : termAnswerOf (t .answer) .number ≡ 0 → rowsRead rowStepAnswer s n ls ≡ rowsRead rowStepAnswer (t .session) (n + 1) (drop 1 ls)
       row-held e =
           row-called ls other ns first ∙ sym (if-accepted _ _ (m .answer) _ _ e)
-          ∙ ap (λ u. rowsRead u (n + 1) (drop 1 ls)) (if-accepted _ _ (m .answer) (withRow s (rowOfNumbers ns)) s e ∙ sym (m .session))
+          ∙ ap (λ u. rowsRead rowStepAnswer u (n + 1) (drop 1 ls)) (if-accepted _ _ (m .answer) (withRow s (rowOfNumbers ns)) s e ∙ sym (m .session))
 
-      pub row-refused : ¬ (termAnswerOf (t .answer) .number ≡ 0) → rowsRead s n ls ≡ refusedAt (termAnswerOf (t .answer) .number) n
+      pub row-refused : ¬ (termAnswerOf (t .answer) .number ≡ 0) → rowsRead rowStepAnswer s n ls ≡ refusedAt (termAnswerOf (t .answer) .number) n
       row-refused f = row-called ls other ns first ∙ sym (if-refused _ _ (m .answer) _ _ f) ∙ ap (λ a. refusedAt (a .number) n) (sym (m .answer))
 
-  pub step-wrong : (ls : List Line) → ¬ (ls ≡ []) → none ≡ firstNumbers stepWidth ls → stepsRead s n ls ≡ refusedAt wrongForm n
+  pub step-wrong : (ls : List Line) → ¬ (ls ≡ []) → none ≡ firstNumbers stepWidth ls → stepsRead rowStepAnswer s n ls ≡ refusedAt wrongForm n
   unfolding stepsRead firstNumbers stepOfLine Option·elim
   step-wrong [] full f = absurd (full refl)
   step-wrong (l ∷ ls) full f = rw (← f)
 
   step-called : (ls : List Line) (ns : List ℕ) → some ns ≡ firstNumbers stepWidth ls
-      → stepsRead s n ls
-      ≡ cond (accepted (rowStepAnswer (view s) (stepOfNumbers ns))) (stepsRead (withStep s (stepOfNumbers ns)) (n + 1) (drop 1 ls))
+      → stepsRead rowStepAnswer s n ls
+      ≡ cond (accepted (rowStepAnswer (view s) (stepOfNumbers ns))) (stepsRead rowStepAnswer (withStep s (stepOfNumbers ns)) (n + 1) (drop 1 ls))
       (refusedAt (rowStepAnswer (view s) (stepOfNumbers ns) .number) n)
   unfolding stepsRead firstNumbers stepOfLine Option·elim
   step-called [] ns f = absurd (Option·some-ne-none _ f)
@@ -69,12 +69,12 @@ module _ (s : Session) (n : ℕ) where
 
   -- a step line makes its call
   module _ (ls : List Line) (ns : List ℕ) (first : some ns ≡ firstNumbers stepWidth ls) (t : StepResult) (m : StepMet s (stepOfNumbers ns) t) where
-    pub step-held : stepAnswerOf (t .answer) .number ≡ 0 → stepsRead s n ls ≡ stepsRead (t .session) (n + 1) (drop 1 ls)
+    pub step-held : stepAnswerOf (t .answer) .number ≡ 0 → stepsRead rowStepAnswer s n ls ≡ stepsRead rowStepAnswer (t .session) (n + 1) (drop 1 ls)
     step-held e =
         step-called ls ns first ∙ sym (if-accepted _ _ (m .answer) _ _ e)
-        ∙ ap (λ u. stepsRead u (n + 1) (drop 1 ls)) (if-accepted _ _ (m .answer) (withStep s (stepOfNumbers ns)) s e ∙ sym (m .session))
+        ∙ ap (λ u. stepsRead rowStepAnswer u (n + 1) (drop 1 ls)) (if-accepted _ _ (m .answer) (withStep s (stepOfNumbers ns)) s e ∙ sym (m .session))
 
-    pub step-refused : ¬ (stepAnswerOf (t .answer) .number ≡ 0) → stepsRead s n ls ≡ refusedAt (stepAnswerOf (t .answer) .number) n
+    pub step-refused : ¬ (stepAnswerOf (t .answer) .number ≡ 0) → stepsRead rowStepAnswer s n ls ≡ refusedAt (stepAnswerOf (t .answer) .number) n
     step-refused f = step-called ls ns first ∙ sym (if-refused _ _ (m .answer) _ _ f) ∙ ap (λ a. refusedAt (a .number) n) (sym (m .answer))
 
 pub no-lines : (xs : List ℕ) (at : ℕ) → length xs ≤ at → lines (drop at xs) ≡ []

@@ -14,16 +14,16 @@ use Rattle.session.specs.declared.Session.{Session}
 use Rattle.session.specs.declared.ReadResult.{ReadResult}
 use Rattle.session.specs.Book.{Step, accepted}
 use Rattle.session.specs.TermCall.{termAnswer}
-use Rattle.session.specs.Calls.{term, step, Seen}
+use Rattle.session.specs.Calls.{step, Seen}
 use Rattle.session.specs.View.{view, freshSession, withRow, withStep}
 use Rattle.session.specs.Promises.{rowStepAnswer}
 use Rattle.session.specs.Bundle.{rowNames, stepNames, rowOfLine, stepOfLine}
-use Rattle.session.specs.Reading.{Reading, refusedAt, wrongForm, stepsRead, rowsRead, linesRead, reading}
+use Rattle.session.specs.Reading.{Reading, refusedAt, wrongForm, stepsRead, rowsRead, linesRead}
 use Rattle.session.specs.ReadCall.{readAnswerOf, ReadMet}
-use Rattle.session.specs.Demand3.{Made, term-made, step-made, Run, done, then}
+use Rattle.session.specs.Demand3.{Run, done, then}
 use Rattle.session.specs.ReadDemand.{Accepted, callsOf, IsBundle, ReadAccepted}
-use Rattle.session.proofs.Accepted.{if-accepted}
-use Rattle.session.proofs.CallsExist.{call-exists}
+use Rattle.session.proofs.CallsExist.{row-call, step-call}
+use Rattle.session.proofs.ReadByRows.{reading-by-rows}
 use Rattle.session.proofs.Demand3.{demand3}
 
 same-bytes : (xs ys : List ℕ) → sameBytes xs ys ≡ true → xs ≡ ys
@@ -45,28 +45,6 @@ is-line ys l e = by-end (l .ended) refl e
     by-end : (b : Bool) → l .ended ≡ b → (b && sameBytes (l .bytes) ys) ≡ true → l ≡ line ys true
     by-end true s t = λ i. line (same-bytes (l .bytes) ys t i) (s i)
     by-end false s t = absurd (false≢true t)
-
--- what a call that is made leaves, and what it answers
-row-made-is : {s t : Session} {r : Row} {o : Seen} → Made s t (term r) o
-    → (t ≡ cond (accepted (termAnswer (view s .rows) r)) (withRow s r) s) × (o .answer ≡ termAnswer (view s .rows) r)
-row-made-is (term-made w e) = (e ∙ w .session, w .answer)
-
-step-made-is : {s t : Session} {p : Step} {o : Seen} → Made s t (step p) o
-    → (t ≡ cond (accepted (rowStepAnswer (view s) p)) (withStep s p) s) × (o .answer ≡ rowStepAnswer (view s) p)
-step-made-is (step-made w e) = (e ∙ w .session, w .answer)
-
--- an accepted call can be made, and leaves its row or step
-row-call : (s : Session) (r : Row) → termAnswer (view s .rows) r .number ≡ 0 → (o : Seen) × Made s (withRow s r) (term r) o × Accepted o
-row-call s r e =
-    let (t, o, m) = call-exists s (term r) in
-    let (left, told) = row-made-is m in
-    (o, subst (λ u. Made s u (term r) o) (left ∙ sym (if-accepted (termAnswer (view s .rows) r) _ refl (withRow s r) s e)) m, ap (λ a. a .number) told ∙ e)
-
-step-call : (s : Session) (p : Step) → rowStepAnswer (view s) p .number ≡ 0 → (o : Seen) × Made s (withStep s p) (step p) o × Accepted o
-step-call s p e =
-    let (t, o, m) = call-exists s (step p) in
-    let (left, told) = step-made-is m in
-    (o, subst (λ u. Made s u (step p) o) (left ∙ sym (if-accepted (rowStepAnswer (view s) p) _ refl (withStep s p) s e)) m, ap (λ a. a .number) told ∙ e)
 
 -- the step lines that are read from s, which leave u
 record StepsMade (s : Session) (ls : List Line) (u : Session) : Type 0 where
@@ -91,26 +69,26 @@ one-step s p l ls u is e later =
 -- the reading from line n on, where that line is the step p
 abbrev afterStep : Session → ℕ → List Line → Step → Reading
 afterStep s n ls p =
-    cond (accepted (rowStepAnswer (view s) p)) (stepsRead (withStep s p) (n + 1) ls) (refusedAt (rowStepAnswer (view s) p .number) n)
+    cond (accepted (rowStepAnswer (view s) p)) (stepsRead rowStepAnswer (withStep s p) (n + 1) ls) (refusedAt (rowStepAnswer (view s) p .number) n)
 
 step-line-made : (s : Session) (n : ℕ) (l : Line) (ls : List Line) (p : Step) → stepOfLine l ≡ some p → afterStep s n ls p .answer .number ≡ 0
-    → (stepsRead (withStep s p) (n + 1) ls .answer .number ≡ 0 → StepsMade (withStep s p) ls (stepsRead (withStep s p) (n + 1) ls .session))
+    → (stepsRead rowStepAnswer (withStep s p) (n + 1) ls .answer .number ≡ 0 → StepsMade (withStep s p) ls (stepsRead rowStepAnswer (withStep s p) (n + 1) ls .session))
     → StepsMade s (l ∷ ls) (afterStep s n ls p .session)
 step-line-made s n l ls p is e later = by-answer (accepted (rowStepAnswer (view s) p)) refl e
   where
     by-answer : (b : Bool) → accepted (rowStepAnswer (view s) p) ≡ b
-        → cond b (stepsRead (withStep s p) (n + 1) ls) (refusedAt (rowStepAnswer (view s) p .number) n) .answer .number ≡ 0
-        → StepsMade s (l ∷ ls) (cond b (stepsRead (withStep s p) (n + 1) ls) (refusedAt (rowStepAnswer (view s) p .number) n) .session)
+        → cond b (stepsRead rowStepAnswer (withStep s p) (n + 1) ls) (refusedAt (rowStepAnswer (view s) p .number) n) .answer .number ≡ 0
+        → StepsMade s (l ∷ ls) (cond b (stepsRead rowStepAnswer (withStep s p) (n + 1) ls) (refusedAt (rowStepAnswer (view s) p .number) n) .session)
     by-answer true t u = one-step s p l ls _ is (eqb-true _ 0 t) (later u)
     by-answer false t u = absurd (eqb-false (rowStepAnswer (view s) p .number) 0 t u)
 
-steps-made : (s : Session) (n : ℕ) (ls : List Line) → stepsRead s n ls .answer .number ≡ 0 → StepsMade s ls (stepsRead s n ls .session)
+steps-made : (s : Session) (n : ℕ) (ls : List Line) → stepsRead rowStepAnswer s n ls .answer .number ≡ 0 → StepsMade s ls (stepsRead rowStepAnswer s n ls .session)
 unfolding stepsRead Option·elim
 steps-made s n [] e = record { steps = []; are-steps = refl; seen = []; made = done; accepted = tt }
 steps-made s n (l ∷ ls) e = by-form (stepOfLine l) refl e (λ p. steps-made (withStep s p) (n + 1) ls)
   where
     by-form : (o : Option Step) → stepOfLine l ≡ o → Option·elim o (refusedAt wrongForm n) (afterStep s n ls) .answer .number ≡ 0
-        → ((p : Step) → stepsRead (withStep s p) (n + 1) ls .answer .number ≡ 0 → StepsMade (withStep s p) ls (stepsRead (withStep s p) (n + 1) ls .session))
+        → ((p : Step) → stepsRead rowStepAnswer (withStep s p) (n + 1) ls .answer .number ≡ 0 → StepsMade (withStep s p) ls (stepsRead rowStepAnswer (withStep s p) (n + 1) ls .session))
         → StepsMade s (l ∷ ls) (Option·elim o (refusedAt wrongForm n) (afterStep s n ls) .session)
     by-form none is e later = absurd (omega arith)
     by-form (some p) is e later = step-line-made s n l ls p is e (later p)
@@ -163,34 +141,34 @@ one-row s r l ls u is e later =
 -- the reading from line n on, where that line is the row r
 abbrev afterRow : Session → ℕ → List Line → Row → Reading
 afterRow s n ls r =
-    cond (accepted (termAnswer (view s .rows) r)) (rowsRead (withRow s r) (n + 1) ls) (refusedAt (termAnswer (view s .rows) r .number) n)
+    cond (accepted (termAnswer (view s .rows) r)) (rowsRead rowStepAnswer (withRow s r) (n + 1) ls) (refusedAt (termAnswer (view s .rows) r .number) n)
 
 row-line-made : (s : Session) (n : ℕ) (l : Line) (ls : List Line) (r : Row) → rowOfLine l ≡ some r → afterRow s n ls r .answer .number ≡ 0
-    → (rowsRead (withRow s r) (n + 1) ls .answer .number ≡ 0 → RowsMade (withRow s r) ls (rowsRead (withRow s r) (n + 1) ls .session))
+    → (rowsRead rowStepAnswer (withRow s r) (n + 1) ls .answer .number ≡ 0 → RowsMade (withRow s r) ls (rowsRead rowStepAnswer (withRow s r) (n + 1) ls .session))
     → RowsMade s (l ∷ ls) (afterRow s n ls r .session)
 row-line-made s n l ls r is e later = by-answer (accepted (termAnswer (view s .rows) r)) refl e
   where
     by-answer : (b : Bool) → accepted (termAnswer (view s .rows) r) ≡ b
-        → cond b (rowsRead (withRow s r) (n + 1) ls) (refusedAt (termAnswer (view s .rows) r .number) n) .answer .number ≡ 0
-        → RowsMade s (l ∷ ls) (cond b (rowsRead (withRow s r) (n + 1) ls) (refusedAt (termAnswer (view s .rows) r .number) n) .session)
+        → cond b (rowsRead rowStepAnswer (withRow s r) (n + 1) ls) (refusedAt (termAnswer (view s .rows) r .number) n) .answer .number ≡ 0
+        → RowsMade s (l ∷ ls) (cond b (rowsRead rowStepAnswer (withRow s r) (n + 1) ls) (refusedAt (termAnswer (view s .rows) r .number) n) .session)
     by-answer true t u = one-row s r l ls _ is (eqb-true _ 0 t) (later u)
     by-answer false t u = absurd (eqb-false (termAnswer (view s .rows) r .number) 0 t u)
 
-rows-made : (s : Session) (n : ℕ) (ls : List Line) → rowsRead s n ls .answer .number ≡ 0 → RowsMade s ls (rowsRead s n ls .session)
+rows-made : (s : Session) (n : ℕ) (ls : List Line) → rowsRead rowStepAnswer s n ls .answer .number ≡ 0 → RowsMade s ls (rowsRead rowStepAnswer s n ls .session)
 unfolding rowsRead Option·elim
 rows-made s n [] e = absurd (omega arith)
 rows-made s n (l ∷ ls) e = by-names (isLine stepNames l) refl e (λ r. rows-made (withRow s r) (n + 1) ls)
   where
     by-form : (o : Option Row) → rowOfLine l ≡ o → Option·elim o (refusedAt wrongForm n) (afterRow s n ls) .answer .number ≡ 0
-        → ((r : Row) → rowsRead (withRow s r) (n + 1) ls .answer .number ≡ 0 → RowsMade (withRow s r) ls (rowsRead (withRow s r) (n + 1) ls .session))
+        → ((r : Row) → rowsRead rowStepAnswer (withRow s r) (n + 1) ls .answer .number ≡ 0 → RowsMade (withRow s r) ls (rowsRead rowStepAnswer (withRow s r) (n + 1) ls .session))
         → RowsMade s (l ∷ ls) (Option·elim o (refusedAt wrongForm n) (afterRow s n ls) .session)
     by-form none is e later = absurd (omega arith)
     by-form (some r) is e later = row-line-made s n l ls r is e (later r)
 
     by-names : (b : Bool) → isLine stepNames l ≡ b
-        → cond b (stepsRead s (n + 1) ls) (Option·elim (rowOfLine l) (refusedAt wrongForm n) (afterRow s n ls)) .answer .number ≡ 0
-        → ((r : Row) → rowsRead (withRow s r) (n + 1) ls .answer .number ≡ 0 → RowsMade (withRow s r) ls (rowsRead (withRow s r) (n + 1) ls .session))
-        → RowsMade s (l ∷ ls) (cond b (stepsRead s (n + 1) ls) (Option·elim (rowOfLine l) (refusedAt wrongForm n) (afterRow s n ls)) .session)
+        → cond b (stepsRead rowStepAnswer s (n + 1) ls) (Option·elim (rowOfLine l) (refusedAt wrongForm n) (afterRow s n ls)) .answer .number ≡ 0
+        → ((r : Row) → rowsRead rowStepAnswer (withRow s r) (n + 1) ls .answer .number ≡ 0 → RowsMade (withRow s r) ls (rowsRead rowStepAnswer (withRow s r) (n + 1) ls .session))
+        → RowsMade s (l ∷ ls) (cond b (stepsRead rowStepAnswer s (n + 1) ls) (Option·elim (rowOfLine l) (refusedAt wrongForm n) (afterRow s n ls)) .session)
     by-names true is e later = names-made s l ls _ is (steps-made s (n + 1) ls e)
     by-names false is e later = by-form (rowOfLine l) refl e later
 
@@ -220,21 +198,21 @@ first-names-made l ls u is m =
       accepted = m .accepted;
     }
 
-lines-made : (ls : List Line) → linesRead ls .answer .number ≡ 0 → BundleMade ls (linesRead ls .session)
+lines-made : (ls : List Line) → linesRead rowStepAnswer ls .answer .number ≡ 0 → BundleMade ls (linesRead rowStepAnswer ls .session)
 unfolding linesRead
 lines-made [] e = absurd (omega arith)
 lines-made (l ∷ ls) e = by-names (isLine rowNames l) refl e
   where
-    by-names : (b : Bool) → isLine rowNames l ≡ b → cond b (rowsRead freshSession 2 ls) (refusedAt wrongForm 1) .answer .number ≡ 0
-        → BundleMade (l ∷ ls) (cond b (rowsRead freshSession 2 ls) (refusedAt wrongForm 1) .session)
+    by-names : (b : Bool) → isLine rowNames l ≡ b → cond b (rowsRead rowStepAnswer freshSession 2 ls) (refusedAt wrongForm 1) .answer .number ≡ 0
+        → BundleMade (l ∷ ls) (cond b (rowsRead rowStepAnswer freshSession 2 ls) (refusedAt wrongForm 1) .session)
     by-names true is e = first-names-made l ls _ is (rows-made freshSession 2 ls e)
     by-names false is e = absurd (omega arith)
 
 pub read-accepted : (bytes : List ℕ) (t : ReadResult) → ReadMet bytes t → readAnswerOf (t .answer) .number ≡ 0 → ReadAccepted bytes t
-unfolding reading
 read-accepted bytes t m e =
-    let made = lines-made (lines bytes) (sym (ap (λ a. a .number) (m .answer)) ∙ e) in
-    let run = subst (Run freshSession (callsOf (made .rows) (made .steps)) (made .seen)) (sym (m .session)) (made .made) in
+    let by-rows = reading-by-rows bytes in
+    let made = lines-made (lines bytes) (ap (λ r. r .answer .number) (sym by-rows) ∙ sym (ap (λ a. a .number) (m .answer)) ∙ e) in
+    let run = subst (Run freshSession (callsOf (made .rows) (made .steps)) (made .seen)) (ap (λ r. r .session) (sym by-rows) ∙ sym (m .session)) (made .made) in
     record {
       rows = made .rows;
       steps = made .steps;
@@ -251,39 +229,40 @@ left-fresh : (b : Bool) (r : Reading) (k n : ℕ) → (¬ (r .answer .number ≡
 left-fresh true r k n later f = later f
 left-fresh false r k n later f = refl
 
-steps-fresh : (s : Session) (n : ℕ) (ls : List Line) → ¬ (stepsRead s n ls .answer .number ≡ 0) → stepsRead s n ls .session ≡ freshSession
+steps-fresh : (s : Session) (n : ℕ) (ls : List Line) → ¬ (stepsRead rowStepAnswer s n ls .answer .number ≡ 0) → stepsRead rowStepAnswer s n ls .session ≡ freshSession
 unfolding stepsRead Option·elim
 steps-fresh s n [] f = absurd (f refl)
 steps-fresh s n (l ∷ ls) f = by-form (stepOfLine l) f (λ p. steps-fresh (withStep s p) (n + 1) ls)
   where
     by-form : (o : Option Step) → ¬ (Option·elim o (refusedAt wrongForm n) (afterStep s n ls) .answer .number ≡ 0)
-        → ((p : Step) → ¬ (stepsRead (withStep s p) (n + 1) ls .answer .number ≡ 0) → stepsRead (withStep s p) (n + 1) ls .session ≡ freshSession)
+        → ((p : Step) → ¬ (stepsRead rowStepAnswer (withStep s p) (n + 1) ls .answer .number ≡ 0) → stepsRead rowStepAnswer (withStep s p) (n + 1) ls .session ≡ freshSession)
         → Option·elim o (refusedAt wrongForm n) (afterStep s n ls) .session ≡ freshSession
     by-form none f later = refl
     by-form (some p) f later = left-fresh (accepted (rowStepAnswer (view s) p)) _ _ n (later p) f
 
-rows-fresh : (s : Session) (n : ℕ) (ls : List Line) → ¬ (rowsRead s n ls .answer .number ≡ 0) → rowsRead s n ls .session ≡ freshSession
+rows-fresh : (s : Session) (n : ℕ) (ls : List Line) → ¬ (rowsRead rowStepAnswer s n ls .answer .number ≡ 0) → rowsRead rowStepAnswer s n ls .session ≡ freshSession
 unfolding rowsRead Option·elim
 rows-fresh s n [] f = refl
 rows-fresh s n (l ∷ ls) f = by-names (isLine stepNames l) f (λ r. rows-fresh (withRow s r) (n + 1) ls)
   where
     by-form : (o : Option Row) → ¬ (Option·elim o (refusedAt wrongForm n) (afterRow s n ls) .answer .number ≡ 0)
-        → ((r : Row) → ¬ (rowsRead (withRow s r) (n + 1) ls .answer .number ≡ 0) → rowsRead (withRow s r) (n + 1) ls .session ≡ freshSession)
+        → ((r : Row) → ¬ (rowsRead rowStepAnswer (withRow s r) (n + 1) ls .answer .number ≡ 0) → rowsRead rowStepAnswer (withRow s r) (n + 1) ls .session ≡ freshSession)
         → Option·elim o (refusedAt wrongForm n) (afterRow s n ls) .session ≡ freshSession
     by-form none f later = refl
     by-form (some r) f later = left-fresh (accepted (termAnswer (view s .rows) r)) _ _ n (later r) f
 
-    by-names : (b : Bool) → ¬ (cond b (stepsRead s (n + 1) ls) (Option·elim (rowOfLine l) (refusedAt wrongForm n) (afterRow s n ls)) .answer .number ≡ 0)
-        → ((r : Row) → ¬ (rowsRead (withRow s r) (n + 1) ls .answer .number ≡ 0) → rowsRead (withRow s r) (n + 1) ls .session ≡ freshSession)
-        → cond b (stepsRead s (n + 1) ls) (Option·elim (rowOfLine l) (refusedAt wrongForm n) (afterRow s n ls)) .session ≡ freshSession
+    by-names : (b : Bool) → ¬ (cond b (stepsRead rowStepAnswer s (n + 1) ls) (Option·elim (rowOfLine l) (refusedAt wrongForm n) (afterRow s n ls)) .answer .number ≡ 0)
+        → ((r : Row) → ¬ (rowsRead rowStepAnswer (withRow s r) (n + 1) ls .answer .number ≡ 0) → rowsRead rowStepAnswer (withRow s r) (n + 1) ls .session ≡ freshSession)
+        → cond b (stepsRead rowStepAnswer s (n + 1) ls) (Option·elim (rowOfLine l) (refusedAt wrongForm n) (afterRow s n ls)) .session ≡ freshSession
     by-names true f later = steps-fresh s (n + 1) ls f
     by-names false f later = by-form (rowOfLine l) f later
 
-lines-fresh : (ls : List Line) → ¬ (linesRead ls .answer .number ≡ 0) → linesRead ls .session ≡ freshSession
+lines-fresh : (ls : List Line) → ¬ (linesRead rowStepAnswer ls .answer .number ≡ 0) → linesRead rowStepAnswer ls .session ≡ freshSession
 unfolding linesRead
 lines-fresh [] f = refl
-lines-fresh (l ∷ ls) f = left-fresh (isLine rowNames l) (rowsRead freshSession 2 ls) wrongForm 1 (rows-fresh freshSession 2 ls) f
+lines-fresh (l ∷ ls) f = left-fresh (isLine rowNames l) (rowsRead rowStepAnswer freshSession 2 ls) wrongForm 1 (rows-fresh freshSession 2 ls) f
 
 pub read-refused : (bytes : List ℕ) (t : ReadResult) → ReadMet bytes t → ¬ (readAnswerOf (t .answer) .number ≡ 0) → t .session ≡ freshSession
-unfolding reading
-read-refused bytes t m f = m .session ∙ lines-fresh (lines bytes) (λ e. f (ap (λ a. a .number) (m .answer) ∙ e))
+read-refused bytes t m f =
+    let by-rows = reading-by-rows bytes in
+    m .session ∙ ap (λ r. r .session) by-rows ∙ lines-fresh (lines bytes) (λ e. f (ap (λ a. a .number) (m .answer) ∙ ap (λ r. r .answer .number) by-rows ∙ e))

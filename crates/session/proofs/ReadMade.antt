@@ -12,27 +12,28 @@ use Rattle.session.specs.declared.RowsEnd.{RowsEnd}
 use Rattle.session.specs.declared.StepsEnd.{StepsEnd}
 use Rattle.session.specs.View.{freshSession}
 use Rattle.session.specs.Bundle.{rowNames}
+use Rattle.session.specs.Promises.{rowStepAnswer}
 use Rattle.session.specs.Reading.{refusedAt, wrongForm, stepsRead, rowsRead, linesRead, reading}
 use Rattle.session.specs.ReadCall.{readingOf, ReadMet, holding, afterRows, RowsBounds, RowsReadMet, afterSteps, StepsBounds, StepsReadMet}
 use Rattle.session.proofs.LineCalls.{row-names-free}
+use Rattle.session.proofs.ReadByRows.{reading-by-rows}
 
 pub read-met : (bytes : List ℕ) (t : ReadResult) → readingOf t ≡ reading bytes → ReadMet bytes t
 read-met bytes t e = record { answer = ap (λ r. r .answer) e; session = ap (λ r. r .session) e }
 
-no-names-read : (ls : List Line) → firstIs rowNames ls ≡ false → linesRead ls ≡ refusedAt wrongForm 1
+no-names-read : (ls : List Line) → firstIs rowNames ls ≡ false → linesRead rowStepAnswer ls ≡ refusedAt wrongForm 1
 unfolding linesRead firstIs
 no-names-read [] e = refl
 no-names-read (l ∷ ls) e = rw e
 
-first-names-read : (ls : List Line) → firstIs rowNames ls ≡ true → linesRead ls ≡ rowsRead freshSession 2 (drop 1 ls)
+first-names-read : (ls : List Line) → firstIs rowNames ls ≡ true → linesRead rowStepAnswer ls ≡ rowsRead rowStepAnswer freshSession 2 (drop 1 ls)
 unfolding linesRead firstIs
 first-names-read [] e = absurd (false≢true e)
 first-names-read (l ∷ ls) e = rw e
 
 -- the first names line is missing
 pub no-names : (bytes : List ℕ) → firstIs rowNames (lines bytes) ≡ false → refusedAt wrongForm 1 ≡ reading bytes
-unfolding reading
-no-names bytes e = sym (no-names-read (lines bytes) e)
+no-names bytes e = sym (reading-by-rows bytes ∙ no-names-read (lines bytes) e)
 
 fresh-tables : freshSession ≡ holding (freshSession .rows) 0 (freshSession .steps) 0
 unfolding freshSession
@@ -44,15 +45,15 @@ module _ (bytes : List ℕ) (e : firstIs rowNames (lines bytes) ≡ true) where
   unfolding rowNames ascii
   first-line = line-passed rowNames bytes 0 row-names-free e .inside
 
-  from-line-2 : reading bytes ≡ rowsRead freshSession 2 (lines (drop 11 bytes))
-  unfolding reading rowNames ascii
-  from-line-2 = first-names-read (lines bytes) e ∙ ap (rowsRead freshSession 2) (sym (line-passed rowNames bytes 0 row-names-free e .rest))
+  from-line-2 : reading bytes ≡ rowsRead rowStepAnswer freshSession 2 (lines (drop 11 bytes))
+  unfolding rowNames ascii
+  from-line-2 = reading-by-rows bytes ∙ first-names-read (lines bytes) e ∙ ap (rowsRead rowStepAnswer freshSession 2) (sym (line-passed rowNames bytes 0 row-names-free e .rest))
 
   module _ (xs ys : List ℕ) (fresh : xs ≡ freshSession .rows) (t u : RowsEnd) (m : RowsReadMet bytes 11 xs ys t) (is : t ≡ u) where
     pub rows-read : afterRows bytes ys u ≡ reading bytes
     rows-read =
         subst (λ v. afterRows bytes ys v ≡ reading bytes) is
-        (m .reading ∙ rw fresh (ap (λ s. rowsRead s 2 (lines (drop 11 bytes))) (sym fresh-tables)) ∙ sym from-line-2)
+        (m .reading ∙ rw fresh (ap (λ s. rowsRead rowStepAnswer s 2 (lines (drop 11 bytes))) (sym fresh-tables)) ∙ sym from-line-2)
 
     pub rows-bounds : RowsBounds bytes u
     rows-bounds = subst (RowsBounds bytes) is (m .bounds)
@@ -60,10 +61,10 @@ module _ (bytes : List ℕ) (e : firstIs rowNames (lines bytes) ≡ true) where
 module _ (bytes ys : List ℕ) (n line at : ℕ) (zs₀ zs : List ℕ) (fresh : zs₀ ≡ freshSession .steps) (t u : StepsEnd)
     (m : StepsReadMet bytes at line ys n zs₀ zs t) (is : t ≡ u)
   where
-    pub steps-read : stepsRead (holding ys n (freshSession .steps) 0) line (lines (drop at bytes)) ≡ reading bytes → afterSteps ys n zs u ≡ reading bytes
+    pub steps-read : stepsRead rowStepAnswer (holding ys n (freshSession .steps) 0) line (lines (drop at bytes)) ≡ reading bytes → afterSteps ys n zs u ≡ reading bytes
     steps-read e =
         subst (λ v. afterSteps ys n zs v ≡ reading bytes) is
-        (m .reading ∙ ap (λ ws. stepsRead (holding ys n ws 0) line (lines (drop at bytes))) fresh ∙ e)
+        (m .reading ∙ ap (λ ws. stepsRead rowStepAnswer (holding ys n ws 0) line (lines (drop at bytes))) fresh ∙ e)
 
     pub steps-bounds : StepsBounds u
     steps-bounds = subst StepsBounds is (m .bounds)

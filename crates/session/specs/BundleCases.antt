@@ -1,29 +1,28 @@
 -- What audit prints of bundles, by computation. Assumes nothing.
 use Prim.Native.String.{String, _++_}
 use mathlib.Core.Path.{refl}
+use mathlib.Core.Bool.{decide}
 use mathlib.Core.List.{[], _∷_}
 use mathlib.Core.Option.{Option·elim}
 use Rattle.xpath.specs.Expected.{_is_, AllRight}
 use Rattle.terms.specs.Row.{tableOf, entriesFrom, sameRow, find}
 use Rattle.terms.specs.Fields.{fieldsOf, isPath, isQualifier, heldPath, heldQualifier, fieldOk, badPlace}
 use Rattle.terms.specs.Nesting.{operandNesting, nestingBy, nestings, nesting}
-use Rattle.rules.specs.Order.{axisPairs, isPair, axisBelow, testBelow}
-use Rattle.rules.specs.Lists.{allOf, anyOf}
-use Rattle.rules.specs.Instance.{meets}
+use Rattle.terms.specs.Decode.{asPath, asQualifier, termBy, terms, termAt}
 use Rattle.rules.specs.Table.{rules}
+use Rattle.rules.specs.Claim.{says}
 use Rattle.rules.specs.Yields.{formsIn, formsOf, firstCount, premiseCount}
-use Rattle.rules.specs.Pattern.{pathLetter, qualifierLetter, axisLetter, testLetter, nameLetter, axisPattern, testPattern, namePattern, pathPattern, qualifierPattern, claimPattern, formPattern}
-use Rattle.rules.specs.RowYields.{check, bind, suits, isRow, match, matchClaim, matchClaims, emptyMatch, numbersIn, matchForm, formYields, rowYields}
+use Rattle.rules.specs.Decision as decision
+use Rattle.rules.specs.Decision.{yields-dec}
 use Rattle.lines.specs.Ascii.{ascii}
 use Rattle.lines.specs.Line.{inFirstLine, lines, inFirstPart, parts, sameBytes, isLine}
 use Rattle.lines.specs.Number.{isDigit, areDigits, isDecimal, andDigits, number, allSome, exactly, numbersOf}
+use Rattle.session.specs.declared.Report.{Report}
 use Rattle.session.specs.TermCall.{termAnswer}
-use Rattle.session.specs.StepCall.{sameSort, badSide, premiseOk, badPremise, premisesOf, stepAnswerBy}
+use Rattle.session.specs.StepCall.{sameSort, badSide, premiseOk, badPremise, claimOf, premisesOf, stepAnswerBy, isYielded, stepAnswer}
 use Rattle.session.specs.View.{stepsOf, view, freshSession, withRow, withStep}
-use Rattle.session.specs.Promises.{sidesOf, rowYielded, rowStepAnswer}
 use Rattle.session.specs.Bundle.{rowNames, stepNames, rowOfLine, stepOfLine}
 use Rattle.session.specs.Reading.{stepsRead, rowsRead, linesRead, reading}
-use Rattle.session.specs.declared.Report.{Report}
 use Rattle.session.specs.Audit.{reportBy, report}
 
 abbrev audited : String → Report
@@ -106,5 +105,5 @@ reports :
     -- the rows are those of the last step
     ∷ audited (example ++ "2 1 1 0 0\n") is reportBy 0 0 2 1 1
     ∷ [])
-unfolding ascii report reading linesRead rowsRead stepsRead rowNames stepNames rowOfLine stepOfLine lines inFirstLine parts inFirstPart sameBytes isLine numbersOf exactly allSome number isDecimal areDigits isDigit andDigits Option·elim termAnswer badPlace fieldsOf fieldOk heldPath heldQualifier isPath isQualifier nesting nestings entriesFrom nestingBy operandNesting find sameRow rowStepAnswer rowYielded stepAnswerBy badSide sameSort badPremise premiseOk premisesOf sidesOf premiseCount firstCount formsOf formsIn rules rowYields formYields matchForm matchClaims matchClaim match isRow suits bind check emptyMatch numbersIn meets axisBelow isPair axisPairs testBelow anyOf allOf formPattern claimPattern pathPattern qualifierPattern axisPattern testPattern namePattern pathLetter qualifierLetter axisLetter testLetter nameLetter view tableOf stepsOf freshSession withRow withStep
+unfolding ascii report reading linesRead rowsRead stepsRead rowNames stepNames rowOfLine stepOfLine lines inFirstLine parts inFirstPart sameBytes isLine numbersOf exactly allSome number isDecimal areDigits isDigit andDigits Option·elim view tableOf stepsOf freshSession withRow withStep termAnswer badPlace fieldsOf fieldOk heldPath heldQualifier isPath isQualifier nesting nestings entriesFrom nestingBy operandNesting find sameRow stepAnswer stepAnswerBy sameSort badSide premiseOk badPremise claimOf premisesOf isYielded says termAt terms termBy asPath asQualifier premiseCount firstCount formsOf formsIn rules decide yields-dec decision.isYielded
 reports = refl

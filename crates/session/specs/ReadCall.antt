@@ -15,6 +15,7 @@ use Rattle.session.specs.declared.StepsEnd.{StepsEnd}
 use Rattle.session.specs.declared.StepsEnd.the-variants as StepsCases
 use Rattle.session.specs.Book.{maxSteps, Answer, answer}
 use Rattle.session.specs.View.{freshSession}
+use Rattle.session.specs.Promises.{rowStepAnswer}
 use Rattle.session.specs.Reading.{Reading, refusedAt, stepsRead, rowsRead, reading}
 
 abbrev pub readAnswerOf : ReadAnswer → Answer
@@ -35,7 +36,7 @@ holding xs n ys m = record { rows = xs; «row_count» = n; steps = ys; «step_co
 
 -- what is still to be read after the term lines, which left the numbers xs
 abbrev pub afterRows : List ℕ → (xs : List ℕ) → RowsEnd → Reading
-afterRows bytes xs (RowsCases.Held n line at) = stepsRead (holding xs n (freshSession .steps) 0) line (lines (drop at bytes))
+afterRows bytes xs (RowsCases.Held n line at) = stepsRead rowStepAnswer (holding xs n (freshSession .steps) 0) line (lines (drop at bytes))
 afterRows bytes xs (RowsCases.Refused k line) = refusedAt k line
 
 -- the numbers that the code goes on with
@@ -45,7 +46,7 @@ RowsBounds bytes (RowsCases.Refused k line) = Unit {0}
 
 -- the term lines from line 2 on, which starts at `start`, on the numbers xs, which become ys
 pub record RowsReadMet (bytes : List ℕ) (start : ℕ) (xs ys : List ℕ) (t : RowsEnd) : Type 0 where
-  pub reading : afterRows bytes ys t ≡ rowsRead (holding xs 0 (freshSession .steps) 0) 2 (lines (drop start bytes))
+  pub reading : afterRows bytes ys t ≡ rowsRead rowStepAnswer (holding xs 0 (freshSession .steps) 0) 2 (lines (drop start bytes))
   pub bounds : RowsBounds bytes t
 
 -- the reading after the step lines, which left the numbers ys
@@ -59,5 +60,5 @@ StepsBounds (StepsCases.Refused k line) = Unit {0}
 
 -- the step lines from line `first` on, which starts at `start`, on n rows with the numbers xs and the numbers ys, which become zs
 pub record StepsReadMet (bytes : List ℕ) (start first : ℕ) (xs : List ℕ) (n : ℕ) (ys zs : List ℕ) (t : StepsEnd) : Type 0 where
-  pub reading : afterSteps xs n zs t ≡ stepsRead (holding xs n ys 0) first (lines (drop start bytes))
+  pub reading : afterSteps xs n zs t ≡ stepsRead rowStepAnswer (holding xs n ys 0) first (lines (drop start bytes))
   pub bounds : StepsBounds t

@@ -6,10 +6,10 @@ use mathlib.Core.Option.{Option·elim}
 use lib.ListN.{length}
 use Rattle.lines.specs.Line.{Line, lines, isLine}
 use Rattle.session.specs.declared.Session.{Session}
-use Rattle.session.specs.Book.{Answer, answer, accepted}
+use Rattle.session.specs.Book.{Step, Book, Answer, answer, accepted}
 use Rattle.session.specs.TermCall.{termAnswer}
+use Rattle.session.specs.StepCall.{stepAnswer}
 use Rattle.session.specs.View.{view, freshSession, withRow, withStep}
-use Rattle.session.specs.Promises.{rowStepAnswer}
 use Rattle.session.specs.Bundle.{rowNames, stepNames, rowOfLine, stepOfLine}
 
 -- what a reading answers, and the session that it leaves
@@ -24,25 +24,28 @@ refusedAt k n = record { answer = answer k n; session = freshSession }
 abbrev pub wrongForm : ℕ
 wrongForm = 10
 
--- step calls on the session s, one for each line from line n on
-unfoldable pub stepsRead : Session → (n : ℕ) → List Line → Reading
-stepsRead s n [] = record { answer = answer 0 (length (view s .steps)); session = s }
-stepsRead s n (l ∷ ls) =
-    Option·elim (stepOfLine l) (refusedAt wrongForm n)
-    (λ p. let a = rowStepAnswer (view s) p in cond (accepted a) (stepsRead (withStep s p) (n + 1) ls) (refusedAt (a .number) n))
+-- `judge` is how a step call is answered
+module _ (judge : Book → Step → Answer) where
+  -- step calls on the session s, one for each line from line n on
+  unfoldable pub stepsRead : Session → (n : ℕ) → List Line → Reading
+  stepsRead s n [] = record { answer = answer 0 (length (view s .steps)); session = s }
+  stepsRead s n (l ∷ ls) =
+      Option·elim (stepOfLine l) (refusedAt wrongForm n)
+      (λ p. let a = judge (view s) p in cond (accepted a) (stepsRead (withStep s p) (n + 1) ls) (refusedAt (a .number) n))
 
--- term calls on the session s, one for each line from line n on, until the second names line
-unfoldable pub rowsRead : Session → (n : ℕ) → List Line → Reading
-rowsRead s n [] = refusedAt wrongForm n
-rowsRead s n (l ∷ ls) =
-    cond (isLine stepNames l) (stepsRead s (n + 1) ls)
-    (Option·elim (rowOfLine l) (refusedAt wrongForm n)
-    (λ r. let a = termAnswer (view s .rows) r in cond (accepted a) (rowsRead (withRow s r) (n + 1) ls) (refusedAt (a .number) n)))
+  -- term calls on the session s, one for each line from line n on, until the second names line
+  unfoldable pub rowsRead : Session → (n : ℕ) → List Line → Reading
+  rowsRead s n [] = refusedAt wrongForm n
+  rowsRead s n (l ∷ ls) =
+      cond (isLine stepNames l) (stepsRead s (n + 1) ls)
+      (Option·elim (rowOfLine l) (refusedAt wrongForm n)
+      (λ r. let a = termAnswer (view s .rows) r in cond (accepted a) (rowsRead (withRow s r) (n + 1) ls) (refusedAt (a .number) n)))
 
--- the first names line, and then the others
-unfoldable pub linesRead : List Line → Reading
-linesRead [] = refusedAt wrongForm 1
-linesRead (l ∷ ls) = cond (isLine rowNames l) (rowsRead freshSession 2 ls) (refusedAt wrongForm 1)
+  -- the first names line, and then the others
+  unfoldable pub linesRead : List Line → Reading
+  linesRead [] = refusedAt wrongForm 1
+  linesRead (l ∷ ls) = cond (isLine rowNames l) (rowsRead freshSession 2 ls) (refusedAt wrongForm 1)
 
+-- the book's answers, as every call on a session that calls lead to gives them
 unfoldable pub reading : List ℕ → Reading
-reading bytes = linesRead (lines bytes)
+reading bytes = linesRead stepAnswer (lines bytes)

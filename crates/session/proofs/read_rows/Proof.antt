@@ -8,6 +8,7 @@ use borrow.Author.Tests.{not-true, not-false}
 use Rattle.terms.specs.Row.{maxRows}
 use Rattle.lines.specs.Line.{lines}
 use Rattle.session.specs.View.{rowWidth, freshSession}
+use Rattle.session.specs.Promises.{rowStepAnswer}
 use Rattle.session.specs.Reading.{refusedAt, rowsRead}
 use Rattle.session.specs.ReadCall.{holding}
 use Rattle.session.proofs.LineCalls.{names-there, row-end, row-wrong-there, row-refused-there, row-held-there, row-room}
@@ -17,8 +18,8 @@ use Rattle.session.proofs.read_rows.Tie as tie
 abbrev Inv-loop : tie.InvT-loop
 Inv-loop bytes start rows₀ n₀ line₀ at₀ rows n line at =
     (n ≤ maxRows) × (length rows ≡ rowWidth * maxRows) × (line ≤ at) × (at ≤ length bytes)
-    × (rowsRead (holding rows₀ 0 (freshSession .steps) 0) 2 (lines (drop start bytes))
-    ≡ rowsRead (holding rows n (freshSession .steps) 0) line (lines (drop at bytes)))
+    × (rowsRead rowStepAnswer (holding rows₀ 0 (freshSession .steps) 0) 2 (lines (drop start bytes))
+    ≡ rowsRead rowStepAnswer (holding rows n (freshSession .steps) 0) line (lines (drop at bytes)))
 
 abbrev μ-loop : tie.MeasureT-loop
 μ-loop bytes start rows₀ n₀ line₀ at₀ rows n line at = length bytes - at

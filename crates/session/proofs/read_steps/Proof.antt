@@ -8,6 +8,7 @@ use borrow.Author.Tests.{not-true, not-false}
 use Rattle.lines.specs.Line.{lines}
 use Rattle.session.specs.Book.{maxSteps}
 use Rattle.session.specs.View.{stepWidth}
+use Rattle.session.specs.Promises.{rowStepAnswer}
 use Rattle.session.specs.Reading.{refusedAt, stepsRead}
 use Rattle.session.specs.ReadCall.{holding}
 use Rattle.session.proofs.LineCalls.{step-end, step-wrong-there, step-refused-there, step-held-there, step-room}
@@ -17,7 +18,7 @@ use Rattle.session.proofs.read_steps.Tie as tie
 abbrev Inv-loop : tie.InvT-loop
 Inv-loop bytes start first rows n steps₀ m₀ line₀ at₀ steps m line at =
     (m ≤ maxSteps) × (length steps ≡ stepWidth * maxSteps) × (line ≤ at) × (at ≤ length bytes)
-    × (stepsRead (holding rows n steps₀ 0) first (lines (drop start bytes)) ≡ stepsRead (holding rows n steps m) line (lines (drop at bytes)))
+    × (stepsRead rowStepAnswer (holding rows n steps₀ 0) first (lines (drop start bytes)) ≡ stepsRead rowStepAnswer (holding rows n steps m) line (lines (drop at bytes)))
 
 abbrev μ-loop : tie.MeasureT-loop
 μ-loop bytes start first rows n steps₀ m₀ line₀ at₀ steps m line at = length bytes - at
