@@ -10,6 +10,7 @@ use Rattle.xpath.specs.Document.{Document}
 use Rattle.xpath.specs.Term.{Path, Qualifier, Void, Root, Step}
 use Rattle.xpath.specs.Meaning.{selects, holds}
 use Rattle.xpath.specs.Visits.{visits, qualifierVisits}
+use Rattle.terms.specs.Fields.{maxKind, lastPath}
 use Rattle.terms.specs.Row.{Row, tableOf}
 use Rattle.terms.specs.Decode.{Term, terms}
 use Rattle.selection.specs.Marks.{Marks}
@@ -43,11 +44,11 @@ termsBelow rows top = terms (take top (tableOf rows))
 
 -- union, composition and filter
 abbrev pub pathHasOperands : ℕ → Bool
-pathHasOperands kind = leb 3 kind && leb kind 5
+pathHasOperands kind = leb 3 kind && leb kind lastPath
 
 -- not, and, or and inclusion
 abbrev pub qualifierHasOperands : ℕ → Bool
-qualifierHasOperands kind = leb 8 kind && leb kind 11
+qualifierHasOperands kind = leb 8 kind && leb kind maxKind
 
 -- the path of a row without operands; what is no such row is read as the void path
 unfoldable pub leafPath : Row → Path

@@ -5,7 +5,7 @@ use mathlib.Core.Bool.{Bool, true, false}
 use mathlib.Core.List.{List, [], _∷_, _++_, map, append-assoc}
 use mathlib.Core.Option.{none, some, Option·elim, Option·none-ne-some}
 use native.Mathlib.Omega.{arith}
-use lib.ListN.{length, length-append}
+use lib.ListN.{length}
 use Rattle.terms.specs.Row.{Row}
 use Rattle.rules.specs.Lists.{Every}
 use Rattle.lines.specs.Ascii.{ascii}
@@ -16,21 +16,19 @@ use Rattle.lines.proofs.Cutting.{lines-at}
 use Rattle.lines.proofs.Written.{line-reads-back}
 use Rattle.session.specs.declared.Session.{Session}
 use Rattle.session.specs.Book.{Step, answer}
-use Rattle.session.specs.TermCall.{termBook}
-use Rattle.session.specs.StepCall.{stepBook}
-use Rattle.session.specs.Calls.{term, step, Seen, bookAnswer, bookNext}
+use Rattle.session.specs.Calls.{step, Seen}
 use Rattle.session.specs.View.{rowWidth, view, freshSession, rowNumbers, stepNumbers}
 use Rattle.session.specs.Bundle.{rowNames, stepNames, rowText, rowsText, stepsText, bundleText}
 use Rattle.session.specs.Promises.{rowStepAnswer}
 use Rattle.session.specs.Reading.{Reading, stepsRead, rowsRead, linesRead, reading}
-use Rattle.session.specs.Demand3.{Made, term-made, step-made, Run, done, then}
-use Rattle.session.specs.ReadDemand.{Accepted, callsOf, RowFits, StepFits, ReadDemand}
-use Rattle.session.proofs.Accepted.{if-accepted}
+use Rattle.session.specs.Demand3.{term-made, step-made, Run, done, then}
+use Rattle.session.specs.ReadDemand.{IsAccepted, callsOf, RowFits, StepFits, ReadDemand}
 use Rattle.session.proofs.LineCalls.{row-names-free, step-names-free}
 use Rattle.session.proofs.LinesRead.{names-read, row-held, step-held}
 use Rattle.session.proofs.ReadByRows.{reading-by-rows}
 use Rattle.session.proofs.ReadCalls.{is-line, read-accepted, read-refused}
-use Rattle.session.proofs.Simulation.{Kept, call-moves, call-answers, kept-on, fresh-kept}
+use Rattle.session.proofs.Simulation.{fresh-kept}
+use Rattle.session.proofs.StepsAdded.{calls-added}
 use Rattle.session.proofs.Views.{fresh-view}
 
 -- the second names line is no term line
@@ -59,7 +57,7 @@ first-names-are = refl
 abbrev allRead : Session → Reading
 allRead u = record { answer = answer 0 (length (view u .steps)); session = u }
 
-steps-written : (s : Session) (n : ℕ) (ps : List Step) (os : List Seen) (u : Session) → Every StepFits ps → Run s (map step ps) os u → Every Accepted os
+steps-written : (s : Session) (n : ℕ) (ps : List Step) (os : List Seen) (u : Session) → Every StepFits ps → Run s (map step ps) os u → Every IsAccepted os
     → stepsRead rowStepAnswer s n (lines (stepsText ps)) ≡ allRead u
 unfolding stepsText stepsRead lines
 steps-written s n [] os u fits done taken = refl
@@ -69,7 +67,7 @@ steps-written s n (p ∷ ps) os u fits (then {os = rest} (step-made {m = m} w e)
     ∙ rw (text .next, ← e) (steps-written _ (n + 1) ps rest u (fits .1) run (taken .1))
 
 rows-written : (s : Session) (n : ℕ) (rs : List Row) (ps : List Step) (os : List Seen) (u : Session) → Every RowFits rs → Every StepFits ps
-    → Run s (callsOf rs ps) os u → Every Accepted os → rowsRead rowStepAnswer s n (lines (rowsText rs ++ (stepNames ++ newline ∷ stepsText ps))) ≡ allRead u
+    → Run s (callsOf rs ps) os u → Every IsAccepted os → rowsRead rowStepAnswer s n (lines (rowsText rs ++ (stepNames ++ newline ∷ stepsText ps))) ≡ allRead u
 unfolding rowsText firstIs
 rows-written s n [] ps os u rows steps run taken =
     let text = lines-at stepNames (stepsText ps) step-names-free in
@@ -81,36 +79,8 @@ rows-written s n (r ∷ rs) ps os u rows steps (then {os = rest} (term-made {m =
     (row-held s n _ (not-names _ (rowNumbers r) (text .numbers)) (rowNumbers r) (sym (text .numbers)) m w (taken .0)
     ∙ rw (text .next, ← e) (rows-written _ (n + 1) rs ps rest u (rows .1) steps run (taken .1)))
 
--- an accepted step call adds one step, and a term call none
-step-adds : {s t : Session} {p : Step} {o : Seen} → Kept s → Made s t (step p) o → Accepted o → length (view t .steps) ≡ length (view s .steps) + 1
-unfolding bookNext stepBook bookAnswer
-step-adds {s} {t} {p} k m e =
-    ap (λ b. length (b .steps)) (call-moves k m .book)
-    ∙ ap length (sym (if-accepted _ _ (call-answers k m .0) (view s .steps ++ p ∷ []) (view s .steps) e))
-    ∙ length-append (view s .steps) (p ∷ [])
-
-row-adds-none : {s t : Session} {r : Row} {o : Seen} → Kept s → Made s t (term r) o → length (view t .steps) ≡ length (view s .steps)
-unfolding bookNext termBook
-row-adds-none k m = ap (λ b. length (b .steps)) (call-moves k m .book)
-
-steps-added : (s : Session) (ps : List Step) (os : List Seen) (u : Session) → Kept s → Run s (map step ps) os u → Every Accepted os
-    → length (view u .steps) ≡ length (view s .steps) + length ps
-steps-added s [] os u k done taken = omega arith
-steps-added s (p ∷ ps) os u k (then {os = rest} m run) taken =
-    let later = steps-added _ ps rest u (kept-on k m) run (taken .1) in
-    let here = step-adds k m (taken .0) in
-    omega arith
-
-calls-added : (s : Session) (rs : List Row) (ps : List Step) (os : List Seen) (u : Session) → Kept s → Run s (callsOf rs ps) os u → Every Accepted os
-    → length (view u .steps) ≡ length (view s .steps) + length ps
-calls-added s [] ps os u k run taken = steps-added s ps os u k run taken
-calls-added s (r ∷ rs) ps os u k (then {os = rest} m run) taken =
-    let later = calls-added _ rs ps rest u (kept-on k m) run (taken .1) in
-    let here = row-adds-none k m in
-    omega arith
-
 well-written : (rs : List Row) (ps : List Step) (os : List Seen) (u : Session) → Every RowFits rs → Every StepFits ps
-    → Run freshSession (callsOf rs ps) os u → Every Accepted os → reading (bundleText rs ps) ≡ record { answer = answer 0 (length ps); session = u }
+    → Run freshSession (callsOf rs ps) os u → Every IsAccepted os → reading (bundleText rs ps) ≡ record { answer = answer 0 (length ps); session = u }
 unfolding bundleText linesRead
 well-written rs ps os u rows steps run taken =
     let text = lines-at rowNames (rowsText rs ++ (stepNames ++ newline ∷ stepsText ps)) row-names-free in
@@ -120,4 +90,11 @@ well-written rs ps os u rows steps run taken =
     reading-by-rows (bundleText rs ps) ∙ rw (text, first-names-are) (rows-written freshSession 2 rs ps os u rows steps run taken ∙ ap (λ n. record { answer = answer 0 n; session = u }) held)
 
 pub read-demand : ReadDemand
-read-demand = record { accepted = read-accepted; refused = read-refused; written = well-written }
+read-demand =
+    record {
+      accepted = read-accepted;
+      refused = read-refused;
+      reads-back = λ rs ps os s rows steps run taken t m.
+          let same = well-written rs ps os s rows steps run taken in
+          (m .answer ∙ ap (λ r. r .answer) same, m .session ∙ ap (λ r. r .session) same);
+    }

@@ -28,7 +28,7 @@ use Rattle.session.specs.Calls.{Call, term, step, Seen}
 use Rattle.session.specs.View.{view, withRow, withStep}
 use Rattle.session.specs.Answers.{termAnswerOf, stepAnswerOf, selectAnswerOf}
 use Rattle.session.specs.Promises.{rowYielded, rowStepAnswer, SelectMet}
-use Rattle.session.specs.ReadDemand.{Accepted}
+use Rattle.session.specs.ReadDemand.{IsAccepted}
 use Rattle.session.specs.Demand3.{Made, term-made, step-made, Run, done, then}
 use Rattle.session.proofs.Accepted.{if-accepted}
 use Rattle.session.proofs.ByTerms.{row-answer-by-terms}
@@ -102,13 +102,13 @@ step-made-is : {s t : Session} {p : Step} {o : Seen} → Made s t (step p) o
 step-made-is (step-made w e) = (e ∙ w .session, w .answer)
 
 -- an accepted call can be made, and leaves its row or step
-pub row-call : (s : Session) (r : Row) → termAnswer (view s .rows) r .number ≡ 0 → (o : Seen) × Made s (withRow s r) (term r) o × Accepted o
+pub row-call : (s : Session) (r : Row) → termAnswer (view s .rows) r .number ≡ 0 → (o : Seen) × Made s (withRow s r) (term r) o × IsAccepted o
 row-call s r e =
     let (t, o, m) = call-exists s (term r) in
     let (left, told) = row-made-is m in
     (o, subst (λ u. Made s u (term r) o) (left ∙ sym (if-accepted (termAnswer (view s .rows) r) _ refl (withRow s r) s e)) m, ap (λ a. a .number) told ∙ e)
 
-pub step-call : (s : Session) (p : Step) → rowStepAnswer (view s) p .number ≡ 0 → (o : Seen) × Made s (withStep s p) (step p) o × Accepted o
+pub step-call : (s : Session) (p : Step) → rowStepAnswer (view s) p .number ≡ 0 → (o : Seen) × Made s (withStep s p) (step p) o × IsAccepted o
 step-call s p e =
     let (t, o, m) = call-exists s (step p) in
     let (left, told) = step-made-is m in

@@ -64,7 +64,7 @@ demand3 cs os s run =
         λ y l. rw rows at (select-marks _ row xs x limit buffer left t m e y l),
         λ y l. select-stays _ row xs x limit buffer left t m e y l,
       );
-      kept = λ i h p q e xs x limit limit′ buffer buffer′ left left′ t t′ m a m′ a′ y l one.
+      marks-contained = λ i h p q e xs x limit limit′ buffer buffer′ left left′ t t′ m a m′ a′ y l one.
           let step = getD (b .steps) i noStep in
           let sides = containment-sides (b .rows) (step .left) (step .right) p q e in
           let old = rw rows at (select-marks _ (step .left) xs x limit buffer left t m a y l) in

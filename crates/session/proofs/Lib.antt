@@ -21,5 +21,6 @@ pub mod LineCalls
 pub mod ReadMade
 pub mod Audited
 pub mod Contracts
+pub mod StepsAdded
 pub mod ReadCalls
 pub mod Bundles

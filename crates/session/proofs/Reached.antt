@@ -14,7 +14,7 @@ use Rattle.xpath.proofs.Reflect.{below-suc}
 use Rattle.terms.specs.Row.{Row, rowAt, noRow, find}
 use Rattle.terms.specs.Fields.{maxKind, badPlace}
 use Rattle.terms.specs.Nesting.{maxNesting, nesting}
-use Rattle.terms.specs.Table.{rowOk, isNew, Built, empty, more}
+use Rattle.terms.specs.Table.{isWellFormed, isNew, Built, empty, more}
 use Rattle.terms.proofs.Find.{find-le}
 use Rattle.terms.proofs.Decode.{term-stays}
 use Rattle.rules.specs.Lists.{Every}
@@ -68,7 +68,7 @@ pub record BookLaws (b : Book) : Type 0 where
   pub claims : (i : ℕ) → i < length (b .steps) → IsTrue (claimOf (b .rows) (getD (b .steps) i noStep))
 
 row-added : (rs : List Row) (ps : List Step) (r : Row) → BookLaws (book rs ps) → termAnswer rs r .number ≡ 0 → BookLaws (book (rs ++ (r ∷ [])) ps)
-unfolding rowOk isNew
+unfolding isWellFormed isNew
 row-added rs ps r w e =
     let t = term-accepted rs r e in
     record {

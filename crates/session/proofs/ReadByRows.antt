@@ -40,7 +40,7 @@ steps-by-rows s k n (l ∷ ls) = by-form (stepOfLine l) (λ p e. steps-by-rows (
 
     by-form : (o : Option Step)
         → ((p : Step) → accepted (rowStepAnswer (view s) p) ≡ true
-            → stepsRead stepAnswer (withStep s p) (n + 1) ls ≡ stepsRead rowStepAnswer (withStep s p) (n + 1) ls)
+        → stepsRead stepAnswer (withStep s p) (n + 1) ls ≡ stepsRead rowStepAnswer (withStep s p) (n + 1) ls)
         → Option·elim o (refusedAt wrongForm n) (after stepAnswer) ≡ Option·elim o (refusedAt wrongForm n) (after rowStepAnswer)
     by-form none later = refl
     by-form (some p) later =
@@ -58,7 +58,7 @@ rows-by-rows s k n (l ∷ ls) =
 
     by-form : (o : Option Row)
         → ((r : Row) → accepted (termAnswer (view s .rows) r) ≡ true
-            → rowsRead stepAnswer (withRow s r) (n + 1) ls ≡ rowsRead rowStepAnswer (withRow s r) (n + 1) ls)
+        → rowsRead stepAnswer (withRow s r) (n + 1) ls ≡ rowsRead rowStepAnswer (withRow s r) (n + 1) ls)
         → Option·elim o (refusedAt wrongForm n) (after stepAnswer) ≡ Option·elim o (refusedAt wrongForm n) (after rowStepAnswer)
     by-form none later = refl
     by-form (some r) later = same-if-accepted (accepted (termAnswer (view s .rows) r)) _ _ _ (later r)

@@ -1,4 +1,4 @@
--- An accepted reading makes the calls of the lines, and demand 3 holds of them. Assumes nothing.
+-- An accepted reading makes the calls of the lines, and demand 3 holds of them; a refused one leaves a fresh session. Assumes nothing.
 use Prim.Native.Nat.{ℕ, _+_}
 use mathlib.Core.Path.{_≡_, refl, sym, ap, subst, _∙_}
 use mathlib.Core.Bool.{Bool, true, false, cond, _&&_, false≢true}
@@ -6,13 +6,14 @@ use mathlib.Core.List.{List, [], _∷_, _++_, map}
 use mathlib.Core.Option.{Option, none, some, Option·elim}
 use native.Mathlib.Omega.{arith}
 use lib.Dec.{eqb}
+use lib.ListN.{length}
 use borrow.Author.Tests.{eqb-true, eqb-false}
 use Rattle.terms.specs.Row.{Row}
 use Rattle.rules.specs.Lists.{Every}
 use Rattle.lines.specs.Line.{Line, line, lines, sameBytes, isLine}
 use Rattle.session.specs.declared.Session.{Session}
 use Rattle.session.specs.declared.ReadResult.{ReadResult}
-use Rattle.session.specs.Book.{Step, accepted}
+use Rattle.session.specs.Book.{Step, Answer, answer, accepted}
 use Rattle.session.specs.TermCall.{termAnswer}
 use Rattle.session.specs.Calls.{step, Seen}
 use Rattle.session.specs.View.{view, freshSession, withRow, withStep}
@@ -21,10 +22,13 @@ use Rattle.session.specs.Bundle.{rowNames, stepNames, rowOfLine, stepOfL
 use Rattle.session.specs.Reading.{Reading, refusedAt, wrongForm, stepsRead, rowsRead, linesRead}
 use Rattle.session.specs.ReadCall.{readAnswerOf, ReadMet}
 use Rattle.session.specs.Demand3.{Run, done, then}
-use Rattle.session.specs.ReadDemand.{Accepted, callsOf, IsBundle, ReadAccepted}
+use Rattle.session.specs.ReadDemand.{IsAccepted, callsOf, IsBundle, ReadAccepted}
 use Rattle.session.proofs.CallsExist.{row-call, step-call}
 use Rattle.session.proofs.ReadByRows.{reading-by-rows}
 use Rattle.session.proofs.Demand3.{demand3}
+use Rattle.session.proofs.Simulation.{fresh-kept}
+use Rattle.session.proofs.StepsAdded.{calls-added}
+use Rattle.session.proofs.Views.{fresh-view}
 
 same-bytes : (xs ys : List ℕ) → sameBytes xs ys ≡ true → xs ≡ ys
 unfolding sameBytes
@@ -52,7 +56,7 @@ record StepsMade (s : Session) (ls : List Line) (u : Session) : Type 0 where
   pub are-steps : map stepOfLine ls ≡ map some steps
   pub seen : List Seen
   pub made : Run s (map step steps) seen u
-  pub accepted : Every Accepted seen
+  pub accepted : Every IsAccepted seen
 
 one-step : (s : Session) (p : Step) (l : Line) (ls : List Line) (u : Session) → stepOfLine l ≡ some p → rowStepAnswer (view s) p .number ≡ 0
     → StepsMade (withStep s p) ls u → StepsMade s (l ∷ ls) u
@@ -104,7 +108,7 @@ record RowsMade (s : Session) (ls : List Line) (u : Session) : Type 0 where
   pub are-steps : map stepOfLine step-lines ≡ map some steps
   pub seen : List Seen
   pub made : Run s (callsOf rows steps) seen u
-  pub accepted : Every Accepted seen
+  pub accepted : Every IsAccepted seen
 
 names-made : (s : Session) (l : Line) (ls : List Line) (u : Session) → isLine stepNames l ≡ true → StepsMade s ls u → RowsMade s (l ∷ ls) u
 names-made s l ls u is later =
@@ -179,7 +183,7 @@ record BundleMade (ls : List Line) (u : Session) : Type 0 where
   pub bundle : IsBundle ls rows steps
   pub seen : List Seen
   pub made : Run freshSession (callsOf rows steps) seen u
-  pub accepted : Every Accepted seen
+  pub accepted : Every IsAccepted seen
 
 first-names-made : (l : Line) (ls : List Line) (u : Session) → isLine rowNames l ≡ true → RowsMade freshSession ls u → BundleMade (l ∷ ls) u
 first-names-made l ls u is m =
@@ -208,61 +212,72 @@ lines-made (l ∷ ls) e = by-names (isLine rowNames l) refl e
     by-names true is e = first-names-made l ls _ is (rows-made freshSession 2 ls e)
     by-names false is e = absurd (omega arith)
 
+-- an accepted reading tells how many steps its session holds, and a refused one leaves a fresh session
+record Settled (r : Reading) : Type 0 where
+  pub held : r .answer .number ≡ 0 → r .answer ≡ answer 0 (length (view (r .session) .steps))
+  pub fresh : ¬ (r .answer .number ≡ 0) → r .session ≡ freshSession
+
+refused-settled : (k n : ℕ) → ¬ (k ≡ 0) → Settled (refusedAt k n)
+refused-settled k n f = record { held = λ e. absurd (f e); fresh = λ g. refl }
+
+judged-settled : (a : Answer) (n : ℕ) (r : Reading) → Settled r → Settled (cond (accepted a) r (refusedAt (a .number) n))
+judged-settled a n r w = by-test (accepted a) refl
+  where
+    by-test : (b : Bool) → accepted a ≡ b → Settled (cond b r (refusedAt (a .number) n))
+    by-test true e = w
+    by-test false e = refused-settled (a .number) n (eqb-false (a .number) 0 e)
+
+either-settled : (b : Bool) (r t : Reading) → Settled r → Settled t → Settled (cond b r t)
+either-settled true r t w v = w
+either-settled false r t w v = v
+
+form-settled : {A : Type 0} (o : Option A) (n : ℕ) (after : A → Reading) → ((x : A) → Settled (after x)) → Settled (Option·elim o (refusedAt wrongForm n) after)
+unfolding Option·elim
+form-settled none n after later = refused-settled wrongForm n (λ e. absurd (omega arith))
+form-settled (some x) n after later = later x
+
+steps-settled : (s : Session) (n : ℕ) (ls : List Line) → Settled (stepsRead rowStepAnswer s n ls)
+unfolding stepsRead
+steps-settled s n [] = record { held = λ e. refl; fresh = λ f. absurd (f refl) }
+steps-settled s n (l ∷ ls) = form-settled (stepOfLine l) n _ (λ p. judged-settled (rowStepAnswer (view s) p) n _ (steps-settled (withStep s p) (n + 1) ls))
+
+rows-settled : (s : Session) (n : ℕ) (ls : List Line) → Settled (rowsRead rowStepAnswer s n ls)
+unfolding rowsRead
+rows-settled s n [] = refused-settled wrongForm n (λ e. absurd (omega arith))
+rows-settled s n (l ∷ ls) =
+    either-settled (isLine stepNames l) _ _ (steps-settled s (n + 1) ls)
+    (form-settled (rowOfLine l) n _ (λ r. judged-settled (termAnswer (view s .rows) r) n _ (rows-settled (withRow s r) (n + 1) ls)))
+
+lines-settled : (ls : List Line) → Settled (linesRead rowStepAnswer ls)
+unfolding linesRead
+lines-settled [] = refused-settled wrongForm 1 (λ e. absurd (omega arith))
+lines-settled (l ∷ ls) =
+    either-settled (isLine rowNames l) _ _ (rows-settled freshSession 2 ls) (refused-settled wrongForm 1 (λ e. absurd (omega arith)))
+
 pub read-accepted : (bytes : List ℕ) (t : ReadResult) → ReadMet bytes t → readAnswerOf (t .answer) .number ≡ 0 → ReadAccepted bytes t
 read-accepted bytes t m e =
     let by-rows = reading-by-rows bytes in
-    let made = lines-made (lines bytes) (ap (λ r. r .answer .number) (sym by-rows) ∙ sym (ap (λ a. a .number) (m .answer)) ∙ e) in
-    let run = subst (Run freshSession (callsOf (made .rows) (made .steps)) (made .seen)) (ap (λ r. r .session) (sym by-rows) ∙ sym (m .session)) (made .made) in
+    let answered = m .answer ∙ ap (λ r. r .answer) by-rows in
+    let left = m .session ∙ ap (λ r. r .session) by-rows in
+    let zero-told = sym (ap (λ a. a .number) answered) ∙ e in
+    let made = lines-made (lines bytes) zero-told in
+    let run = subst (Run freshSession (callsOf (made .rows) (made .steps)) (made .seen)) (sym left) (made .made) in
+    let added = calls-added freshSession (made .rows) (made .steps) (made .seen) (t .session) fresh-kept run (made .accepted) in
+    let none-first : length (view freshSession .steps) ≡ 0 = rw fresh-view in
+    let held : length (view (t .session) .steps) ≡ length (made .steps) = omega arith in
     record {
       rows = made .rows;
       steps = made .steps;
       bundle = made .bundle;
       seen = made .seen;
       made = run;
-      accepted = made .accepted;
+      all-accepted = made .accepted;
+      count = answered ∙ lines-settled (lines bytes) .held zero-told ∙ ap (λ s. answer 0 (length (view s .steps))) (sym left) ∙ ap (answer 0) held;
       demand = demand3 (callsOf (made .rows) (made .steps)) (made .seen) (t .session) run;
     }
-
--- a refused reading leaves a fresh session
-left-fresh : (b : Bool) (r : Reading) (k n : ℕ) → (¬ (r .answer .number ≡ 0) → r .session ≡ freshSession) → ¬ (cond b r (refusedAt k n) .answer .number ≡ 0)
-    → cond b r (refusedAt k n) .session ≡ freshSession
-left-fresh true r k n later f = later f
-left-fresh false r k n later f = refl
-
-steps-fresh : (s : Session) (n : ℕ) (ls : List Line) → ¬ (stepsRead rowStepAnswer s n ls .answer .number ≡ 0) → stepsRead rowStepAnswer s n ls .session ≡ freshSession
-unfolding stepsRead Option·elim
-steps-fresh s n [] f = absurd (f refl)
-steps-fresh s n (l ∷ ls) f = by-form (stepOfLine l) f (λ p. steps-fresh (withStep s p) (n + 1) ls)
-  where
-    by-form : (o : Option Step) → ¬ (Option·elim o (refusedAt wrongForm n) (afterStep s n ls) .answer .number ≡ 0)
-        → ((p : Step) → ¬ (stepsRead rowStepAnswer (withStep s p) (n + 1) ls .answer .number ≡ 0) → stepsRead rowStepAnswer (withStep s p) (n + 1) ls .session ≡ freshSession)
-        → Option·elim o (refusedAt wrongForm n) (afterStep s n ls) .session ≡ freshSession
-    by-form none f later = refl
-    by-form (some p) f later = left-fresh (accepted (rowStepAnswer (view s) p)) _ _ n (later p) f
-
-rows-fresh : (s : Session) (n : ℕ) (ls : List Line) → ¬ (rowsRead rowStepAnswer s n ls .answer .number ≡ 0) → rowsRead rowStepAnswer s n ls .session ≡ freshSession
-unfolding rowsRead Option·elim
-rows-fresh s n [] f = refl
-rows-fresh s n (l ∷ ls) f = by-names (isLine stepNames l) f (λ r. rows-fresh (withRow s r) (n + 1) ls)
-  where
-    by-form : (o : Option Row) → ¬ (Option·elim o (refusedAt wrongForm n) (afterRow s n ls) .answer .number ≡ 0)
-        → ((r : Row) → ¬ (rowsRead rowStepAnswer (withRow s r) (n + 1) ls .answer .number ≡ 0) → rowsRead rowStepAnswer (withRow s r) (n + 1) ls .session ≡ freshSession)
-        → Option·elim o (refusedAt wrongForm n) (afterRow s n ls) .session ≡ freshSession
-    by-form none f later = refl
-    by-form (some r) f later = left-fresh (accepted (termAnswer (view s .rows) r)) _ _ n (later r) f
-
-    by-names : (b : Bool) → ¬ (cond b (stepsRead rowStepAnswer s (n + 1) ls) (Option·elim (rowOfLine l) (refusedAt wrongForm n) (afterRow s n ls)) .answer .number ≡ 0)
-        → ((r : Row) → ¬ (rowsRead rowStepAnswer (withRow s r) (n + 1) ls .answer .number ≡ 0) → rowsRead rowStepAnswer (withRow s r) (n + 1) ls .session ≡ freshSession)
-        → cond b (stepsRead rowStepAnswer s (n + 1) ls) (Option·elim (rowOfLine l) (refusedAt wrongForm n) (afterRow s n ls)) .session ≡ freshSession
-    by-names true f later = steps-fresh s (n + 1) ls f
-    by-names false f later = by-form (rowOfLine l) f later
-
-lines-fresh : (ls : List Line) → ¬ (linesRead rowStepAnswer ls .answer .number ≡ 0) → linesRead rowStepAnswer ls .session ≡ freshSession
-unfolding linesRead
-lines-fresh [] f = refl
-lines-fresh (l ∷ ls) f = left-fresh (isLine rowNames l) (rowsRead rowStepAnswer freshSession 2 ls) wrongForm 1 (rows-fresh freshSession 2 ls) f
 
 pub read-refused : (bytes : List ℕ) (t : ReadResult) → ReadMet bytes t → ¬ (readAnswerOf (t .answer) .number ≡ 0) → t .session ≡ freshSession
 read-refused bytes t m f =
     let by-rows = reading-by-rows bytes in
-    m .session ∙ ap (λ r. r .session) by-rows ∙ lines-fresh (lines bytes) (λ e. f (ap (λ a. a .number) (m .answer) ∙ ap (λ r. r .answer .number) by-rows ∙ e))
+    m .session ∙ ap (λ r. r .session) by-rows
+    ∙ lines-settled (lines bytes) .fresh (λ e. f (ap (λ a. a .number) (m .answer ∙ ap (λ r. r .answer) by-rows) ∙ e))

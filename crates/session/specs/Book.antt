@@ -5,6 +5,7 @@ use mathlib.Core.List.{List, []}
 use lib.Dec.{eqb}
 use Rattle.terms.specs.Row.{Row}
 
+-- a step of document 01: `rule left right first second`
 pub record Step : Type 0 where
   pub rule : ℕ
   pub left : ℕ

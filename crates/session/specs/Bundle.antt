@@ -11,6 +11,7 @@ use Rattle.lines.specs.Written.{lineText}
 use Rattle.session.specs.Book.{Step, step}
 use Rattle.session.specs.View.{rowWidth, stepWidth, rowNumbers, stepNumbers}
 
+-- the names lines of document 01: the first stands before the term lines, the second before the step lines
 unfoldable pub rowNames : List ℕ
 rowNames = ascii "kind a b c"
 

@@ -57,7 +57,7 @@ pub record Demand3 (cs : List Call) (os : List Seen) (s : Session) (b : Book) : 
       × ((y : ℕ) → y < length (documentOf xs) → getD left y 0 ≡ cond (selects (documentOf xs) (pathAt (b .rows) row) x y) 1 0)
       × ((y : ℕ) → length (documentOf xs) ≤ y → getD left y 0 ≡ getD buffer y 0)
   -- where select accepts both paths of a held step for one document and node, no node is marked for p and unmarked for q
-  pub kept : (i : ℕ) → i < length (b .steps) → (p q : Path) → claimOf (b .rows) (getD (b .steps) i noStep) ≡ Containment p q
+  pub marks-contained : (i : ℕ) → i < length (b .steps) → (p q : Path) → claimOf (b .rows) (getD (b .steps) i noStep) ≡ Containment p q
       → (xs : List ℕ) (x limit limit′ : ℕ) (buffer buffer′ left left′ : List ℕ) (t t′ : SelectAnswer)
       → SelectMet s (getD (b .steps) i noStep .left) xs x limit buffer t left → selectAnswerOf t .number ≡ 0
       → SelectMet s (getD (b .steps) i noStep .right) xs x limit′ buffer′ t′ left′ → selectAnswerOf t′ .number ≡ 0

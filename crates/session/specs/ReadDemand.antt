@@ -15,12 +15,11 @@ use Rattle.session.specs.Book.{Step, answer, emptyBook}
 use Rattle.session.specs.Calls.{Call, term, step, Seen, bookAfter}
 use Rattle.session.specs.View.{freshSession, rowNumbers, stepNumbers}
 use Rattle.session.specs.Bundle.{rowNames, stepNames, rowOfLine, stepOfLine, bundleText}
-use Rattle.session.specs.Reading.{reading}
 use Rattle.session.specs.ReadCall.{readAnswerOf, ReadMet}
 use Rattle.session.specs.Demand3.{Run, Demand3}
 
-abbrev pub Accepted : Seen → Type 0
-Accepted o = o .answer .number ≡ 0
+abbrev pub IsAccepted : Seen → Type 0
+IsAccepted o = o .answer .number ≡ 0
 
 -- a term call for each row, and then a step call for each step
 abbrev pub callsOf : List Row → List Step → List Call
@@ -35,14 +34,15 @@ pub record IsBundle (ls : List Line) (rs : List Row) (ps : List Step) : Type 0 w
   pub are-steps : map stepOfLine step-lines ≡ map some ps
 
 -- an accepted reading of the bytes with the result t: the calls of the lines were made from a fresh session, all were accepted, they
--- left the session of the result, and demand 3 holds of them
+-- left the session of the result, the value is the number of steps, and demand 3 holds of the calls
 pub record ReadAccepted (bytes : List ℕ) (t : ReadResult) : Type 0 where
   pub rows : List Row
   pub steps : List Step
   pub bundle : IsBundle (lines bytes) rows steps
   pub seen : List Seen
   pub made : Run freshSession (callsOf rows steps) seen (t .session)
-  pub accepted : Every Accepted seen
+  pub all-accepted : Every IsAccepted seen
+  pub count : readAnswerOf (t .answer) ≡ answer 0 (length steps)
   pub demand : Demand3 (callsOf rows steps) seen (t .session) (bookAfter emptyBook (callsOf rows steps))
 
 -- rows and steps whose numbers have 16 bits
@@ -58,5 +58,6 @@ pub record ReadDemand : Type 0 where
   -- a refused reading leaves a fresh session
   pub refused : (bytes : List ℕ) (t : ReadResult) → ReadMet bytes t → ¬ (readAnswerOf (t .answer) .number ≡ 0) → t .session ≡ freshSession
   -- reading the text of calls that are all accepted is making them: 0 with the number of steps, and the session that they leave
-  pub written : (rs : List Row) (ps : List Step) (os : List Seen) (s : Session) → Every RowFits rs → Every StepFits ps
-      → Run freshSession (callsOf rs ps) os s → Every Accepted os → reading (bundleText rs ps) ≡ record { answer = answer 0 (length ps); session = s }
+  pub reads-back : (rs : List Row) (ps : List Step) (os : List Seen) (s : Session) → Every RowFits rs → Every StepFits ps
+      → Run freshSession (callsOf rs ps) os s → Every IsAccepted os
+      → (t : ReadResult) → ReadMet (bundleText rs ps) t → (readAnswerOf (t .answer) ≡ answer 0 (length ps)) × (t .session ≡ s)

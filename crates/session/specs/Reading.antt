@@ -21,10 +21,11 @@ pub record Reading : Type 0 where
 abbrev pub refusedAt : (k n : ℕ) → Reading
 refusedAt k n = record { answer = answer k n; session = freshSession }
 
+-- refusal 10: a line of the wrong form
 abbrev pub wrongForm : ℕ
 wrongForm = 10
 
--- `judge` is how a step call is answered
+-- `judge` is how a step call is answered: by terms in what read promises, by row numbers in what its parts promise
 module _ (judge : Book → Step → Answer) where
   -- step calls on the session s, one for each line from line n on
   unfoldable pub stepsRead : Session → (n : ℕ) → List Line → Reading

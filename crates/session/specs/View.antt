@@ -7,7 +7,7 @@ use Rattle.terms.specs.Row.{Row, tableOf, maxRows}
 use Rattle.session.specs.declared.Session.{Session}
 use Rattle.session.specs.Book.{Step, step, maxSteps, Book, book}
 
--- the numbers of a row, and of a step
+-- how many numbers a row has, and a step
 abbrev pub rowWidth : ℕ
 rowWidth = 4
 
@@ -33,7 +33,7 @@ stepsHeld s = min (s .«step_count») maxSteps
 unfoldable pub view : Session → Book
 view s = book (tableOf (take (rowWidth * rowsHeld s) (s .rows))) (stepsOf (take (stepWidth * stepsHeld s) (s .steps)))
 
--- no row and no step
+-- the fresh session of document 01: no row and no step
 unfoldable pub freshSession : Session
 freshSession = record { rows = replicate (rowWidth * maxRows) 0; «row_count» = 0; steps = replicate (stepWidth * maxSteps) 0; «step_count» = 0 }
 

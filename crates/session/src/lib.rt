@@ -383,8 +383,8 @@ fn select_answer(done: Evaluated) -> SelectAnswer
     }
 }
 
-// A select call on the rows that are held.
-fn select_on(
+// A select call on lent rows, four numbers a row, as `Session::select` makes it on the rows that it holds.
+pub fn select_on(
     rows: &[u16],
     row: u16,
     document: &[u16],

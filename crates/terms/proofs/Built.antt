@@ -15,7 +15,7 @@ use Rattle.terms.specs.Row.{Row, row, noRow, rowAt}
 use Rattle.terms.specs.Fields.{Field, unused, axis, test, name, path, qualifier, Fields, fieldsOf, maxKind, isPath, isQualifier, heldPath, heldQualifier, fieldOk, badPlace}
 use Rattle.terms.specs.Nesting.{maxNesting, nestings, nesting}
 use Rattle.terms.specs.Decode.{Term, ofPath, ofQualifier, noTerm, termBy, terms, termAt, pathAt, qualifierAt}
-use Rattle.terms.specs.Table.{rowOk, isNew, Built, empty, more}
+use Rattle.terms.specs.Table.{isWellFormed, isNew, Built, empty, more}
 use Rattle.terms.proofs.ByKind.{Kind, void-kind, root-kind, step-kind, union-kind, composition-kind, filter-kind, true-kind, false-kind, not-kind, and-kind, or-kind, in-kind, kind-of, kindOf, term-kind}
 use Rattle.terms.proofs.Decode.{term-at, term-take, path-term, qualifier-term}
 use Rattle.terms.proofs.Find.{row-equal, new-row}
@@ -40,7 +40,7 @@ pub record RowLaws (rs : List Row) (i : ℕ) : Type 0 where
 
 -- r is well formed and new after the rows rs
 abbrev pub Accepted : List Row → Row → Type 0
-Accepted rs r = T (rowOk rs r) × T (isNew rs r)
+Accepted rs r = T (isWellFormed rs r) × T (isNew rs r)
 
 pub built-at : {rs : List Row} → Built rs → (i : ℕ) → i < length rs → Accepted (take i rs) (rowAt rs i)
 built-at empty i h = absurd (omega arith)
@@ -76,7 +76,7 @@ field-law rs i qualifier x t u =
     (l, rw (getD-take i rs x noRow l) at (v .1 .0), rw (getD-take i rs x noRow l) at (v .1 .1))
 
 pub built-row : {rs : List Row} → Built rs → (i : ℕ) → i < length rs → RowLaws rs i
-unfolding rowOk badPlace
+unfolding isWellFormed badPlace
 built-row {rs} b i h =
     let r : Row = rowAt rs i in
     let fs : Fields = fieldsOf (r .kind) in

@@ -10,17 +10,12 @@ use mir.Facts.{eqb-yes}
 use lib.ListN.{length, drop, drop-of-length-le}
 use lib.Seq.{drop-cons}
 use borrow.Author.Tests.{eq-eqb}
-use Rattle.xpath.proofs.Reflect.{facts}
 use Rattle.terms.specs.Row.{Row, noRow, rowAt, sameRow, find}
 use Rattle.terms.specs.Table.{isNew}
 
 -- rows with the same fields are equal
 pub row-equal : {r s : Row} → r .kind ≡ s .kind → r .a ≡ s .a → r .b ≡ s .b → r .c ≡ s .c → r ≡ s
 row-equal k x y z = λ i. record { kind = k i; a = x i; b = y i; c = z i }
-
-pub same-row-equal : (r s : Row) → T (sameRow r s) → r ≡ s
-unfolding sameRow
-same-row-equal r s t = let u = simp facts at t in row-equal (u .0 .0 .0) (u .0 .0 .1) (u .0 .1) (u .1)
 
 same-row-self : (r : Row) → sameRow r r ≡ true
 unfolding sameRow

@@ -4,6 +4,7 @@ use mathlib.Core.Bool.{Bool, cond, _&&_, not}
 use mathlib.Core.List.{List, [], _∷_}
 use lib.Dec.{ltb, leb, eqb}
 use lib.ListN.{length, getD}
+use Rattle.xpath.specs.Axis.{maxAxis, name-test, maxTest}
 use Rattle.terms.specs.Row.{Row, rowAt}
 
 -- what a field must be; the name's field depends on the row's test
@@ -44,11 +45,17 @@ fieldsOf kind =
     kind noFields
 
 -- kinds 0 to 5 are paths, 6 to 11 qualifiers
+abbrev pub lastPath : ℕ
+lastPath = 5
+
 unfoldable pub isPath : Row → Bool
-isPath r = leb (r .kind) 5
+isPath r = leb (r .kind) lastPath
+
+abbrev pub firstQualifier : ℕ
+firstQualifier = 6
 
 unfoldable pub isQualifier : Row → Bool
-isQualifier r = leb 6 (r .kind) && leb (r .kind) maxKind
+isQualifier r = leb firstQualifier (r .kind) && leb (r .kind) maxKind
 
 -- x is the number of a held path, or of a held qualifier
 unfoldable pub heldPath : List Row → ℕ → Bool
@@ -60,9 +67,9 @@ heldQualifier rs x = ltb x (length rs) && isQualifier (rowAt rs x)
 -- the field x is what its place asks, in a row whose test is t
 unfoldable pub fieldOk : List Row → Field → ℕ → ℕ → Bool
 fieldOk rs unused x t = eqb x 0
-fieldOk rs axis x t = leb x 10
-fieldOk rs test x t = leb x 5
-fieldOk rs name x t = cond (eqb t 0) (leb 1 x) (eqb x 0)
+fieldOk rs axis x t = leb x maxAxis
+fieldOk rs test x t = leb x maxTest
+fieldOk rs name x t = cond (eqb t name-test) (leb 1 x) (eqb x 0)
 fieldOk rs path x t = heldPath rs x
 fieldOk rs qualifier x t = heldQualifier rs x
 

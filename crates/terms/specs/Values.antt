@@ -9,7 +9,7 @@ use Rattle.terms.specs.Row.{Row, row, tableOf, entriesFrom, sameRow, fin
 use Rattle.terms.specs.Fields.{fieldsOf, isPath, isQualifier, heldPath, heldQualifier, fieldOk, badPlace}
 use Rattle.terms.specs.Nesting.{operandNesting, nestingBy, nestings, nesting}
 use Rattle.terms.specs.Decode.{ofPath, ofQualifier, asPath, asQualifier, termBy, terms}
-use Rattle.terms.specs.Table.{rowOk}
+use Rattle.terms.specs.Table.{isWellFormed}
 
 -- an incomplete last row is no row
 lent : tableOf (2 ∷ 1 ∷ 0 ∷ 7 ∷ 6 ∷ 0 ∷ 0 ∷ []) ≡ row 2 1 0 7 ∷ []
@@ -83,9 +83,9 @@ nots zero = row 6 0 0 0 ∷ []
 nots (suc n) = nots n ++ (row 8 n 0 0 ∷ [])
 
 -- kind 11 passes and 12 does not; nesting 32 passes and 33 does not
-limits : rowOk held (row 11 0 0 0) ∷ rowOk held (row 12 0 0 0) ∷ rowOk (nots 30) (row 8 30 0 0) ∷ rowOk (nots 31) (row 8 31 0 0) ∷ []
+limits : isWellFormed held (row 11 0 0 0) ∷ isWellFormed held (row 12 0 0 0) ∷ isWellFormed (nots 30) (row 8 30 0 0) ∷ isWellFormed (nots 31) (row 8 31 0 0) ∷ []
     ≡ true ∷ false ∷ true ∷ false ∷ []
-unfolding nots rowOk nesting nestings entriesFrom nestingBy operandNesting badPlace fieldsOf fieldOk heldPath heldQualifier isPath isQualifier
+unfolding nots isWellFormed nesting nestings entriesFrom nestingBy operandNesting badPlace fieldsOf fieldOk heldPath heldQualifier isPath isQualifier
 limits = refl
 
 -- a held row, and rows that differ from it in one field

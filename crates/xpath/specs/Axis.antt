@@ -40,6 +40,9 @@ following = 9
 abbrev pub preceding : ℕ
 preceding = 10
 
+abbrev pub maxAxis : ℕ
+maxAxis = preceding
+
 -- y is on axis a of x
 unfoldable pub onAxis : ℕ → Document → ℕ → ℕ → Bool
 onAxis a d x y =
@@ -76,6 +79,9 @@ comment-test = 4
 
 abbrev pub instruction-test : ℕ
 instruction-test = 5
+
+abbrev pub maxTest : ℕ
+maxTest = instruction-test
 
 -- y passes test t with name c
 unfoldable pub passes : ℕ → ℕ → Document → ℕ → Bool

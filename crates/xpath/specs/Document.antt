@@ -49,10 +49,13 @@ isAncestor d x y = climbMeets y d x y
 unfoldable pub areSiblings : Document → ℕ → ℕ → Bool
 areSiblings d x y = not (eqb x 0) && isChild d (parentAt d x) y && not (eqb x y)
 
+abbrev pub maxName : ℕ
+maxName = 65535
+
 -- an element's name is 1 to 65535, any other's 0; the kinds of the rows after row 0 are 1 to 4
 unfoldable pub kindAndNameOk : ℕ → ℕ → Bool
 kindAndNameOk kind name =
-    eqb kind 1 && leb 1 name && leb name 65535
+    eqb kind 1 && leb 1 name && leb name maxName
     || leb 2 kind && leb kind 4 && eqb name 0
 
 -- row n is as it must be: row 0 is `0 0 0`; the parent of a later row is the row before it or an ancestor of that one, and is the root or an element
