@@ -3,13 +3,12 @@ use Prim.Native.Nat.{ℕ}
 use mathlib.Core.Path.{_≡_, refl, ap}
 use mathlib.Core.Bool.{Bool, true, false, not, _&&_, false≢true}
 use mathlib.Core.List.{List, [], _∷_, _++_}
-use mathlib.Core.Option.{none, some, Option·elim}
+use mathlib.Core.Option.{Option, none, some, Option·elim}
 use lib.Dec.{eqb}
 use lib.ListN.{drop}
 use borrow.Author.Tests.{eqb-true, eq-eqb}
 use Rattle.lines.specs.Line.{newline, space, line, inFirstLine, lines, inFirstPart, parts}
-use Rattle.lines.specs.Read.{bytesBefore, cut, firstNumbers}
-use Rattle.lines.specs.Number.{numbersOf}
+use Rattle.lines.specs.Read.{bytesBefore, cut, firstParts}
 
 -- the byte e stands nowhere in the bytes
 abbrev pub Free : ℕ → List ℕ → Type 0
@@ -33,6 +32,10 @@ lacks-free e (x ∷ xs) t = by-test (eqb x e) refl t (lacks-free e xs)
 pub free-append : (e : ℕ) (xs ys : List ℕ) → Free e xs → Free e ys → Free e (xs ++ ys)
 free-append e [] ys f g = g
 free-append e (x ∷ xs) ys f g = (f .0, free-append e xs ys (f .1) g)
+
+pub free-left : (e : ℕ) (xs ys : List ℕ) → Free e (xs ++ ys) → Free e xs
+free-left e [] ys f = tt
+free-left e (x ∷ xs) ys f = (f .0, free-left e xs ys (f .1))
 
 pub cut-at : (e : ℕ) (w r : List ℕ) → Free e w → cut e (w ++ e ∷ r) ≡ some (bytesBefore w r)
 unfolding cut Option·elim
@@ -70,15 +73,15 @@ lines-at [] r f = refl
 lines-at (x ∷ w) r f = rw (f .0, lines-at w r (f .1))
 
 -- a text without a newline has at most one line, which lacks it
-pub lines-whole : (x : ℕ) (w : List ℕ) → Free newline (x ∷ w) → lines (x ∷ w) ≡ line (x ∷ w) false ∷ []
+lines-whole : (x : ℕ) (w : List ℕ) → Free newline (x ∷ w) → lines (x ∷ w) ≡ line (x ∷ w) false ∷ []
 unfolding lines inFirstLine
 lines-whole x [] f = rw (f .0)
 lines-whole x (y ∷ w) f = rw (f .0, lines-whole y w (f .1))
 
-pub no-whole-line : (count : ℕ) (xs : List ℕ) → Free newline xs → firstNumbers count (lines xs) ≡ none
-unfolding firstNumbers numbersOf lines
-no-whole-line count [] f = refl
-no-whole-line count (x ∷ xs) f = rw (lines-whole x xs f)
+pub no-whole-line : {A : Type 0} (read : List (List ℕ) → Option A) (xs : List ℕ) → Free newline xs → firstParts read (lines xs) ≡ none
+unfolding firstParts lines
+no-whole-line read [] f = refl
+no-whole-line read (x ∷ xs) f = rw (lines-whole x xs f)
 
 pub no-next-line : (xs : List ℕ) → Free newline xs → drop 1 (lines xs) ≡ []
 unfolding lines

@@ -1,5 +1,6 @@
 pub mod Cutting
 pub mod Scan
+pub mod Parts
 pub mod LineRead
 pub mod Start
 pub mod Written

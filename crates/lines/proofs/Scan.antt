@@ -1,6 +1,6 @@
 -- A number is read digit by digit. Assumes nothing.
 use Prim.Native.Nat.{ℕ, suc, _+_, _-_, _*_, _≤_, _<_}
-use mathlib.Core.Path.{_≡_, refl, sym, ap, _∙_}
+use mathlib.Core.Path.{_≡_, refl, sym, _∙_}
 use mathlib.Core.Bool.{Bool, true, false, cond, not, _&&_, false≢true}
 use mathlib.Core.List.{List, [], _∷_}
 use mathlib.Core.Option.{Option, none, some, Option·elim, Option·some-injective, Option·some-ne-none}
@@ -10,13 +10,13 @@ use lib.Dec.{leb, ltb, eqb}
 use lib.ListN.{length, getD, drop, drop-of-length-le}
 use lib.Seq.{drop-cons}
 use borrow.Author.Tests.{eqb-true, eqb-false, ne-eqb, eq-eqb, le-leb, lt-leb, leb-true, leb-false, lt-ltb, le-ltb, ltb-true}
-use Rattle.lines.specs.Number.{digit0, digit9, maxNumber, isDigit, areDigits, isDecimal, andDigit, andDigits, number}
-use Rattle.lines.specs.Read.{oneMore, Cut, bytesBefore, cut, NumberCut, numberBefore, numberCut, NumberMet}
+use Rattle.lines.specs.Number.{digit0, digit9, isDigit, areDigits, isDecimal, andDigit, andDigits, numberUpTo}
+use Rattle.lines.specs.Read.{upTo, firstDigit, oneMore, Cut, bytesBefore, cut, NumberCut, numberBefore, numberCut, NumberMet}
 
 -- the number that the byte `end` ends, where n is read already
-unfoldable pub scan : (end n : ℕ) → List ℕ → Option NumberCut
-scan end n [] = none
-scan end n (x ∷ xs) = cond (eqb x end) (some (numberBefore n xs)) (Option·elim (oneMore n x) none (λ m. scan end m xs))
+unfoldable pub scan : (most end n : ℕ) → List ℕ → Option NumberCut
+scan most end n [] = none
+scan most end n (x ∷ xs) = cond (eqb x end) (some (numberBefore n xs)) (Option·elim (oneMore most n x) none (λ m. scan most end m xs))
 
 -- digits that may stand behind those of n
 abbrev mayFollow : ℕ → List ℕ → Bool
@@ -24,8 +24,8 @@ mayFollow n [] = true
 mayFollow n (x ∷ xs) = ltb 0 n && areDigits (x ∷ xs)
 
 -- n, the bytes w behind it, and the text r
-abbrev readBehind : ℕ → Cut → Option NumberCut
-readBehind n c = cond (mayFollow n (c .bytes) && leb (andDigits n (c .bytes)) maxNumber) (some (numberBefore (andDigits n (c .bytes)) (c .rest))) none
+abbrev readBehind : (most n : ℕ) → Cut → Option NumberCut
+readBehind most n c = cond (mayFollow n (c .bytes) && leb (andDigits n (c .bytes)) most) (some (numberBefore (andDigits n (c .bytes)) (c .rest))) none
 
 digits-grow : (w : List ℕ) (n : ℕ) → n ≤ andDigits n w
 unfolding andDigits
@@ -37,26 +37,27 @@ unfolding areDigits
 follow-positive [] n h = refl
 follow-positive (x ∷ w) n h = rw (lt-ltb 0 n h)
 
+-- no digit makes a number smaller
+none-above : (most n : ℕ) (w r : List ℕ) (b : Bool) → most < n → none ≡ cond (b && leb (andDigits n w) most) (some (numberBefore (andDigits n w) r)) none
+none-above most n w r b h = let grow = digits-grow w n in rw (lt-leb (andDigits n w) most (omega arith)) (none-if b)
+  where
+    none-if : (b : Bool) → none ≡ cond (b && false) (some (numberBefore (andDigits n w) r)) none
+    none-if true = refl
+    none-if false = refl
+
 -- one digit more, where it is taken and where it is not
-module _ (n x : ℕ) (c : Cut) where
-  taken : 0 < n → isDigit x ≡ true → readBehind (andDigit n x) c ≡ readBehind n (bytesBefore (x ∷ c .bytes) (c .rest))
+module _ (most n x : ℕ) (c : Cut) where
+  taken : 0 < n → isDigit x ≡ true → readBehind most (andDigit n x) c ≡ readBehind most n (bytesBefore (x ∷ c .bytes) (c .rest))
   unfolding areDigits andDigits
   taken h d = rw (follow-positive (c .bytes) (andDigit n x) (omega arith), lt-ltb 0 n h, d)
 
-  refused : (a d f : Bool) → ltb 0 n ≡ a → isDigit x ≡ d → leb (andDigit n x) maxNumber ≡ f → (a && d && f) ≡ false
-      → none ≡ readBehind n (bytesBefore (x ∷ c .bytes) (c .rest))
+  refused : (a d f : Bool) → ltb 0 n ≡ a → isDigit x ≡ d → leb (andDigit n x) most ≡ f → (a && d && f) ≡ false
+      → none ≡ readBehind most n (bytesBefore (x ∷ c .bytes) (c .rest))
   unfolding areDigits andDigits
   refused false d f s t u e = rw s
   refused true false f s t u e = rw (s, t)
   refused true true true s t u e = absurd (false≢true (sym e))
-  refused true true false s t u e =
-      let big = leb-false (andDigit n x) maxNumber u in
-      let grow = digits-grow (c .bytes) (andDigit n x) in
-      rw (s, t, lt-leb (andDigits (andDigit n x) (c .bytes)) maxNumber (omega arith)) (none-if (areDigits (c .bytes)))
-    where
-      none-if : (b : Bool) → none ≡ cond (b && false) (some (numberBefore (andDigits (andDigit n x) (c .bytes)) (c .rest))) none
-      none-if true = refl
-      none-if false = refl
+  refused true true false s t u e = rw (s, t) (none-above most (andDigit n x) (c .bytes) (c .rest) (areDigits (c .bytes)) (leb-false (andDigit n x) most u))
 
 three-true : (a d f : Bool) → (a && d && f) ≡ true → (a ≡ true) × (d ≡ true) × (f ≡ true)
 three-true true true f e = (refl, refl, e)
@@ -64,41 +65,41 @@ three-true true false f e = absurd (false≢true e)
 three-true false d f e = absurd (false≢true e)
 
 -- the text after n, byte by byte
-scan-more : (end n x : ℕ) (xs : List ℕ) → ((m : ℕ) → m ≤ maxNumber → scan end m xs ≡ Option·elim (cut end xs) none (readBehind m))
-    → Option·elim (oneMore n x) none (λ m. scan end m xs)
-    ≡ Option·elim (Option·elim (cut end xs) none (λ c. some (bytesBefore (x ∷ c .bytes) (c .rest)))) none (readBehind n)
+scan-more : (most end n x : ℕ) (xs : List ℕ) → ((m : ℕ) → m ≤ most → scan most end m xs ≡ Option·elim (cut end xs) none (readBehind most m))
+    → Option·elim (oneMore most n x) none (λ m. scan most end m xs)
+    ≡ Option·elim (Option·elim (cut end xs) none (λ c. some (bytesBefore (x ∷ c .bytes) (c .rest)))) none (readBehind most n)
 unfolding oneMore Option·elim
-scan-more end n x xs later = by-test (ltb 0 n && isDigit x && leb (andDigit n x) maxNumber) refl
+scan-more most end n x xs later = by-test (ltb 0 n && isDigit x && leb (andDigit n x) most) refl
   where
     if-taken : (0 < n) → isDigit x ≡ true → (o : Option Cut)
-        → Option·elim o none (readBehind (andDigit n x)) ≡ Option·elim (Option·elim o none (λ c. some (bytesBefore (x ∷ c .bytes) (c .rest)))) none (readBehind n)
+        → Option·elim o none (readBehind most (andDigit n x)) ≡ Option·elim (Option·elim o none (λ c. some (bytesBefore (x ∷ c .bytes) (c .rest)))) none (readBehind most n)
     if-taken h d none = refl
-    if-taken h d (some c) = taken n x c h d
+    if-taken h d (some c) = taken most n x c h d
 
-    if-refused : (ltb 0 n && isDigit x && leb (andDigit n x) maxNumber) ≡ false → (o : Option Cut)
-        → none ≡ Option·elim (Option·elim o none (λ c. some (bytesBefore (x ∷ c .bytes) (c .rest)))) none (readBehind n)
+    if-refused : (ltb 0 n && isDigit x && leb (andDigit n x) most) ≡ false → (o : Option Cut)
+        → none ≡ Option·elim (Option·elim o none (λ c. some (bytesBefore (x ∷ c .bytes) (c .rest)))) none (readBehind most n)
     if-refused e none = refl
-    if-refused e (some c) = refused n x c _ _ _ refl refl refl e
+    if-refused e (some c) = refused most n x c _ _ _ refl refl refl e
 
-    by-test : (b : Bool) → (ltb 0 n && isDigit x && leb (andDigit n x) maxNumber) ≡ b
-        → Option·elim (cond b (some (andDigit n x)) none) none (λ m. scan end m xs)
-        ≡ Option·elim (Option·elim (cut end xs) none (λ c. some (bytesBefore (x ∷ c .bytes) (c .rest)))) none (readBehind n)
+    by-test : (b : Bool) → (ltb 0 n && isDigit x && leb (andDigit n x) most) ≡ b
+        → Option·elim (cond b (some (andDigit n x)) none) none (λ m. scan most end m xs)
+        ≡ Option·elim (Option·elim (cut end xs) none (λ c. some (bytesBefore (x ∷ c .bytes) (c .rest)))) none (readBehind most n)
     by-test true e =
         let (a, d, f) = three-true _ _ _ e in
         later (andDigit n x) (leb-true _ _ f) ∙ if-taken (ltb-true _ _ a) d (cut end xs)
     by-test false e = if-refused e (cut end xs)
 
-scan-cut : (end : ℕ) (xs : List ℕ) (n : ℕ) → n ≤ maxNumber → scan end n xs ≡ Option·elim (cut end xs) none (readBehind n)
+scan-cut : (most end : ℕ) (xs : List ℕ) (n : ℕ) → n ≤ most → scan most end n xs ≡ Option·elim (cut end xs) none (readBehind most n)
 unfolding scan cut Option·elim andDigits
-scan-cut end [] n h = refl
-scan-cut end (x ∷ xs) n h = by-end (eqb x end) (scan-more end n x xs (scan-cut end xs))
+scan-cut most end [] n h = refl
+scan-cut most end (x ∷ xs) n h = by-end (eqb x end) (scan-more most end n x xs (scan-cut most end xs))
   where
     by-end : (b : Bool)
-        → Option·elim (oneMore n x) none (λ m. scan end m xs)
-        ≡ Option·elim (Option·elim (cut end xs) none (λ c. some (bytesBefore (x ∷ c .bytes) (c .rest)))) none (readBehind n)
-        → cond b (some (numberBefore n xs)) (Option·elim (oneMore n x) none (λ m. scan end m xs))
-        ≡ Option·elim (cond b (some (bytesBefore [] xs)) (Option·elim (cut end xs) none (λ c. some (bytesBefore (x ∷ c .bytes) (c .rest))))) none (readBehind n)
-    by-end true later = rw (le-leb n maxNumber h)
+        → Option·elim (oneMore most n x) none (λ m. scan most end m xs)
+        ≡ Option·elim (Option·elim (cut end xs) none (λ c. some (bytesBefore (x ∷ c .bytes) (c .rest)))) none (readBehind most n)
+        → cond b (some (numberBefore n xs)) (Option·elim (oneMore most n x) none (λ m. scan most end m xs))
+        ≡ Option·elim (cond b (some (bytesBefore [] xs)) (Option·elim (cut end xs) none (λ c. some (bytesBefore (x ∷ c .bytes) (c .rest))))) none (readBehind most n)
+    by-end true later = rw (le-leb n most h)
     by-end false later = later
 
 pub digit-range : (x : ℕ) → isDigit x ≡ true → (digit0 ≤ x) × (x ≤ digit9)
@@ -134,108 +135,135 @@ unfolding Option·elim
 number-if true n r = refl
 number-if false n r = refl
 
-first-digit : (x : ℕ) (c : Cut) → isDigit x ≡ true
-    → Option·elim (number (x ∷ c .bytes)) none (λ n. some (numberBefore n (c .rest))) ≡ readBehind (x - digit0) c
-unfolding number andDigits
-first-digit x c d =
+first-digit : (most x : ℕ) (c : Cut) → isDigit x ≡ true
+    → Option·elim (numberUpTo most (x ∷ c .bytes)) none (λ n. some (numberBefore n (c .rest))) ≡ readBehind most (x - digit0) c
+unfolding andDigits
+first-digit most x c d =
     let z : 10 * 0 + (x - digit0) ≡ x - digit0 = omega arith in
     rw (z, decimal-first x (c .bytes) d)
-    (number-if (mayFollow (x - digit0) (c .bytes) && leb (andDigits (x - digit0) (c .bytes)) maxNumber) (andDigits (x - digit0) (c .bytes)) (c .rest))
+    (number-if (mayFollow (x - digit0) (c .bytes) && leb (andDigits (x - digit0) (c .bytes)) most) (andDigits (x - digit0) (c .bytes)) (c .rest))
 
-no-first-digit : (x : ℕ) (c : Cut) → isDigit x ≡ false → Option·elim (number (x ∷ c .bytes)) none (λ n. some (numberBefore n (c .rest))) ≡ none
-unfolding number Option·elim
-no-first-digit x c d = rw (not-decimal x (c .bytes) d)
+no-first-digit : (most x : ℕ) (c : Cut) → isDigit x ≡ false → Option·elim (numberUpTo most (x ∷ c .bytes)) none (λ n. some (numberBefore n (c .rest))) ≡ none
+unfolding Option·elim
+no-first-digit most x c d = rw (not-decimal x (c .bytes) d)
 
-scan-first : (end : ℕ) → isDigit end ≡ false → (x : ℕ) (xs : List ℕ) → numberCut end (x ∷ xs) ≡ cond (isDigit x) (scan end (x - digit0) xs) none
-unfolding numberCut cut number isDecimal Option·elim
-scan-first end nd x xs = by-end (eqb x end) refl
+scan-first : (most end x : ℕ) (xs : List ℕ) → numberCut most end (x ∷ xs) ≡ Option·elim (firstDigit most end x) none (λ n. scan most end n xs)
+unfolding numberCut cut isDecimal Option·elim firstDigit
+scan-first most end x xs = by-end (eqb x end)
   where
     by-cut : (b : Bool) → isDigit x ≡ b → (o : Option Cut)
         → Option·elim (Option·elim o none (λ c. some (bytesBefore (x ∷ c .bytes) (c .rest)))) none
-        (λ c. Option·elim (number (c .bytes)) none (λ n. some (numberBefore n (c .rest))))
-        ≡ cond b (Option·elim o none (readBehind (x - digit0))) none
+        (λ c. Option·elim (numberUpTo most (c .bytes)) none (λ n. some (numberBefore n (c .rest))))
+        ≡ cond b (Option·elim o none (readBehind most (x - digit0))) none
     by-cut true d none = refl
     by-cut false d none = refl
-    by-cut true d (some c) = first-digit x c d
-    by-cut false d (some c) = no-first-digit x c d
+    by-cut true d (some c) = first-digit most x c d
+    by-cut false d (some c) = no-first-digit most x c d
 
-    by-digit : (b : Bool) → isDigit x ≡ b → cond b (Option·elim (cut end xs) none (readBehind (x - digit0))) none ≡ cond b (scan end (x - digit0) xs) none
-    by-digit true d = let h = digit-range x d in sym (scan-cut end xs (x - digit0) (omega arith))
-    by-digit false d = refl
+    too-large : most < x - digit0 → (o : Option Cut) → Option·elim o none (readBehind most (x - digit0)) ≡ none
+    too-large h none = refl
+    too-large h (some c) = sym (none-above most (x - digit0) (c .bytes) (c .rest) (mayFollow (x - digit0) (c .bytes)) h)
 
-    by-end : (b : Bool) → eqb x end ≡ b
+    by-bound : (b : Bool) → leb (x - digit0) most ≡ b
+        → Option·elim (cut end xs) none (readBehind most (x - digit0)) ≡ Option·elim (cond b (some (x - digit0)) none) none (λ n. scan most end n xs)
+    by-bound true e = sym (scan-cut most end xs (x - digit0) (leb-true _ _ e))
+    by-bound false e = too-large (leb-false _ _ e) (cut end xs)
+
+    by-digit : (b : Bool) → cond b (Option·elim (cut end xs) none (readBehind most (x - digit0))) none
+        ≡ Option·elim (cond (b && leb (x - digit0) most) (some (x - digit0)) none) none (λ n. scan most end n xs)
+    by-digit true = by-bound (leb (x - digit0) most) refl
+    by-digit false = refl
+
+    by-end : (b : Bool)
         → Option·elim (cond b (some (bytesBefore [] xs)) (Option·elim (cut end xs) none (λ c. some (bytesBefore (x ∷ c .bytes) (c .rest))))) none
-        (λ c. Option·elim (number (c .bytes)) none (λ n. some (numberBefore n (c .rest))))
-        ≡ cond (isDigit x) (scan end (x - digit0) xs) none
-    by-end true e = rw (ap isDigit (eqb-true x end e) ∙ nd)
-    by-end false e = by-cut (isDigit x) refl (cut end xs) ∙ by-digit (isDigit x) refl
+        (λ c. Option·elim (numberUpTo most (c .bytes)) none (λ n. some (numberBefore n (c .rest))))
+        ≡ Option·elim (cond (not b && isDigit x && leb (x - digit0) most) (some (x - digit0)) none) none (λ n. scan most end n xs)
+    by-end true = refl
+    by-end false = by-cut (isDigit x) refl (cut end xs) ∙ by-digit (isDigit x)
+
+-- a first digit, as the code judges it
+module _ (most end x : ℕ) where
+  pub first-ends : x ≡ end → none ≡ firstDigit most end x
+  unfolding firstDigit
+  first-ends e = rw (eq-eqb x end e)
+
+  pub first-no-digit : ¬ (x ≡ end) → isDigit x ≡ false → none ≡ firstDigit most end x
+  unfolding firstDigit
+  first-no-digit f d = rw (ne-eqb x end f, d)
+
+  pub first-is-digit : ¬ (x ≡ end) → isDigit x ≡ true → upTo most (x - digit0) ≡ firstDigit most end x
+  unfolding firstDigit upTo
+  first-is-digit f d = rw (ne-eqb x end f, d)
 
 -- one digit more, as the code judges it
-module _ (n x : ℕ) where
-  pub behind-zero : n ≡ 0 → none ≡ oneMore n x
+module _ (most n x : ℕ) where
+  pub behind-zero : n ≡ 0 → none ≡ oneMore most n x
   unfolding oneMore
   behind-zero e = rw e
 
-  pub behind-no-digit : isDigit x ≡ false → none ≡ oneMore n x
+  pub behind-no-digit : isDigit x ≡ false → none ≡ oneMore most n x
   unfolding oneMore
   behind-no-digit d = rw d (none-if (ltb 0 n))
     where
-      none-if : (b : Bool) → none ≡ cond (b && false && leb (andDigit n x) maxNumber) (some (andDigit n x)) none
+      none-if : (b : Bool) → none ≡ cond (b && false && leb (andDigit n x) most) (some (andDigit n x)) none
       none-if true = refl
       none-if false = refl
 
-  module _ (h : ¬ (n ≡ 0)) (d : isDigit x ≡ true) (m : ℕ) (e : m ≡ andDigit n x) where
-    pub behind-large : maxNumber < m → none ≡ oneMore n x
-    unfolding oneMore
-    behind-large l = rw (lt-ltb 0 n (omega arith), d, ← e, lt-leb m maxNumber l)
+  pub behind-digit : ¬ (n ≡ 0) → isDigit x ≡ true → upTo most (andDigit n x) ≡ oneMore most n x
+  unfolding oneMore upTo
+  behind-digit h d = rw (lt-ltb 0 n (omega arith), d)
 
-    pub behind-digit : m ≤ maxNumber → some m ≡ oneMore n x
-    unfolding oneMore
-    behind-digit l = rw (lt-ltb 0 n (omega arith), d, ← e, le-leb m maxNumber l)
-
-pub number-met : (end : ℕ) (xs : List ℕ) (at n next : ℕ) → numberCut end (drop at xs) ≡ some (numberBefore n (drop next xs)) → at < next → next ≤ length xs
-    → NumberMet end xs at true n next
-number-met end xs at n next e h k = record { number = sym e; right = λ t. (h, k); wrong = λ t. absurd (false≢true (sym t)) }
+pub number-met : (most end : ℕ) (xs : List ℕ) (at n next : ℕ) → n ≤ most → numberCut most end (drop at xs) ≡ some (numberBefore n (drop next xs)) → at < next → next ≤ length xs
+    → NumberMet most end xs at true n next
+number-met most end xs at n next f e h k = record { number = sym e; fits = f; right = λ t. (h, k); wrong = λ t. absurd (false≢true (sym t)) }
 
 -- no number at `at` of the text
-pub no-number-met : (end : ℕ) (xs : List ℕ) (at : ℕ) (ok : Bool) (v next : ℕ) → ok ≡ false → next ≡ length xs → numberCut end (drop at xs) ≡ none
-    → NumberMet end xs at ok v next
-no-number-met end xs at ok v next e n s =
-    record { number = rw e (sym s); right = λ t. absurd (false≢true (sym e ∙ t)); wrong = λ t. n }
+pub no-number-met : (most end : ℕ) (xs : List ℕ) (at : ℕ) (ok : Bool) (v next : ℕ) → (ok ≡ false) × (v ≡ 0) × (next ≡ length xs) → numberCut most end (drop at xs) ≡ none
+    → NumberMet most end xs at ok v next
+no-number-met most end xs at ok v next n s =
+    let (e, z, p) = n in
+    record { number = rw e (sym s); fits = omega arith; right = λ t. absurd (false≢true (sym e ∙ t)); wrong = λ t. (z, p) }
 
-pub nothing-there : (end : ℕ) (xs : List ℕ) (at : ℕ) → length xs ≤ at → numberCut end (drop at xs) ≡ none
+pub nothing-there : (most end : ℕ) (xs : List ℕ) (at : ℕ) → length xs ≤ at → numberCut most end (drop at xs) ≡ none
 unfolding numberCut cut Option·elim
-nothing-there end xs at h = rw (drop-of-length-le xs {i = at} h)
+nothing-there most end xs at h = rw (drop-of-length-le xs {i = at} h)
 
-module _ (end : ℕ) (nd : isDigit end ≡ false) (xs : List ℕ) (at : ℕ) (inside : at < length xs) where
-  pub no-digit-there : isDigit (getD xs at 0) ≡ false → numberCut end (drop at xs) ≡ none
-  no-digit-there d = rw (drop-cons xs at 0 inside, scan-first end nd (getD xs at 0) (drop (suc at) xs), d)
+module _ (most end : ℕ) (xs : List ℕ) (at : ℕ) (inside : at < length xs) where
+  pub no-digit-there : none ≡ firstDigit most end (getD xs at 0) → numberCut most end (drop at xs) ≡ none
+  unfolding Option·elim
+  no-digit-there d = rw (drop-cons xs at 0 inside, scan-first most end (getD xs at 0) (drop (suc at) xs), ← d)
 
-  pub digit-there : isDigit (getD xs at 0) ≡ true → numberCut end (drop at xs) ≡ scan end (getD xs at 0 - digit0) (drop (at + 1) xs)
-  digit-there d = rw (add-one, drop-cons xs at 0 inside, scan-first end nd (getD xs at 0) (drop (suc at) xs), d)
+  pub digit-there : (n : ℕ) → some n ≡ firstDigit most end (getD xs at 0) → numberCut most end (drop at xs) ≡ scan most end n (drop (at + 1) xs)
+  unfolding Option·elim
+  digit-there n d = rw (add-one, drop-cons xs at 0 inside, scan-first most end (getD xs at 0) (drop (suc at) xs), ← d)
 
 -- after some digits, at i
-module _ (end : ℕ) (xs : List ℕ) (at i n : ℕ) (inside : i < length xs) (so-far : numberCut end (drop at xs) ≡ scan end n (drop i xs)) where
-  pub end-there : getD xs i 0 ≡ end → numberCut end (drop at xs) ≡ some (numberBefore n (drop (i + 1) xs))
+module _ (most end : ℕ) (xs : List ℕ) (at i n : ℕ) (inside : i < length xs) (so-far : numberCut most end (drop at xs) ≡ scan most end n (drop i xs)) where
+  pub end-there : getD xs i 0 ≡ end → numberCut most end (drop at xs) ≡ some (numberBefore n (drop (i + 1) xs))
   unfolding scan
   end-there e = so-far ∙ rw (add-one, drop-cons xs i 0 inside, eq-eqb (getD xs i 0) end e)
 
-  pub stops-there : ¬ (getD xs i 0 ≡ end) → none ≡ oneMore n (getD xs i 0) → numberCut end (drop at xs) ≡ none
+  pub stops-there : ¬ (getD xs i 0 ≡ end) → none ≡ oneMore most n (getD xs i 0) → numberCut most end (drop at xs) ≡ none
   unfolding scan Option·elim
   stops-there f e = so-far ∙ rw (drop-cons xs i 0 inside, ne-eqb (getD xs i 0) end f, ← e)
 
-  pub goes-on-there : ¬ (getD xs i 0 ≡ end) → (m : ℕ) → some m ≡ oneMore n (getD xs i 0) → numberCut end (drop at xs) ≡ scan end m (drop (i + 1) xs)
+  pub goes-on-there : ¬ (getD xs i 0 ≡ end) → (m : ℕ) → some m ≡ oneMore most n (getD xs i 0) → numberCut most end (drop at xs) ≡ scan most end m (drop (i + 1) xs)
   unfolding scan Option·elim
   goes-on-there f m e = so-far ∙ rw (add-one, drop-cons xs i 0 inside, ne-eqb (getD xs i 0) end f, ← e)
 
-pub one-more-fits : (n x m : ℕ) → some m ≡ oneMore n x → m ≤ maxNumber
-unfolding oneMore
-one-more-fits n x m e = by-test (ltb 0 n && isDigit x && leb (andDigit n x) maxNumber) refl e
-  where
-    by-test : (b : Bool) → (ltb 0 n && isDigit x && leb (andDigit n x) maxNumber) ≡ b → some m ≡ cond b (some (andDigit n x)) none → m ≤ maxNumber
-    by-test true t s = let same = Option·some-injective m (andDigit n x) s in let fits = leb-true (andDigit n x) maxNumber (three-true (ltb 0 n) (isDigit x) (leb (andDigit n x) maxNumber) t .2) in omega arith
-    by-test false t s = absurd (Option·some-ne-none _ s)
+-- what a test on the bound lets pass
+fits-if : (most m n : ℕ) (b : Bool) → (b ≡ true → n ≤ most) → some m ≡ cond b (some n) none → m ≤ most
+fits-if most m n true h e = let same = Option·some-injective m n e in let fits = h refl in omega arith
+fits-if most m n false h e = absurd (Option·some-ne-none _ e)
 
-pub scan-past : (end : ℕ) (xs : List ℕ) (i n : ℕ) → length xs ≤ i → scan end n (drop i xs) ≡ none
+pub first-digit-fits : (most end x m : ℕ) → some m ≡ firstDigit most end x → m ≤ most
+unfolding firstDigit
+first-digit-fits most end x m e = fits-if most m (x - digit0) _ (λ t. leb-true (x - digit0) most (three-true (not (eqb x end)) (isDigit x) _ t .2)) e
+
+pub one-more-fits : (most n x m : ℕ) → some m ≡ oneMore most n x → m ≤ most
+unfolding oneMore
+one-more-fits most n x m e = fits-if most m (andDigit n x) _ (λ t. leb-true (andDigit n x) most (three-true (ltb 0 n) (isDigit x) _ t .2)) e
+
+pub scan-past : (most end : ℕ) (xs : List ℕ) (i n : ℕ) → length xs ≤ i → scan most end n (drop i xs) ≡ none
 unfolding scan
-scan-past end xs i n h = rw (drop-of-length-le xs {i = i} h)
+scan-past most end xs i n h = rw (drop-of-length-le xs {i = i} h)

@@ -37,9 +37,13 @@ unfoldable pub andDigits : ℕ → List ℕ → ℕ
 andDigits n [] = n
 andDigits n (x ∷ xs) = andDigits (andDigit n x) xs
 
--- the number that the bytes write; none where they write no number, or one above the largest
+-- the number that the bytes write; none where they write no number, or one above `most`
+abbrev pub numberUpTo : (most : ℕ) → List ℕ → Option ℕ
+numberUpTo most xs = cond (isDecimal xs && leb (andDigits 0 xs) most) (some (andDigits 0 xs)) none
+
+-- a number that a line of numbers may have
 unfoldable pub number : List ℕ → Option ℕ
-number xs = cond (isDecimal xs && leb (andDigits 0 xs) maxNumber) (some (andDigits 0 xs)) none
+number xs = numberUpTo maxNumber xs
 
 -- all of them, where each is there
 unfoldable pub allSome : List (Option ℕ) → Option (List ℕ)

@@ -1,19 +1,26 @@
 -- What the functions that read a text promise. Assumes nothing.
-use Prim.Native.Nat.{ℕ, _≤_, _<_}
+use Prim.Native.Nat.{ℕ, _-_, _≤_, _<_}
 use mathlib.Core.Path.{_≡_}
-use mathlib.Core.Bool.{Bool, true, false, cond, _&&_}
+use mathlib.Core.Bool.{Bool, true, false, cond, not, _&&_}
 use mathlib.Core.List.{List, [], _∷_}
 use mathlib.Core.Option.{Option, none, some, Option·elim}
 use lib.Dec.{leb, ltb, eqb}
 use lib.ListN.{length, drop}
 use Rattle.lines.specs.declared.Digits.{Digits}
 use Rattle.lines.specs.declared.Digits.the-variants as DigitsCases
-use Rattle.lines.specs.Line.{Line, lines}
-use Rattle.lines.specs.Number.{maxNumber, isDigit, andDigit, number, numbersOf}
+use Rattle.lines.specs.Line.{Line, lines, parts}
+use Rattle.lines.specs.Number.{digit0, isDigit, andDigit, numberUpTo, numbersOf}
+
+unfoldable pub upTo : (most n : ℕ) → Option ℕ
+upTo most n = cond (leb n most) (some n) none
+
+-- the number of the one digit x; the byte `end` is none
+unfoldable pub firstDigit : (most end x : ℕ) → Option ℕ
+firstDigit most end x = cond (not (eqb x end) && isDigit x && leb (x - digit0) most) (some (x - digit0)) none
 
 -- the number n, of at least one digit, with one more digit x behind it; no digit stands behind a 0
-unfoldable pub oneMore : ℕ → ℕ → Option ℕ
-oneMore n x = cond (ltb 0 n && isDigit x && leb (andDigit n x) maxNumber) (some (andDigit n x)) none
+unfoldable pub oneMore : (most n x : ℕ) → Option ℕ
+oneMore most n x = cond (ltb 0 n && isDigit x && leb (andDigit n x) most) (some (andDigit n x)) none
 
 abbrev pub written : Digits → Option ℕ
 written (DigitsCases.Write n) = some n
@@ -41,15 +48,23 @@ pub record NumberCut : Type 0 where
 abbrev pub numberBefore : ℕ → List ℕ → NumberCut
 numberBefore n xs = record { value = n; rest = xs }
 
-unfoldable pub numberCut : (end : ℕ) → List ℕ → Option NumberCut
-numberCut end xs =
-    Option·elim (cut end xs) none (λ c. Option·elim (number (c .bytes)) none (λ n. some (numberBefore n (c .rest))))
+-- the number before the first `end`, which may be any byte
+unfoldable pub numberCut : (most end : ℕ) → List ℕ → Option NumberCut
+numberCut most end xs =
+    Option·elim (cut end xs) none (λ c. Option·elim (numberUpTo most (c .bytes)) none (λ n. some (numberBefore n (c .rest))))
 
--- the number that stands at `at` of the text xs and that the byte `end` ends: whether there is one, which, and where the text goes on
-pub record NumberMet (end : ℕ) (xs : List ℕ) (at : ℕ) (ok : Bool) (value next : ℕ) : Type 0 where
-  pub number : cond ok (some (numberBefore value (drop next xs))) none ≡ numberCut end (drop at xs)
+-- the number up to `most` that stands at `at` of the text xs and that the byte `end` ends: whether there is one, which, and where the
+-- text goes on
+pub record NumberMet (most end : ℕ) (xs : List ℕ) (at : ℕ) (ok : Bool) (value next : ℕ) : Type 0 where
+  pub number : cond ok (some (numberBefore value (drop next xs))) none ≡ numberCut most end (drop at xs)
+  pub fits : value ≤ most
   pub right : ok ≡ true → (at < next) × (next ≤ length xs)
-  pub wrong : ok ≡ false → next ≡ length xs
+  pub wrong : ok ≡ false → (value ≡ 0) × (next ≡ length xs)
+
+-- what `read` makes of the parts of the first line, where that line has its newline
+unfoldable pub firstParts : {A : Type 0} → (read : List (List ℕ) → Option A) → List Line → Option A
+firstParts read [] = none
+firstParts read (l ∷ ls) = cond (l .ended) (read (parts (l .bytes))) none
 
 -- the first line, where it has `count` numbers
 unfoldable pub firstNumbers : (count : ℕ) → List Line → Option (List ℕ)

@@ -1,10 +1,11 @@
 -- Values of the definitions, by computation. Assumes nothing.
 use mathlib.Core.Path.{_≡_, refl}
 use mathlib.Core.Bool.{true, false}
-use mathlib.Core.List.{[], _∷_, map}
+use mathlib.Core.List.{[], _∷_, _++_, map}
 use mathlib.Core.Option.{none, some, Option·elim}
 use Rattle.lines.specs.Line.{line, inFirstLine, lines, inFirstPart, parts}
-use Rattle.lines.specs.Number.{isDigit, areDigits, isDecimal, andDigits, number, allSome, exactly, numbersOf}
+use Rattle.lines.specs.Number.{isDigit, areDigits, isDecimal, andDigits, numberUpTo, number, allSome, exactly, numbersOf}
+use Rattle.lines.specs.Read.{cut, numberBefore, numberCut}
 use Rattle.lines.specs.Written.{digitsOf, decimal, lineText}
 
 -- no text, an empty line, two lines, a line without its newline
@@ -44,6 +45,20 @@ no-numbers : map number
     ≡ none ∷ none ∷ none ∷ none ∷ none ∷ none ∷ none ∷ none ∷ none ∷ none ∷ []
 unfolding number isDecimal areDigits isDigit andDigits
 no-numbers = refl
+
+-- the largest of 32 bits and one more; 1024 and 1025; 7, where 6 is the bound
+bounds : map (numberUpTo 4294967295) ((52 ∷ 50 ∷ 57 ∷ 52 ∷ 57 ∷ 54 ∷ 55 ∷ 50 ∷ 57 ∷ 53 ∷ []) ∷ (52 ∷ 50 ∷ 57 ∷ 52 ∷ 57 ∷ 54 ∷ 55 ∷ 50 ∷ 57 ∷ 54 ∷ []) ∷ [])
+    ++ map (numberUpTo 1024) ((49 ∷ 48 ∷ 50 ∷ 52 ∷ []) ∷ (49 ∷ 48 ∷ 50 ∷ 53 ∷ []) ∷ [])
+    ++ map (numberUpTo 6) ((55 ∷ []) ∷ [])
+    ≡ some 4294967295 ∷ none ∷ some 1024 ∷ none ∷ none ∷ []
+unfolding isDecimal areDigits isDigit andDigits
+bounds = refl
+
+-- "12 34" before a space and before a newline, which isn't there; before the digit 2 and the digit 1
+cuts : map (λ end. numberCut 65535 end (49 ∷ 50 ∷ 32 ∷ 51 ∷ 52 ∷ [])) (32 ∷ 10 ∷ 50 ∷ 49 ∷ [])
+    ≡ some (numberBefore 12 (51 ∷ 52 ∷ [])) ∷ none ∷ some (numberBefore 1 (32 ∷ 51 ∷ 52 ∷ [])) ∷ none ∷ []
+unfolding numberCut cut Option·elim isDecimal areDigits isDigit andDigits
+cuts = refl
 
 -- 2 1 0 2; 0 0 0 65535; 65535 10 0 7
 four-numbers : map (λ xs. numbersOf 4 (line xs true))

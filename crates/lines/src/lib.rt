@@ -1,5 +1,5 @@
-// Lines of numbers in a text: base ten, no leading zeros, at most 65535, one space between two numbers, a newline after every line.
-// Every function takes every input. A text is read from a position on, and no line is searched for its end first.
+// Numbers and lines of numbers in a text: base ten, no leading zeros, at most 65535 in a line of numbers, one space between two numbers,
+// a newline after every line. Every function takes every input. A text is read from a position on, and no line is searched for its end first.
 ghost use mathlib.Core.Path.{_≡_};
 ghost use mathlib.Core.Bool.{true, false};
 ghost use mathlib.Core.List.{[], _∷_, _++_};
@@ -7,7 +7,7 @@ ghost use Prim.Native.Nat.{_-_, _<_, _≤_};
 ghost use lib.ListN.{length, drop};
 ghost use Rattle.lines.specs.Line.{newline};
 ghost use Rattle.lines.specs.Number.{digit0, maxNumber, isDigit};
-ghost use Rattle.lines.specs.Read.{oneMore, written, NumberMet, LineMet, startsWith};
+ghost use Rattle.lines.specs.Read.{upTo, firstDigit, oneMore, written, NumberMet, LineMet, startsWith};
 
 const NEWLINE: u8 = 10;
 
@@ -25,8 +25,15 @@ enum Digits {
     Nothing,
 }
 
-// A number and the position after the byte that ends it; where there is none, `next` is the text's length.
-struct Number {
+// A number, and the position after the byte that ends it; where there is none, 0 and the text's length.
+pub struct Number {
+    pub ok: bool,
+    pub value: u32,
+    pub next: usize,
+}
+
+// The same of a number that a line may have.
+struct LineNumber {
     ok: bool,
     value: u16,
     next: usize,
@@ -63,17 +70,38 @@ fn is_digit(b: u8) -> bool
 }
 
 // The digit that b is.
-fn digit(b: u8) -> u32
+fn digit(b: u8) -> u64
     requires { ⌜ isDigit b ≡ true ⌝ }
     ensures { λ r. ⌜ r ≡ b - digit0 ⌝ }
 {
-    (b - DIGIT_0) as u32
+    (b - DIGIT_0) as u64
+}
+
+fn up_to(most: u32, value: u64) -> Digits
+    ensures { λ r. ⌜ written r ≡ upTo most value ⌝ }
+{
+    if (most as u64) < value {
+        return Digits::Nothing;
+    }
+    Digits::Write(value as u32)
+}
+
+// The number that b writes where a number starts.
+fn first_digit(most: u32, end: u8, b: u8) -> Digits
+    ensures { λ r. ⌜ written r ≡ firstDigit most end b ⌝ }
+{
+    if b == end {
+        return Digits::Nothing;
+    }
+    if !is_digit(b) {
+        return Digits::Nothing;
+    }
+    up_to(most, digit(b))
 }
 
 // The digits that write `value`, and b behind them. No digit may stand behind a 0.
-fn one_more(value: u32, b: u8) -> Digits
-    requires { ⌜ value ≤ maxNumber ⌝ }
-    ensures { λ r. ⌜ written r ≡ oneMore value b ⌝ }
+fn one_more(most: u32, value: u32, b: u8) -> Digits
+    ensures { λ r. ⌜ written r ≡ oneMore most value b ⌝ }
 {
     if value == 0 {
         return Digits::Nothing;
@@ -81,15 +109,11 @@ fn one_more(value: u32, b: u8) -> Digits
     if !is_digit(b) {
         return Digits::Nothing;
     }
-    let more = 10 * value + digit(b);
-    if MAX_NUMBER < more {
-        return Digits::Nothing;
-    }
-    Digits::Write(more)
+    up_to(most, 10 * (value as u64) + digit(b))
 }
 
 fn no_number(bytes: &[u8]) -> Number
-    ensures { λ r. ⌜ (r .ok ≡ false) × (r .next ≡ length (now (bytes .entry))) ⌝ }
+    ensures { λ r. ⌜ (r .ok ≡ false) × (r .value ≡ 0) × (r .next ≡ length (now (bytes .entry))) ⌝ }
 {
     Number {
         ok: false,
@@ -98,30 +122,28 @@ fn no_number(bytes: &[u8]) -> Number
     }
 }
 
-// The number at `at` that the byte `end` ends.
-fn number_at(bytes: &[u8], at: usize, end: u8) -> Number
-    requires { ⌜ isDigit end ≡ false ⌝ }
-    ensures { λ r. ⌜ NumberMet end (now (bytes .entry)) at (r .ok) (r .value) (r .next) ⌝ }
+// The number at `at` that the byte `end` ends and that is at most `most`.
+pub fn number_at(bytes: &[u8], at: usize, end: u8, most: u32) -> Number
+    ensures { λ r. ⌜ NumberMet most end (now (bytes .entry)) at (r .ok) (r .value) (r .next) ⌝ }
 {
     if bytes.len() <= at {
         return no_number(bytes);
     }
-    let start = bytes[at];
-    if !is_digit(start) {
+    let Digits::Write(first) = first_digit(most, end, bytes[at]) else {
         return no_number(bytes);
-    }
-    let mut value = digit(start);
+    };
+    let mut value = first;
     let mut i = at + 1;
     while i < bytes.len() {
         let b = bytes[i];
         if b == end {
             return Number {
                 ok: true,
-                value: value as u16,
+                value,
                 next: i + 1,
             };
         }
-        let Digits::Write(more) = one_more(value, b) else {
+        let Digits::Write(more) = one_more(most, value, b) else {
             return no_number(bytes);
         };
         value = more;
@@ -130,14 +152,25 @@ fn number_at(bytes: &[u8], at: usize, end: u8) -> Number
     no_number(bytes)
 }
 
+fn line_number_at(bytes: &[u8], at: usize, end: u8) -> LineNumber
+    ensures { λ r. ⌜ NumberMet maxNumber end (now (bytes .entry)) at (r .ok) (r .value) (r .next) ⌝ }
+{
+    let number = number_at(bytes, at, end, MAX_NUMBER);
+    LineNumber {
+        ok: number.ok,
+        value: number.value as u16,
+        next: number.next,
+    }
+}
+
 // The line at `at`, if it has four numbers.
 pub fn row_line(bytes: &[u8], at: usize) -> RowLine
     ensures { λ r. ⌜ LineMet 4 (now (bytes .entry)) at (r .ok) (r .kind ∷ r .a ∷ r .b ∷ r .c ∷ []) (r .next) ⌝ }
 {
-    let kind = number_at(bytes, at, SPACE);
-    let a = number_at(bytes, kind.next, SPACE);
-    let b = number_at(bytes, a.next, SPACE);
-    let c = number_at(bytes, b.next, NEWLINE);
+    let kind = line_number_at(bytes, at, SPACE);
+    let a = line_number_at(bytes, kind.next, SPACE);
+    let b = line_number_at(bytes, a.next, SPACE);
+    let c = line_number_at(bytes, b.next, NEWLINE);
     RowLine {
         ok: c.ok,
         kind: kind.value,
@@ -152,7 +185,7 @@ pub fn row_line(bytes: &[u8], at: usize) -> RowLine
 pub fn step_line(bytes: &[u8], at: usize) -> StepLine
     ensures { λ r. ⌜ LineMet 5 (now (bytes .entry)) at (r .ok) (r .rule ∷ r .left ∷ r .right ∷ r .first ∷ r .second ∷ []) (r .next) ⌝ }
 {
-    let rule = number_at(bytes, at, SPACE);
+    let rule = line_number_at(bytes, at, SPACE);
     let others = row_line(bytes, rule.next);
     StepLine {
         ok: others.ok,
@@ -165,25 +198,38 @@ pub fn step_line(bytes: &[u8], at: usize) -> StepLine
     }
 }
 
-// Whether `line` and a newline stand at `at`.
-pub fn is_line(bytes: &[u8], at: usize, line: &[u8]) -> bool
-    ensures { λ r. ⌜ r ≡ startsWith (now (line .entry) ++ newline ∷ []) (drop at (now (bytes .entry))) ⌝ }
+// Whether `word` stands at `at`.
+pub fn starts_with(bytes: &[u8], at: usize, word: &[u8]) -> bool
+    ensures { λ r. ⌜ r ≡ startsWith (now (word .entry)) (drop at (now (bytes .entry))) ⌝ }
 {
-    if bytes.len() < at {
-        return false;
-    }
     let mut i = 0;
-    while i < line.len() {
+    while i < word.len() {
+        if bytes.len() <= at {
+            return false;
+        }
         if bytes.len() - at <= i {
             return false;
         }
-        if bytes[at + i] != line[i] {
+        if bytes[at + i] != word[i] {
             return false;
         }
         i += 1;
     }
-    if bytes.len() - at <= i {
+    true
+}
+
+// Whether `line` and a newline stand at `at`.
+pub fn is_line(bytes: &[u8], at: usize, line: &[u8]) -> bool
+    ensures { λ r. ⌜ r ≡ startsWith (now (line .entry) ++ newline ∷ []) (drop at (now (bytes .entry))) ⌝ }
+{
+    if bytes.len() <= at {
         return false;
     }
-    bytes[at + i] == NEWLINE
+    if bytes.len() - at <= line.len() {
+        return false;
+    }
+    if !starts_with(bytes, at, line) {
+        return false;
+    }
+    bytes[at + line.len()] == NEWLINE
 }

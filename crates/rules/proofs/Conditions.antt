@@ -8,7 +8,7 @@ use Rattle.terms.specs.Row.{Row}
 use Rattle.rules.specs.Lists.{allOf}
 use Rattle.rules.specs.Form.{Condition}
 use Rattle.rules.specs.Instance.{meets}
-use Rattle.rules.specs.Decode.{Four, claimOf, conditionOf, formFour, countAt, premisesAt, formAt}
+use Rattle.rules.specs.Decode.{Entry, claimPatternOf, conditionOf, formEntry, countAt, premisesAt, formAt}
 use Rattle.rules.specs.RowYields.{Sides, Match, matchClaim, matchClaims, emptyMatch, numbersIn, matchForm, formYields}
 
 -- k is none of 1 to 5
@@ -39,8 +39,8 @@ unfolding allOf
 all-of-append f [] ys = refl
 all-of-append f (x ∷ xs) ys = ap (λ b. f x && b) (all-of-append f xs ys) ∙ sym (and-assoc (f x) (allOf f xs) (allOf f ys))
 
-pub form-way : (rs : List Row) (s : Sides) (ss : List Sides) (i : ℕ) {f : Four} {m₁ m₂ : Match} {b₁ b₂ b z : Bool} → f ≡ formFour i
-    → m₁ ≡ matchClaim rs (claimOf (f .second) (f .third)) s emptyMatch
+pub form-way : (rs : List Row) (s : Sides) (ss : List Sides) (i : ℕ) {f : Entry} {m₁ m₂ : Match} {b₁ b₂ b z : Bool} → f ≡ formEntry i
+    → m₁ ≡ matchClaim rs (claimPatternOf (f .second) (f .third)) s emptyMatch
     → m₂ ≡ matchClaims rs (take (f .fourth % 10) (premisesAt i)) (take (f .fourth % 10) ss) m₁ → b₁ ≡ allOf (meets (numbersIn m₂)) (conditionOf (f .fourth / 100))
     → b₂ ≡ allOf (meets (numbersIn m₂)) (conditionOf (f .fourth / 10 % 10)) → b ≡ (b₁ && b₂) → z ≡ (m₂ .fits && b)
     → z ≡ formYields rs s (take (countAt i) ss) (formAt i)

@@ -5,7 +5,7 @@ use mathlib.Core.List.{List, [], _∷_}
 use Rattle.rules.specs.Table.{rules}
 use Rattle.rules.specs.Pattern.{FormPattern, pathLetter, qualifierLetter, axisLetter, testLetter, nameLetter, axisPattern, testPattern, namePattern, pathPattern, claimPattern, formPattern, formPatterns}
 use Rattle.rules.specs.Codes.{patternCodes, formCount, formCodes, premiseCodes}
-use Rattle.rules.specs.Decode.{unpacked, patternAt, decode, conditionOf, formFour, premisesFour, premisesAt, formAt}
+use Rattle.rules.specs.Decode.{unpacked, patternAt, decode, conditionOf, formEntry, premisesEntry, premisesAt, formAt}
 
 -- n forms from place i on
 unfoldable pub formsFrom : ℕ → ℕ → List FormPattern
@@ -13,5 +13,5 @@ formsFrom zero i = []
 formsFrom (suc n) i = formAt i ∷ formsFrom n (i + 1)
 
 pub decoded : formPatterns rules ≡ formsFrom formCount 0
-unfolding rules formPatterns formPattern claimPattern pathPattern axisPattern testPattern namePattern pathLetter qualifierLetter axisLetter testLetter nameLetter formsFrom formAt formFour premisesFour premisesAt conditionOf decode patternAt unpacked patternCodes formCodes premiseCodes
+unfolding rules formPatterns formPattern claimPattern pathPattern axisPattern testPattern namePattern pathLetter qualifierLetter axisLetter testLetter nameLetter formsFrom formAt formEntry premisesEntry premisesAt conditionOf decode patternAt unpacked patternCodes formCodes premiseCodes
 decoded = refl

@@ -15,7 +15,7 @@ use Rattle.rules.specs.Table.{rules}
 use Rattle.rules.specs.Yields.{formsIn, formsOf, firstCount, premiseCount}
 use Rattle.rules.specs.Pattern.{FormPattern, formPattern, formPatterns}
 use Rattle.rules.specs.Codes.{formCount, formCodes}
-use Rattle.rules.specs.Decode.{unpacked, formFour, countAt, formAt}
+use Rattle.rules.specs.Decode.{unpacked, formEntry, countAt, formAt}
 use Rattle.rules.specs.RowYields.{Sides, formYields}
 use Rattle.rules.proofs.Table.{at}
 use Rattle.rules.proofs.Decoded.{formsFrom, decoded}
@@ -89,15 +89,15 @@ module _ (f : FormPattern → Bool) (n : ℕ) where
     unfolding anyOf formsNumbered formsFrom
     search-ends h s = let e : formCount - i ≡ 0 = omega arith in rw (s, e)
 
-    module _ (h : i < formCount) {k : ℕ} (q : k ≡ formFour i .first) where
+    module _ (h : i < formCount) {k : ℕ} (q : k ≡ formEntry i .first) where
       pub search-passes : ¬ (k ≡ n) → Searched f n i → Searched f n (i + 1)
       unfolding formsNumbered formAt
-      search-passes e s = s ∙ rw (one-more i h, ne-eqb (formFour i .first) n (λ p. e (q ∙ p)))
+      search-passes e s = s ∙ rw (one-more i h, ne-eqb (formEntry i .first) n (λ p. e (q ∙ p)))
 
       module _ (e : k ≡ n) {t : Bool} (p : t ≡ f (formAt i)) where
         at-form : Searched f n i → anyOf f (map (formPattern n) (formsOf n)) ≡ (t || anyOf f (formsNumbered n (formsFrom (formCount - (i + 1)) (i + 1))))
         unfolding anyOf formsNumbered formAt
-        at-form s = s ∙ rw (one-more i h, eq-eqb (formFour i .first) n (sym q ∙ e), p)
+        at-form s = s ∙ rw (one-more i h, eq-eqb (formEntry i .first) n (sym q ∙ e), p)
 
         pub search-finds : t ≡ true → Searched f n i → true ≡ anyOf f (map (formPattern n) (formsOf n))
         search-finds y s = rw (at-form s, y)
@@ -109,12 +109,12 @@ module _ (f : FormPattern → Bool) (n : ℕ) where
 right : ℕ → ℕ → Bool
 right i w = eqb (unpacked w .fourth % 10) (premiseCount (unpacked w .first))
 
-pub count-right : (i n : ℕ) → i < formCount → formFour i .first ≡ n → countAt i ≡ premiseCount n
-unfolding right formFour formCodes unpacked premiseCount firstCount formsOf formsIn rules
+pub count-right : (i n : ℕ) → i < formCount → formEntry i .first ≡ n → countAt i ≡ premiseCount n
+unfolding right formEntry formCodes unpacked premiseCount firstCount formsOf formsIn rules
 count-right i n h e = eqb-yes (at right 0 formCodes tt i h) ∙ ap premiseCount e
 
 -- an entry is given as many premises as its rule has
-pub given-premises : (rs : List Row) (s : Sides) (ss : List Sides) (i n : ℕ) {z : Bool} → i < formCount → formFour i .first ≡ n
+pub given-premises : (rs : List Row) (s : Sides) (ss : List Sides) (i n : ℕ) {z : Bool} → i < formCount → formEntry i .first ≡ n
     → z ≡ formYields rs s (take (countAt i) ss) (formAt i) → z ≡ formYields rs s (take (premiseCount n) ss) (formAt i)
 given-premises rs s ss i n h e q = rw (← count-right i n h e) q
 

@@ -11,7 +11,7 @@ use borrow.Author.Tests.{lt-ltb, le-ltb}
 use Rattle.terms.specs.Row.{Row, rowAt}
 use Rattle.rules.specs.Pattern.{row-of}
 use Rattle.rules.specs.Codes.{firstLetter, firstRow, patternDepth}
-use Rattle.rules.specs.Decode.{Four, patternAt, decode, claimOf, premisesFour, premisesAt}
+use Rattle.rules.specs.Decode.{Entry, patternAt, decode, claimPatternOf, premisesEntry, premisesAt}
 use Rattle.rules.specs.RowYields.{Sides, Match, check, bind, suits, isRow, match, matchClaim, matchClaims}
 
 pub row-way : (rs : List Row) (kind v i n : ℕ) (r : Row) (b : Bool) → i ≡ v → n ≡ length rs → r ≡ rowAt rs i → b ≡ (ltb i n && eqb (r .kind) kind)
@@ -57,7 +57,7 @@ module _ (rs : List Row) (x v : ℕ) (m : Match) where
     pub leaf-way : {r : Match} → ¬ (depth ≡ 0) → ((d : ℕ) → r ≡ match rs (decode (suc d) x) v m) → r ≡ match rs (decode depth x) v m
     leaf-way n q = let e : depth ≡ suc (depth - 1) = omega arith in rw e (q (depth - 1))
 
-    module _ (n : ¬ (depth ≡ 0)) (h : firstRow ≤ x) {p : Four} (q : p ≡ patternAt x) {b : Bool} (t : b ≡ isRow rs (p .first) v) where
+    module _ (n : ¬ (depth ≡ 0)) (h : firstRow ≤ x) {p : Entry} (q : p ≡ patternAt x) {b : Bool} (t : b ≡ isRow rs (p .first) v) where
       pub other-row-way : b ≡ false → check false m ≡ match rs (decode depth x) v m
       unfolding match
       other-row-way f = rw (row-decoded depth x n h, ← q, ← t, f)
@@ -69,7 +69,7 @@ module _ (rs : List Row) (x v : ℕ) (m : Match) where
       row-of-way f e g q₁ q₂ q₃ = rw (row-decoded depth x n h, ← q, ← t, f, ← e, ← g, ← q₁, ← q₂) q₃
 
 pub claim-way : (rs : List Row) (x y : ℕ) (s : Sides) (m : Match) {m₁ m₂ : Match} → m₁ ≡ match rs (decode patternDepth x) (s .left) m
-    → m₂ ≡ match rs (decode patternDepth y) (s .right) m₁ → m₂ ≡ matchClaim rs (claimOf x y) s m
+    → m₂ ≡ match rs (decode patternDepth y) (s .right) m₁ → m₂ ≡ matchClaim rs (claimPatternOf x y) s m
 unfolding matchClaim
 claim-way rs x y s m q₁ q₂ = rw (← q₁) q₂
 
@@ -82,12 +82,12 @@ module _ (rs : List Row) (i count : ℕ) (s₁ s₂ : Sides) (m : Match) where
   unfolding matchClaims
   no-premise e = rw e
 
-  module _ {p : Four} (q : p ≡ premisesFour i) {m₁ : Match} (q₁ : m₁ ≡ matchClaim rs (claimOf (p .first) (p .second)) s₁ m) where
+  module _ {p : Entry} (q : p ≡ premisesEntry i) {m₁ : Match} (q₁ : m₁ ≡ matchClaim rs (claimPatternOf (p .first) (p .second)) s₁ m) where
     pub one-premise : count ≡ 1 → m₁ ≡ matchClaims rs (take count (premisesAt i)) (take count (s₁ ∷ s₂ ∷ [])) m
     unfolding matchClaims premisesAt
     one-premise e = rw (e, ← q) q₁
 
-    pub two-premises : {m₂ : Match} → m₂ ≡ matchClaim rs (claimOf (p .third) (p .fourth)) s₂ m₁ → ¬ (count ≡ 0) → ¬ (count ≡ 1)
+    pub two-premises : {m₂ : Match} → m₂ ≡ matchClaim rs (claimPatternOf (p .third) (p .fourth)) s₂ m₁ → ¬ (count ≡ 0) → ¬ (count ≡ 1)
         → m₂ ≡ matchClaims rs (take count (premisesAt i)) (take count (s₁ ∷ s₂ ∷ [])) m
     unfolding matchClaims premisesAt
     two-premises q₂ n₀ n₁ = rw (take-two count s₁ s₂ n₀ n₁, take-two count _ _ n₀ n₁, ← q, ← q₁) q₂

@@ -19,7 +19,7 @@ use Rattle.rules.specs.Form.{ClaimForm, _<=_, _=>_, Condition, a-below-b
 use Rattle.rules.specs.Claim.{Containment, Implication, says}
 use Rattle.rules.specs.Instance.{Letters, claimFor, meets}
 use Rattle.rules.specs.Yields.{formsOf, Yields}
-use Rattle.rules.specs.Reading.{claimForms}
+use Rattle.rules.specs.LettersRead.{claimForms}
 use Rattle.rules.specs.Decision.{settled, any-of-yes, yes-any-of}
 use Rattle.rules.specs.Pattern.{letterCount, claimPattern, formPattern}
 use Rattle.rules.specs.RowYields.{Sides, oneSort, saysOf, Match, suits, matchClaims, emptyMatch, numbersIn, matchForm, formYields, rowYields}

@@ -9,7 +9,7 @@ use Rattle.rules.specs.Claim.{Claim, Containment, Implication}
 use Rattle.rules.specs.Lists.{allOf, anyOf}
 use Rattle.rules.specs.Table.{rules}
 use Rattle.rules.specs.Yields.{Yields}
-use Rattle.rules.specs.Decision.{fits, isYielded, yielded-yes, all-of-yes}
+use Rattle.rules.specs.Decision.{fits, someFormFits, yielded-yes, all-of-yes}
 
 -- a rule, what a step says, and what its premises say
 pub record Sample : Type 0 where
@@ -136,16 +136,16 @@ accepted =
     ++ containments 58 (Composition (preceding ::node) (self ::N)) (preceding ::N)
 
 abbrev pub sampleYielded : Sample → Bool
-sampleYielded x = isYielded (x .rule) (x .claim) (x .premises)
+sampleYielded x = someFormFits (x .rule) (x .claim) (x .premises)
 
 abbrev pub SampleYields : Sample → Type 0
 SampleYields x = Yields (x .rule) (x .claim) (x .premises)
 
 pub accepted-yield : {x : Sample} → List·Memᴰ x accepted → SampleYields x
-unfolding accepted allOf isYielded
+unfolding accepted allOf someFormFits
 accepted-yield {x} m = yielded-yes (x .rule) (x .claim) (x .premises) (all-of-yes sampleYielded accepted tt m)
 
 -- every form of the table fits a step of the list
 pub forms-covered : T (allOf (λ r. allOf (λ w. anyOf (λ x. eqb (x .rule) (r .number) && fits (x .claim ∷ x .premises) w) accepted) (r .forms)) rules)
-unfolding accepted isYielded
+unfolding accepted someFormFits
 forms-covered = tt

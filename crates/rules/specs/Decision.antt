@@ -16,7 +16,7 @@ use Rattle.rules.specs.Table.{rules}
 use Rattle.rules.specs.Claim.{Claim, Claim-discrete}
 use Rattle.rules.specs.Instance.{Letters, axisFor, testFor, pathFor, claimFor, meets}
 use Rattle.rules.specs.Yields.{formsIn, formsOf, Yields}
-use Rattle.rules.specs.Reading.{readPath, readClaim, readClaims, claimForms, lettersIn}
+use Rattle.rules.specs.LettersRead.{readPath, readClaim, readClaims, claimForms, lettersIn}
 
 unfoldable pub sameClaims : List Claim → List Claim → Bool
 sameClaims [] [] = true
@@ -31,9 +31,9 @@ fits cs w =
     allOf (meets e) (w .conditions) && sameClaims (map (claimFor e) (claimForms w)) cs
 
 -- the test: a form of rule n fits; to unfold it is to unfold all that it computes with
-unfoldable pub isYielded : ℕ → Claim → List Claim → Bool
+unfoldable pub someFormFits : ℕ → Claim → List Claim → Bool
 unfolding anyOf fits sameClaims readClaims readClaim readPath formsOf formsIn rules allOf meets axisBelow isPair axisPairs testBelow claimFor pathFor axisFor testFor ℕ-discrete
-isYielded n c cs = anyOf (fits (c ∷ cs)) (formsOf n)
+someFormFits n c cs = anyOf (fits (c ∷ cs)) (formsOf n)
 
 -- a form for a choice of the letters: whether its conditions are met, its conclusion and its premises
 record FormInstance : Type 0 where
@@ -122,8 +122,8 @@ all-of-yes f (y ∷ ys) t m =
     let r = and-yes (f y) (allOf f ys) t in
     ⊎-elim (λ e. rw e (r .0)) (λ m. all-of-yes f ys (r .1) m) (List·Memᴰ·cases-cons m)
 
-pub yielded-yes : (n : ℕ) (c : Claim) (cs : List Claim) → T (isYielded n c cs) → Yields n c cs
-unfolding isYielded
+pub yielded-yes : (n : ℕ) (c : Claim) (cs : List Claim) → T (someFormFits n c cs) → Yields n c cs
+unfolding someFormFits
 yielded-yes n c cs t =
     let (w, m, f) = any-of-yes (fits (c ∷ cs)) (formsOf n) t in
     let e : Letters = lettersIn w (c ∷ cs) in
@@ -141,8 +141,8 @@ said-fits w e q t =
     (subst T (sym (ap (λ s. s .met) q)) t)
     (subst (λ bs. T (sameClaims bs cs)) (sym (ap (λ s. s .claims) q)) (yes-same cs))
 
-pub yes-yielded : (n : ℕ) (c : Claim) (cs : List Claim) → Yields n c cs → T (isYielded n c cs)
-unfolding isYielded
+pub yes-yielded : (n : ℕ) (c : Claim) (cs : List Claim) → Yields n c cs → T (someFormFits n c cs)
+unfolding someFormFits
 yes-yielded n c cs y =
     yes-any-of (fits (c ∷ cs)) (formsOf n) (y .of-rule)
     (subst₂ (λ c cs. T (fits (c ∷ cs) (y .form))) (y .conclusion) (y .premises)
@@ -154,4 +154,4 @@ decided false f g = no g
 
 -- rule n yields a step that says c, from premises that say cs, or it doesn't
 unfoldable pub yields-dec : (n : ℕ) (c : Claim) (cs : List Claim) → Dec (Yields n c cs)
-yields-dec n c cs = decided (isYielded n c cs) (yielded-yes n c cs) (yes-yielded n c cs)
+yields-dec n c cs = decided (someFormFits n c cs) (yielded-yes n c cs) (yes-yielded n c cs)

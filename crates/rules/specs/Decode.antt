@@ -9,18 +9,18 @@ use Rattle.rules.specs.Pattern.{Pattern, number, letter, row-of, ClaimPa
 use Rattle.rules.specs.Codes.{firstLetter, firstRow, patternDepth, patternCodes, formCodes, premiseCodes}
 
 -- four numbers of three digits each
-pub record Four : Type 0 where
+pub record Entry : Type 0 where
   pub first : ℕ
   pub second : ℕ
   pub third : ℕ
   pub fourth : ℕ
 
-unfoldable pub unpacked : ℕ → Four
+unfoldable pub unpacked : ℕ → Entry
 unpacked w =
     record { first = w / 1_000_000_000 % 1000; second = w / 1_000_000 % 1000; third = w / 1000 % 1000; fourth = w % 1000 }
 
 -- the entry that the pattern x stands for: a kind, and a pattern of each field
-unfoldable pub patternAt : ℕ → Four
+unfoldable pub patternAt : ℕ → Entry
 patternAt x = unpacked (getD patternCodes (x - firstRow) 0)
 
 -- the pattern that x stands for, read to a depth
@@ -31,8 +31,8 @@ decode (suc depth) x =
     let r = row-of (p .first) (decode depth (p .second)) (decode depth (p .third)) (decode depth (p .fourth)) in
     cond (ltb x firstLetter) (number x) (cond (ltb x firstRow) (letter (x - firstLetter)) r)
 
-abbrev pub claimOf : ℕ → ℕ → ClaimPattern
-claimOf x y = record { left = decode patternDepth x; right = decode patternDepth y }
+abbrev pub claimPatternOf : ℕ → ℕ → ClaimPattern
+claimPatternOf x y = record { left = decode patternDepth x; right = decode patternDepth y }
 
 -- the condition numbered k; 0 is none
 unfoldable pub conditionOf : ℕ → List Condition
@@ -42,28 +42,28 @@ conditionOf k =
     k []
 
 -- entry i of the forms: the rule's number, the two sides of the conclusion, and three digits, two conditions and how many premises
-unfoldable pub formFour : ℕ → Four
-formFour i = unpacked (getD formCodes i 0)
+unfoldable pub formEntry : ℕ → Entry
+formEntry i = unpacked (getD formCodes i 0)
 
 -- entry i of the premises: the two sides of the first, and of the second
-unfoldable pub premisesFour : ℕ → Four
-premisesFour i = unpacked (getD premiseCodes i 0)
+unfoldable pub premisesEntry : ℕ → Entry
+premisesEntry i = unpacked (getD premiseCodes i 0)
 
 -- how many premises form i has
 abbrev pub countAt : ℕ → ℕ
-countAt i = formFour i .fourth % 10
+countAt i = formEntry i .fourth % 10
 
 unfoldable pub premisesAt : ℕ → List ClaimPattern
 premisesAt i =
-    let p = premisesFour i in
-    claimOf (p .first) (p .second) ∷ claimOf (p .third) (p .fourth) ∷ []
+    let p = premisesEntry i in
+    claimPatternOf (p .first) (p .second) ∷ claimPatternOf (p .third) (p .fourth) ∷ []
 
 unfoldable pub formAt : ℕ → FormPattern
 formAt i =
-    let f = formFour i in
+    let f = formEntry i in
     record {
       rule = f .first;
-      conclusion = claimOf (f .second) (f .third);
+      conclusion = claimPatternOf (f .second) (f .third);
       premises = take (countAt i) (premisesAt i);
       conditions = conditionOf (f .fourth / 100) ++ conditionOf (f .fourth / 10 % 10);
     }

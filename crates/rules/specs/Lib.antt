@@ -6,7 +6,7 @@ pub mod Table
 pub mod Claim
 pub mod Instance
 pub mod Yields
-pub mod Reading
+pub mod LettersRead
 pub mod Decision
 pub mod Accepted
 pub mod NearMisses

@@ -10,7 +10,7 @@ use Rattle.rules.specs.Claim.{Claim, Containment, Implication}
 use Rattle.rules.specs.Table.{rules}
 use Rattle.rules.specs.Lists.{allOf}
 use Rattle.rules.specs.Yields.{formsIn, formsOf}
-use Rattle.rules.specs.Decision.{isYielded, yes-yielded, all-of-yes}
+use Rattle.rules.specs.Decision.{someFormFits, yes-yielded, all-of-yes}
 use Rattle.rules.specs.Accepted.{Sample, sample, p, q, r, s, f, g, h, _::N, _::M, _::star, _::node, _::text, accepted, sampleYielded, SampleYields}
 
 -- there is no rule before 1 and none after 58
@@ -118,7 +118,7 @@ refused : (x : Sample) → T (sampleRefused x) → ¬ (SampleYields x)
 refused x t y = T-not (sampleYielded x) t (yes-yielded (x .rule) (x .claim) (x .premises) y)
 
 pub near-misses-refused : {x : Sample} → List·Memᴰ x nearMisses → ¬ (SampleYields x)
-unfolding nearMisses allOf isYielded
+unfolding nearMisses allOf someFormFits
 near-misses-refused {x} m = refused x (all-of-yes sampleRefused nearMisses tt m)
 
 -- Premises missing, one too many, or in the other order.
@@ -132,7 +132,7 @@ unfoldable pub withOtherPremises : Sample → List Sample
 withOtherPremises x = map (λ cs. sample (x .rule) (x .claim) cs) (otherPremises (x .premises))
 
 pub other-premises-refused : {x : Sample} → List·Memᴰ x accepted → {y : Sample} → List·Memᴰ y (withOtherPremises x) → ¬ (SampleYields y)
-unfolding accepted withOtherPremises otherPremises allOf isYielded
+unfolding accepted withOtherPremises otherPremises allOf someFormFits
 other-premises-refused {x} m {y} k = refused y (all-of-yes sampleRefused (withOtherPremises x) (all-of-yes (λ x. allOf sampleRefused (withOtherPremises x)) accepted tt m) k)
 
 -- A letter with two values: another name in place of one name.
@@ -186,5 +186,5 @@ lettersCompared x =
     allOf (λ e. cond (eqb (occurrences (e .0) (sampleRenamings x)) 1) (sampleYielded (e .1)) (sampleRefused (e .1))) (sampleRenamings x)
 
 pub letters-compared : T (allOf lettersCompared accepted)
-unfolding lettersCompared occurrences sampleRenamings premiseRenamings claimRenamings renamings accepted allOf isYielded
+unfolding lettersCompared occurrences sampleRenamings premiseRenamings claimRenamings renamings accepted allOf someFormFits
 letters-compared = tt

@@ -7,7 +7,6 @@ use tables::FIRST_LETTER;
 use tables::FIRST_ROW;
 use tables::FORM_COUNT;
 use tables::FORMS;
-use tables::PATTERN_COUNT;
 use tables::PATTERN_DEPTH;
 use tables::PATTERNS;
 use tables::PREMISES;
@@ -21,16 +20,16 @@ use xpath::wide;
 ghost use Prim.Native.Nat.{ℕ, suc, _%_, _≤_, _<_};
 ghost use mathlib.Core.Path.{_≡_};
 ghost use mathlib.Core.List.{[], _∷_};
-ghost use lib.ListN.{take};
+ghost use lib.ListN.{getD, take};
 ghost use Rattle.terms.specs.Row.{tableOf};
 ghost use Rattle.rules.specs.Lists.{allOf};
 ghost use Rattle.rules.specs.Order.{axisBelow, testBelow};
 ghost use Rattle.rules.specs.Instance.{meets};
 ghost use Rattle.rules.specs.Yields.{premiseCount};
 ghost use Rattle.rules.specs.Codes.{firstRow};
-ghost use Rattle.rules.specs.Decode.{unpacked, patternAt, decode, claimOf, conditionOf, formFour, premisesFour, countAt, premisesAt, formAt};
+ghost use Rattle.rules.specs.Decode.{unpacked, patternAt, decode, claimPatternOf, conditionOf, countAt, premisesAt, formAt};
 ghost use Rattle.rules.specs.RowYields.{sides, check, bind, suits, isRow, match, matchClaim, matchClaims, numbersIn, formYields, rowYields};
-ghost use Rattle.rules.specs.Lent.{sidesOf, matchOf, fourOf};
+ghost use Rattle.rules.specs.Lent.{sidesIn, matchOf, entryOf};
 
 // The last rule.
 pub const MAX_RULE: u16 = 58;
@@ -73,16 +72,17 @@ struct Match {
     value: [u16; LETTER_COUNT],
 }
 
-// Four numbers of three digits each.
-struct Four(u16, u16, u16, u16);
+// An entry of a table: four numbers of three digits each.
+struct Entry(u16, u16, u16, u16);
 
 // Whether axis a is below axis b.
 pub fn axis_below(a: u16, b: u16) -> bool
     ensures { λ r. ⌜ r ≡ axisBelow a b ⌝ }
 {
+    let pairs = AXIS_PAIRS;
     let mut i: usize = 0;
     while i < AXIS_PAIR_COUNT {
-        let pair = AXIS_PAIRS[i];
+        let pair = pairs[i];
         if and(pair[0] == a, pair[1] == b) {
             return true;
         }
@@ -109,45 +109,32 @@ fn three_digits(word: u64) -> u16
 }
 
 // The four numbers that an entry of the tables holds.
-fn unpacked(word: u64) -> Four
-    ensures { λ r. ⌜ fourOf r ≡ unpacked word ⌝ }
+fn unpacked(word: u64) -> Entry
+    ensures { λ r. ⌜ entryOf r ≡ unpacked word ⌝ }
 {
     let first = three_digits(word / 1_000_000_000);
     let second = three_digits(word / 1_000_000);
     let third = three_digits(word / 1000);
-    Four(first, second, third, three_digits(word))
+    Entry(first, second, third, three_digits(word))
 }
 
-// The entry of PATTERNS that the pattern x stands for, zeros past the last one.
-fn pattern_at(x: u16) -> Four
+// Entry i of a table, zeros past the last one.
+fn entry_at(table: &[u64], i: usize) -> Entry
+    ensures { λ r. ⌜ entryOf r ≡ unpacked (getD (now (table .entry)) i 0) ⌝ }
+{
+    if i < table.len() {
+        return unpacked(table[i]);
+    }
+    unpacked(0)
+}
+
+// The entry of PATTERNS that the pattern x stands for.
+fn pattern_at(x: u16) -> Entry
     requires { ⌜ firstRow ≤ x ⌝ }
-    ensures { λ r. ⌜ fourOf r ≡ patternAt x ⌝ }
+    ensures { λ r. ⌜ entryOf r ≡ patternAt x ⌝ }
 {
-    let i = wide(x - FIRST_ROW);
-    if i < PATTERN_COUNT {
-        return unpacked(PATTERNS[i]);
-    }
-    unpacked(0)
-}
-
-// Entry i of FORMS, zeros past the last one.
-fn form_at(i: usize) -> Four
-    ensures { λ r. ⌜ fourOf r ≡ formFour i ⌝ }
-{
-    if i < FORM_COUNT {
-        return unpacked(FORMS[i]);
-    }
-    unpacked(0)
-}
-
-// Entry i of PREMISES, zeros past the last one.
-fn premises_at(i: usize) -> Four
-    ensures { λ r. ⌜ fourOf r ≡ premisesFour i ⌝ }
-{
-    if i < FORM_COUNT {
-        return unpacked(PREMISES[i]);
-    }
-    unpacked(0)
+    let patterns = PATTERNS;
+    entry_at(&patterns, wide(x - FIRST_ROW))
 }
 
 // What was matched so far, and a failure unless `pass`.
@@ -231,7 +218,7 @@ fn match_at(rows: &[u16], depth: usize, x: u16, v: u16, m: Match) -> Match
 
 // The rows of a step against the patterns x and y.
 fn match_claim(rows: &[u16], x: u16, y: u16, s: Sides, m: Match) -> Match
-    ensures { λ r. ⌜ matchOf r ≡ matchClaim (tableOf (now (rows .entry))) (claimOf x y) (sidesOf s) (matchOf m) ⌝ }
+    ensures { λ r. ⌜ matchOf r ≡ matchClaim (tableOf (now (rows .entry))) (claimPatternOf x y) (sidesIn s) (matchOf m) ⌝ }
 {
     let half = match_at(rows, PATTERN_DEPTH, x, s.left, m);
     match_at(rows, PATTERN_DEPTH, y, s.right, half)
@@ -246,12 +233,13 @@ fn match_premises(
     second: Sides,
     m: Match,
 ) -> Match
-    ensures { λ r. ⌜ matchOf r ≡ matchClaims (tableOf (now (rows .entry))) (take count (premisesAt i)) (take count (sidesOf first ∷ sidesOf second ∷ [])) (matchOf m) ⌝ }
+    ensures { λ r. ⌜ matchOf r ≡ matchClaims (tableOf (now (rows .entry))) (take count (premisesAt i)) (take count (sidesIn first ∷ sidesIn second ∷ [])) (matchOf m) ⌝ }
 {
     if count == 0 {
         return m;
     }
-    let p = premises_at(i);
+    let premises = PREMISES;
+    let p = entry_at(&premises, i);
     let one = match_claim(rows, p.0, p.1, first, m);
     if count == 1 {
         return one;
@@ -276,9 +264,10 @@ fn meets_condition(k: u16, m: Match) -> bool
 
 // Whether form i yields the step.
 fn form_yields(rows: &[u16], i: usize, left: u16, right: u16, first: Sides, second: Sides) -> bool
-    ensures { λ r. ⌜ r ≡ formYields (tableOf (now (rows .entry))) (sides left right) (take (countAt i) (sidesOf first ∷ sidesOf second ∷ [])) (formAt i) ⌝ }
+    ensures { λ r. ⌜ r ≡ formYields (tableOf (now (rows .entry))) (sides left right) (take (countAt i) (sidesIn first ∷ sidesIn second ∷ [])) (formAt i) ⌝ }
 {
-    let form = form_at(i);
+    let forms = FORMS;
+    let form = entry_at(&forms, i);
     let none = Match {
         fits: true,
         known: [false; LETTER_COUNT],
@@ -297,9 +286,10 @@ fn form_yields(rows: &[u16], i: usize, left: u16, right: u16, first: Sides, seco
 pub fn premise_count(rule: u16) -> u16
     ensures { λ r. ⌜ r ≡ premiseCount rule ⌝ }
 {
+    let forms = FORMS;
     let mut i: usize = 0;
     while i < FORM_COUNT {
-        let form = form_at(i);
+        let form = entry_at(&forms, i);
         if form.0 == rule {
             return form.3 % 10;
         }
@@ -311,11 +301,12 @@ pub fn premise_count(rule: u16) -> u16
 // Whether a form of the rule yields the step, whose rows are left and right, from premises with the rows given. The rows of a
 // premise that the rule doesn't have don't matter.
 pub fn yields(rows: &[u16], rule: u16, left: u16, right: u16, first: Sides, second: Sides) -> bool
-    ensures { λ r. ⌜ r ≡ rowYields (tableOf (now (rows .entry))) rule (sides left right) (take (premiseCount rule) (sidesOf first ∷ sidesOf second ∷ [])) ⌝ }
+    ensures { λ r. ⌜ r ≡ rowYields (tableOf (now (rows .entry))) rule (sides left right) (take (premiseCount rule) (sidesIn first ∷ sidesIn second ∷ [])) ⌝ }
 {
+    let forms = FORMS;
     let mut at: usize = 0;
     while at < FORM_COUNT {
-        if form_at(at).0 == rule {
+        if entry_at(&forms, at).0 == rule {
             if form_yields(rows, at, left, right, first, second) {
                 return true;
             }

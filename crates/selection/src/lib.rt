@@ -116,7 +116,7 @@ fn copy_out(m: [u8; MAX_NODES], n: usize, buffer: &mut [u8])
     }
 }
 
-// What a step selects.
+// What a step selects. The node test comes first: an axis may need a climb for each node.
 fn step_marks(d: &[u16], axis: usize, test: usize, name: usize, x: usize) -> [u8; MAX_NODES]
     requires { ⌜ length (documentOf (now d)) ≤ maxNodes ⌝ }
     ensures { λ r. ⌜ Marks (length (documentOf (now (d .entry)))) r (selects (documentOf (now (d .entry))) (Step axis test name) x) ⌝ }
@@ -125,11 +125,10 @@ fn step_marks(d: &[u16], axis: usize, test: usize, name: usize, x: usize) -> [u8
     let mut out = empty_marks();
     let mut y: usize = 0;
     while y < n {
-        if xpath::and(
-            xpath::on_axis(d, axis, x, y),
-            xpath::passes_test(d, test, name, y),
-        ) {
-            out[y] = 1;
+        if xpath::passes_test(d, test, name, y) {
+            if xpath::on_axis(d, axis, x, y) {
+                out[y] = 1;
+            }
         }
         y += 1;
     }

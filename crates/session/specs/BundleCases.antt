@@ -105,5 +105,5 @@ reports :
     -- the rows are those of the last step
     ∷ audited (example ++ "2 1 1 0 0\n") is reportBy 0 0 2 1 1
     ∷ [])
-unfolding ascii report reading linesRead rowsRead stepsRead rowNames stepNames rowOfLine stepOfLine lines inFirstLine parts inFirstPart sameBytes isLine numbersOf exactly allSome number isDecimal areDigits isDigit andDigits Option·elim view tableOf stepsOf freshSession withRow withStep termAnswer badPlace fieldsOf fieldOk heldPath heldQualifier isPath isQualifier nesting nestings entriesFrom nestingBy operandNesting find sameRow stepAnswer stepAnswerBy sameSort badSide premiseOk badPremise claimOf premisesOf isYielded says termAt terms termBy asPath asQualifier premiseCount firstCount formsOf formsIn rules decide yields-dec decision.isYielded
+unfolding ascii report reading linesRead rowsRead stepsRead rowNames stepNames rowOfLine stepOfLine lines inFirstLine parts inFirstPart sameBytes isLine numbersOf exactly allSome number isDecimal areDigits isDigit andDigits Option·elim view tableOf stepsOf freshSession withRow withStep termAnswer badPlace fieldsOf fieldOk heldPath heldQualifier isPath isQualifier nesting nestings entriesFrom nestingBy operandNesting find sameRow stepAnswer stepAnswerBy sameSort badSide premiseOk badPremise claimOf premisesOf isYielded says termAt terms termBy asPath asQualifier premiseCount firstCount formsOf formsIn rules decide yields-dec decision.someFormFits
 reports = refl

@@ -63,7 +63,7 @@ pub step-answers :
     ∷ answer 6 1 ∷ answer 6 2 ∷ answer 6 1 ∷ answer 6 2 ∷ answer 6 2
     ∷ answer 7 0
     ∷ answer 0 2 ∷ answer 0 3 ∷ answer 0 4 ∷ answer 7 0 ∷ answer 0 5 ∷ []
-unfolding bookSeen bookAnswer bookNext termBook termAnswer badPlace fieldsOf fieldOk heldPath heldQualifier isPath isQualifier nesting nestings entriesFrom nestingBy operandNesting find sameRow stepBook stepAnswer stepAnswerBy sameSort badSide premiseOk badPremise claimOf premisesOf isYielded says termAt terms termBy asPath asQualifier premiseCount firstCount formsOf formsIn rules decide yields-dec decision.isYielded
+unfolding bookSeen bookAnswer bookNext termBook termAnswer badPlace fieldsOf fieldOk heldPath heldQualifier isPath isQualifier nesting nestings entriesFrom nestingBy operandNesting find sameRow stepBook stepAnswer stepAnswerBy sameSort badSide premiseOk badPremise claimOf premisesOf isYielded says termAt terms termBy asPath asQualifier premiseCount firstCount formsOf formsIn rules decide yields-dec decision.someFormFits
 step-answers = refl
 
 -- descendant::mark, and true, on the log document

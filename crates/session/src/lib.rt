@@ -11,7 +11,7 @@ ghost use lib.Seq.{sets};
 ghost use Rattle.terms.specs.Row.{row, rowAt, tableOf, maxRows};
 ghost use Rattle.terms.specs.Fields.{isPath};
 ghost use Rattle.terms.specs.Lent.{rowOf};
-ghost use Rattle.rules.specs.Lent.{sidesOf as sidesIn};
+ghost use Rattle.rules.specs.Lent.{sidesIn};
 ghost use Rattle.session.specs.Book.{step, maxSteps, book, answer, accepted};
 ghost use Rattle.session.specs.StepCall.{sameSort, badSide, premiseOk, badPremise, stepNumbered};
 ghost use Rattle.session.specs.TermCall.{termAnswer};

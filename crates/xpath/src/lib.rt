@@ -1,11 +1,11 @@
 // Documents lent as 16-bit numbers, three a row: their check, the axes and the node tests. Every function takes every input; a
 // number that no whole row has is read as 0.
 ghost use mathlib.Core.Path.{_≡_};
-ghost use mathlib.Core.Bool.{_&&_, _||_, cond};
+ghost use mathlib.Core.Bool.{_&&_, _||_, not, cond};
 ghost use mathlib.Core.Option.{none, some};
 ghost use Prim.Native.Nat.{suc, _+_, _*_, _/_, _<_, _≤_};
 ghost use lib.ListN.{length, getD};
-ghost use lib.Dec.{ltb};
+ghost use lib.Dec.{ltb, eqb};
 ghost use Rattle.xpath.specs.Bounded.{firstBelow};
 ghost use Rattle.xpath.specs.Document.{kindAt, parentAt, nameAt, isChild, isAncestor, areSiblings, kindAndNameOk, rowOk, documentOf, badRow, documentRefusal, maxNodes};
 ghost use Rattle.xpath.specs.Axis.{onAxis, passes};
@@ -100,6 +100,20 @@ pub fn is_ancestor(d: &[u16], x: usize, y: usize) -> bool
     false
 }
 
+// Whether x is y or an ancestor of y. It climbs only where the comparison leaves that open.
+fn is_ancestor_or_self(d: &[u16], x: usize, y: usize) -> bool
+    ensures { λ r. ⌜ r ≡ (eqb x y || isAncestor (documentOf (now (d .entry))) x y) ⌝ }
+{
+    if x == y { true } else { is_ancestor(d, x, y) }
+}
+
+// Whether y comes after x and is no descendant of it. It climbs only where y comes after x.
+fn follows(d: &[u16], x: usize, y: usize) -> bool
+    ensures { λ r. ⌜ r ≡ (ltb x y && not (isAncestor (documentOf (now (d .entry))) x y)) ⌝ }
+{
+    if x < y { !is_ancestor(d, x, y) } else { false }
+}
+
 fn are_siblings(d: &[u16], x: usize, y: usize) -> bool
     ensures { λ r. ⌜ r ≡ areSiblings (documentOf (now (d .entry))) x y ⌝ }
 {
@@ -115,12 +129,12 @@ pub fn on_axis(d: &[u16], axis: usize, x: usize, y: usize) -> bool
         2 => is_child(d, y, x),
         3 => is_ancestor(d, x, y),
         4 => is_ancestor(d, y, x),
-        5 => or(x == y, is_ancestor(d, x, y)),
-        6 => or(x == y, is_ancestor(d, y, x)),
+        5 => is_ancestor_or_self(d, x, y),
+        6 => is_ancestor_or_self(d, y, x),
         7 => and(are_siblings(d, x, y), x < y),
         8 => and(are_siblings(d, x, y), y < x),
-        9 => and(x < y, !is_ancestor(d, x, y)),
-        10 => and(y < x, !is_ancestor(d, y, x)),
+        9 => follows(d, x, y),
+        10 => follows(d, y, x),
         _ => false,
     }
 }
@@ -155,7 +169,7 @@ fn later_row_ok(d: &[u16], n: usize) -> bool
 {
     let i = n + 1;
     let parent = parent_at(d, i);
-    let placed = or(parent == n, is_ancestor(d, parent, n));
+    let placed = is_ancestor_or_self(d, parent, n);
     let under = kind_at(d, parent) <= 1;
     and(
         and(placed, under),

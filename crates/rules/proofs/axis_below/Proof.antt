@@ -8,10 +8,10 @@ use Rattle.rules.proofs.axis_below.Statement.{statement}
 use Rattle.rules.proofs.axis_below.Tie as tie
 
 abbrev Inv-loop : tie.InvT-loop
-Inv-loop a b i₀ i = (i ≤ axisPairCount) × Searched a b i
+Inv-loop a b pairs i₀ i = (i ≤ axisPairCount) × Searched a b i
 
 abbrev μ-loop : tie.MeasureT-loop
-μ-loop a b i₀ i = axisPairCount - i
+μ-loop a b pairs i₀ i = axisPairCount - i
 
 loop-holds : tie.Need-loop-holds Inv-loop μ-loop
 loop-holds c = (omega arith, search-starts _ _)

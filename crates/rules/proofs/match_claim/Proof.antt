@@ -1,6 +1,6 @@
 -- The left row and then the right one. Assumes nothing.
 use borrow.Author.Needs.{needs}
-use Rattle.rules.specs.Lent.{sidesOf, matchOf}
+use Rattle.rules.specs.Lent.{sidesIn, matchOf}
 use Rattle.rules.proofs.Matcher.{claim-way}
 use Rattle.rules.proofs.match_claim.Statement.{statement}
 use Rattle.rules.proofs.match_claim.Tie as tie
@@ -14,7 +14,7 @@ match-at-requires-2 c κs = search needs
 returns : tie.Need-returns
 returns c =
     let a = c .before .before .before .args in
-    claim-way _ (a .x) (a .y) (sidesOf (a .s)) (matchOf (a .m)) (c .before .match-at .ensures) (c .match-at2 .ensures)
+    claim-way _ (a .x) (a .y) (sidesIn (a .s)) (matchOf (a .m)) (c .before .match-at .ensures) (c .match-at2 .ensures)
 
 pub match-claim-spec : {M : Type 1} → statement M
 match-claim-spec = tie.close (tie.spec match-at-requires match-at-requires-2 returns)

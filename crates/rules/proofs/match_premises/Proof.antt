@@ -1,6 +1,8 @@
 -- No premise, one, or two. Assumes nothing.
 use borrow.Author.Needs.{needs}
-use Rattle.rules.specs.Lent.{sidesOf, matchOf}
+use Rattle.rules.specs.Codes.{premiseCodes}
+use Rattle.rules.specs.Decode.{premisesEntry}
+use Rattle.rules.specs.Lent.{sidesIn, matchOf}
 use Rattle.rules.proofs.Matcher.{no-premise, one-premise, two-premises}
 use Rattle.rules.proofs.match_premises.Statement.{statement}
 use Rattle.rules.proofs.match_premises.Tie as tie
@@ -8,35 +10,41 @@ use Rattle.rules.proofs.match_premises.Tie as tie
 returns : tie.Need-returns
 returns c =
     let a = c .before .before .args in
-    no-premise _ (a .i) (a .count) (sidesOf (a .first)) (sidesOf (a .second)) (matchOf (a .m)) (c .if1 .taken)
+    no-premise _ (a .i) (a .count) (sidesIn (a .first)) (sidesIn (a .second)) (matchOf (a .m)) (c .if1 .taken)
 
-premises-at-requires : tie.Need-premises-at-requires
-premises-at-requires c κs = search needs
+slice-aggregate-entry-at : tie.Need-slice-aggregate-entry-at
+slice-aggregate-entry-at c = search needs
+
+entry-at-requires : tie.Need-entry-at-requires
+entry-at-requires c κs = search needs
 
 match-claim-requires : tie.Need-match-claim-requires
 match-claim-requires c κs = search needs
 
 returns-2 : tie.Need-returns-2
+unfolding premisesEntry premiseCodes
 returns-2 c =
-    let a = c .before .before .before .before .before .args in
-    one-premise _ (a .i) (a .count) (sidesOf (a .first)) (sidesOf (a .second)) (matchOf (a .m)) (c .before .before .premises-at .ensures) (c .before .match-claim .ensures) (c .if2 .taken)
+    let a = c .before .before .before .before .before .before .args in
+    one-premise _ (a .i) (a .count) (sidesIn (a .first)) (sidesIn (a .second)) (matchOf (a .m)) (c .before .before .entry-at .ensures) (c .before .match-claim .ensures) (c .if2 .taken)
 
 match-claim-requires-2 : tie.Need-match-claim-requires-2
 match-claim-requires-2 c κs = search needs
 
 returns-3 : tie.Need-returns-3
+unfolding premisesEntry premiseCodes
 returns-3 c =
     let d = c .before .before .before in
-    let a = d .before .before .before .args in
-    two-premises _ (a .i) (a .count) (sidesOf (a .first)) (sidesOf (a .second)) (matchOf (a .m)) (d .premises-at .ensures) (c .before .before .match-claim .ensures) (c .match-claim2 .ensures)
-    (d .before .if1 .left) (c .before .if2 .left)
+    let a = d .before .before .before .before .args in
+    two-premises _ (a .i) (a .count) (sidesIn (a .first)) (sidesIn (a .second)) (matchOf (a .m)) (d .entry-at .ensures) (c .before .before .match-claim .ensures) (c .match-claim2 .ensures)
+    (d .before .before .if1 .left) (c .before .if2 .left)
 
 pub match-premises-spec : {M : Type 1} → statement M
 match-premises-spec =
     tie.close
     (tie.spec
     returns
-    premises-at-requires
+    slice-aggregate-entry-at
+    entry-at-requires
     match-claim-requires
     returns-2
     match-claim-requires-2

@@ -4,29 +4,33 @@ use mathlib.Core.Path.{sym, _∙_, ap}
 use mathlib.Core.Bool.{true}
 use native.Mathlib.Omega.{arith}
 use borrow.Author.Needs.{needs}
-use Rattle.rules.specs.Codes.{formCount}
-use Rattle.rules.specs.Decode.{Four}
+use Rattle.rules.specs.Codes.{formCount, formCodes}
+use Rattle.rules.specs.Decode.{Entry, formEntry}
 use Rattle.rules.proofs.FormSearch.{Searched, search-starts, search-ends, search-passes, count-right, no-forms}
 use Rattle.rules.proofs.premise_count.Statement.{statement}
 use Rattle.rules.proofs.premise_count.Tie as tie
 
 abbrev Inv-loop : tie.InvT-loop
-Inv-loop rule i₀ i = (i ≤ formCount) × Searched (λ w. true) rule i
+Inv-loop rule forms i₀ i = (i ≤ formCount) × Searched (λ w. true) rule i
 
 abbrev μ-loop : tie.MeasureT-loop
-μ-loop rule i₀ i = formCount - i
+μ-loop rule forms i₀ i = formCount - i
 
 loop-holds : tie.Need-loop-holds Inv-loop μ-loop
 loop-holds c = (omega arith, search-starts (λ w. true) (c .args .rule))
 
-form-at-requires : tie.Need-form-at-requires Inv-loop μ-loop
-form-at-requires c κs = search needs
+slice-aggregate-entry-at : tie.Need-slice-aggregate-entry-at Inv-loop μ-loop
+slice-aggregate-entry-at c = search needs
+
+entry-at-requires : tie.Need-entry-at-requires Inv-loop μ-loop
+entry-at-requires c κs = search needs
 
 returns : tie.Need-returns Inv-loop μ-loop
+unfolding formEntry formCodes
 returns c =
-    let l = c .before .before .before .before in
-    let q = c .before .before .before .form-at .ensures in
-    ap (λ (f : Four). f .fourth % 10) q ∙ count-right (l .before .loop .i) (l .before .before .args .rule) (l .loop-test .taken) (sym (ap (λ (f : Four). f .first) q) ∙ c .before .if1 .taken)
+    let l = c .before .before .before .before .before in
+    let q = c .before .before .before .entry-at .ensures in
+    ap (λ (f : Entry). f .fourth % 10) q ∙ count-right (l .before .loop .i) (l .before .before .args .rule) (l .loop-test .taken) (sym (ap (λ (f : Entry). f .first) q) ∙ c .before .if1 .taken)
 
 add-i : tie.Need-add-i Inv-loop μ-loop
 add-i c = omega arith
@@ -35,9 +39,10 @@ loop-less : tie.Need-loop-less Inv-loop μ-loop
 loop-less c = omega arith
 
 loop-again : tie.Need-loop-again Inv-loop μ-loop
+unfolding formEntry formCodes
 loop-again c =
-    let l = c .before .before .before in
-    (omega arith, search-passes (λ w. true) (l .before .before .args .rule) (l .before .loop .i) (l .loop-test .taken) (ap (λ (f : Four). f .first) (c .before .before .form-at .ensures)) (c .if1 .left) (l .before .loop .inv .1))
+    let l = c .before .before .before .before in
+    (omega arith, search-passes (λ w. true) (l .before .before .args .rule) (l .before .loop .i) (l .loop-test .taken) (ap (λ (f : Entry). f .first) (c .before .before .entry-at .ensures)) (c .if1 .left) (l .before .loop .inv .1))
 
 returns-2 : tie.Need-returns-2 Inv-loop μ-loop
 returns-2 c =
@@ -51,7 +56,8 @@ premise-count-spec =
     Inv-loop
     μ-loop
     loop-holds
-    form-at-requires
+    slice-aggregate-entry-at
+    entry-at-requires
     returns
     add-i
     loop-less

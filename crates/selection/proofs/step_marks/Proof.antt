@@ -1,7 +1,7 @@
 -- `selection::step_marks` meets its contract. Assumes nothing.
 use Prim.Native.Nat.{ℕ, _≤_, _-_}
-use mathlib.Core.Path.{_≡_, sym, _∙_}
-use mathlib.Core.Bool.{Bool, _&&_}
+use mathlib.Core.Path.{sym, _∙_}
+use mathlib.Core.Bool.{Bool, _&&_, and-false}
 use mathlib.Core.Logic.{⊎-elim}
 use native.Mathlib.Omega.{arith}
 use borrow.Author.Tests.{lt-ltb}
@@ -36,14 +36,11 @@ loop-holds c =
           (c .empty-marks .ensures),
     )
 
-on-axis-requires : tie.Need-on-axis-requires Inv-loop μ-loop
-on-axis-requires c κs = tt
-
 passes-test-requires : tie.Need-passes-test-requires Inv-loop μ-loop
 passes-test-requires c κs = tt
 
-and-requires : tie.Need-and-requires Inv-loop μ-loop
-and-requires c κs = tt
+on-axis-requires : tie.Need-on-axis-requires Inv-loop μ-loop
+on-axis-requires c κs = tt
 
 array-write-out : tie.Need-array-write-out Inv-loop μ-loop
 array-write-out c = omega arith
@@ -56,16 +53,17 @@ loop-less c = omega arith
 
 loop-again : tie.Need-loop-again Inv-loop μ-loop
 loop-again c =
-    let a = c .before .before .before .before .before .before .before .before .before .args in
-    let l = c .before .before .before .before .before .loop in
+    let a = c .before .before .before .before .before .before .before .args in
+    let l = c .before .before .before .loop in
     let f = reached (documentOf (a .d .now)) (a .axis) (a .test) (a .name) (a .x) in
-    let e : c .before .and .result ≡ f (l .y) =
-    c .before .and .ensures ∙ rw (c .before .before .before .on-axis .ensures, c .before .before .passes-test .ensures) in (
+    let p = sym (c .before .passes-test .ensures) in (
       omega arith,
-      (⊎-elim
-          (λ w. rw (w .1) (marked-next f (l .y) (l .out) (l .inv .1) (omega arith) (sym e ∙ w .0 .taken)))
-          (λ w. rw (w .1) (left-out f (l .y) (l .out) (l .inv .1) (sym e ∙ w .0 .left)))
-          (c .if1 .came)),
+      ⊎-elim
+          (λ w. rw (w .3) (marked-next f (l .y) (l .out) (l .inv .1) (omega arith) (rw (sym (w .1 .ensures) ∙ w .2 .taken, p ∙ w .0 .taken))))
+          (⊎-elim
+          (λ w. rw (w .3) (left-out f (l .y) (l .out) (l .inv .1) (rw (sym (w .1 .ensures) ∙ w .2 .left))))
+          (λ w. rw (w .1) (left-out f (l .y) (l .out) (l .inv .1) (rw (p ∙ w .0 .left, and-false)))))
+          (c .if1 .came),
     )
 
 returns : tie.Need-returns Inv-loop μ-loop
@@ -81,9 +79,8 @@ step-marks-spec =
     node-count-requires
     empty-marks-requires
     loop-holds
-    on-axis-requires
     passes-test-requires
-    and-requires
+    on-axis-requires
     array-write-out
     add-y
     loop-less

@@ -12,11 +12,8 @@ add-i c = search needs
 parent-at-requires : tie.Need-parent-at-requires
 parent-at-requires c κs = search needs
 
-is-ancestor-requires : tie.Need-is-ancestor-requires
-is-ancestor-requires c κs = search needs
-
-or-requires : tie.Need-or-requires
-or-requires c κs = search needs
+is-ancestor-or-self-requires : tie.Need-is-ancestor-or-self-requires
+is-ancestor-or-self-requires c κs = search needs
 
 kind-at-requires : tie.Need-kind-at-requires
 kind-at-requires c κs = search needs
@@ -38,7 +35,7 @@ and-requires-2 c κs = search needs
 
 returns : tie.Need-returns
 unfolding rowOk
-returns c = rw (← add-one (c .before .before .before .before .before .before .before .before .before .before .args .n)) (c .and2 .ensures ∙ cc)
+returns c = rw (← add-one (c .before .before .before .before .before .before .before .before .before .args .n)) (c .and2 .ensures ∙ cc)
 
 pub later-row-ok-spec : {M : Type 1} → statement M
 later-row-ok-spec =
@@ -46,8 +43,7 @@ later-row-ok-spec =
     (tie.spec
     add-i
     parent-at-requires
-    is-ancestor-requires
-    or-requires
+    is-ancestor-or-self-requires
     kind-at-requires
     and-requires
     kind-at-requires-2

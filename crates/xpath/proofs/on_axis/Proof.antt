@@ -3,6 +3,7 @@ use mathlib.Core.Path.{_∙_}
 use Rattle.xpath.specs.Axis.{onAxis}
 use Rattle.xpath.proofs.Axes.{no-axis}
 use Rattle.xpath.proofs.Cases.{past-arms}
+use Rattle.xpath.proofs.Reflect.{eqb-sym}
 use borrow.Author.Needs.{needs}
 use Rattle.xpath.proofs.on_axis.Statement.{statement}
 use Rattle.xpath.proofs.on_axis.Tie as tie
@@ -19,17 +20,11 @@ is-ancestor-requires c κs = search needs
 is-ancestor-requires-2 : tie.Need-is-ancestor-requires-2
 is-ancestor-requires-2 c κs = search needs
 
-is-ancestor-requires-3 : tie.Need-is-ancestor-requires-3
-is-ancestor-requires-3 c κs = search needs
+is-ancestor-or-self-requires : tie.Need-is-ancestor-or-self-requires
+is-ancestor-or-self-requires c κs = search needs
 
-or-requires : tie.Need-or-requires
-or-requires c κs = search needs
-
-is-ancestor-requires-4 : tie.Need-is-ancestor-requires-4
-is-ancestor-requires-4 c κs = search needs
-
-or-requires-2 : tie.Need-or-requires-2
-or-requires-2 c κs = search needs
+is-ancestor-or-self-requires-2 : tie.Need-is-ancestor-or-self-requires-2
+is-ancestor-or-self-requires-2 c κs = search needs
 
 are-siblings-requires : tie.Need-are-siblings-requires
 are-siblings-requires c κs = search needs
@@ -43,17 +38,11 @@ are-siblings-requires-2 c κs = search needs
 and-requires-2 : tie.Need-and-requires-2
 and-requires-2 c κs = search needs
 
-is-ancestor-requires-5 : tie.Need-is-ancestor-requires-5
-is-ancestor-requires-5 c κs = search needs
+follows-requires : tie.Need-follows-requires
+follows-requires c κs = search needs
 
-and-requires-3 : tie.Need-and-requires-3
-and-requires-3 c κs = search needs
-
-is-ancestor-requires-6 : tie.Need-is-ancestor-requires-6
-is-ancestor-requires-6 c κs = search needs
-
-and-requires-4 : tie.Need-and-requires-4
-and-requires-4 c κs = search needs
+follows-requires-2 : tie.Need-follows-requires-2
+follows-requires-2 c κs = search needs
 
 returns : tie.Need-returns
 unfolding onAxis
@@ -77,11 +66,13 @@ returns-5 c = rw (c .before .match .keys5) (c .is-ancestor2 .ensures)
 
 returns-6 : tie.Need-returns-6
 unfolding onAxis
-returns-6 c = rw (c .before .before .match .keys6) (c .or .ensures ∙ rw (c .before .is-ancestor3 .ensures))
+returns-6 c = rw (c .before .match .keys6) (c .is-ancestor-or-self .ensures)
 
 returns-7 : tie.Need-returns-7
 unfolding onAxis
-returns-7 c = rw (c .before .before .match .keys7) (c .or2 .ensures ∙ rw (c .before .is-ancestor4 .ensures))
+returns-7 c =
+    let a = c .before .before .before .args in
+    rw (c .before .match .keys7) (c .is-ancestor-or-self2 .ensures ∙ rw (eqb-sym (a .y) (a .x)))
 
 returns-8 : tie.Need-returns-8
 unfolding onAxis
@@ -93,11 +84,11 @@ returns-9 c = rw (c .before .before .match .keys9) (c .and2 .ensures ∙ rw (c .
 
 returns-10 : tie.Need-returns-10
 unfolding onAxis
-returns-10 c = rw (c .before .before .match .keys10) (c .and3 .ensures ∙ rw (c .before .is-ancestor5 .ensures))
+returns-10 c = rw (c .before .match .keys10) (c .follows .ensures)
 
 returns-11 : tie.Need-returns-11
 unfolding onAxis
-returns-11 c = rw (c .before .before .match .keys11) (c .and4 .ensures ∙ rw (c .before .is-ancestor6 .ensures))
+returns-11 c = rw (c .before .match .keys11) (c .follows2 .ensures)
 
 returns-12 : tie.Need-returns-12
 returns-12 c = no-axis _ _ _ _ (past-arms _ 11 (c .match .rest))
@@ -110,18 +101,14 @@ on-axis-spec =
     is-child-requires-2
     is-ancestor-requires
     is-ancestor-requires-2
-    is-ancestor-requires-3
-    or-requires
-    is-ancestor-requires-4
-    or-requires-2
+    is-ancestor-or-self-requires
+    is-ancestor-or-self-requires-2
     are-siblings-requires
     and-requires
     are-siblings-requires-2
     and-requires-2
-    is-ancestor-requires-5
-    and-requires-3
-    is-ancestor-requires-6
-    and-requires-4
+    follows-requires
+    follows-requires-2
     returns
     returns-2
     returns-3

@@ -1,0 +1,53 @@
+-- `put_all` is safe and ends: the loop counts. Assumes nothing.
+use Prim.Native.Nat.{_-_, _≤_}
+use mathlib.Core.Path.{_≡_}
+use native.Mathlib.Omega.{arith}
+use lib.ListN.{length}
+use borrow.Author.Needs.{needs}
+use Rattle.replay.proofs.put_all.Statement.{statement}
+use Rattle.replay.proofs.put_all.Tie as tie
+
+abbrev Inv-loop : tie.InvT-loop
+Inv-loop line₀ used bytes end₀ i₀ line end i = (i ≤ length bytes) × (length line ≡ length line₀)
+
+abbrev μ-loop : tie.MeasureT-loop
+μ-loop line₀ used bytes end₀ i₀ line end i = length bytes - i
+
+loop-holds : tie.Need-loop-holds Inv-loop μ-loop
+loop-holds c = omega arith
+
+shared-slice-read-put : tie.Need-shared-slice-read-put Inv-loop μ-loop
+shared-slice-read-put c = omega arith
+
+put-requires : tie.Need-put-requires Inv-loop μ-loop
+put-requires c κs = search needs
+
+add-i : tie.Need-add-i Inv-loop μ-loop
+add-i c = omega arith
+
+loop-less : tie.Need-loop-less Inv-loop μ-loop
+loop-less c = omega arith
+
+loop-again : tie.Need-loop-again Inv-loop μ-loop
+loop-again c = omega arith
+
+same-length : tie.Need-same-length Inv-loop μ-loop
+same-length c = omega arith
+
+returns : tie.Need-returns Inv-loop μ-loop
+returns c = search needs
+
+pub put-all-spec : {M : Type 1} → statement M
+put-all-spec =
+    tie.close
+    (tie.spec
+    Inv-loop
+    μ-loop
+    loop-holds
+    shared-slice-read-put
+    put-requires
+    add-i
+    loop-less
+    loop-again
+    same-length
+    returns)

@@ -1,0 +1,32 @@
+-- `select` is safe: the marks lie within the buffer. Assumes nothing.
+use mathlib.Core.Path.{sym}
+use native.Mathlib.Omega.{arith}
+use lib.Seq.{length-take-le}
+use borrow.Author.Needs.{needs}
+use Rattle.replay.proofs.select.Statement.{statement}
+use Rattle.replay.proofs.select.Tie as tie
+
+filled-marks-requires : tie.Need-filled-marks-requires
+filled-marks-requires c κs = search needs
+
+array-borrow-prefix-buffer : tie.Need-array-borrow-prefix-buffer
+array-borrow-prefix-buffer c = search needs
+
+slice-aggregate-select-into : tie.Need-slice-aggregate-select-into
+slice-aggregate-select-into c = sym (length-take-le (c .before .before .before .args .q .marks) (c .before .filled-marks .result) (omega arith))
+
+select-into-requires : tie.Need-select-into-requires
+select-into-requires c κs = search needs
+
+returns : tie.Need-returns
+returns c = search needs
+
+pub select-spec : {M : Type 1} → statement M
+select-spec =
+    tie.close
+    (tie.spec
+    filled-marks-requires
+    array-borrow-prefix-buffer
+    slice-aggregate-select-into
+    select-into-requires
+    returns)

@@ -1,0 +1,175 @@
+-- `call_at` meets its contract. Assumes nothing.
+use mathlib.Core.Path.{refl, sym, _∙_}
+use mathlib.Core.List.{[], _∷_, _++_}
+use mathlib.Core.Option.{Option·elim}
+use native.Mathlib.Omega.{arith}
+use borrow.Author.Needs.{needs}
+use Rattle.lines.specs.Line.{newline, space, sameBytes}
+use Rattle.lines.specs.Number.{allSome}
+use Rattle.lines.proofs.Cutting.{lacks}
+use Rattle.lines.proofs.Start.{starts}
+use Rattle.script.specs.declared.Call.the-variants as CallCases
+use Rattle.script.specs.Command.{termBytes, stepBytes, selectBytes, documentBytes, freshBytes, within, atMost, named, commandOf}
+use Rattle.script.proofs.Words.{word-and-numbers, word-alone, no-word}
+use borrow.Author.Needs.{needs}
+use Rattle.script.proofs.call_at.Statement.{statement}
+use Rattle.script.proofs.call_at.Tie as tie
+
+slice-aggregate-starts-with : tie.Need-slice-aggregate-starts-with
+slice-aggregate-starts-with c = search needs
+
+starts-with-requires : tie.Need-starts-with-requires
+starts-with-requires c κs = search needs
+
+add-term-call : tie.Need-add-term-call
+add-term-call c = let a = c .before .before .before .before .args in
+    omega (arith, starts (termBytes ++ space ∷ []) (a .bytes .now) (a .at) (sym (c .before .starts-with .ensures) ∙ c .if1 .taken) .inside (omega arith))
+
+term-call-requires : tie.Need-term-call-requires
+term-call-requires c κs = search needs
+
+returns : tie.Need-returns
+unfolding lacks commandOf sameBytes
+returns c = let a = c .before .before .before .before .before .args in
+    word-and-numbers termBytes refl refl (a .bytes .now) (a .at) _ (λ ws. refl) (sym (c .before .before .starts-with .ensures) ∙ c .before .if1 .taken) _ (c .term-call .ensures)
+
+slice-aggregate-starts-with-2 : tie.Need-slice-aggregate-starts-with-2
+slice-aggregate-starts-with-2 c = search needs
+
+starts-with-requires-2 : tie.Need-starts-with-requires-2
+starts-with-requires-2 c κs = search needs
+
+add-step-call : tie.Need-add-step-call
+add-step-call c = let a = c .before .before .before .before .before .before .before .args in
+    omega (arith, starts (stepBytes ++ space ∷ []) (a .bytes .now) (a .at) (sym (c .before .starts-with2 .ensures) ∙ c .if2 .taken) .inside (omega arith))
+
+step-call-requires : tie.Need-step-call-requires
+step-call-requires c κs = search needs
+
+returns-2 : tie.Need-returns-2
+unfolding lacks commandOf sameBytes
+returns-2 c = let a = c .before .before .before .before .before .before .before .before .args in
+    word-and-numbers stepBytes refl refl (a .bytes .now) (a .at) _ (λ ws. refl) (sym (c .before .before .starts-with2 .ensures) ∙ c .before .if2 .taken) _ (c .step-call .ensures)
+
+slice-aggregate-starts-with-3 : tie.Need-slice-aggregate-starts-with-3
+slice-aggregate-starts-with-3 c = search needs
+
+starts-with-requires-3 : tie.Need-starts-with-requires-3
+starts-with-requires-3 c κs = search needs
+
+add-select-call : tie.Need-add-select-call
+add-select-call c = let a = c .before .before .before .before .before .before .before .before .before .before .args in
+    omega (arith, starts (selectBytes ++ space ∷ []) (a .bytes .now) (a .at) (sym (c .before .starts-with3 .ensures) ∙ c .if3 .taken) .inside (omega arith))
+
+select-call-requires : tie.Need-select-call-requires
+select-call-requires c κs = search needs
+
+returns-3 : tie.Need-returns-3
+unfolding lacks commandOf sameBytes
+returns-3 c = let a = c .before .before .before .before .before .before .before .before .before .before .before .args in
+    word-and-numbers selectBytes refl refl (a .bytes .now) (a .at) _ (λ ws. refl) (sym (c .before .before .starts-with3 .ensures) ∙ c .before .if3 .taken) _ (c .select-call .ensures)
+
+slice-aggregate-starts-with-4 : tie.Need-slice-aggregate-starts-with-4
+slice-aggregate-starts-with-4 c = search needs
+
+starts-with-requires-4 : tie.Need-starts-with-requires-4
+starts-with-requires-4 c κs = search needs
+
+add-document-call : tie.Need-add-document-call
+add-document-call c = let a = c .before .before .before .before .before .before .before .before .before .before .before .before .before .args in
+    omega (arith, starts (documentBytes ++ space ∷ []) (a .bytes .now) (a .at) (sym (c .before .starts-with4 .ensures) ∙ c .if4 .taken) .inside (omega arith))
+
+document-call-requires : tie.Need-document-call-requires
+document-call-requires c κs = search needs
+
+returns-4 : tie.Need-returns-4
+unfolding lacks commandOf sameBytes
+returns-4 c = let a = c .before .before .before .before .before .before .before .before .before .before .before .before .before .before .args in
+    word-and-numbers documentBytes refl refl (a .bytes .now) (a .at) _ (λ ws. refl) (sym (c .before .before .starts-with4 .ensures) ∙ c .before .if4 .taken) _ (c .document-call .ensures)
+
+slice-aggregate-is-line : tie.Need-slice-aggregate-is-line
+slice-aggregate-is-line c = search needs
+
+is-line-requires : tie.Need-is-line-requires
+is-line-requires c κs = search needs
+
+add-call-line : tie.Need-add-call-line
+add-call-line c = let a = c .before .before .before .before .before .before .before .before .before .before .before .before .before .before .before .before .args in
+    omega (arith, starts (documentBytes ++ newline ∷ []) (a .bytes .now) (a .at) (sym (c .before .is-line .ensures) ∙ c .if5 .taken) .inside (omega arith))
+
+call-line-requires : tie.Need-call-line-requires
+call-line-requires c κs = search needs
+
+returns-5 : tie.Need-returns-5
+unfolding lacks commandOf sameBytes named atMost within allSome Option·elim
+returns-5 c = let a = c .before .before .before .before .before .before .before .before .before .before .before .before .before .before .before .before .before .args in
+    rw (c .call-line .ensures) (word-alone documentBytes refl refl (a .bytes .now) (a .at) (CallCases.Document 0) _ refl refl refl refl (sym (c .before .before .is-line .ensures) ∙ c .before .if5 .taken))
+
+slice-aggregate-is-line-2 : tie.Need-slice-aggregate-is-line-2
+slice-aggregate-is-line-2 c = search needs
+
+is-line-requires-2 : tie.Need-is-line-requires-2
+is-line-requires-2 c κs = search needs
+
+add-call-line-2 : tie.Need-add-call-line-2
+add-call-line-2 c = let a = c .before .before .before .before .before .before .before .before .before .before .before .before .before .before .before .before .before .before .before .args in
+    omega (arith, starts (freshBytes ++ newline ∷ []) (a .bytes .now) (a .at) (sym (c .before .is-line2 .ensures) ∙ c .if6 .taken) .inside (omega arith))
+
+call-line-requires-2 : tie.Need-call-line-requires-2
+call-line-requires-2 c κs = search needs
+
+returns-6 : tie.Need-returns-6
+unfolding lacks commandOf sameBytes named atMost within allSome Option·elim
+returns-6 c = let a = c .before .before .before .before .before .before .before .before .before .before .before .before .before .before .before .before .before .before .before .before .args in
+    rw (c .call-line2 .ensures) (word-alone freshBytes refl refl (a .bytes .now) (a .at) CallCases.Fresh _ refl refl refl refl (sym (c .before .before .is-line2 .ensures) ∙ c .before .if6 .taken))
+
+other-requires : tie.Need-other-requires
+other-requires c κs = search needs
+
+returns-7 : tie.Need-returns-7
+returns-7 c = let a = c .before .before .before .before .before .before .before .before .before .before .before .before .before .before .before .before .before .before .before .before .args in
+    rw (c .other .ensures)
+    (no-word (a .bytes .now) (a .at)
+    (sym (c .before .before .before .before .before .before .before .before .before .before .before .before .before .before .before .before .before .starts-with .ensures) ∙ c .before .before .before .before .before .before .before .before .before .before .before .before .before .before .before .before .if1 .left)
+    (sym (c .before .before .before .before .before .before .before .before .before .before .before .before .before .before .starts-with2 .ensures) ∙ c .before .before .before .before .before .before .before .before .before .before .before .before .before .if2 .left)
+    (sym (c .before .before .before .before .before .before .before .before .before .before .before .starts-with3 .ensures) ∙ c .before .before .before .before .before .before .before .before .before .before .if3 .left)
+    (sym (c .before .before .before .before .before .before .before .before .starts-with4 .ensures) ∙ c .before .before .before .before .before .before .before .if4 .left)
+    (sym (c .before .before .before .before .before .is-line .ensures) ∙ c .before .before .before .before .if5 .left)
+    (sym (c .before .before .is-line2 .ensures) ∙ c .before .if6 .left))
+
+pub call-at-spec : {M : Type 1} → statement M
+call-at-spec =
+    tie.close
+    (tie.spec
+    slice-aggregate-starts-with
+    starts-with-requires
+    add-term-call
+    term-call-requires
+    returns
+    slice-aggregate-starts-with-2
+    starts-with-requires-2
+    add-step-call
+    step-call-requires
+    returns-2
+    slice-aggregate-starts-with-3
+    starts-with-requires-3
+    add-select-call
+    select-call-requires
+    returns-3
+    slice-aggregate-starts-with-4
+    starts-with-requires-4
+    add-document-call
+    document-call-requires
+    returns-4
+    slice-aggregate-is-line
+    is-line-requires
+    add-call-line
+    call-line-requires
+    returns-5
+    slice-aggregate-is-line-2
+    is-line-requires-2
+    add-call-line-2
+    call-line-requires-2
+    returns-6
+    other-requires
+    returns-7)

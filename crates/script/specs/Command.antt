@@ -1,0 +1,77 @@
+-- The command that a line of a script is: a word, and numbers. Assumes nothing.
+use Prim.Native.Nat.{ℕ}
+use mathlib.Core.Bool.{cond}
+use mathlib.Core.List.{List, [], _∷_, map}
+use mathlib.Core.Option.{Option, none, some, Option·elim}
+use lib.Dec.{leb}
+use lib.ListN.{length, replicate}
+use Rattle.lines.specs.Line.{sameBytes}
+use Rattle.lines.specs.Number.{maxNumber, numberUpTo, number, allSome}
+
+pub data Word : Type 0 where
+  term : Word
+  step : Word
+  select : Word
+  document : Word
+  fresh : Word
+
+pub record Command : Type 0 where
+  pub word : Word
+  pub numbers : List ℕ
+
+abbrev pub command : Word → List ℕ → Command
+command w ns = record { word = w; numbers = ns }
+
+-- the words in ASCII: term, step, select, document, fresh
+abbrev pub termBytes : List ℕ
+termBytes = 116 ∷ 101 ∷ 114 ∷ 109 ∷ []
+
+abbrev pub stepBytes : List ℕ
+stepBytes = 115 ∷ 116 ∷ 101 ∷ 112 ∷ []
+
+abbrev pub selectBytes : List ℕ
+selectBytes = 115 ∷ 101 ∷ 108 ∷ 101 ∷ 99 ∷ 116 ∷ []
+
+abbrev pub documentBytes : List ℕ
+documentBytes = 100 ∷ 111 ∷ 99 ∷ 117 ∷ 109 ∷ 101 ∷ 110 ∷ 116 ∷ []
+
+abbrev pub freshBytes : List ℕ
+freshBytes = 102 ∷ 114 ∷ 101 ∷ 115 ∷ 104 ∷ []
+
+-- the largest limit of visits, the longest marks buffer, and the most numbers of a document
+abbrev pub maxLimit : ℕ
+maxLimit = 4294967295
+
+abbrev pub maxMarks : ℕ
+maxMarks = 1024
+
+abbrev pub maxNumbers : ℕ
+maxNumbers = 1539
+
+-- the numbers that the parts write, one for each bound and none above its bound
+unfoldable pub within : (bounds : List ℕ) → List (List ℕ) → Option (List ℕ)
+within [] [] = some []
+within [] (w ∷ ws) = none
+within (b ∷ bs) [] = none
+within (b ∷ bs) (w ∷ ws) = Option·elim (numberUpTo b w) none (λ n. Option·elim (within bs ws) none (λ ns. some (n ∷ ns)))
+
+-- the numbers, where there are not more than `most`
+unfoldable pub atMost : (most : ℕ) → Option (List ℕ) → Option (List ℕ)
+atMost most o = Option·elim o none (λ ns. cond (leb (length ns) most) (some ns) none)
+
+-- row, context, limit, marks
+abbrev pub selectBounds : List ℕ
+selectBounds = maxNumber ∷ maxNumber ∷ maxLimit ∷ maxMarks ∷ []
+
+unfoldable pub named : Word → Option (List ℕ) → Option Command
+named w o = Option·elim o none (λ ns. some (command w ns))
+
+-- the command of a line's parts: the first part is its word, the others are its numbers
+unfoldable pub commandOf : List (List ℕ) → Option Command
+commandOf [] = none
+commandOf (w ∷ ws) =
+    cond (sameBytes w termBytes) (named term (within (replicate 4 maxNumber) ws))
+    (cond (sameBytes w stepBytes) (named step (within (replicate 5 maxNumber) ws))
+    (cond (sameBytes w selectBytes) (named select (within selectBounds ws))
+    (cond (sameBytes w documentBytes) (named document (atMost maxNumbers (allSome (map number ws))))
+    (cond (sameBytes w freshBytes) (named fresh (within [] ws)) none))))

@@ -1,0 +1,3 @@
+pub mod Command
+pub mod Read
+pub mod Values
