@@ -4,3 +4,4 @@ pub mod Parts
 pub mod LineRead
 pub mod Start
 pub mod Written
+pub mod SameBytes

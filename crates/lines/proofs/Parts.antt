@@ -11,7 +11,7 @@ use lib.ListN.{length, drop}
 use lib.Seq.{drop-length}
 use borrow.Author.Tests.{ne-eqb}
 use Rattle.lines.specs.Line.{newline, space, Line, lines, parts}
-use Rattle.lines.specs.Number.{digit0, isDigit, areDigits, isDecimal, andDigits, numberUpTo}
+use Rattle.lines.specs.Number.{digit0, isDigit, areDigits, isDecimal, appendDigits, numberUpTo}
 use Rattle.lines.specs.Read.{numberBefore, numberCut, NumberMet, firstParts}
 use Rattle.lines.proofs.Cutting.{Free, free-append, free-left, cut-at, Cutting, whole, in-two, cutting, parts-whole, parts-at, lines-at, no-whole-line, no-next-line}
 
@@ -119,9 +119,9 @@ digits-free e n (x ∷ w) d =
 
 -- a number has neither a space nor a newline in it
 number-free : (most e : ℕ) → isDigit e ≡ false → (w : List ℕ) (v : ℕ) → numberUpTo most w ≡ some v → Free e w
-number-free most e n w v s = digits-free e n w (decimal-digits w (by-test (isDecimal w) (leb (andDigits 0 w) most) s))
+number-free most e n w v s = digits-free e n w (decimal-digits w (by-test (isDecimal w) (leb (appendDigits 0 w) most) s))
   where
-    by-test : (a b : Bool) → cond (a && b) (some (andDigits 0 w)) none ≡ some v → a ≡ true
+    by-test : (a b : Bool) → cond (a && b) (some (appendDigits 0 w)) none ≡ some v → a ≡ true
     by-test true b t = refl
     by-test false b t = absurd (Option·none-ne-some _ t)
 

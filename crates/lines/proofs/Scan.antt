@@ -10,7 +10,7 @@ use lib.Dec.{leb, ltb, eqb}
 use lib.ListN.{length, getD, drop, drop-of-length-le}
 use lib.Seq.{drop-cons}
 use borrow.Author.Tests.{eqb-true, eqb-false, ne-eqb, eq-eqb, le-leb, lt-leb, leb-true, leb-false, lt-ltb, le-ltb, ltb-true}
-use Rattle.lines.specs.Number.{digit0, digit9, isDigit, areDigits, isDecimal, andDigit, andDigits, numberUpTo}
+use Rattle.lines.specs.Number.{digit0, digit9, isDigit, areDigits, isDecimal, appendDigit, appendDigits, numberUpTo}
 use Rattle.lines.specs.Read.{upTo, firstDigit, oneMore, Cut, bytesBefore, cut, NumberCut, numberBefore, numberCut, NumberMet}
 
 -- the number that the byte `end` ends, where n is read already
@@ -25,12 +25,12 @@ mayFollow n (x ∷ xs) = ltb 0 n && areDigits (x ∷ xs)
 
 -- n, the bytes w behind it, and the text r
 abbrev readBehind : (most n : ℕ) → Cut → Option NumberCut
-readBehind most n c = cond (mayFollow n (c .bytes) && leb (andDigits n (c .bytes)) most) (some (numberBefore (andDigits n (c .bytes)) (c .rest))) none
+readBehind most n c = cond (mayFollow n (c .bytes) && leb (appendDigits n (c .bytes)) most) (some (numberBefore (appendDigits n (c .bytes)) (c .rest))) none
 
-digits-grow : (w : List ℕ) (n : ℕ) → n ≤ andDigits n w
-unfolding andDigits
+digits-grow : (w : List ℕ) (n : ℕ) → n ≤ appendDigits n w
+unfolding appendDigits
 digits-grow [] n = omega arith
-digits-grow (x ∷ w) n = let h = digits-grow w (andDigit n x) in omega arith
+digits-grow (x ∷ w) n = let h = digits-grow w (appendDigit n x) in omega arith
 
 follow-positive : (w : List ℕ) (n : ℕ) → 0 < n → mayFollow n w ≡ areDigits w
 unfolding areDigits
@@ -38,26 +38,26 @@ follow-positive [] n h = refl
 follow-positive (x ∷ w) n h = rw (lt-ltb 0 n h)
 
 -- no digit makes a number smaller
-none-above : (most n : ℕ) (w r : List ℕ) (b : Bool) → most < n → none ≡ cond (b && leb (andDigits n w) most) (some (numberBefore (andDigits n w) r)) none
-none-above most n w r b h = let grow = digits-grow w n in rw (lt-leb (andDigits n w) most (omega arith)) (none-if b)
+none-above : (most n : ℕ) (w r : List ℕ) (b : Bool) → most < n → none ≡ cond (b && leb (appendDigits n w) most) (some (numberBefore (appendDigits n w) r)) none
+none-above most n w r b h = let grow = digits-grow w n in rw (lt-leb (appendDigits n w) most (omega arith)) (none-if b)
   where
-    none-if : (b : Bool) → none ≡ cond (b && false) (some (numberBefore (andDigits n w) r)) none
+    none-if : (b : Bool) → none ≡ cond (b && false) (some (numberBefore (appendDigits n w) r)) none
     none-if true = refl
     none-if false = refl
 
 -- one digit more, where it is taken and where it is not
 module _ (most n x : ℕ) (c : Cut) where
-  taken : 0 < n → isDigit x ≡ true → readBehind most (andDigit n x) c ≡ readBehind most n (bytesBefore (x ∷ c .bytes) (c .rest))
-  unfolding areDigits andDigits
-  taken h d = rw (follow-positive (c .bytes) (andDigit n x) (omega arith), lt-ltb 0 n h, d)
+  taken : 0 < n → isDigit x ≡ true → readBehind most (appendDigit n x) c ≡ readBehind most n (bytesBefore (x ∷ c .bytes) (c .rest))
+  unfolding areDigits appendDigits
+  taken h d = rw (follow-positive (c .bytes) (appendDigit n x) (omega arith), lt-ltb 0 n h, d)
 
-  refused : (a d f : Bool) → ltb 0 n ≡ a → isDigit x ≡ d → leb (andDigit n x) most ≡ f → (a && d && f) ≡ false
+  refused : (a d f : Bool) → ltb 0 n ≡ a → isDigit x ≡ d → leb (appendDigit n x) most ≡ f → (a && d && f) ≡ false
       → none ≡ readBehind most n (bytesBefore (x ∷ c .bytes) (c .rest))
-  unfolding areDigits andDigits
+  unfolding areDigits appendDigits
   refused false d f s t u e = rw s
   refused true false f s t u e = rw (s, t)
   refused true true true s t u e = absurd (false≢true (sym e))
-  refused true true false s t u e = rw (s, t) (none-above most (andDigit n x) (c .bytes) (c .rest) (areDigits (c .bytes)) (leb-false (andDigit n x) most u))
+  refused true true false s t u e = rw (s, t) (none-above most (appendDigit n x) (c .bytes) (c .rest) (areDigits (c .bytes)) (leb-false (appendDigit n x) most u))
 
 three-true : (a d f : Bool) → (a && d && f) ≡ true → (a ≡ true) × (d ≡ true) × (f ≡ true)
 three-true true true f e = (refl, refl, e)
@@ -69,28 +69,28 @@ scan-more : (most end n x : ℕ) (xs : List ℕ) → ((m : ℕ) → m ≤ most �
     → Option·elim (oneMore most n x) none (λ m. scan most end m xs)
     ≡ Option·elim (Option·elim (cut end xs) none (λ c. some (bytesBefore (x ∷ c .bytes) (c .rest)))) none (readBehind most n)
 unfolding oneMore Option·elim
-scan-more most end n x xs later = by-test (ltb 0 n && isDigit x && leb (andDigit n x) most) refl
+scan-more most end n x xs later = by-test (ltb 0 n && isDigit x && leb (appendDigit n x) most) refl
   where
     if-taken : (0 < n) → isDigit x ≡ true → (o : Option Cut)
-        → Option·elim o none (readBehind most (andDigit n x)) ≡ Option·elim (Option·elim o none (λ c. some (bytesBefore (x ∷ c .bytes) (c .rest)))) none (readBehind most n)
+        → Option·elim o none (readBehind most (appendDigit n x)) ≡ Option·elim (Option·elim o none (λ c. some (bytesBefore (x ∷ c .bytes) (c .rest)))) none (readBehind most n)
     if-taken h d none = refl
     if-taken h d (some c) = taken most n x c h d
 
-    if-refused : (ltb 0 n && isDigit x && leb (andDigit n x) most) ≡ false → (o : Option Cut)
+    if-refused : (ltb 0 n && isDigit x && leb (appendDigit n x) most) ≡ false → (o : Option Cut)
         → none ≡ Option·elim (Option·elim o none (λ c. some (bytesBefore (x ∷ c .bytes) (c .rest)))) none (readBehind most n)
     if-refused e none = refl
     if-refused e (some c) = refused most n x c _ _ _ refl refl refl e
 
-    by-test : (b : Bool) → (ltb 0 n && isDigit x && leb (andDigit n x) most) ≡ b
-        → Option·elim (cond b (some (andDigit n x)) none) none (λ m. scan most end m xs)
+    by-test : (b : Bool) → (ltb 0 n && isDigit x && leb (appendDigit n x) most) ≡ b
+        → Option·elim (cond b (some (appendDigit n x)) none) none (λ m. scan most end m xs)
         ≡ Option·elim (Option·elim (cut end xs) none (λ c. some (bytesBefore (x ∷ c .bytes) (c .rest)))) none (readBehind most n)
     by-test true e =
         let (a, d, f) = three-true _ _ _ e in
-        later (andDigit n x) (leb-true _ _ f) ∙ if-taken (ltb-true _ _ a) d (cut end xs)
+        later (appendDigit n x) (leb-true _ _ f) ∙ if-taken (ltb-true _ _ a) d (cut end xs)
     by-test false e = if-refused e (cut end xs)
 
 scan-cut : (most end : ℕ) (xs : List ℕ) (n : ℕ) → n ≤ most → scan most end n xs ≡ Option·elim (cut end xs) none (readBehind most n)
-unfolding scan cut Option·elim andDigits
+unfolding scan cut Option·elim appendDigits
 scan-cut most end [] n h = refl
 scan-cut most end (x ∷ xs) n h = by-end (eqb x end) (scan-more most end n x xs (scan-cut most end xs))
   where
@@ -137,11 +137,11 @@ number-if false n r = refl
 
 first-digit : (most x : ℕ) (c : Cut) → isDigit x ≡ true
     → Option·elim (numberUpTo most (x ∷ c .bytes)) none (λ n. some (numberBefore n (c .rest))) ≡ readBehind most (x - digit0) c
-unfolding andDigits
+unfolding appendDigits
 first-digit most x c d =
     let z : 10 * 0 + (x - digit0) ≡ x - digit0 = omega arith in
     rw (z, decimal-first x (c .bytes) d)
-    (number-if (mayFollow (x - digit0) (c .bytes) && leb (andDigits (x - digit0) (c .bytes)) most) (andDigits (x - digit0) (c .bytes)) (c .rest))
+    (number-if (mayFollow (x - digit0) (c .bytes) && leb (appendDigits (x - digit0) (c .bytes)) most) (appendDigits (x - digit0) (c .bytes)) (c .rest))
 
 no-first-digit : (most x : ℕ) (c : Cut) → isDigit x ≡ false → Option·elim (numberUpTo most (x ∷ c .bytes)) none (λ n. some (numberBefore n (c .rest))) ≡ none
 unfolding Option·elim
@@ -205,11 +205,11 @@ module _ (most n x : ℕ) where
   unfolding oneMore
   behind-no-digit d = rw d (none-if (ltb 0 n))
     where
-      none-if : (b : Bool) → none ≡ cond (b && false && leb (andDigit n x) most) (some (andDigit n x)) none
+      none-if : (b : Bool) → none ≡ cond (b && false && leb (appendDigit n x) most) (some (appendDigit n x)) none
       none-if true = refl
       none-if false = refl
 
-  pub behind-digit : ¬ (n ≡ 0) → isDigit x ≡ true → upTo most (andDigit n x) ≡ oneMore most n x
+  pub behind-digit : ¬ (n ≡ 0) → isDigit x ≡ true → upTo most (appendDigit n x) ≡ oneMore most n x
   unfolding oneMore upTo
   behind-digit h d = rw (lt-ltb 0 n (omega arith), d)
 
@@ -262,7 +262,7 @@ first-digit-fits most end x m e = fits-if most m (x - digit0) _ (λ t. leb-true 
 
 pub one-more-fits : (most n x m : ℕ) → some m ≡ oneMore most n x → m ≤ most
 unfolding oneMore
-one-more-fits most n x m e = fits-if most m (andDigit n x) _ (λ t. leb-true (andDigit n x) most (three-true (ltb 0 n) (isDigit x) _ t .2)) e
+one-more-fits most n x m e = fits-if most m (appendDigit n x) _ (λ t. leb-true (appendDigit n x) most (three-true (ltb 0 n) (isDigit x) _ t .2)) e
 
 pub scan-past : (most end : ℕ) (xs : List ℕ) (i n : ℕ) → length xs ≤ i → scan most end n (drop i xs) ≡ none
 unfolding scan

@@ -9,7 +9,7 @@ use lib.Dec.{ltb}
 use lib.ListN.{length, drop}
 use borrow.Author.Tests.{le-leb, ltb-true, ltb-false, ne-eqb}
 use Rattle.lines.specs.Line.{newline, space, lines}
-use Rattle.lines.specs.Number.{digit0, digit9, maxNumber, isDigit, areDigits, isDecimal, andDigit, andDigits, number}
+use Rattle.lines.specs.Number.{digit0, digit9, maxNumber, isDigit, areDigits, isDecimal, appendDigit, appendDigits, number}
 use Rattle.lines.specs.Written.{digitsOf, decimal, AllFit, lineText}
 use Rattle.lines.specs.Read.{firstNumbers}
 use Rattle.lines.proofs.LineRead.{number-and-space, number-and-newline}
@@ -27,10 +27,10 @@ digits-append (x ∷ xs) ys a b = by-test (isDigit x) a (λ e. digits-append xs 
     by-test true e later = later e
     by-test false e later = absurd (false≢true e)
 
-and-digits-append : (xs ys : List ℕ) (n : ℕ) → andDigits n (xs ++ ys) ≡ andDigits (andDigits n xs) ys
-unfolding andDigits
+and-digits-append : (xs ys : List ℕ) (n : ℕ) → appendDigits n (xs ++ ys) ≡ appendDigits (appendDigits n xs) ys
+unfolding appendDigits
 and-digits-append [] ys n = refl
-and-digits-append (x ∷ xs) ys n = and-digits-append xs ys (andDigit n x)
+and-digits-append (x ∷ xs) ys n = and-digits-append xs ys (appendDigit n x)
 
 -- the digits of n: the first one, which is 0 only for n = 0, and the others, of which 0 has none
 record Decimal (n : ℕ) (w : List ℕ) : Type 0 where
@@ -39,12 +39,12 @@ record Decimal (n : ℕ) (w : List ℕ) : Type 0 where
   pub bytes : w ≡ first ∷ others
   pub digit : isDigit first ≡ true
   pub digits : areDigits others ≡ true
-  pub value : andDigits 0 w ≡ n
+  pub value : appendDigits 0 w ≡ n
   pub proper : 0 < n → ¬ (first ≡ digit0)
   pub single : n ≡ 0 → others ≡ []
 
 decimals : (k n : ℕ) → n < k → Decimal n (digitsOf k n)
-unfolding digitsOf andDigits areDigits
+unfolding digitsOf appendDigits areDigits
 decimals zero n h = absurd (omega arith)
 decimals (suc k) n h = by-test (ltb n 10) refl (decimals k (n / 10))
   where

@@ -30,16 +30,16 @@ isDecimal (x ∷ []) = isDigit x
 isDecimal (x ∷ y ∷ xs) = isDigit x && not (eqb x digit0) && areDigits (y ∷ xs)
 
 -- the number n with one more digit behind it
-abbrev pub andDigit : ℕ → ℕ → ℕ
-andDigit n x = 10 * n + (x - digit0)
+abbrev pub appendDigit : ℕ → ℕ → ℕ
+appendDigit n x = 10 * n + (x - digit0)
 
-unfoldable pub andDigits : ℕ → List ℕ → ℕ
-andDigits n [] = n
-andDigits n (x ∷ xs) = andDigits (andDigit n x) xs
+unfoldable pub appendDigits : ℕ → List ℕ → ℕ
+appendDigits n [] = n
+appendDigits n (x ∷ xs) = appendDigits (appendDigit n x) xs
 
 -- the number that the bytes write; none where they write no number, or one above `most`
 abbrev pub numberUpTo : (most : ℕ) → List ℕ → Option ℕ
-numberUpTo most xs = cond (isDecimal xs && leb (andDigits 0 xs) most) (some (andDigits 0 xs)) none
+numberUpTo most xs = cond (isDecimal xs && leb (appendDigits 0 xs) most) (some (appendDigits 0 xs)) none
 
 -- a number that a line of numbers may have
 unfoldable pub number : List ℕ → Option ℕ

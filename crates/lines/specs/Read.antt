@@ -9,7 +9,7 @@ use lib.ListN.{length, drop}
 use Rattle.lines.specs.declared.Digits.{Digits}
 use Rattle.lines.specs.declared.Digits.the-variants as DigitsCases
 use Rattle.lines.specs.Line.{Line, lines, parts}
-use Rattle.lines.specs.Number.{digit0, isDigit, andDigit, numberUpTo, numbersOf}
+use Rattle.lines.specs.Number.{digit0, isDigit, appendDigit, numberUpTo, numbersOf}
 
 unfoldable pub upTo : (most n : ℕ) → Option ℕ
 upTo most n = cond (leb n most) (some n) none
@@ -20,11 +20,11 @@ firstDigit most end x = cond (not (eqb x end) && isDigit x && leb (x - digit0) m
 
 -- the number n, of at least one digit, with one more digit x behind it; no digit stands behind a 0
 unfoldable pub oneMore : (most n x : ℕ) → Option ℕ
-oneMore most n x = cond (ltb 0 n && isDigit x && leb (andDigit n x) most) (some (andDigit n x)) none
+oneMore most n x = cond (ltb 0 n && isDigit x && leb (appendDigit n x) most) (some (appendDigit n x)) none
 
-abbrev pub written : Digits → Option ℕ
-written (DigitsCases.Write n) = some n
-written DigitsCases.Nothing = none
+abbrev pub writtenNumber : Digits → Option ℕ
+writtenNumber (DigitsCases.Write n) = some n
+writtenNumber DigitsCases.Nothing = none
 
 -- bytes, and the text after them
 pub record Cut : Type 0 where
@@ -71,7 +71,8 @@ unfoldable pub firstNumbers : (count : ℕ) → List Line → Option (List ℕ)
 firstNumbers count [] = none
 firstNumbers count (l ∷ ls) = numbersOf count l
 
--- the line that starts at `at` of the text xs: whether it has `count` numbers, which, and where the next line starts
+-- the line that starts at `at` of the text xs: whether it has `count` numbers, which, and where the next line starts; of any other line the
+-- numbers and `next` are left open, since no paper gives them a meaning
 pub record LineMet (count : ℕ) (xs : List ℕ) (at : ℕ) (ok : Bool) (ns : List ℕ) (next : ℕ) : Type 0 where
   pub numbers : cond ok (some ns) none ≡ firstNumbers count (lines (drop at xs))
   pub rest : ok ≡ true → lines (drop next xs) ≡ drop 1 (lines (drop at xs))

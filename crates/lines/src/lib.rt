@@ -7,7 +7,7 @@ ghost use Prim.Native.Nat.{_-_, _<_, _≤_};
 ghost use lib.ListN.{length, drop};
 ghost use Rattle.lines.specs.Line.{newline};
 ghost use Rattle.lines.specs.Number.{digit0, maxNumber, isDigit};
-ghost use Rattle.lines.specs.Read.{upTo, firstDigit, oneMore, written, NumberMet, LineMet, startsWith};
+ghost use Rattle.lines.specs.Read.{upTo, firstDigit, oneMore, writtenNumber, NumberMet, LineMet, startsWith};
 
 const NEWLINE: u8 = 10;
 
@@ -78,7 +78,7 @@ fn digit(b: u8) -> u64
 }
 
 fn up_to(most: u32, value: u64) -> Digits
-    ensures { λ r. ⌜ written r ≡ upTo most value ⌝ }
+    ensures { λ r. ⌜ writtenNumber r ≡ upTo most value ⌝ }
 {
     if (most as u64) < value {
         return Digits::Nothing;
@@ -88,7 +88,7 @@ fn up_to(most: u32, value: u64) -> Digits
 
 // The number that b writes where a number starts.
 fn first_digit(most: u32, end: u8, b: u8) -> Digits
-    ensures { λ r. ⌜ written r ≡ firstDigit most end b ⌝ }
+    ensures { λ r. ⌜ writtenNumber r ≡ firstDigit most end b ⌝ }
 {
     if b == end {
         return Digits::Nothing;
@@ -101,7 +101,7 @@ fn first_digit(most: u32, end: u8, b: u8) -> Digits
 
 // The digits that write `value`, and b behind them. No digit may stand behind a 0.
 fn one_more(most: u32, value: u32, b: u8) -> Digits
-    ensures { λ r. ⌜ written r ≡ oneMore most value b ⌝ }
+    ensures { λ r. ⌜ writtenNumber r ≡ oneMore most value b ⌝ }
 {
     if value == 0 {
         return Digits::Nothing;

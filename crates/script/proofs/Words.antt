@@ -1,13 +1,12 @@
 -- The first word of a line says which call it is. Assumes nothing.
 use Prim.Native.Nat.{ℕ, _+_}
 use mathlib.Core.Path.{_≡_, refl, sym, ap, _∙_}
-use mathlib.Core.Bool.{Bool, true, false, cond, _&&_, false≢true}
+use mathlib.Core.Bool.{Bool, true, false, cond, false≢true}
 use mathlib.Core.List.{List, [], _∷_, _++_, append-assoc}
 use mathlib.Core.Option.{Option, none, some, Option·elim}
 use native.Mathlib.Omega.{arith}
-use lib.Dec.{eqb}
 use lib.ListN.{length, drop, length-append}
-use borrow.Author.Tests.{eqb-true}
+use Rattle.lines.specs.Ascii.{ascii}
 use Rattle.lines.specs.Line.{newline, space, lines, sameBytes}
 use Rattle.lines.specs.Read.{firstParts, startsWith}
 use Rattle.lines.proofs.Cutting.{lacks, lacks-free, lines-at, no-whole-line}
@@ -16,6 +15,7 @@ use Rattle.lines.proofs.Parts.{FirstPart, no-line, only-part, part-before, firs
 use Rattle.script.specs.declared.Call.{Call}
 use Rattle.script.specs.declared.Call.the-variants as CallCases
 use Rattle.script.specs.declared.CallLine.{CallLine}
+use Rattle.lines.proofs.SameBytes.{same-bytes}
 use Rattle.script.specs.Command.{Command, termBytes, stepBytes, selectBytes, documentBytes, freshBytes, within, named, commandOf}
 use Rattle.script.specs.Read.{noNumbers, callLine, countOf, marksOf, commandIn, CallMet}
 use Rattle.script.proofs.Calls.{no-numbers-size, no-call, is-call}
@@ -65,17 +65,6 @@ module _ (w : List ℕ) (no-newline : lacks newline w ≡ true) (no-space : lack
       (omega arith)
       (omega (arith, start .inside (omega (arith, size)), size))
 
-same-bytes : (xs ys : List ℕ) → sameBytes xs ys ≡ true → xs ≡ ys
-unfolding sameBytes
-same-bytes [] [] e = refl
-same-bytes [] (y ∷ ys) e = absurd (false≢true e)
-same-bytes (x ∷ xs) [] e = absurd (false≢true e)
-same-bytes (x ∷ xs) (y ∷ ys) e = by-test (eqb x y) refl e (same-bytes xs ys)
-  where
-    by-test : (b : Bool) → eqb x y ≡ b → (b && sameBytes xs ys) ≡ true → (sameBytes xs ys ≡ true → xs ≡ ys) → x ∷ xs ≡ y ∷ ys
-    by-test true s t later = λ i. eqb-true x y s i ∷ later t i
-    by-test false s t later = absurd (false≢true t)
-
 -- one word after the other is tried; a word that the line has asks for numbers that it has not
 by-word : (w y : List ℕ) (found others : Option Command) → (w ≡ y → found ≡ none) → others ≡ none → cond (sameBytes w y) found others ≡ none
 by-word w y found others h o = by-test (sameBytes w y) refl
@@ -97,7 +86,7 @@ module _ (xs : List ℕ) (at : ℕ)
     not-so w y r e t n s i = absurd (false≢true (sym n ∙ ap (startsWith (y ++ e ∷ [])) (t ∙ ap (λ v. v ++ e ∷ r) i) ∙ s))
 
     pub no-word : CallMet commandOf xs at (callLine CallCases.Other (length xs))
-    unfolding commandOf named within Option·elim startsWith
+    unfolding ascii commandOf named within Option·elim startsWith
     no-word = no-call commandOf xs at (by-part (first-part (drop at xs)))
       where
         by-part : FirstPart (drop at xs) → firstParts commandOf (lines (drop at xs)) ≡ none

@@ -5,6 +5,7 @@ use mathlib.Core.List.{List, [], _∷_, map}
 use mathlib.Core.Option.{Option, none, some, Option·elim}
 use lib.Dec.{leb}
 use lib.ListN.{length, replicate}
+use Rattle.lines.specs.Ascii.{ascii}
 use Rattle.lines.specs.Line.{sameBytes}
 use Rattle.lines.specs.Number.{maxNumber, numberUpTo, number, allSome}
 
@@ -22,21 +23,20 @@ pub record Command : Type 0 where
 abbrev pub command : Word → List ℕ → Command
 command w ns = record { word = w; numbers = ns }
 
--- the words in ASCII: term, step, select, document, fresh
 abbrev pub termBytes : List ℕ
-termBytes = 116 ∷ 101 ∷ 114 ∷ 109 ∷ []
+termBytes = ascii "term"
 
 abbrev pub stepBytes : List ℕ
-stepBytes = 115 ∷ 116 ∷ 101 ∷ 112 ∷ []
+stepBytes = ascii "step"
 
 abbrev pub selectBytes : List ℕ
-selectBytes = 115 ∷ 101 ∷ 108 ∷ 101 ∷ 99 ∷ 116 ∷ []
+selectBytes = ascii "select"
 
 abbrev pub documentBytes : List ℕ
-documentBytes = 100 ∷ 111 ∷ 99 ∷ 117 ∷ 109 ∷ 101 ∷ 110 ∷ 116 ∷ []
+documentBytes = ascii "document"
 
 abbrev pub freshBytes : List ℕ
-freshBytes = 102 ∷ 114 ∷ 101 ∷ 115 ∷ 104 ∷ []
+freshBytes = ascii "fresh"
 
 -- the largest limit of visits, the longest marks buffer, and the most numbers of a document
 abbrev pub maxLimit : ℕ

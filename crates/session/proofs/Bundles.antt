@@ -10,7 +10,7 @@ use Rattle.terms.specs.Row.{Row}
 use Rattle.rules.specs.Lists.{Every}
 use Rattle.lines.specs.Ascii.{ascii}
 use Rattle.lines.specs.Line.{newline, Line, line, inFirstPart, lines, parts, sameBytes, isLine, firstIs}
-use Rattle.lines.specs.Number.{isDigit, isDecimal, andDigits, number, allSome, exactly, numbersOf}
+use Rattle.lines.specs.Number.{isDigit, isDecimal, appendDigits, number, allSome, exactly, numbersOf}
 use Rattle.lines.specs.Read.{firstNumbers}
 use Rattle.lines.proofs.Cutting.{lines-at}
 use Rattle.lines.proofs.Written.{line-reads-back}
@@ -33,7 +33,7 @@ use Rattle.session.proofs.Views.{fresh-view}
 
 -- the second names line is no term line
 no-row-in-names : numbersOf rowWidth (line stepNames true) ≡ none
-unfolding numbersOf exactly allSome number isDecimal isDigit andDigits parts inFirstPart stepNames ascii Option·elim
+unfolding numbersOf exactly allSome number isDecimal isDigit appendDigits parts inFirstPart stepNames ascii Option·elim
 no-row-in-names = refl
 
 not-names : (ls : List Line) (ns : List ℕ) → firstNumbers rowWidth ls ≡ some ns → firstIs stepNames ls ≡ false

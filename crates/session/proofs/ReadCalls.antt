@@ -5,12 +5,12 @@ use mathlib.Core.Bool.{Bool, true, false, cond, _&&_, false≢true}
 use mathlib.Core.List.{List, [], _∷_, _++_, map}
 use mathlib.Core.Option.{Option, none, some, Option·elim}
 use native.Mathlib.Omega.{arith}
-use lib.Dec.{eqb}
 use lib.ListN.{length}
 use borrow.Author.Tests.{eqb-true, eqb-false}
 use Rattle.terms.specs.Row.{Row}
 use Rattle.rules.specs.Lists.{Every}
 use Rattle.lines.specs.Line.{Line, line, lines, sameBytes, isLine}
+use Rattle.lines.proofs.SameBytes.{same-bytes}
 use Rattle.session.specs.declared.Session.{Session}
 use Rattle.session.specs.declared.ReadResult.{ReadResult}
 use Rattle.session.specs.Book.{Step, Answer, answer, accepted}
@@ -29,17 +29,6 @@ use Rattle.session.proofs.Demand3.{demand3}
 use Rattle.session.proofs.Simulation.{fresh-kept}
 use Rattle.session.proofs.StepsAdded.{calls-added}
 use Rattle.session.proofs.Views.{fresh-view}
-
-same-bytes : (xs ys : List ℕ) → sameBytes xs ys ≡ true → xs ≡ ys
-unfolding sameBytes
-same-bytes [] [] e = refl
-same-bytes [] (y ∷ ys) e = absurd (false≢true e)
-same-bytes (x ∷ xs) [] e = absurd (false≢true e)
-same-bytes (x ∷ xs) (y ∷ ys) e = by-test (eqb x y) refl e (same-bytes xs ys)
-  where
-    by-test : (b : Bool) → eqb x y ≡ b → (b && sameBytes xs ys) ≡ true → (sameBytes xs ys ≡ true → xs ≡ ys) → x ∷ xs ≡ y ∷ ys
-    by-test true s t later = λ i. eqb-true x y s i ∷ later t i
-    by-test false s t later = absurd (false≢true t)
 
 -- the line is the bytes and a newline
 pub is-line : (ys : List ℕ) (l : Line) → isLine ys l ≡ true → l ≡ line ys true

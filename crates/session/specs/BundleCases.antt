@@ -16,7 +16,7 @@ use Rattle.rules.specs.Decision as decision
 use Rattle.rules.specs.Decision.{yields-dec}
 use Rattle.lines.specs.Ascii.{ascii}
 use Rattle.lines.specs.Line.{inFirstLine, lines, inFirstPart, parts, sameBytes, isLine}
-use Rattle.lines.specs.Number.{isDigit, areDigits, isDecimal, andDigits, number, allSome, exactly, numbersOf}
+use Rattle.lines.specs.Number.{isDigit, areDigits, isDecimal, appendDigits, number, allSome, exactly, numbersOf}
 use Rattle.session.specs.declared.Report.{Report}
 use Rattle.session.specs.TermCall.{termAnswer}
 use Rattle.session.specs.StepCall.{sameSort, badSide, premiseOk, badPremise, claimOf, premisesOf, stepAnswerBy, isYielded, stepAnswer}
@@ -105,5 +105,5 @@ reports :
     -- the rows are those of the last step
     ∷ audited (example ++ "2 1 1 0 0\n") is reportBy 0 0 2 1 1
     ∷ [])
-unfolding ascii report reading linesRead rowsRead stepsRead rowNames stepNames rowOfLine stepOfLine lines inFirstLine parts inFirstPart sameBytes isLine numbersOf exactly allSome number isDecimal areDigits isDigit andDigits Option·elim view tableOf stepsOf freshSession withRow withStep termAnswer badPlace fieldsOf fieldOk heldPath heldQualifier isPath isQualifier nesting nestings entriesFrom nestingBy operandNesting find sameRow stepAnswer stepAnswerBy sameSort badSide premiseOk badPremise claimOf premisesOf isYielded says termAt terms termBy asPath asQualifier premiseCount firstCount formsOf formsIn rules decide yields-dec decision.someFormFits
+unfolding ascii report reading linesRead rowsRead stepsRead rowNames stepNames rowOfLine stepOfLine lines inFirstLine parts inFirstPart sameBytes isLine numbersOf exactly allSome number isDecimal areDigits isDigit appendDigits Option·elim view tableOf stepsOf freshSession withRow withStep termAnswer badPlace fieldsOf fieldOk heldPath heldQualifier isPath isQualifier nesting nestings entriesFrom nestingBy operandNesting find sameRow stepAnswer stepAnswerBy sameSort badSide premiseOk badPremise claimOf premisesOf isYielded says termAt terms termBy asPath asQualifier premiseCount firstCount formsOf formsIn rules decide yields-dec decision.someFormFits
 reports = refl

@@ -3,7 +3,7 @@ use Prim.Native.Nat.{_+_, _-_, _≤_, _<_}
 use mathlib.Core.Path.{_≡_, sym, ap, _∙_}
 use native.Mathlib.Omega.{arith}
 use lib.ListN.{length, getD, drop}
-use Rattle.lines.specs.Read.{written, numberCut}
+use Rattle.lines.specs.Read.{writtenNumber, numberCut}
 use borrow.Author.Needs.{needs}
 use Rattle.lines.proofs.Scan.{scan, number-met, no-number-met, nothing-there, no-digit-there, digit-there, end-there, stops-there, goes-on-there, first-digit-fits, one-more-fits, scan-past}
 use Rattle.lines.proofs.number_at.Statement.{statement}
@@ -38,7 +38,7 @@ no-number-requires-2 : tie.Need-no-number-requires-2 Inv-loop μ-loop
 no-number-requires-2 c κs = search needs
 
 returns-2 : tie.Need-returns-2 Inv-loop μ-loop
-returns-2 c = let told = ap written (sym (c .before .enum-told .given .1)) ∙ c .before .before .before .first-digit .ensures in
+returns-2 c = let told = ap writtenNumber (sym (c .before .enum-told .given .1)) ∙ c .before .before .before .first-digit .ensures in
     no-number-met _ _ _ _ _ _ _ (c .no-number2 .ensures) (no-digit-there _ _ _ _ (c .before .before .before .before .before .if1 .left) told)
 
 add-i : tie.Need-add-i Inv-loop μ-loop
@@ -46,7 +46,7 @@ add-i c = omega arith
 
 loop-holds : tie.Need-loop-holds Inv-loop μ-loop
 loop-holds c = let a = c .before .before .before .before .before .before .before .args in
-    let told = ap written (sym (c .before .first .given .1)) ∙ c .before .before .before .first-digit .ensures in
+    let told = ap writtenNumber (sym (c .before .first .given .1)) ∙ c .before .before .before .first-digit .ensures in
     (omega arith, omega arith, first-digit-fits (a .most) (a .end) (getD (a .bytes .now) (a .at) 0) _ told, digit-there _ _ _ _ (c .before .before .before .before .before .if1 .left) _ told)
 
 shared-slice-read-b : tie.Need-shared-slice-read-b Inv-loop μ-loop
@@ -73,7 +73,7 @@ no-number-requires-3 c κs = search needs
 
 returns-4 : tie.Need-returns-4 Inv-loop μ-loop
 returns-4 c = let a = c .before .before .before .before .before .before .before .before .before .before .before .before .before .before .before .args in let l = c .before .before .before .before .before .before .before .loop in
-    let told = ap written (sym (c .before .enum-told2 .given .1)) ∙ c .before .before .before .one-more .ensures in
+    let told = ap writtenNumber (sym (c .before .enum-told2 .given .1)) ∙ c .before .before .before .one-more .ensures in
     no-number-met _ _ _ _ _ _ _ (c .no-number3 .ensures)
     (stops-there (a .most) (a .end) (a .bytes .now) (a .at) (l .i) (l .value) (c .before .before .before .before .before .before .loop-test .taken) (l .inv .3) (c .before .before .before .before .if2 .left) told)
 
@@ -85,7 +85,7 @@ loop-less c = omega arith
 
 loop-again : tie.Need-loop-again Inv-loop μ-loop
 loop-again c = let a = c .before .before .before .before .before .before .before .before .before .before .before .before .before .before .before .args in let l = c .before .before .before .before .before .before .before .loop in
-    let told = ap written (sym (c .before .more .given .1)) ∙ c .before .before .before .one-more .ensures in (
+    let told = ap writtenNumber (sym (c .before .more .given .1)) ∙ c .before .before .before .one-more .ensures in (
       omega arith,
       omega arith,
       one-more-fits (a .most) (l .value) (getD (a .bytes .now) (l .i) 0) _ told,

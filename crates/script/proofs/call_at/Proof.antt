@@ -4,6 +4,7 @@ use mathlib.Core.List.{[], _∷_, _++_}
 use mathlib.Core.Option.{Option·elim}
 use native.Mathlib.Omega.{arith}
 use borrow.Author.Needs.{needs}
+use Rattle.lines.specs.Ascii.{ascii}
 use Rattle.lines.specs.Line.{newline, space, sameBytes}
 use Rattle.lines.specs.Number.{allSome}
 use Rattle.lines.proofs.Cutting.{lacks}
@@ -22,6 +23,7 @@ starts-with-requires : tie.Need-starts-with-requires
 starts-with-requires c κs = search needs
 
 add-term-call : tie.Need-add-term-call
+unfolding ascii
 add-term-call c = let a = c .before .before .before .before .args in
     omega (arith, starts (termBytes ++ space ∷ []) (a .bytes .now) (a .at) (sym (c .before .starts-with .ensures) ∙ c .if1 .taken) .inside (omega arith))
 
@@ -29,7 +31,7 @@ term-call-requires : tie.Need-term-call-requires
 term-call-requires c κs = search needs
 
 returns : tie.Need-returns
-unfolding lacks commandOf sameBytes
+unfolding ascii lacks commandOf sameBytes
 returns c = let a = c .before .before .before .before .before .args in
     word-and-numbers termBytes refl refl (a .bytes .now) (a .at) _ (λ ws. refl) (sym (c .before .before .starts-with .ensures) ∙ c .before .if1 .taken) _ (c .term-call .ensures)
 
@@ -40,6 +42,7 @@ starts-with-requires-2 : tie.Need-starts-with-requires-2
 starts-with-requires-2 c κs = search needs
 
 add-step-call : tie.Need-add-step-call
+unfolding ascii
 add-step-call c = let a = c .before .before .before .before .before .before .before .args in
     omega (arith, starts (stepBytes ++ space ∷ []) (a .bytes .now) (a .at) (sym (c .before .starts-with2 .ensures) ∙ c .if2 .taken) .inside (omega arith))
 
@@ -47,7 +50,7 @@ step-call-requires : tie.Need-step-call-requires
 step-call-requires c κs = search needs
 
 returns-2 : tie.Need-returns-2
-unfolding lacks commandOf sameBytes
+unfolding ascii lacks commandOf sameBytes
 returns-2 c = let a = c .before .before .before .before .before .before .before .before .args in
     word-and-numbers stepBytes refl refl (a .bytes .now) (a .at) _ (λ ws. refl) (sym (c .before .before .starts-with2 .ensures) ∙ c .before .if2 .taken) _ (c .step-call .ensures)
 
@@ -58,6 +61,7 @@ starts-with-requires-3 : tie.Need-starts-with-requires-3
 starts-with-requires-3 c κs = search needs
 
 add-select-call : tie.Need-add-select-call
+unfolding ascii
 add-select-call c = let a = c .before .before .before .before .before .before .before .before .before .before .args in
     omega (arith, starts (selectBytes ++ space ∷ []) (a .bytes .now) (a .at) (sym (c .before .starts-with3 .ensures) ∙ c .if3 .taken) .inside (omega arith))
 
@@ -65,7 +69,7 @@ select-call-requires : tie.Need-select-call-requires
 select-call-requires c κs = search needs
 
 returns-3 : tie.Need-returns-3
-unfolding lacks commandOf sameBytes
+unfolding ascii lacks commandOf sameBytes
 returns-3 c = let a = c .before .before .before .before .before .before .before .before .before .before .before .args in
     word-and-numbers selectBytes refl refl (a .bytes .now) (a .at) _ (λ ws. refl) (sym (c .before .before .starts-with3 .ensures) ∙ c .before .if3 .taken) _ (c .select-call .ensures)
 
@@ -76,6 +80,7 @@ starts-with-requires-4 : tie.Need-starts-with-requires-4
 starts-with-requires-4 c κs = search needs
 
 add-document-call : tie.Need-add-document-call
+unfolding ascii
 add-document-call c = let a = c .before .before .before .before .before .before .before .before .before .before .before .before .before .args in
     omega (arith, starts (documentBytes ++ space ∷ []) (a .bytes .now) (a .at) (sym (c .before .starts-with4 .ensures) ∙ c .if4 .taken) .inside (omega arith))
 
@@ -83,7 +88,7 @@ document-call-requires : tie.Need-document-call-requires
 document-call-requires c κs = search needs
 
 returns-4 : tie.Need-returns-4
-unfolding lacks commandOf sameBytes
+unfolding ascii lacks commandOf sameBytes
 returns-4 c = let a = c .before .before .before .before .before .before .before .before .before .before .before .before .before .before .args in
     word-and-numbers documentBytes refl refl (a .bytes .now) (a .at) _ (λ ws. refl) (sym (c .before .before .starts-with4 .ensures) ∙ c .before .if4 .taken) _ (c .document-call .ensures)
 
@@ -94,6 +99,7 @@ is-line-requires : tie.Need-is-line-requires
 is-line-requires c κs = search needs
 
 add-call-line : tie.Need-add-call-line
+unfolding ascii
 add-call-line c = let a = c .before .before .before .before .before .before .before .before .before .before .before .before .before .before .before .before .args in
     omega (arith, starts (documentBytes ++ newline ∷ []) (a .bytes .now) (a .at) (sym (c .before .is-line .ensures) ∙ c .if5 .taken) .inside (omega arith))
 
@@ -101,7 +107,7 @@ call-line-requires : tie.Need-call-line-requires
 call-line-requires c κs = search needs
 
 returns-5 : tie.Need-returns-5
-unfolding lacks commandOf sameBytes named atMost within allSome Option·elim
+unfolding ascii lacks commandOf sameBytes named atMost within allSome Option·elim
 returns-5 c = let a = c .before .before .before .before .before .before .before .before .before .before .before .before .before .before .before .before .before .args in
     rw (c .call-line .ensures) (word-alone documentBytes refl refl (a .bytes .now) (a .at) (CallCases.Document 0) _ refl refl refl refl (sym (c .before .before .is-line .ensures) ∙ c .before .if5 .taken))
 
@@ -112,6 +118,7 @@ is-line-requires-2 : tie.Need-is-line-requires-2
 is-line-requires-2 c κs = search needs
 
 add-call-line-2 : tie.Need-add-call-line-2
+unfolding ascii
 add-call-line-2 c = let a = c .before .before .before .before .before .before .before .before .before .before .before .before .before .before .before .before .before .before .before .args in
     omega (arith, starts (freshBytes ++ newline ∷ []) (a .bytes .now) (a .at) (sym (c .before .is-line2 .ensures) ∙ c .if6 .taken) .inside (omega arith))
 
@@ -119,7 +126,7 @@ call-line-requires-2 : tie.Need-call-line-requires-2
 call-line-requires-2 c κs = search needs
 
 returns-6 : tie.Need-returns-6
-unfolding lacks commandOf sameBytes named atMost within allSome Option·elim
+unfolding ascii lacks commandOf sameBytes named atMost within allSome Option·elim
 returns-6 c = let a = c .before .before .before .before .before .before .before .before .before .before .before .before .before .before .before .before .before .before .before .before .args in
     rw (c .call-line2 .ensures) (word-alone freshBytes refl refl (a .bytes .now) (a .at) CallCases.Fresh _ refl refl refl refl (sym (c .before .before .is-line2 .ensures) ∙ c .before .if6 .taken))
 
@@ -127,6 +134,7 @@ other-requires : tie.Need-other-requires
 other-requires c κs = search needs
 
 returns-7 : tie.Need-returns-7
+unfolding ascii
 returns-7 c = let a = c .before .before .before .before .before .before .before .before .before .before .before .before .before .before .before .before .before .before .before .before .args in
     rw (c .other .ensures)
     (no-word (a .bytes .now) (a .at)
