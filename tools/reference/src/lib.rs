@@ -1,5 +1,5 @@
-//! A plain implementation of the scope document ("01"), written from that document and its readings in docs/DECISIONS.md
-//! without a look at the proved code, to hold the proved programs against. It needs Rust's standard library alone.
+//! A plain implementation of the scope document ("01") and of its readings in docs/DECISIONS.md, to hold the proved programs
+//! against. It shares nothing with their code. It needs Rust's standard library alone.
 //!
 //! ```text
 //! cargo test                                  01's examples, log cases, limits and refusals
