@@ -2,7 +2,7 @@
 ghost use mathlib.Core.Path.{_≡_};
 ghost use lib.ListN.{length};
 ghost use Rattle.terms.specs.Row.{tableOf};
-ghost use Rattle.session.specs.SelectCall.{selectAnswer, selectBuffer};
+ghost use Rattle.calls.specs.SelectCall.{selectAnswer, selectBuffer};
 
 // The number of the answer; the marks are written as `Session::select` writes them.
 #[no_mangle]
@@ -17,6 +17,6 @@ pub extern "C" fn bench_select(
     ensures { λ r. ⌜ r ≡ selectAnswer (tableOf (now (rows .entry))) row (now (document .entry)) context limit (length (now (marks .entry))) .number ⌝ }
     ensures { λ _. ⌜ now (marks .exit) ≡ selectBuffer (tableOf (now (rows .entry))) row (now (document .entry)) context limit (now (marks .entry)) ⌝ }
 {
-    let answer = session::select_on(rows, row, document, context, limit, marks);
+    let answer = calls::select_on(rows, row, document, context, limit, marks);
     answer.number()
 }

@@ -6,10 +6,10 @@ use mathlib.Core.List.{List, [], _∷_, _++_, append-assoc}
 use mathlib.Core.Option.{some, Option·elim}
 use native.Mathlib.Omega.{arith}
 use lib.Dec.{ltb}
-use lib.ListN.{length, drop}
+use lib.ListN.{length, drop, replicate}
 use borrow.Author.Tests.{le-leb, ltb-true, ltb-false, ne-eqb}
 use Rattle.lines.specs.Line.{newline, space, lines}
-use Rattle.lines.specs.Number.{digit0, digit9, maxNumber, isDigit, areDigits, isDecimal, appendDigit, appendDigits, number}
+use Rattle.lines.specs.Number.{digit0, digit9, maxNumber, isDigit, areDigits, isDecimal, appendDigit, appendDigits, numberUpTo}
 use Rattle.lines.specs.Written.{digitsOf, decimal, AllFit, lineText}
 use Rattle.lines.specs.Read.{firstNumbers}
 use Rattle.lines.proofs.LineRead.{number-and-space, number-and-newline}
@@ -87,8 +87,8 @@ unfolding isDecimal
 is-decimal zero w d = rw (d .bytes, d .single refl) (d .digit)
 is-decimal (suc n) w d = rw (d .bytes) (proper-decimal (d .first) (d .others) (d .digit) (d .digits) (d .proper (omega arith)))
 
-pub decimal-reads-back : (n : ℕ) → n ≤ maxNumber → number (decimal n) ≡ some n
-unfolding number decimal
+pub decimal-reads-back : (n : ℕ) → n ≤ maxNumber → numberUpTo maxNumber (decimal n) ≡ some n
+unfolding decimal
 decimal-reads-back n h =
     let d = decimals (suc n) n (omega arith) in
     rw (is-decimal n _ d, d .value, le-leb n maxNumber h)
@@ -101,11 +101,11 @@ pub record ReadsBack (ns xs : List ℕ) : Type 0 where
 pub line-reads-back : (n : ℕ) (ns : List ℕ) → AllFit (n ∷ ns) → (xs : List ℕ) → ReadsBack (n ∷ ns) xs
 unfolding lineText Option·elim
 line-reads-back n [] h xs =
-    let line = number-and-newline n (decimal n) xs (decimal-reads-back n (h .0)) in
+    let line = number-and-newline maxNumber n (decimal n) xs (decimal-reads-back n (h .0)) in
     let text = append-assoc (decimal n) (newline ∷ []) xs in
     record { numbers = rw text (line .numbers); next = rw text (line .next) }
 line-reads-back n (m ∷ ns) h xs =
     let others = line-reads-back m ns (h .1) xs in
-    let line = number-and-space (length (m ∷ ns)) n (decimal n) (lineText (m ∷ ns) ++ xs) (decimal-reads-back n (h .0)) in
+    let line = number-and-space maxNumber (replicate (length (m ∷ ns)) maxNumber) n (decimal n) (lineText (m ∷ ns) ++ xs) (decimal-reads-back n (h .0)) in
     let text = append-assoc (decimal n) (space ∷ lineText (m ∷ ns)) xs in
     record { numbers = rw text (line .numbers ∙ rw (others .numbers)); next = rw text (line .next ∙ others .next) }

@@ -1,10 +1,10 @@
 -- Numbers in base ten, and lines of them. Assumes nothing.
 use Prim.Native.Nat.{ℕ, _+_, _-_, _*_}
 use mathlib.Core.Bool.{Bool, true, false, cond, not, _&&_}
-use mathlib.Core.List.{List, [], _∷_, map}
+use mathlib.Core.List.{List, [], _∷_}
 use mathlib.Core.Option.{Option, none, some, Option·elim}
 use lib.Dec.{leb, eqb}
-use lib.ListN.{length}
+use lib.ListN.{replicate}
 use Rattle.lines.specs.Line.{Line, parts}
 
 abbrev pub digit0 : ℕ
@@ -41,19 +41,17 @@ appendDigits n (x ∷ xs) = appendDigits (appendDigit n x) xs
 abbrev pub numberUpTo : (most : ℕ) → List ℕ → Option ℕ
 numberUpTo most xs = cond (isDecimal xs && leb (appendDigits 0 xs) most) (some (appendDigits 0 xs)) none
 
--- a number that a line of numbers may have
-unfoldable pub number : List ℕ → Option ℕ
-number xs = numberUpTo maxNumber xs
+-- the numbers that the parts write, one for each bound and none above its bound
+unfoldable pub within : (bounds : List ℕ) → List (List ℕ) → Option (List ℕ)
+within [] [] = some []
+within [] (w ∷ ws) = none
+within (b ∷ bs) [] = none
+within (b ∷ bs) (w ∷ ws) = Option·elim (numberUpTo b w) none (λ n. Option·elim (within bs ws) none (λ ns. some (n ∷ ns)))
 
--- all of them, where each is there
-unfoldable pub allSome : List (Option ℕ) → Option (List ℕ)
-allSome [] = some []
-allSome (o ∷ os) = Option·elim o none (λ n. Option·elim (allSome os) none (λ ns. some (n ∷ ns)))
-
--- the numbers, where there are `count` of them
-unfoldable pub exactly : (count : ℕ) → Option (List ℕ) → Option (List ℕ)
-exactly count o = Option·elim o none (λ ns. cond (eqb (length ns) count) (some ns) none)
+-- `count` numbers, each of which a line of numbers may have
+abbrev pub numbersIn : (count : ℕ) → List (List ℕ) → Option (List ℕ)
+numbersIn count ws = within (replicate count maxNumber) ws
 
 -- the numbers of a line that has `count` numbers, with one space between two, and its newline; none of any other line
 unfoldable pub numbersOf : (count : ℕ) → Line → Option (List ℕ)
-numbersOf count l = cond (l .ended) (exactly count (allSome (map number (parts (l .bytes))))) none
+numbersOf count l = cond (l .ended) (numbersIn count (parts (l .bytes))) none

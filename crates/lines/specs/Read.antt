@@ -5,11 +5,11 @@ use mathlib.Core.Bool.{Bool, true, false, cond, not, _&&_}
 use mathlib.Core.List.{List, [], _∷_}
 use mathlib.Core.Option.{Option, none, some, Option·elim}
 use lib.Dec.{leb, ltb, eqb}
-use lib.ListN.{length, drop}
+use lib.ListN.{length, drop, replicate}
 use Rattle.lines.specs.declared.Digits.{Digits}
 use Rattle.lines.specs.declared.Digits.the-variants as DigitsCases
 use Rattle.lines.specs.Line.{Line, lines, parts}
-use Rattle.lines.specs.Number.{digit0, isDigit, appendDigit, numberUpTo, numbersOf}
+use Rattle.lines.specs.Number.{digit0, isDigit, appendDigit, numberUpTo, numbersIn}
 
 unfoldable pub upTo : (most n : ℕ) → Option ℕ
 upTo most n = cond (leb n most) (some n) none
@@ -67,16 +67,16 @@ firstParts read [] = none
 firstParts read (l ∷ ls) = cond (l .ended) (read (parts (l .bytes))) none
 
 -- the first line, where it has `count` numbers
-unfoldable pub firstNumbers : (count : ℕ) → List Line → Option (List ℕ)
-firstNumbers count [] = none
-firstNumbers count (l ∷ ls) = numbersOf count l
+abbrev pub firstNumbers : (count : ℕ) → List Line → Option (List ℕ)
+firstNumbers count ls = firstParts (numbersIn count) ls
 
--- the line that starts at `at` of the text xs: whether it has `count` numbers, which, and where the next line starts; of any other line the
--- numbers and `next` are left open, since no paper gives them a meaning
+-- the line that starts at `at` of the text xs: whether it has `count` numbers, which, and where the next line starts; of any other line
+-- zeros, and the text's length
 pub record LineMet (count : ℕ) (xs : List ℕ) (at : ℕ) (ok : Bool) (ns : List ℕ) (next : ℕ) : Type 0 where
   pub numbers : cond ok (some ns) none ≡ firstNumbers count (lines (drop at xs))
   pub rest : ok ≡ true → lines (drop next xs) ≡ drop 1 (lines (drop at xs))
   pub right : ok ≡ true → (at < next) × (next ≤ length xs)
+  pub wrong : ok ≡ false → (ns ≡ replicate count 0) × (next ≡ length xs)
 
 -- the text xs starts with the bytes ys
 unfoldable pub startsWith : (ys xs : List ℕ) → Bool

@@ -5,7 +5,7 @@ use mathlib.Core.List.{[], _∷_, _++_, map}
 use mathlib.Core.Option.{none, some, Option·elim}
 use Rattle.lines.specs.Ascii.{ascii}
 use Rattle.lines.specs.Line.{line, inFirstLine, lines, inFirstPart, parts}
-use Rattle.lines.specs.Number.{isDigit, areDigits, isDecimal, appendDigits, numberUpTo, number, allSome, exactly, numbersOf}
+use Rattle.lines.specs.Number.{maxNumber, isDigit, areDigits, isDecimal, appendDigits, numberUpTo, within, numbersOf}
 use Rattle.lines.specs.Read.{cut, numberBefore, numberCut}
 use Rattle.lines.specs.Written.{digitsOf, decimal, lineText}
 
@@ -21,17 +21,17 @@ between-spaces : map (λ text. parts (ascii text)) ("7" ∷ "7 8" ∷ "7  8" ∷
 unfolding ascii parts inFirstPart
 between-spaces = refl
 
-numbers : map (λ text. number (ascii text))
+numbers : map (λ text. numberUpTo maxNumber (ascii text))
     ("0"
     ∷ "7"
     ∷ "10"
     ∷ "65535" ∷ [])
     ≡ some 0 ∷ some 7 ∷ some 10 ∷ some 65535 ∷ []
-unfolding ascii number isDecimal areDigits isDigit appendDigits
+unfolding ascii isDecimal areDigits isDigit appendDigits
 numbers = refl
 
 -- nothing, 00, 07, 65536, 165535, a, 7a, +7, and the bytes before 0 and after 9
-no-numbers : map (λ text. number (ascii text))
+no-numbers : map (λ text. numberUpTo maxNumber (ascii text))
     (""
     ∷ "00"
     ∷ "07"
@@ -43,7 +43,7 @@ no-numbers : map (λ text. number (ascii text))
     ∷ "/"
     ∷ ":" ∷ [])
     ≡ none ∷ none ∷ none ∷ none ∷ none ∷ none ∷ none ∷ none ∷ none ∷ none ∷ []
-unfolding ascii number isDecimal areDigits isDigit appendDigits
+unfolding ascii isDecimal areDigits isDigit appendDigits
 no-numbers = refl
 
 -- the largest of 32 bits and one more; 1024 and 1025; 7, where 6 is the bound
@@ -65,7 +65,7 @@ four-numbers : map (λ text. numbersOf 4 (line (ascii text) true))
     ∷ "0 0 0 65535"
     ∷ "65535 10 0 7" ∷ [])
     ≡ some (2 ∷ 1 ∷ 0 ∷ 2 ∷ []) ∷ some (0 ∷ 0 ∷ 0 ∷ 65535 ∷ []) ∷ some (65535 ∷ 10 ∷ 0 ∷ 7 ∷ []) ∷ []
-unfolding ascii numbersOf exactly allSome Option·elim parts inFirstPart number isDecimal areDigits isDigit appendDigits
+unfolding ascii numbersOf within Option·elim parts inFirstPart isDecimal areDigits isDigit appendDigits
 four-numbers = refl
 
 -- a leading zero, 65536, two spaces, a space at the end or at the start, three numbers, five, a carriage return, a letter, a tab, nothing, spaces
@@ -83,7 +83,7 @@ not-four : map (λ text. numbersOf 4 (line (ascii text) true))
     ∷ ""
     ∷ "   " ∷ [])
     ≡ none ∷ none ∷ none ∷ none ∷ none ∷ none ∷ none ∷ none ∷ none ∷ none ∷ none ∷ none ∷ []
-unfolding ascii numbersOf exactly allSome Option·elim parts inFirstPart number isDecimal areDigits isDigit appendDigits
+unfolding ascii numbersOf within Option·elim parts inFirstPart isDecimal areDigits isDigit appendDigits
 not-four = refl
 
 -- a line without its newline

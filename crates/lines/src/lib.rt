@@ -3,7 +3,7 @@
 ghost use mathlib.Core.Path.{_≡_};
 ghost use mathlib.Core.Bool.{true, false};
 ghost use mathlib.Core.List.{[], _∷_, _++_};
-ghost use Prim.Native.Nat.{_-_, _<_, _≤_};
+ghost use Prim.Native.Nat.{_-_, _<_};
 ghost use lib.ListN.{length, drop};
 ghost use Rattle.lines.specs.Line.{newline};
 ghost use Rattle.lines.specs.Number.{digit0, maxNumber, isDigit};
@@ -39,7 +39,7 @@ struct LineNumber {
     next: usize,
 }
 
-// A line of four numbers, and the position of the next line; what `ok` denies, the rest doesn't say.
+// A line of four numbers, and the position of the next line; where there is none, zeros and the text's length.
 pub struct RowLine {
     pub ok: bool,
     pub kind: u16,
@@ -171,8 +171,18 @@ pub fn row_line(bytes: &[u8], at: usize) -> RowLine
     let a = line_number_at(bytes, kind.next, SPACE);
     let b = line_number_at(bytes, a.next, SPACE);
     let c = line_number_at(bytes, b.next, NEWLINE);
+    if !c.ok {
+        return RowLine {
+            ok: false,
+            kind: 0,
+            a: 0,
+            b: 0,
+            c: 0,
+            next: bytes.len(),
+        };
+    }
     RowLine {
-        ok: c.ok,
+        ok: true,
         kind: kind.value,
         a: a.value,
         b: b.value,
@@ -187,8 +197,19 @@ pub fn step_line(bytes: &[u8], at: usize) -> StepLine
 {
     let rule = line_number_at(bytes, at, SPACE);
     let others = row_line(bytes, rule.next);
+    if !others.ok {
+        return StepLine {
+            ok: false,
+            rule: 0,
+            left: 0,
+            right: 0,
+            first: 0,
+            second: 0,
+            next: bytes.len(),
+        };
+    }
     StepLine {
-        ok: others.ok,
+        ok: true,
         rule: rule.value,
         left: others.kind,
         right: others.a,

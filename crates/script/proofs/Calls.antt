@@ -14,9 +14,8 @@ use Rattle.lines.proofs.Parts.{first-mapped, PartsMet}
 use Rattle.script.specs.declared.Call.{Call}
 use Rattle.script.specs.declared.Call.the-variants as CallCases
 use Rattle.script.specs.declared.CallLine.{CallLine}
-use Rattle.script.specs.Command.{Word, Command, command, document, maxMarks, maxNumbers, atMost, named}
+use Rattle.script.specs.Command.{Word, Command, command, document, maxMarks, maxNumbers, allNumbers, atMost, named}
 use Rattle.script.specs.Read.{noNumbers, callLine, countOf, marksOf, commandIn, CallMet}
-use Rattle.script.proofs.Numbers.{allNumbers}
 
 pub no-numbers-size : length noNumbers ≡ maxNumbers
 unfolding noNumbers

@@ -14,9 +14,9 @@ use Rattle.lines.specs.Read.{NumberMet}
 use Rattle.lines.proofs.Parts.{PartsMet}
 use Rattle.script.specs.declared.Call.the-variants as CallCases
 use Rattle.script.specs.declared.CallLine.{CallLine}
-use Rattle.script.specs.Command.{document, maxNumbers, atMost, named}
+use Rattle.script.specs.Command.{document, maxNumbers, atMost, named, allNumbers}
 use Rattle.script.specs.Read.{noNumbers, callLine, CallMet}
-use Rattle.script.proofs.Numbers.{allNumbers, SoFar, one-more-number, last-of-all, no-number-more, numbers-full}
+use Rattle.script.proofs.Numbers.{SoFar, one-more-number, last-of-all, no-number-more, numbers-full}
 use Rattle.script.proofs.Calls.{no-document, document-call}
 
 -- `count` numbers are in the array, zeros after them, and the line goes on at `from`

@@ -1,56 +1,22 @@
--- The numbers of a command: as many as there are bounds, or all that a line has. Assumes nothing.
-use Prim.Native.Nat.{ℕ, zero, suc, _≤_}
+-- All numbers of a line, one after the other. Assumes nothing.
+use Prim.Native.Nat.{ℕ, _≤_}
 use mathlib.Core.Path.{_≡_, refl, sym, ap, _∙_}
-use mathlib.Core.Bool.{Bool, true, false}
-use mathlib.Core.List.{List, [], _∷_, _++_, map, append-assoc}
+use mathlib.Core.Bool.{true, false}
+use mathlib.Core.List.{List, [], _∷_, _++_, append-assoc}
 use mathlib.Core.Logic.{inl}
 use mathlib.Core.Option.{Option, none, some, Option·elim}
 use native.Mathlib.Omega.{arith}
-use lib.ListN.{length, drop, replicate, length-append}
+use lib.ListN.{length, drop, length-append}
 use borrow.Author.Tests.{lt-leb}
 use Rattle.lines.specs.Line.{newline, space, lines}
-use Rattle.lines.specs.Number.{maxNumber, numberUpTo, number, allSome}
+use Rattle.lines.specs.Number.{maxNumber, numberUpTo, within}
 use Rattle.lines.specs.Read.{NumberMet, firstParts}
 use Rattle.lines.proofs.Cutting.{lines-at}
-use Rattle.lines.proofs.Parts.{prepended, Reads, first-none, first-mapped, no-newline-in, next-behind, number-before-space, number-before-newline, number-found, nothing-read, PartsMet, last-part, part-and-others}
-use Rattle.lines.proofs.LineRead.{counted, reads-counted, none-left, too-many, too-few}
-use Rattle.script.specs.Command.{maxNumbers, within, atMost}
-
--- numbers with the same bound
-within-same : (count : ℕ) (ws : List (List ℕ)) → within (replicate count maxNumber) ws ≡ counted count ws
-unfolding within
-within-same zero [] = sym none-left
-within-same zero (w ∷ ws) = sym (too-many w ws)
-within-same (suc k) [] = sym (too-few k)
-within-same (suc k) (w ∷ ws) =
-    ap (λ o. Option·elim (numberUpTo maxNumber w) none (λ v. prepended v o)) (within-same k ws) ∙ sym (reads-counted k w ws)
-
-pub same-bounds : (count : ℕ) (xs : List ℕ) (at : ℕ) (ok : Bool) (ns : List ℕ) (next : ℕ) → PartsMet (counted count) xs at ok ns next
-    → PartsMet (within (replicate count maxNumber)) xs at ok ns next
-same-bounds count xs at ok ns next m =
-    record {
-      numbers = m .numbers ∙ sym (first-mapped (λ o. o) refl (within (replicate count maxNumber)) (counted count) (within-same count) (lines (drop at xs)));
-      rest = m .rest;
-      right = m .right;
-    }
-
--- one bound after the other
-pub last-within : (b : ℕ) (xs : List ℕ) (at : ℕ) (ok : Bool) (v next : ℕ) → NumberMet b newline xs at ok v next → PartsMet (within (b ∷ [])) xs at ok (v ∷ []) next
-unfolding within
-last-within b xs at ok v next m = last-part b (within (b ∷ [])) (within []) (λ w ws. refl) xs at refl (λ w ws. refl) ok v next m
-
-pub next-within : (b d : ℕ) (bs : List ℕ) (xs : List ℕ) (at : ℕ) (found : Bool) (v middle : ℕ) → NumberMet b space xs at found v middle
-    → (ok : Bool) (ns : List ℕ) (next : ℕ) → PartsMet (within (d ∷ bs)) xs middle ok ns next → PartsMet (within (b ∷ d ∷ bs)) xs at ok (v ∷ ns) next
-unfolding within
-next-within b d bs xs at found v middle m ok ns next others =
-    part-and-others b (within (b ∷ d ∷ bs)) (within (d ∷ bs)) (λ w ws. refl) xs at refl found v middle m ok ns next others
-
--- all numbers of a line
-abbrev pub allNumbers : List (List ℕ) → Option (List ℕ)
-allNumbers ws = allSome (map number ws)
+use Rattle.lines.proofs.Parts.{prepended, Reads, first-none, first-mapped, no-newline-in, next-behind, number-before-space, number-before-newline, number-found, nothing-read, PartsMet}
+use Rattle.script.specs.Command.{maxNumbers, allNumbers, atMost}
 
 reads-all : Reads maxNumber allNumbers allNumbers
-unfolding number allSome
+unfolding within
 reads-all w ws = refl
 
 abbrev appended : List ℕ → Option (List ℕ) → Option (List ℕ)
@@ -89,7 +55,7 @@ module _ (xs : List ℕ) (at from : ℕ) (ns : List ℕ) (so-far : SoFar xs at f
       }
 
   pub last-of-all : (v next : ℕ) → NumberMet maxNumber newline xs from true v next → PartsMet allNumbers xs at true (ns ++ v ∷ []) next
-  unfolding allSome Option·elim
+  unfolding within Option·elim
   last-of-all v next m =
       let found = number-found maxNumber newline (drop from xs) v (drop next xs) (m .number) in
       let r = m .right refl in
@@ -107,11 +73,11 @@ module _ (xs : List ℕ) (at from : ℕ) (ns : List ℕ) (so-far : SoFar xs at f
 
   -- the line goes on, and there is always one more part
   pub numbers-full : length ns ≡ maxNumbers → atMost maxNumbers (firstParts allNumbers (lines (drop at xs))) ≡ none
-  unfolding atMost allSome Option·elim
+  unfolding atMost within Option·elim
   numbers-full e =
       rw (so-far .numbers)
       (sym (first-mapped cut-off refl (λ ws. cut-off (allNumbers ws)) allNumbers (λ ws. refl) (lines (drop from xs)))
-      ∙ first-none (λ ws. cut-off (allNumbers ws)) (λ w ws. by-numbers (number w) (allNumbers ws)) (lines (drop from xs)))
+      ∙ first-none (λ ws. cut-off (allNumbers ws)) (λ w ws. by-numbers (numberUpTo maxNumber w) (allNumbers ws)) (lines (drop from xs)))
     where
       cut-off : Option (List ℕ) → Option (List ℕ)
       cut-off o = atMost maxNumbers (appended ns o)

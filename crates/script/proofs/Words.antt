@@ -16,7 +16,8 @@ use Rattle.script.specs.declared.Call.{Call}
 use Rattle.script.specs.declared.Call.the-variants as CallCases
 use Rattle.script.specs.declared.CallLine.{CallLine}
 use Rattle.lines.proofs.SameBytes.{same-bytes}
-use Rattle.script.specs.Command.{Command, termBytes, stepBytes, selectBytes, documentBytes, freshBytes, within, named, commandOf}
+use Rattle.lines.specs.Number.{within}
+use Rattle.script.specs.Command.{Command, termBytes, stepBytes, selectBytes, documentBytes, freshBytes, named, commandOf}
 use Rattle.script.specs.Read.{noNumbers, callLine, countOf, marksOf, commandIn, CallMet}
 use Rattle.script.proofs.Calls.{no-numbers-size, no-call, is-call}
 

@@ -1,13 +1,13 @@
 -- The command that a line of a script is: a word, and numbers. Assumes nothing.
 use Prim.Native.Nat.{ℕ}
 use mathlib.Core.Bool.{cond}
-use mathlib.Core.List.{List, [], _∷_, map}
+use mathlib.Core.List.{List, [], _∷_}
 use mathlib.Core.Option.{Option, none, some, Option·elim}
 use lib.Dec.{leb}
-use lib.ListN.{length, replicate}
+use lib.ListN.{length}
 use Rattle.lines.specs.Ascii.{ascii}
 use Rattle.lines.specs.Line.{sameBytes}
-use Rattle.lines.specs.Number.{maxNumber, numberUpTo, number, allSome}
+use Rattle.lines.specs.Number.{maxNumber, within, numbersIn}
 
 pub data Word : Type 0 where
   term : Word
@@ -48,12 +48,9 @@ maxMarks = 1024
 abbrev pub maxNumbers : ℕ
 maxNumbers = 1539
 
--- the numbers that the parts write, one for each bound and none above its bound
-unfoldable pub within : (bounds : List ℕ) → List (List ℕ) → Option (List ℕ)
-within [] [] = some []
-within [] (w ∷ ws) = none
-within (b ∷ bs) [] = none
-within (b ∷ bs) (w ∷ ws) = Option·elim (numberUpTo b w) none (λ n. Option·elim (within bs ws) none (λ ns. some (n ∷ ns)))
+-- as many numbers as there are parts
+abbrev pub allNumbers : List (List ℕ) → Option (List ℕ)
+allNumbers ws = numbersIn (length ws) ws
 
 -- the numbers, where there are not more than `most`
 unfoldable pub atMost : (most : ℕ) → Option (List ℕ) → Option (List ℕ)
@@ -70,8 +67,8 @@ named w o = Option·elim o none (λ ns. some (command w ns))
 unfoldable pub commandOf : List (List ℕ) → Option Command
 commandOf [] = none
 commandOf (w ∷ ws) =
-    cond (sameBytes w termBytes) (named term (within (replicate 4 maxNumber) ws))
-    (cond (sameBytes w stepBytes) (named step (within (replicate 5 maxNumber) ws))
+    cond (sameBytes w termBytes) (named term (numbersIn 4 ws))
+    (cond (sameBytes w stepBytes) (named step (numbersIn 5 ws))
     (cond (sameBytes w selectBytes) (named select (within selectBounds ws))
-    (cond (sameBytes w documentBytes) (named document (atMost maxNumbers (allSome (map number ws))))
+    (cond (sameBytes w documentBytes) (named document (atMost maxNumbers (allNumbers ws)))
     (cond (sameBytes w freshBytes) (named fresh (within [] ws)) none))))

@@ -1,9 +1,8 @@
 // A line of a script as a call on a session: a word, and numbers after it, one space before each.
 ghost use mathlib.Core.Path.{_≡_};
-ghost use mathlib.Core.List.{map};
-ghost use lib.ListN.{length, replicate};
-ghost use Rattle.lines.specs.Number.{maxNumber, number, allSome};
-ghost use Rattle.script.specs.Command.{term, step, select, document, maxNumbers, within, atMost, selectBounds, named, commandOf};
+ghost use lib.ListN.{length};
+ghost use Rattle.lines.specs.Number.{within, numbersIn};
+ghost use Rattle.script.specs.Command.{term, step, select, document, maxNumbers, allNumbers, atMost, selectBounds, named, commandOf};
 ghost use Rattle.script.specs.Read.{noNumbers, callLine, CallMet};
 
 const SPACE: u8 = 32;
@@ -85,7 +84,7 @@ fn other(bytes: &[u8]) -> CallLine
 
 // The numbers of a term at `at`, to the line's end.
 fn term_call(bytes: &[u8], at: usize) -> CallLine
-    ensures { λ r. ⌜ CallMet (λ ws. named term (within (replicate 4 maxNumber) ws)) (now (bytes .entry)) at r ⌝ }
+    ensures { λ r. ⌜ CallMet (λ ws. named term (numbersIn 4 ws)) (now (bytes .entry)) at r ⌝ }
 {
     let row = lines::row_line(bytes, at);
     if !row.ok {
@@ -101,7 +100,7 @@ fn term_call(bytes: &[u8], at: usize) -> CallLine
 }
 
 fn step_call(bytes: &[u8], at: usize) -> CallLine
-    ensures { λ r. ⌜ CallMet (λ ws. named step (within (replicate 5 maxNumber) ws)) (now (bytes .entry)) at r ⌝ }
+    ensures { λ r. ⌜ CallMet (λ ws. named step (numbersIn 5 ws)) (now (bytes .entry)) at r ⌝ }
 {
     let step = lines::step_line(bytes, at);
     if !step.ok {
@@ -137,7 +136,7 @@ fn select_call(bytes: &[u8], at: usize) -> CallLine
 }
 
 fn document_call(bytes: &[u8], at: usize) -> CallLine
-    ensures { λ r. ⌜ CallMet (λ ws. named document (atMost maxNumbers (allSome (map number ws)))) (now (bytes .entry)) at r ⌝ }
+    ensures { λ r. ⌜ CallMet (λ ws. named document (atMost maxNumbers (allNumbers ws))) (now (bytes .entry)) at r ⌝ }
 {
     let mut numbers = no_numbers();
     let mut count = 0;

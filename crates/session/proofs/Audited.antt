@@ -7,10 +7,10 @@ use lib.ListN.{length}
 use borrow.Author.Tests.{lt-ltb, le-ltb}
 use Rattle.rules.specs.RowYields.{Sides}
 use Rattle.session.specs.declared.ReadResult.{ReadResult}
-use Rattle.session.specs.Book.{answer, accepted}
-use Rattle.session.specs.StepCall.{stepNumbered}
+use Rattle.calls.specs.Book.{answer, accepted}
+use Rattle.calls.specs.StepCall.{stepNumbered}
 use Rattle.session.specs.View.{view}
-use Rattle.session.specs.Promises.{sidesOf}
+use Rattle.calls.specs.Promises.{sidesOf}
 use Rattle.session.specs.Reading.{wrongForm, reading}
 use Rattle.session.specs.ReadCall.{readAnswerOf, readingOf, ReadMet}
 use Rattle.session.specs.Audit.{auditLimit, reportBy, readReport, report}

@@ -10,16 +10,17 @@ use Rattle.terms.specs.Row.{Row}
 use Rattle.rules.specs.Lists.{Every}
 use Rattle.lines.specs.Ascii.{ascii}
 use Rattle.lines.specs.Line.{newline, Line, line, inFirstPart, lines, parts, sameBytes, isLine, firstIs}
-use Rattle.lines.specs.Number.{isDigit, isDecimal, appendDigits, number, allSome, exactly, numbersOf}
-use Rattle.lines.specs.Read.{firstNumbers}
+use Rattle.lines.specs.Number.{isDigit, isDecimal, appendDigits, within, numbersOf}
+use Rattle.lines.specs.Read.{firstParts, firstNumbers}
 use Rattle.lines.proofs.Cutting.{lines-at}
 use Rattle.lines.proofs.Written.{line-reads-back}
 use Rattle.session.specs.declared.Session.{Session}
-use Rattle.session.specs.Book.{Step, answer}
-use Rattle.session.specs.Calls.{step, Seen}
-use Rattle.session.specs.View.{rowWidth, view, freshSession, rowNumbers, stepNumbers}
+use Rattle.calls.specs.Book.{Step, answer}
+use Rattle.calls.specs.Calls.{step, Seen}
+use Rattle.calls.specs.Lent.{rowWidth}
+use Rattle.session.specs.View.{view, freshSession, rowNumbers, stepNumbers}
 use Rattle.session.specs.Bundle.{rowNames, stepNames, rowText, rowsText, stepsText, bundleText}
-use Rattle.session.specs.Promises.{rowStepAnswer}
+use Rattle.calls.specs.Promises.{rowStepAnswer}
 use Rattle.session.specs.Reading.{Reading, stepsRead, rowsRead, linesRead, reading}
 use Rattle.session.specs.Demand3.{term-made, step-made, Run, done, then}
 use Rattle.session.specs.ReadDemand.{IsAccepted, callsOf, RowFits, StepFits, ReadDemand}
@@ -33,11 +34,11 @@ use Rattle.session.proofs.Views.{fresh-view}
 
 -- the second names line is no term line
 no-row-in-names : numbersOf rowWidth (line stepNames true) ≡ none
-unfolding numbersOf exactly allSome number isDecimal isDigit appendDigits parts inFirstPart stepNames ascii Option·elim
+unfolding numbersOf within isDecimal isDigit appendDigits parts inFirstPart stepNames ascii Option·elim
 no-row-in-names = refl
 
 not-names : (ls : List Line) (ns : List ℕ) → firstNumbers rowWidth ls ≡ some ns → firstIs stepNames ls ≡ false
-unfolding firstIs firstNumbers
+unfolding firstIs firstParts numbersOf
 not-names [] ns e = refl
 not-names (l ∷ ls) ns e = by-test (isLine stepNames l) refl
   where

@@ -13,25 +13,26 @@ use Rattle.terms.specs.Fields.{maxKind, heldPath, badPlace}
 use Rattle.terms.specs.Nesting.{maxNesting, nesting}
 use Rattle.terms.specs.Decode.{pathAt}
 use Rattle.session.specs.declared.Session.{Session}
-use Rattle.session.specs.declared.TermAnswer.the-variants as TermCases
-use Rattle.session.specs.declared.StepAnswer.the-variants as StepCases
-use Rattle.session.specs.declared.SelectAnswer.{SelectAnswer}
-use Rattle.session.specs.declared.SelectAnswer.the-variants as SelectCases
+use Rattle.calls.specs.declared.TermAnswer.the-variants as TermCases
+use Rattle.calls.specs.declared.StepAnswer.the-variants as StepCases
+use Rattle.calls.specs.declared.SelectAnswer.{SelectAnswer}
+use Rattle.calls.specs.declared.SelectAnswer.the-variants as SelectCases
 use Rattle.session.specs.declared.TermResult.{TermResult}
 use Rattle.session.specs.declared.StepResult.{StepResult}
 use Rattle.rules.specs.Yields.{maxRule}
-use Rattle.session.specs.Book.{Step, maxSteps, Book, Answer, answer, accepted}
-use Rattle.session.specs.TermCall.{termAnswer}
-use Rattle.session.specs.StepCall.{badSide, badPremise, stepAnswerBy}
-use Rattle.session.specs.SelectCall.{selectAnswer, selectBuffer}
-use Rattle.session.specs.Calls.{Call, term, step, Seen}
+use Rattle.calls.specs.Book.{Step, maxSteps, Book, Answer, answer, accepted}
+use Rattle.calls.specs.TermCall.{termAnswer}
+use Rattle.calls.specs.StepCall.{badSide, badPremise, stepAnswerBy}
+use Rattle.calls.specs.SelectCall.{selectAnswer, selectBuffer}
+use Rattle.calls.specs.Calls.{Call, term, step, Seen}
 use Rattle.session.specs.View.{view, withRow, withStep}
-use Rattle.session.specs.Answers.{termAnswerOf, stepAnswerOf, selectAnswerOf}
-use Rattle.session.specs.Promises.{rowYielded, rowStepAnswer, SelectMet}
+use Rattle.calls.specs.Answers.{termAnswerOf, stepAnswerOf, selectAnswerOf}
+use Rattle.calls.specs.Promises.{rowYielded, rowStepAnswer}
+use Rattle.session.specs.Promises.{SelectMet}
 use Rattle.session.specs.ReadDemand.{IsAccepted}
 use Rattle.session.specs.Demand3.{Made, term-made, step-made, Run, done, then}
-use Rattle.session.proofs.Accepted.{if-accepted}
-use Rattle.session.proofs.ByTerms.{row-answer-by-terms}
+use Rattle.calls.proofs.Accepted.{if-accepted}
+use Rattle.calls.proofs.ByTerms.{row-answer-by-terms}
 
 -- some case of an enum has the answer t
 abbrev HasCase : {A : Type 0} → (A → Answer) → Answer → Type 0

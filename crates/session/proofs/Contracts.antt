@@ -1,10 +1,10 @@
 -- The contracts that the toolchain reads off the source: they ask nothing, and promise what the specifications say. Assumes nothing.
 use mathlib.Core.Path.{_≡_}
 use denote.Ref.{now}
-use Rattle.terms.specs.Row.{row, tableOf}
-use Rattle.session.specs.Book.{step}
+use Rattle.terms.specs.Row.{row}
+use Rattle.calls.specs.Book.{step}
 use Rattle.session.specs.View.{freshSession}
-use Rattle.session.specs.Promises.{TermMet, StepMet, SelectMade, SelectMet}
+use Rattle.session.specs.Promises.{TermMet, StepMet, SelectMet}
 use Rattle.session.specs.Reading.{reading}
 use Rattle.session.specs.ReadCall.{ReadMet}
 use Rattle.session.specs.Audit.{report}
@@ -12,7 +12,6 @@ use Rattle.session.proofs.Session.new.Reads as new-reads
 use Rattle.session.proofs.Session.term.Reads as term-reads
 use Rattle.session.proofs.Session.step.Reads as step-reads
 use Rattle.session.proofs.Session.select.Reads as select-reads
-use Rattle.session.proofs.select_on.Reads as select-on-reads
 use Rattle.session.proofs.Session.read.Reads as read-reads
 use Rattle.session.proofs.audit.Reads as audit-reads
 use Rattle.session.proofs.spinebriar_read.Reads as spinebriar-read-reads
@@ -29,10 +28,6 @@ step-tied κs a r s m = m
 pub select-tied : (κs : _) (a : _) (r : _) (s : _) → select-reads.Post κs a r s →
     SelectMet (a .0) (a .1 .0) (now (a .1 .1 .0)) (a .1 .1 .1 .0) (a .1 .1 .1 .1 .0) (now (a .1 .1 .1 .1 .1 .0)) r (now (s .1 .1 .1 .1 .1 .0))
 select-tied κs a r s m = m
-
-pub select-on-tied : (κs : _) (a : _) (r : _) (s : _) → select-on-reads.Post κs a r s →
-    SelectMade (tableOf (now (a .0))) (a .1 .0) (now (a .1 .1 .0)) (a .1 .1 .1 .0) (a .1 .1 .1 .1 .0) (now (a .1 .1 .1 .1 .1 .0)) r (now (s .1 .1 .1 .1 .1 .0))
-select-on-tied κs a r s m = m
 
 pub read-tied : (κs : _) (a : _) (r : _) (s : _) → read-reads.Post κs a r s → ReadMet (now (a .0)) r
 read-tied κs a r s m = m
@@ -55,9 +50,6 @@ step-takes κs a = tt
 
 pub select-takes : (κs : _) (a : _) → select-reads.Pre κs a
 select-takes κs a = tt
-
-pub select-on-takes : (κs : _) (a : _) → select-on-reads.Pre κs a
-select-on-takes κs a = tt
 
 pub read-takes : (κs : _) (a : _) → read-reads.Pre κs a
 read-takes κs a = tt

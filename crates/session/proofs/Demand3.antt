@@ -13,12 +13,12 @@ use Rattle.terms.specs.Row.{Row, rowAt}
 use Rattle.terms.specs.Fields.{isPath}
 use Rattle.terms.specs.Decode.{pathAt, qualifierAt}
 use Rattle.rules.specs.Claim.{Containment, Implication, says, TrueOn, IsTrue}
-use Rattle.session.specs.Book.{noStep, Book, emptyBook}
-use Rattle.session.specs.StepCall.{claimOf}
-use Rattle.session.specs.Calls.{bookSeen, bookAfter}
+use Rattle.calls.specs.Book.{noStep, Book, emptyBook}
+use Rattle.calls.specs.StepCall.{claimOf}
+use Rattle.calls.specs.Calls.{bookSeen, bookAfter}
 use Rattle.session.specs.View.{view}
 use Rattle.session.specs.Demand3.{DemandThree}
-use Rattle.session.proofs.Reached.{BookLaws, reachable-laws}
+use Rattle.calls.proofs.Reached.{BookLaws, reachable-laws}
 use Rattle.session.proofs.Views.{fresh-view}
 use Rattle.session.proofs.Simulation.{run-as-book, fresh-kept}
 use Rattle.session.proofs.Marked.{select-takes, select-leaves, select-well-formed, select-marks, select-stays}

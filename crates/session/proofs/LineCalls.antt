@@ -5,29 +5,31 @@ use mathlib.Core.Bool.{Bool, true, false, cond}
 use mathlib.Core.List.{List}
 use mathlib.Core.Option.{none, some}
 use native.Mathlib.Omega.{arith}
-use lib.ListN.{length, take, drop}
+use lib.ListN.{length, drop}
 use lib.Seq.{sets}
-use Rattle.terms.specs.Row.{tableOf, maxRows}
+use Rattle.terms.specs.Row.{maxRows}
 use Rattle.lines.specs.Ascii.{ascii}
 use Rattle.lines.specs.Line.{newline, lines, firstIs}
 use Rattle.lines.specs.Read.{firstNumbers, LineMet}
 use Rattle.lines.proofs.Cutting.{Free, lacks, lacks-free}
 use Rattle.lines.proofs.Start.{line-passed}
 use Rattle.session.specs.declared.Session.{Session}
-use Rattle.session.specs.declared.TermAnswer.{TermAnswer}
-use Rattle.session.specs.declared.StepAnswer.{StepAnswer}
-use Rattle.session.specs.Book.{maxSteps, book, answer}
-use Rattle.session.specs.View.{rowWidth, stepWidth, stepsOf, view, stepNumbers, freshSession}
-use Rattle.session.specs.Answers.{termAnswerOf, stepAnswerOf}
-use Rattle.session.specs.Promises.{TermPlaced, rowStepAnswer}
+use Rattle.calls.specs.declared.TermAnswer.{TermAnswer}
+use Rattle.calls.specs.declared.StepAnswer.{StepAnswer}
+use Rattle.calls.specs.Book.{maxSteps, book, answer}
+use Rattle.calls.specs.Lent.{rowWidth, stepWidth, firstRows, firstSteps}
+use Rattle.session.specs.View.{view, stepNumbers, freshSession}
+use Rattle.calls.specs.Answers.{termAnswerOf, stepAnswerOf}
+use Rattle.calls.specs.Promises.{rowStepAnswer}
+use Rattle.session.specs.Promises.{TermPlaced}
 use Rattle.session.specs.Bundle.{rowNames, stepNames, rowOfNumbers, stepOfNumbers}
 use Rattle.session.specs.Reading.{refusedAt, wrongForm, stepsRead, rowsRead}
 use Rattle.session.specs.ReadCall.{holding}
-use Rattle.session.proofs.Lent.{rows-held, steps-held}
+use Rattle.calls.proofs.Lent.{rows-held, steps-held}
 use Rattle.session.proofs.LinesRead.{names-read, row-wrong, row-held, row-refused, step-wrong, step-held, step-refused, no-lines, some-line}
-use Rattle.session.proofs.StepJudged.{step-accepted}
+use Rattle.calls.proofs.StepJudged.{step-accepted}
 use Rattle.session.proofs.StepMade.{step-made-held, step-made-refused}
-use Rattle.session.proofs.TermJudged.{term-accepted}
+use Rattle.calls.proofs.TermJudged.{term-accepted}
 use Rattle.session.proofs.TermMade.{term-made-held, term-made-refused}
 
 pub row-names-free : Free newline rowNames
@@ -79,7 +81,7 @@ module _ (bytes xs : List ℕ) (n line at : ℕ) where
         pub row-room : length xs ≡ rowWidth * maxRows → n < maxRows
         row-room size =
             let room = term-accepted _ _ (sym (ap (λ a. a .number) (placed .answer)) ∙ e) .room in
-            omega (arith, room, rows-held xs n few size)
+            omega (arith, room, rows-held xs (min n maxRows) (omega arith) size)
 
 -- step lines, where the first n rows of xs and the first k steps of ys are held
 module _ (bytes xs : List ℕ) (n : ℕ) (ys : List ℕ) (k line at : ℕ) where
@@ -98,30 +100,27 @@ module _ (bytes xs : List ℕ) (n : ℕ) (ys : List ℕ) (k line at : ℕ) where
     pub step-wrong-there : at < length bytes → ok ≡ false → stepsRead rowStepAnswer now-held line (lines (drop at bytes)) ≡ refusedAt wrongForm line
     step-wrong-there inside e = step-wrong now-held line _ (some-line bytes at inside) (line-numbers stepWidth bytes at ok false ns next m e)
 
-    module _ (right : ok ≡ true) (rows : n ≤ maxRows) (few : k ≤ maxSteps) (t : StepAnswer)
-        (judged : stepAnswerOf t ≡ rowStepAnswer (book (tableOf (take (rowWidth * n) xs)) (stepsOf (take (stepWidth * k) ys))) (stepOfNumbers ns))
+    module _ (right : ok ≡ true) (few : k ≤ maxSteps) (t : StepAnswer)
+        (judged : stepAnswerOf t ≡ rowStepAnswer (book (firstRows n xs) (firstSteps k ys)) (stepOfNumbers ns))
       where
-        rows-counted : n ≡ min n maxRows
-        rows-counted = omega arith
-
         steps-counted : k ≡ min k maxSteps
         steps-counted = omega arith
 
         pub step-refused-there : ¬ (stepAnswerOf t .number ≡ 0) → stepsRead rowStepAnswer now-held line (lines (drop at bytes)) ≡ refusedAt (stepAnswerOf t .number) line
         step-refused-there f =
             step-refused now-held line _ ns (line-numbers stepWidth bytes at ok true ns next m right) _
-            (step-made-refused now-held (stepOfNumbers ns) n k rows-counted steps-counted t judged f) f
+            (step-made-refused now-held (stepOfNumbers ns) t judged f) f
 
         module _ (e : stepAnswerOf t .number ≡ 0) where
           pub step-held-there : (zs : List ℕ) → zs ≡ sets ys (stepWidth * k) (stepNumbers (stepOfNumbers ns))
               → stepsRead rowStepAnswer now-held line (lines (drop at bytes)) ≡ stepsRead rowStepAnswer (holding xs n zs (k + 1)) (line + 1) (lines (drop next bytes))
           step-held-there zs written =
               step-held now-held line _ ns (line-numbers stepWidth bytes at ok true ns next m right) _
-              (step-made-held now-held (stepOfNumbers ns) n k rows-counted steps-counted t judged e zs written) e
+              (step-made-held now-held (stepOfNumbers ns) t judged e k steps-counted zs written) e
               ∙ ap (stepsRead rowStepAnswer (holding xs n zs (k + 1)) (line + 1)) (sym (m .rest right))
 
           pub step-room : length ys ≡ stepWidth * maxSteps → k < maxSteps
           unfolding rowStepAnswer
           step-room size =
               let room = step-accepted _ _ _ (sym (ap (λ a. a .number) judged) ∙ e) .room in
-              omega (arith, room, steps-held ys k few size)
+              omega (arith, room, steps-held ys (min k maxSteps) (omega arith) size)

@@ -9,18 +9,21 @@ use lib.Dec.{eqb}
 use lib.ListN.{length, getD, drop, drop-of-length-le}
 use lib.Seq.{drop-cons}
 use Rattle.lines.specs.Line.{newline, Line, line, inFirstLine, lines, firstIs}
-use Rattle.lines.specs.Read.{firstNumbers}
+use Rattle.lines.specs.Number.{numbersOf}
+use Rattle.lines.specs.Read.{firstParts, firstNumbers}
 use Rattle.session.specs.declared.Session.{Session}
 use Rattle.session.specs.declared.TermResult.{TermResult}
 use Rattle.session.specs.declared.StepResult.{StepResult}
-use Rattle.session.specs.Book.{accepted}
-use Rattle.session.specs.TermCall.{termAnswer}
-use Rattle.session.specs.View.{rowWidth, stepWidth, view, withRow, withStep}
-use Rattle.session.specs.Answers.{termAnswerOf, stepAnswerOf}
-use Rattle.session.specs.Promises.{TermMet, rowStepAnswer, StepMet}
+use Rattle.calls.specs.Book.{accepted}
+use Rattle.calls.specs.TermCall.{termAnswer}
+use Rattle.calls.specs.Lent.{rowWidth, stepWidth}
+use Rattle.session.specs.View.{view, withRow, withStep}
+use Rattle.calls.specs.Answers.{termAnswerOf, stepAnswerOf}
+use Rattle.calls.specs.Promises.{rowStepAnswer}
+use Rattle.session.specs.Promises.{TermMet, StepMet}
 use Rattle.session.specs.Bundle.{stepNames, rowOfNumbers, stepOfNumbers, rowOfLine, stepOfLine}
 use Rattle.session.specs.Reading.{refusedAt, wrongForm, stepsRead, rowsRead}
-use Rattle.session.proofs.Accepted.{if-accepted, if-refused}
+use Rattle.calls.proofs.Accepted.{if-accepted, if-refused}
 
 module _ (s : Session) (n : ℕ) where
   -- the second names line
@@ -30,7 +33,7 @@ module _ (s : Session) (n : ℕ) where
   names-read (l ∷ ls) e = rw e
 
   pub row-wrong : (ls : List Line) → firstIs stepNames ls ≡ false → none ≡ firstNumbers rowWidth ls → rowsRead rowStepAnswer s n ls ≡ refusedAt wrongForm n
-  unfolding rowsRead firstIs firstNumbers rowOfLine Option·elim
+  unfolding rowsRead firstIs firstParts numbersOf rowOfLine Option·elim
   row-wrong [] e f = refl
   row-wrong (l ∷ ls) e f = rw (e, ← f)
 
@@ -38,7 +41,7 @@ module _ (s : Session) (n : ℕ) where
       → rowsRead rowStepAnswer s n ls
       ≡ cond (accepted (termAnswer (view s .rows) (rowOfNumbers ns))) (rowsRead rowStepAnswer (withRow s (rowOfNumbers ns)) (n + 1) (drop 1 ls))
       (refusedAt (termAnswer (view s .rows) (rowOfNumbers ns) .number) n)
-  unfolding rowsRead firstIs firstNumbers rowOfLine Option·elim
+  unfolding rowsRead firstIs firstParts numbersOf rowOfLine Option·elim
   row-called [] e ns f = absurd (Option·some-ne-none _ f)
   row-called (l ∷ ls) e ns f = rw (e, ← f)
 
@@ -55,7 +58,7 @@ module _ (s : Session) (n : ℕ) where
       row-refused f = row-called ls other ns first ∙ sym (if-refused _ _ (m .answer) _ _ f) ∙ ap (λ a. refusedAt (a .number) n) (sym (m .answer))
 
   pub step-wrong : (ls : List Line) → ¬ (ls ≡ []) → none ≡ firstNumbers stepWidth ls → stepsRead rowStepAnswer s n ls ≡ refusedAt wrongForm n
-  unfolding stepsRead firstNumbers stepOfLine Option·elim
+  unfolding stepsRead firstParts numbersOf stepOfLine Option·elim
   step-wrong [] full f = absurd (full refl)
   step-wrong (l ∷ ls) full f = rw (← f)
 
@@ -63,7 +66,7 @@ module _ (s : Session) (n : ℕ) where
       → stepsRead rowStepAnswer s n ls
       ≡ cond (accepted (rowStepAnswer (view s) (stepOfNumbers ns))) (stepsRead rowStepAnswer (withStep s (stepOfNumbers ns)) (n + 1) (drop 1 ls))
       (refusedAt (rowStepAnswer (view s) (stepOfNumbers ns) .number) n)
-  unfolding stepsRead firstNumbers stepOfLine Option·elim
+  unfolding stepsRead firstParts numbersOf stepOfLine Option·elim
   step-called [] ns f = absurd (Option·some-ne-none _ f)
   step-called (l ∷ ls) ns f = rw (← f)
 

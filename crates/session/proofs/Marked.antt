@@ -18,12 +18,12 @@ use Rattle.terms.specs.Row.{Row}
 use Rattle.terms.specs.Fields.{heldPath}
 use Rattle.terms.specs.Decode.{pathAt}
 use Rattle.selection.specs.Marks.{written}
-use Rattle.session.specs.Book.{Answer, answer}
-use Rattle.session.specs.SelectCall.{selectAnswer, selectBuffer}
-use Rattle.session.specs.declared.SelectAnswer.{SelectAnswer}
-use Rattle.session.specs.Answers.{selectAnswerOf}
-use Rattle.session.specs.Promises.{SelectMade}
-use Rattle.session.proofs.Accepted.{test-failed, if-accepted, if-refused}
+use Rattle.calls.specs.Book.{Answer, answer}
+use Rattle.calls.specs.SelectCall.{selectAnswer, selectBuffer}
+use Rattle.calls.specs.declared.SelectAnswer.{SelectAnswer}
+use Rattle.calls.specs.Answers.{selectAnswerOf}
+use Rattle.calls.specs.Promises.{SelectMade}
+use Rattle.calls.proofs.Accepted.{test-failed, if-accepted, if-refused}
 
 length-written : (n : ℕ) (f : ℕ → Bool) (buffer : List ℕ) → length (written n f buffer) ≡ length buffer
 unfolding written

@@ -8,14 +8,14 @@ use borrow.Author.Tests.{eqb-true}
 use Rattle.terms.specs.Row.{Row}
 use Rattle.lines.specs.Line.{Line, lines, isLine}
 use Rattle.session.specs.declared.Session.{Session}
-use Rattle.session.specs.Book.{Step, Book, Answer, accepted}
-use Rattle.session.specs.TermCall.{termAnswer}
-use Rattle.session.specs.StepCall.{stepAnswer}
+use Rattle.calls.specs.Book.{Step, Book, Answer, accepted}
+use Rattle.calls.specs.TermCall.{termAnswer}
+use Rattle.calls.specs.StepCall.{stepAnswer}
 use Rattle.session.specs.View.{view, freshSession, withRow, withStep}
-use Rattle.session.specs.Promises.{rowStepAnswer}
+use Rattle.calls.specs.Promises.{rowStepAnswer}
 use Rattle.session.specs.Bundle.{rowNames, stepNames, rowOfLine, stepOfLine}
 use Rattle.session.specs.Reading.{Reading, refusedAt, wrongForm, stepsRead, rowsRead, linesRead, reading}
-use Rattle.session.proofs.ByTerms.{row-answer-by-terms}
+use Rattle.calls.proofs.ByTerms.{row-answer-by-terms}
 use Rattle.session.proofs.CallsExist.{row-call, step-call}
 use Rattle.session.proofs.Simulation.{Kept, kept-on, fresh-kept}
 

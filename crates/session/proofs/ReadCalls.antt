@@ -13,11 +13,11 @@ use Rattle.lines.specs.Line.{Line, line, lines, sameBytes, isLine}
 use Rattle.lines.proofs.SameBytes.{same-bytes}
 use Rattle.session.specs.declared.Session.{Session}
 use Rattle.session.specs.declared.ReadResult.{ReadResult}
-use Rattle.session.specs.Book.{Step, Answer, answer, accepted}
-use Rattle.session.specs.TermCall.{termAnswer}
-use Rattle.session.specs.Calls.{step, Seen}
+use Rattle.calls.specs.Book.{Step, Answer, answer, accepted}
+use Rattle.calls.specs.TermCall.{termAnswer}
+use Rattle.calls.specs.Calls.{step, Seen}
 use Rattle.session.specs.View.{view, freshSession, withRow, withStep}
-use Rattle.session.specs.Promises.{rowStepAnswer}
+use Rattle.calls.specs.Promises.{rowStepAnswer}
 use Rattle.session.specs.Bundle.{rowNames, stepNames, rowOfLine, stepOfLine}
 use Rattle.session.specs.Reading.{Reading, refusedAt, wrongForm, stepsRead, rowsRead, linesRead}
 use Rattle.session.specs.ReadCall.{readAnswerOf, ReadMet}

@@ -12,7 +12,7 @@ use Rattle.session.specs.declared.RowsEnd.{RowsEnd}
 use Rattle.session.specs.declared.StepsEnd.{StepsEnd}
 use Rattle.session.specs.View.{freshSession}
 use Rattle.session.specs.Bundle.{rowNames}
-use Rattle.session.specs.Promises.{rowStepAnswer}
+use Rattle.calls.specs.Promises.{rowStepAnswer}
 use Rattle.session.specs.Reading.{refusedAt, wrongForm, stepsRead, rowsRead, linesRead, reading}
 use Rattle.session.specs.ReadCall.{readingOf, ReadMet, holding, afterRows, RowsBounds, RowsReadMet, afterSteps, StepsBounds, StepsReadMet}
 use Rattle.session.proofs.LineCalls.{row-names-free}

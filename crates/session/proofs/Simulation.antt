@@ -6,15 +6,15 @@ use native.Mathlib.Omega.{arith}
 use borrow.Author.Tests.{eqb-true}
 use Rattle.terms.specs.Row.{Row}
 use Rattle.session.specs.declared.Session.{Session}
-use Rattle.session.specs.Book.{Step, Book, book, accepted}
-use Rattle.session.specs.TermCall.{termAnswer, termBook}
-use Rattle.session.specs.StepCall.{isYielded, stepAnswer, stepBook}
-use Rattle.session.specs.Calls.{Call, Seen, bookAnswer, bookNext, bookSeen, bookAfter, Reachable, fresh, after}
+use Rattle.calls.specs.Book.{Step, Book, book, accepted}
+use Rattle.calls.specs.TermCall.{termAnswer, termBook}
+use Rattle.calls.specs.StepCall.{isYielded, stepAnswer, stepBook}
+use Rattle.calls.specs.Calls.{Call, Seen, bookAnswer, bookNext, bookSeen, bookAfter, Reachable, fresh, after}
 use Rattle.session.specs.View.{view, freshSession, withRow, withStep}
-use Rattle.session.specs.Promises.{rowStepAnswer}
+use Rattle.calls.specs.Promises.{rowStepAnswer}
 use Rattle.session.specs.Demand3.{Made, term-made, step-made, Run, done, then}
-use Rattle.session.proofs.TermJudged.{term-accepted}
-use Rattle.session.proofs.StepJudged.{step-accepted}
+use Rattle.calls.proofs.TermJudged.{term-accepted}
+use Rattle.calls.proofs.StepJudged.{step-accepted}
 use Rattle.session.proofs.Views.{Sized, with-row-view, with-row-sized, with-step-view, with-step-sized, rows-count, steps-count, fresh-sized, fresh-view}
 
 -- a session whose tables have their size, and whose book calls lead to

@@ -7,14 +7,14 @@ use lib.ListN.{length, length-append}
 use Rattle.terms.specs.Row.{Row}
 use Rattle.rules.specs.Lists.{Every}
 use Rattle.session.specs.declared.Session.{Session}
-use Rattle.session.specs.Book.{Step}
-use Rattle.session.specs.TermCall.{termBook}
-use Rattle.session.specs.StepCall.{stepBook}
-use Rattle.session.specs.Calls.{term, step, Seen, bookAnswer, bookNext}
+use Rattle.calls.specs.Book.{Step}
+use Rattle.calls.specs.TermCall.{termBook}
+use Rattle.calls.specs.StepCall.{stepBook}
+use Rattle.calls.specs.Calls.{term, step, Seen, bookAnswer, bookNext}
 use Rattle.session.specs.View.{view}
 use Rattle.session.specs.Demand3.{Made, Run, done, then}
 use Rattle.session.specs.ReadDemand.{IsAccepted, callsOf}
-use Rattle.session.proofs.Accepted.{if-accepted}
+use Rattle.calls.proofs.Accepted.{if-accepted}
 use Rattle.session.proofs.Simulation.{Kept, call-moves, call-answers, kept-on}
 
 -- an accepted step call adds one step, and a term call none

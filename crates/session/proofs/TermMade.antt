@@ -1,21 +1,23 @@
 -- From a term call on a session's table to one on the session. Assumes nothing.
-use Prim.Native.Nat.{ℕ, _+_, _*_}
+use Prim.Native.Nat.{ℕ, _+_, _*_, min}
 use mathlib.Core.Path.{_≡_, sym, _∙_}
 use mathlib.Core.List.{List}
+use native.Mathlib.Omega.{arith}
 use lib.Seq.{sets}
-use Rattle.terms.specs.Row.{Row}
+use Rattle.terms.specs.Row.{Row, maxRows}
 use Rattle.session.specs.declared.Session.{Session}
-use Rattle.session.specs.declared.TermAnswer.{TermAnswer}
-use Rattle.session.specs.TermCall.{termAnswer}
-use Rattle.session.specs.View.{rowWidth, rowsHeld, view, rowNumbers, withRow}
-use Rattle.session.specs.Answers.{termAnswerOf}
+use Rattle.calls.specs.declared.TermAnswer.{TermAnswer}
+use Rattle.calls.specs.TermCall.{termAnswer}
+use Rattle.calls.specs.Lent.{rowWidth}
+use Rattle.session.specs.View.{rowsHeld, view, rowNumbers, withRow}
+use Rattle.calls.specs.Answers.{termAnswerOf}
 use Rattle.session.specs.Promises.{TermMet, TermPlaced}
-use Rattle.session.proofs.Accepted.{if-accepted, if-refused}
+use Rattle.calls.proofs.Accepted.{if-accepted, if-refused}
 
 module _ (s : Session) (r : Row) (n : ℕ) (count : n ≡ rowsHeld s) (ys : List ℕ) (t : TermAnswer) (m : TermPlaced (s .rows) n r ys t) where
   judged : termAnswerOf t ≡ termAnswer (view s .rows) r
   unfolding view
-  judged = m .answer ∙ rw count
+  judged = let same : min n maxRows ≡ rowsHeld s = omega arith in m .answer ∙ rw same
 
   pub term-made-held : termAnswerOf t .number ≡ 0 →
       TermMet s r (record { answer = t; session = record { rows = ys; «row_count» = n + 1; steps = s .steps; «step_count» = s .«step_count» } })

@@ -5,8 +5,8 @@ use mathlib.Core.List.{List}
 use lib.Dec.{ltb}
 use lib.ListN.{length}
 use Rattle.session.specs.declared.Report.{Report}
-use Rattle.session.specs.Book.{accepted}
-use Rattle.session.specs.StepCall.{stepNumbered}
+use Rattle.calls.specs.Book.{accepted}
+use Rattle.calls.specs.StepCall.{stepNumbered}
 use Rattle.session.specs.View.{view}
 use Rattle.session.specs.Reading.{Reading, wrongForm, reading}
 

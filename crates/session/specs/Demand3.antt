@@ -14,13 +14,13 @@ use Rattle.rules.specs.Claim.{Containment, Implication}
 use Rattle.session.specs.declared.Session.{Session}
 use Rattle.session.specs.declared.TermResult.{TermResult}
 use Rattle.session.specs.declared.StepResult.{StepResult}
-use Rattle.session.specs.declared.SelectAnswer.{SelectAnswer}
-use Rattle.session.specs.Book.{Step, noStep, Book, emptyBook}
-use Rattle.session.specs.StepCall.{claimOf}
-use Rattle.session.specs.SelectCall.{selectAnswer}
-use Rattle.session.specs.Calls.{Call, term, step, Seen, bookSeen, bookAfter}
+use Rattle.calls.specs.declared.SelectAnswer.{SelectAnswer}
+use Rattle.calls.specs.Book.{Step, noStep, Book, emptyBook}
+use Rattle.calls.specs.StepCall.{claimOf}
+use Rattle.calls.specs.SelectCall.{selectAnswer}
+use Rattle.calls.specs.Calls.{Call, term, step, Seen, bookSeen, bookAfter}
 use Rattle.session.specs.View.{view, freshSession}
-use Rattle.session.specs.Answers.{termAnswerOf, stepAnswerOf, selectAnswerOf}
+use Rattle.calls.specs.Answers.{termAnswerOf, stepAnswerOf, selectAnswerOf}
 use Rattle.session.specs.Promises.{TermMet, StepMet, SelectMet}
 
 -- a call that meets its contract on the session s and leaves the session t, with what is seen of it

@@ -1,10 +1,4 @@
-pub mod Book
-pub mod TermCall
-pub mod StepCall
-pub mod SelectCall
-pub mod Calls
 pub mod View
-pub mod Answers
 pub mod Promises
 pub mod Bundle
 pub mod Reading
@@ -13,4 +7,3 @@ pub mod Audit
 pub mod BundleCases
 pub mod Demand3
 pub mod ReadDemand
-pub mod CallCases

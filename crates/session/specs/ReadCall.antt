@@ -13,9 +13,9 @@ use Rattle.session.specs.declared.RowsEnd.{RowsEnd}
 use Rattle.session.specs.declared.RowsEnd.the-variants as RowsCases
 use Rattle.session.specs.declared.StepsEnd.{StepsEnd}
 use Rattle.session.specs.declared.StepsEnd.the-variants as StepsCases
-use Rattle.session.specs.Book.{maxSteps, Answer, answer}
+use Rattle.calls.specs.Book.{maxSteps, Answer, answer}
 use Rattle.session.specs.View.{freshSession}
-use Rattle.session.specs.Promises.{rowStepAnswer}
+use Rattle.calls.specs.Promises.{rowStepAnswer}
 use Rattle.session.specs.Reading.{Reading, refusedAt, stepsRead, rowsRead, reading}
 
 abbrev pub readAnswerOf : ReadAnswer → Answer

@@ -11,8 +11,8 @@ use Rattle.lines.specs.Line.{Line, line, lines}
 use Rattle.lines.specs.Written.{AllFit}
 use Rattle.session.specs.declared.Session.{Session}
 use Rattle.session.specs.declared.ReadResult.{ReadResult}
-use Rattle.session.specs.Book.{Step, answer, emptyBook}
-use Rattle.session.specs.Calls.{Call, term, step, Seen, bookAfter}
+use Rattle.calls.specs.Book.{Step, answer, emptyBook}
+use Rattle.calls.specs.Calls.{Call, term, step, Seen, bookAfter}
 use Rattle.session.specs.View.{freshSession, rowNumbers, stepNumbers}
 use Rattle.session.specs.Bundle.{rowNames, stepNames, rowOfLine, stepOfLine, bundleText}
 use Rattle.session.specs.ReadCall.{readAnswerOf, ReadMet}

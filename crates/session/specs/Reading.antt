@@ -6,9 +6,9 @@ use mathlib.Core.Option.{Option·elim}
 use lib.ListN.{length}
 use Rattle.lines.specs.Line.{Line, lines, isLine}
 use Rattle.session.specs.declared.Session.{Session}
-use Rattle.session.specs.Book.{Step, Book, Answer, answer, accepted}
-use Rattle.session.specs.TermCall.{termAnswer}
-use Rattle.session.specs.StepCall.{stepAnswer}
+use Rattle.calls.specs.Book.{Step, Book, Answer, answer, accepted}
+use Rattle.calls.specs.TermCall.{termAnswer}
+use Rattle.calls.specs.StepCall.{stepAnswer}
 use Rattle.session.specs.View.{view, freshSession, withRow, withStep}
 use Rattle.session.specs.Bundle.{rowNames, stepNames, rowOfLine, stepOfLine}
 

@@ -1,27 +1,12 @@
 -- A session as a book. Assumes nothing.
 use Prim.Native.Nat.{ℕ, _+_, _*_, min}
 use mathlib.Core.List.{List, [], _∷_}
-use lib.ListN.{take, replicate}
+use lib.ListN.{replicate}
 use lib.Seq.{sets}
-use Rattle.terms.specs.Row.{Row, tableOf, maxRows}
+use Rattle.terms.specs.Row.{Row, maxRows}
 use Rattle.session.specs.declared.Session.{Session}
-use Rattle.session.specs.Book.{Step, step, maxSteps, Book, book}
-
--- how many numbers a row has, and a step
-abbrev pub rowWidth : ℕ
-rowWidth = 4
-
-abbrev pub stepWidth : ℕ
-stepWidth = 5
-
--- the steps of a list of numbers, five a step, without an incomplete last step
-unfoldable pub stepsOf : List ℕ → List Step
-stepsOf [] = []
-stepsOf (n ∷ []) = []
-stepsOf (n ∷ l ∷ []) = []
-stepsOf (n ∷ l ∷ r ∷ []) = []
-stepsOf (n ∷ l ∷ r ∷ i ∷ []) = []
-stepsOf (n ∷ l ∷ r ∷ i ∷ j ∷ xs) = step n l r i j ∷ stepsOf xs
+use Rattle.calls.specs.Book.{Step, maxSteps, Book, book}
+use Rattle.calls.specs.Lent.{rowWidth, stepWidth, firstRows, firstSteps}
 
 -- how many rows and steps are held: a count above its limit is read as the limit
 abbrev pub rowsHeld : Session → ℕ
@@ -31,7 +16,7 @@ abbrev pub stepsHeld : Session → ℕ
 stepsHeld s = min (s .«step_count») maxSteps
 
 unfoldable pub view : Session → Book
-view s = book (tableOf (take (rowWidth * rowsHeld s) (s .rows))) (stepsOf (take (stepWidth * stepsHeld s) (s .steps)))
+view s = book (firstRows (s .«row_count») (s .rows)) (firstSteps (s .«step_count») (s .steps))
 
 -- the fresh session of document 01: no row and no step
 unfoldable pub freshSession : Session

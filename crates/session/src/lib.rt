@@ -1,34 +1,30 @@
 // A session: rows of terms and steps of derivations, held by value, and the calls on it.
+pub use calls::SelectAnswer;
+use calls::Step;
+pub use calls::StepAnswer;
+pub use calls::TermAnswer;
 use rules::Sides;
-use selection::Evaluated;
 use terms::Row;
-use xpath::DocumentCheck;
 ghost use mathlib.Core.Path.{_≡_};
-ghost use mathlib.Core.Bool.{not, cond};
-ghost use Prim.Native.Nat.{_+_, _-_, _*_, _≤_, _<_, min};
-ghost use lib.ListN.{length, take, drop};
+ghost use mathlib.Core.Bool.{cond};
+ghost use Prim.Native.Nat.{_*_, _≤_, _<_};
+ghost use lib.ListN.{length, drop};
 ghost use lib.Seq.{sets};
-ghost use Rattle.terms.specs.Row.{row, rowAt, tableOf, maxRows};
-ghost use Rattle.terms.specs.Fields.{isPath};
+ghost use Rattle.terms.specs.Row.{row, maxRows};
 ghost use Rattle.terms.specs.Lent.{rowOf};
 ghost use Rattle.rules.specs.Lent.{sidesIn};
-ghost use Rattle.session.specs.Book.{step, maxSteps, book, answer, accepted};
-ghost use Rattle.session.specs.StepCall.{sameSort, badSide, premiseOk, badPremise, stepNumbered};
-ghost use Rattle.session.specs.TermCall.{termAnswer};
-ghost use Rattle.session.specs.View.{rowWidth, stepWidth, stepsOf, view, freshSession, rowNumbers, stepNumbers};
-ghost use Rattle.selection.specs.Answer.{answerOf};
-ghost use Rattle.session.specs.Answers.{termAnswerOf, stepAnswerOf, selectAnswerOf, evaluationAnswer, stepIn};
 ghost use Rattle.lines.specs.Line.{lines, firstIs};
+ghost use Rattle.calls.specs.Book.{step, maxSteps, answer, accepted};
+ghost use Rattle.calls.specs.StepCall.{stepNumbered};
+ghost use Rattle.calls.specs.Lent.{rowWidth, stepWidth};
+ghost use Rattle.calls.specs.Answers.{stepIn};
+ghost use Rattle.calls.specs.Promises.{sidesOf};
+ghost use Rattle.session.specs.View.{view, freshSession, rowNumbers, stepNumbers};
+ghost use Rattle.session.specs.Promises.{TermMet, TermPlaced, StepMet, SelectMet};
 ghost use Rattle.session.specs.Bundle.{rowNames, stepNames};
 ghost use Rattle.session.specs.Reading.{refusedAt, reading};
 ghost use Rattle.session.specs.ReadCall.{readAnswerOf, readingOf, ReadMet, RowsReadMet, StepsReadMet};
 ghost use Rattle.session.specs.Audit.{report};
-ghost use Rattle.session.specs.Promises.{TermMet, TermPlaced, sidesOf, rowYielded, rowStepAnswer, StepMet, SelectMade, SelectMet};
-
-// A step has five numbers.
-const STEP_WIDTH: usize = 5;
-
-const MAX_STEPS: usize = 2048;
 
 // Refusal 10: a line of the wrong form.
 const WRONG_FORM: u16 = 10;
@@ -48,7 +44,7 @@ const STEP_NAMES_LENGTH: usize = 28;
 // The numbers of a session's tables.
 const ROW_NUMBERS: usize = terms::ROW_WIDTH * terms::MAX_ROWS;
 
-const STEP_NUMBERS: usize = STEP_WIDTH * MAX_STEPS;
+const STEP_NUMBERS: usize = calls::STEP_WIDTH * calls::MAX_STEPS;
 
 // Rows, four numbers each, and steps, five numbers each; of both the first ones are held, as many as the counts say.
 pub struct Session {
@@ -56,44 +52,6 @@ pub struct Session {
     row_count: usize,
     steps: [u16; STEP_NUMBERS],
     step_count: usize,
-}
-
-// A step: a rule, two rows, and two premises by their numbers.
-struct Step {
-    rule: u16,
-    left: u16,
-    right: u16,
-    first: u16,
-    second: u16,
-}
-
-// The answer of a term call.
-pub enum TermAnswer {
-    Held(u16),
-    BadKind,
-    BadField(u16),
-    TooDeep,
-    AlreadyHeld(u16),
-    TermsFull,
-}
-
-// The answer of a step call.
-pub enum StepAnswer {
-    Held(u16),
-    NoRule,
-    BadSide(u16),
-    BadPremise(u16),
-    NotYielded,
-    StepsFull,
-}
-
-// The answer of a select call.
-pub enum SelectAnswer {
-    Selected(u32),
-    BadDocument(u16),
-    BadArgument(u16),
-    ShortMarks,
-    LimitPassed,
 }
 
 // The answer of a read call: how many steps are held, or the number of the refusal and the refused line.
@@ -138,33 +96,6 @@ enum StepsEnd {
     Refused { number: u16, line: usize },
 }
 
-// The answer of a term call on the rows: the first refusal that applies, or the new row's number.
-fn judge_term(rows: &[u16], row: Row) -> TermAnswer
-    requires { ⌜ length (tableOf (now rows)) ≤ maxRows ⌝ }
-    ensures { λ r. ⌜ termAnswerOf r ≡ termAnswer (tableOf (now (rows .entry))) (rowOf row) ⌝ }
-{
-    let place = terms::bad_place(rows, row);
-    let nesting = terms::nesting_of(rows, row);
-    let found = terms::find_row(rows, row);
-    let count = terms::row_count(rows);
-    if terms::MAX_KIND < row.kind {
-        return TermAnswer::BadKind;
-    }
-    if 0 < place {
-        return TermAnswer::BadField(place);
-    }
-    if Session::NESTING < nesting {
-        return TermAnswer::TooDeep;
-    }
-    if found < count {
-        return TermAnswer::AlreadyHeld(found as u16);
-    }
-    if Session::ROWS <= count {
-        return TermAnswer::TermsFull;
-    }
-    TermAnswer::Held(count as u16)
-}
-
 // Row n becomes `row`.
 fn put_row(rows: &mut [u16], n: usize, row: Row)
     requires { ⌜ (n < maxRows) × (length (now rows) ≡ rowWidth * maxRows) ⌝ }
@@ -182,8 +113,7 @@ fn term_in_place(rows: &mut [u16], n: usize, row: Row) -> TermAnswer
     requires { ⌜ (n ≤ maxRows) × (length (now rows) ≡ rowWidth * maxRows) ⌝ }
     ensures { λ r. ⌜ TermPlaced (now (rows .entry)) n (rowOf row) (now (rows .exit)) r ⌝ }
 {
-    let end = terms::ROW_WIDTH * n;
-    let judged = judge_term(&rows[..end], row);
+    let judged = calls::judge_term(rows, n, row);
     if let TermAnswer::Held(_) = judged {
         put_row(rows, n, row);
     }
@@ -198,165 +128,12 @@ fn term_in_table(rows: &mut [u16; ROW_NUMBERS], n: usize, row: Row) -> TermAnswe
     term_in_place(rows, n, row)
 }
 
-fn step_count(steps: &[u16]) -> usize
-    ensures { λ r. ⌜ r ≡ length (stepsOf (now (steps .entry))) ⌝ }
-{
-    steps.len() / STEP_WIDTH
-}
-
-// The place of step i, counted from 1, among the steps; of 0, the first one.
-fn place_of(i: u16) -> usize
-    ensures { λ r. ⌜ r ≡ i - 1 ⌝ }
-{
-    if i == 0 {
-        return 0;
-    }
-    xpath::wide(i) - 1
-}
-
-// The rows of step i, counted from 1; zeros where there is none.
-fn sides_of(steps: &[u16], i: u16) -> Sides
-    ensures { λ r. ⌜ sidesIn r ≡ sidesOf (stepNumbered (stepsOf (now (steps .entry))) i) ⌝ }
-{
-    let n = place_of(i);
-    if n < step_count(steps) {
-        let at = STEP_WIDTH * n;
-        let left = steps[at + 1];
-        let right = steps[at + 2];
-        return Sides { left, right };
-    }
-    Sides { left: 0, right: 0 }
-}
-
-fn is_path(rows: &[u16], i: usize) -> bool
-    ensures { λ r. ⌜ r ≡ isPath (rowAt (tableOf (now (rows .entry))) i) ⌝ }
-{
-    terms::row_at(rows, i).kind <= terms::LAST_PATH
-}
-
-// Whether rows i and j are both paths, or neither is.
-fn same_sort(rows: &[u16], i: usize, j: usize) -> bool
-    ensures { λ r. ⌜ r ≡ sameSort (tableOf (now (rows .entry))) i j ⌝ }
-{
-    let left = is_path(rows, i);
-    let right = is_path(rows, j);
-    if left { right } else { !right }
-}
-
-// The place of refusal 5, 0 if there is none.
-fn bad_side(rows: &[u16], step: Step) -> u16
-    ensures { λ r. ⌜ r ≡ badSide (tableOf (now (rows .entry))) (stepIn step) ⌝ }
-{
-    let n = terms::row_count(rows);
-    let left = xpath::wide(step.left);
-    if n <= left {
-        return 1;
-    }
-    let right = xpath::wide(step.right);
-    if xpath::or(n <= right, !same_sort(rows, left, right)) {
-        return 2;
-    }
-    0
-}
-
-// Whether premise i is as it must be, where `held` steps are.
-fn premise_ok(needed: bool, held: usize, i: u16) -> bool
-    ensures { λ r. ⌜ r ≡ premiseOk needed held i ⌝ }
-{
-    if needed {
-        return xpath::and(1 <= i, xpath::wide(i) <= held);
-    }
-    i == 0
-}
-
-// The place of refusal 6, 0 if there is none.
-fn bad_premise(held: usize, step: Step) -> u16
-    ensures { λ r. ⌜ r ≡ badPremise held (stepIn step) ⌝ }
-{
-    let count = rules::premise_count(step.rule);
-    if !premise_ok(1 <= count, held, step.first) {
-        return 1;
-    }
-    if !premise_ok(2 <= count, held, step.second) {
-        return 2;
-    }
-    0
-}
-
-// Whether the rule yields the step, judged by row numbers.
-fn is_yielded(rows: &[u16], steps: &[u16], step: Step) -> bool
-    ensures { λ r. ⌜ r ≡ rowYielded (book (tableOf (now (rows .entry))) (stepsOf (now (steps .entry)))) (stepIn step) ⌝ }
-{
-    let first = sides_of(steps, step.first);
-    let second = sides_of(steps, step.second);
-    rules::yields(rows, step.rule, step.left, step.right, first, second)
-}
-
-// Whether refusal 7 applies.
-fn rule_refuses(rows: &[u16], steps: &[u16], step: Step) -> bool
-    ensures { λ r. ⌜ r ≡ not (rowYielded (book (tableOf (now (rows .entry))) (stepsOf (now (steps .entry)))) (stepIn step)) ⌝ }
-{
-    !is_yielded(rows, steps, step)
-}
-
-// The answer of a step call on the rows and steps: the first refusal that applies, or the new step's number.
-fn judge_step(rows: &[u16], steps: &[u16], step: Step) -> StepAnswer
-    requires { ⌜ length (stepsOf (now steps)) ≤ maxSteps ⌝ }
-    ensures { λ r. ⌜ stepAnswerOf r ≡ rowStepAnswer (book (tableOf (now (rows .entry))) (stepsOf (now (steps .entry)))) (stepIn step) ⌝ }
-{
-    let held = step_count(steps);
-    let side = bad_side(rows, step);
-    let premise = bad_premise(held, step);
-    let not_yielded = rule_refuses(rows, steps, step);
-    if xpath::or(step.rule == 0, rules::MAX_RULE < step.rule) {
-        return StepAnswer::NoRule;
-    }
-    if 0 < side {
-        return StepAnswer::BadSide(side);
-    }
-    if 0 < premise {
-        return StepAnswer::BadPremise(premise);
-    }
-    if not_yielded {
-        return StepAnswer::NotYielded;
-    }
-    if Session::STEPS <= held {
-        return StepAnswer::StepsFull;
-    }
-    StepAnswer::Held((held + 1) as u16)
-}
-
-// The same on the first n rows and the first m steps.
-fn judge_first(rows: &[u16], n: usize, steps: &[u16], m: usize, step: Step) -> StepAnswer
-    requires { ⌜ (n ≤ maxRows) × (length (now rows) ≡ rowWidth * maxRows) ⌝ }
-    requires { ⌜ (m ≤ maxSteps) × (length (now steps) ≡ stepWidth * maxSteps) ⌝ }
-    ensures { λ r. ⌜ stepAnswerOf r ≡ rowStepAnswer (book (tableOf (take (rowWidth * n) (now (rows .entry)))) (stepsOf (take (stepWidth * m) (now (steps .entry))))) (stepIn step) ⌝ }
-{
-    let end = terms::ROW_WIDTH * n;
-    let last = STEP_WIDTH * m;
-    judge_step(&rows[..end], &steps[..last], step)
-}
-
-// The same on a session's tables.
-fn judge_in_tables<'a>(
-    rows: &'a [u16; ROW_NUMBERS],
-    n: usize,
-    steps: &'a [u16; STEP_NUMBERS],
-    m: usize,
-    step: Step,
-) -> StepAnswer
-    requires { ⌜ (n ≤ maxRows) × (m ≤ maxSteps) ⌝ }
-    ensures { λ r. ⌜ stepAnswerOf r ≡ rowStepAnswer (book (tableOf (take (rowWidth * n) (now (rows .entry)))) (stepsOf (take (stepWidth * m) (now (steps .entry))))) (stepIn step) ⌝ }
-{
-    judge_first(rows, n, steps, m, step)
-}
-
 // Step m, counted from 0, becomes `step`.
 fn put_step(steps: &mut [u16], m: usize, step: Step)
     requires { ⌜ (m < maxSteps) × (length (now steps) ≡ stepWidth * maxSteps) ⌝ }
     ensures { λ r. ⌜ now (steps .exit) ≡ sets (now (steps .entry)) (stepWidth * m) (stepNumbers (stepIn step)) ⌝ }
 {
-    let at = STEP_WIDTH * m;
+    let at = calls::STEP_WIDTH * m;
     steps[at] = step.rule;
     steps[at + 1] = step.left;
     steps[at + 2] = step.right;
@@ -370,76 +147,6 @@ fn put_in_table(steps: &mut [u16; STEP_NUMBERS], m: usize, step: Step)
     ensures { λ r. ⌜ now (steps .exit) ≡ sets (now (steps .entry)) (stepWidth * m) (stepNumbers (stepIn step)) ⌝ }
 {
     put_step(steps, m, step)
-}
-
-// The answer of a select call that comes to an evaluation.
-fn select_answer(done: Evaluated) -> SelectAnswer
-    ensures { λ r. ⌜ selectAnswerOf r ≡ evaluationAnswer (answerOf done) ⌝ }
-{
-    match done {
-        Evaluated::Selected(visits) => SelectAnswer::Selected(visits),
-        Evaluated::NoRoom => SelectAnswer::ShortMarks,
-        Evaluated::LimitPassed => SelectAnswer::LimitPassed,
-    }
-}
-
-// A select call on lent rows, four numbers a row, as `Session::select` makes it on the rows that it holds.
-pub fn select_on(
-    rows: &[u16],
-    row: u16,
-    document: &[u16],
-    context: u16,
-    limit: u32,
-    marks: &mut [u8],
-) -> SelectAnswer
-    ensures { λ r. ⌜ SelectMade (tableOf (now (rows .entry))) row (now (document .entry)) context limit (now (marks .entry)) r (now (marks .exit)) ⌝ }
-{
-    let check = xpath::check_document(document);
-    if let DocumentCheck::Refused(value) = check {
-        return SelectAnswer::BadDocument(value);
-    }
-    let x = xpath::wide(context);
-    if xpath::node_count(document) <= x {
-        return SelectAnswer::BadArgument(1);
-    }
-    if !terms::is_held_path(rows, row) {
-        return SelectAnswer::BadArgument(2);
-    }
-    let done = selection::evaluate(rows, xpath::wide(row), document, x, limit, marks);
-    select_answer(done)
-}
-
-// A select call on the first n rows of a table.
-fn select_first(
-    rows: &[u16],
-    n: usize,
-    row: u16,
-    document: &[u16],
-    context: u16,
-    limit: u32,
-    marks: &mut [u8],
-) -> SelectAnswer
-    requires { ⌜ (n ≤ maxRows) × (length (now rows) ≡ rowWidth * maxRows) ⌝ }
-    ensures { λ r. ⌜ SelectMade (tableOf (take (rowWidth * n) (now (rows .entry)))) row (now (document .entry)) context limit (now (marks .entry)) r (now (marks .exit)) ⌝ }
-{
-    let end = terms::ROW_WIDTH * n;
-    select_on(&rows[..end], row, document, context, limit, marks)
-}
-
-// The same on a session's table.
-fn select_in_table(
-    rows: &[u16; ROW_NUMBERS],
-    n: usize,
-    row: u16,
-    document: &[u16],
-    context: u16,
-    limit: u32,
-    marks: &mut [u8],
-) -> SelectAnswer
-    requires { ⌜ n ≤ maxRows ⌝ }
-    ensures { λ r. ⌜ SelectMade (tableOf (take (rowWidth * n) (now (rows .entry)))) row (now (document .entry)) context limit (now (marks .entry)) r (now (marks .exit)) ⌝ }
-{
-    select_first(rows, n, row, document, context, limit, marks)
 }
 
 // Whether the first names line stands at `at`.
@@ -528,7 +235,7 @@ fn read_steps(
             first: text.first,
             second: text.second,
         };
-        let number = judge_first(rows, n, steps, m, step).number();
+        let number = calls::judge_step(rows, n, steps, m, step).number();
         if number != 0 {
             return StepsEnd::Refused { number, line };
         }
@@ -563,112 +270,6 @@ fn refused_read(number: u16, line: usize, fresh: Session) -> ReadResult
     }
 }
 
-// The rows of step m, the last of the first m steps; zeros where there is none.
-fn last_sides(steps: &[u16], m: usize) -> Sides
-    requires { ⌜ (m ≤ maxSteps) × (length (now steps) ≡ stepWidth * maxSteps) ⌝ }
-    ensures { λ r. ⌜ sidesIn r ≡ sidesOf (stepNumbered (stepsOf (take (stepWidth * m) (now (steps .entry)))) m) ⌝ }
-{
-    let end = STEP_WIDTH * m;
-    sides_of(&steps[..end], m as u16)
-}
-
-// The same in a session's table.
-fn last_in_table(steps: &[u16; STEP_NUMBERS], m: usize) -> Sides
-    requires { ⌜ m ≤ maxSteps ⌝ }
-    ensures { λ r. ⌜ sidesIn r ≡ sidesOf (stepNumbered (stepsOf (take (stepWidth * m) (now (steps .entry)))) m) ⌝ }
-{
-    last_sides(steps, m)
-}
-
-// A count, where it is no more than its limit; else the limit.
-fn clamp(count: usize, limit: usize) -> usize
-    ensures { λ r. ⌜ r ≡ min count limit ⌝ }
-{
-    if count <= limit { count } else { limit }
-}
-
-impl TermAnswer {
-    pub fn number(self) -> u16
-        ensures { λ r. ⌜ r ≡ termAnswerOf self .number ⌝ }
-    {
-        match self {
-            TermAnswer::Held(_) => 0,
-            TermAnswer::BadKind => 1,
-            TermAnswer::BadField(_) => 2,
-            TermAnswer::TooDeep => 3,
-            TermAnswer::AlreadyHeld(_) => 12,
-            TermAnswer::TermsFull => 11,
-        }
-    }
-
-    pub fn value(self) -> u32
-        ensures { λ r. ⌜ r ≡ termAnswerOf self .value ⌝ }
-    {
-        match self {
-            TermAnswer::Held(n) => n as u32,
-            TermAnswer::BadKind => 0,
-            TermAnswer::BadField(place) => place as u32,
-            TermAnswer::TooDeep => 0,
-            TermAnswer::AlreadyHeld(n) => n as u32,
-            TermAnswer::TermsFull => 0,
-        }
-    }
-}
-
-impl StepAnswer {
-    pub fn number(self) -> u16
-        ensures { λ r. ⌜ r ≡ stepAnswerOf self .number ⌝ }
-    {
-        match self {
-            StepAnswer::Held(_) => 0,
-            StepAnswer::NoRule => 4,
-            StepAnswer::BadSide(_) => 5,
-            StepAnswer::BadPremise(_) => 6,
-            StepAnswer::NotYielded => 7,
-            StepAnswer::StepsFull => 13,
-        }
-    }
-
-    pub fn value(self) -> u32
-        ensures { λ r. ⌜ r ≡ stepAnswerOf self .value ⌝ }
-    {
-        match self {
-            StepAnswer::Held(n) => n as u32,
-            StepAnswer::NoRule => 0,
-            StepAnswer::BadSide(place) => place as u32,
-            StepAnswer::BadPremise(place) => place as u32,
-            StepAnswer::NotYielded => 0,
-            StepAnswer::StepsFull => 0,
-        }
-    }
-}
-
-impl SelectAnswer {
-    pub fn number(self) -> u16
-        ensures { λ r. ⌜ r ≡ selectAnswerOf self .number ⌝ }
-    {
-        match self {
-            SelectAnswer::Selected(_) => 0,
-            SelectAnswer::BadDocument(_) => 8,
-            SelectAnswer::BadArgument(_) => 9,
-            SelectAnswer::ShortMarks => 14,
-            SelectAnswer::LimitPassed => 15,
-        }
-    }
-
-    pub fn value(self) -> u32
-        ensures { λ r. ⌜ r ≡ selectAnswerOf self .value ⌝ }
-    {
-        match self {
-            SelectAnswer::Selected(visits) => visits,
-            SelectAnswer::BadDocument(value) => value as u32,
-            SelectAnswer::BadArgument(place) => place as u32,
-            SelectAnswer::ShortMarks => 0,
-            SelectAnswer::LimitPassed => 0,
-        }
-    }
-}
-
 impl ReadAnswer {
     pub fn number(self) -> u16
         ensures { λ r. ⌜ r ≡ readAnswerOf self .number ⌝ }
@@ -692,7 +293,7 @@ impl ReadAnswer {
 impl Session {
     pub const ROWS: usize = terms::MAX_ROWS;
 
-    pub const STEPS: usize = MAX_STEPS;
+    pub const STEPS: usize = calls::MAX_STEPS;
 
     pub const NESTING: u16 = terms::MAX_NESTING;
 
@@ -712,7 +313,7 @@ impl Session {
     pub fn term(mut self, kind: u16, a: u16, b: u16, c: u16) -> TermResult
         ensures { λ r. ⌜ TermMet self (row kind a b c) r ⌝ }
     {
-        let n = clamp(self.row_count, Session::ROWS);
+        let n = calls::clamp(self.row_count, Session::ROWS);
         let row = Row { kind, a, b, c };
         let answer = term_in_table(&mut self.rows, n, row);
         if let TermAnswer::Held(_) = answer {
@@ -727,8 +328,7 @@ impl Session {
     pub fn step(mut self, rule: u16, left: u16, right: u16, first: u16, second: u16) -> StepResult
         ensures { λ r. ⌜ StepMet self (step rule left right first second) r ⌝ }
     {
-        let n = clamp(self.row_count, Session::ROWS);
-        let m = clamp(self.step_count, Session::STEPS);
+        let m = calls::clamp(self.step_count, Session::STEPS);
         let step = Step {
             rule,
             left,
@@ -736,7 +336,13 @@ impl Session {
             first,
             second,
         };
-        let judged = judge_in_tables(&self.rows, n, &self.steps, m, step);
+        let judged = calls::judge_step(
+            &self.rows,
+            self.row_count,
+            &self.steps,
+            self.step_count,
+            step,
+        );
         if let StepAnswer::Held(_) = judged {
             put_in_table(&mut self.steps, m, step);
             self.step_count = m + 1;
@@ -758,22 +364,23 @@ impl Session {
     ) -> SelectAnswer
         ensures { λ r. ⌜ SelectMet self row (now (document .entry)) context limit (now (marks .entry)) r (now (marks .exit)) ⌝ }
     {
-        let held = clamp(self.row_count, Session::ROWS);
-        select_in_table(&self.rows, held, row, document, context, limit, marks)
+        let rows = calls::first_rows(&self.rows, self.row_count);
+        calls::select_on(rows, row, document, context, limit, marks)
     }
 
     fn steps_held(self) -> u16
         ensures { λ r. ⌜ r ≡ length (view self .steps) ⌝ }
     {
-        clamp(self.step_count, Session::STEPS) as u16
+        calls::clamp(self.step_count, Session::STEPS) as u16
     }
 
     // The rows of the last step; zeros where there is none.
     fn last_step(self) -> Sides
         ensures { λ r. ⌜ sidesIn r ≡ sidesOf (stepNumbered (view self .steps) (length (view self .steps))) ⌝ }
     {
-        let held = clamp(self.step_count, Session::STEPS);
-        last_in_table(&self.steps, held)
+        let held = calls::clamp(self.step_count, Session::STEPS);
+        let steps = calls::first_steps(&self.steps, self.step_count);
+        calls::sides_of(steps, held as u16)
     }
 
     // Makes the calls of a bundle's lines, from a fresh session.

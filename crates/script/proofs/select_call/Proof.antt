@@ -5,7 +5,7 @@ use native.Mathlib.Omega.{arith}
 use borrow.Author.Tests.{not-true, not-false}
 use Rattle.lines.specs.Number.{maxNumber}
 use Rattle.script.specs.Command.{select, maxLimit, maxMarks}
-use Rattle.script.proofs.Numbers.{last-within, next-within}
+use Rattle.lines.proofs.LineRead.{last-within, next-within}
 use Rattle.script.proofs.Calls.{if-not-read, if-read}
 use borrow.Author.Needs.{needs}
 use Rattle.script.proofs.select_call.Statement.{statement}

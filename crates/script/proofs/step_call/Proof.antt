@@ -4,7 +4,6 @@ use native.Mathlib.Omega.{arith}
 use borrow.Author.Tests.{not-true, not-false}
 use Rattle.lines.proofs.LineRead.{parts-met}
 use Rattle.script.specs.Command.{step}
-use Rattle.script.proofs.Numbers.{same-bounds}
 use Rattle.script.proofs.Calls.{if-not-read, if-read}
 use borrow.Author.Needs.{needs}
 use Rattle.script.proofs.step_call.Statement.{statement}
@@ -17,14 +16,14 @@ other-requires : tie.Need-other-requires
 other-requires c κs = search needs
 
 returns : tie.Need-returns
-returns c = let m = same-bounds 5 (c .before .before .before .before .before .args .bytes .now) _ _ _ _ (parts-met 5 _ _ _ _ _ (c .before .before .before .step-line .ensures)) in
+returns c = let m = parts-met 5 (c .before .before .before .before .before .args .bytes .now) _ _ _ _ (c .before .before .before .step-line .ensures) in
     if-not-read step _ _ _ _ _ _ m _ (not-true _ (c .before .if1 .taken)) (c .other .ensures)
 
 call-line-requires : tie.Need-call-line-requires
 call-line-requires c κs = search needs
 
 returns-2 : tie.Need-returns-2
-returns-2 c = let m = same-bounds 5 (c .before .before .before .before .before .args .bytes .now) _ _ _ _ (parts-met 5 _ _ _ _ _ (c .before .before .before .step-line .ensures)) in
+returns-2 c = let m = parts-met 5 (c .before .before .before .before .before .args .bytes .now) _ _ _ _ (c .before .before .before .step-line .ensures) in
     if-read step _ _ _ _ _ _ m _ (not-false _ (c .before .if1 .left)) _ (c .call-line .ensures) (λ os. refl) refl (omega arith)
 
 pub step-call-spec : {M : Type 1} → statement M

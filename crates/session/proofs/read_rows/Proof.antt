@@ -7,8 +7,9 @@ use borrow.Author.Needs.{needs}
 use borrow.Author.Tests.{not-true, not-false}
 use Rattle.terms.specs.Row.{maxRows}
 use Rattle.lines.specs.Line.{lines}
-use Rattle.session.specs.View.{rowWidth, freshSession}
-use Rattle.session.specs.Promises.{rowStepAnswer}
+use Rattle.calls.specs.Lent.{rowWidth}
+use Rattle.session.specs.View.{freshSession}
+use Rattle.calls.specs.Promises.{rowStepAnswer}
 use Rattle.session.specs.Reading.{refusedAt, rowsRead}
 use Rattle.session.specs.ReadCall.{holding}
 use Rattle.session.proofs.LineCalls.{names-there, row-end, row-wrong-there, row-refused-there, row-held-there, row-room}

@@ -6,9 +6,9 @@ use lib.ListN.{length, drop}
 use borrow.Author.Needs.{needs}
 use borrow.Author.Tests.{not-true, not-false}
 use Rattle.lines.specs.Line.{lines}
-use Rattle.session.specs.Book.{maxSteps}
-use Rattle.session.specs.View.{stepWidth}
-use Rattle.session.specs.Promises.{rowStepAnswer}
+use Rattle.calls.specs.Book.{maxSteps}
+use Rattle.calls.specs.Lent.{stepWidth}
+use Rattle.calls.specs.Promises.{rowStepAnswer}
 use Rattle.session.specs.Reading.{refusedAt, stepsRead}
 use Rattle.session.specs.ReadCall.{holding}
 use Rattle.session.proofs.LineCalls.{step-end, step-wrong-there, step-refused-there, step-held-there, step-room}
@@ -39,8 +39,8 @@ returns c = let a = c .before .before .before .before .before .before .before .b
       bounds = tt;
     }
 
-judge-first-requires : tie.Need-judge-first-requires Inv-loop μ-loop
-judge-first-requires c κs = ((omega arith, omega arith), (omega arith, omega arith))
+judge-step-requires : tie.Need-judge-step-requires Inv-loop μ-loop
+judge-step-requires c κs = search needs
 
 number-requires : tie.Need-number-requires Inv-loop μ-loop
 number-requires c κs = search needs
@@ -52,7 +52,7 @@ returns-2 : tie.Need-returns-2 Inv-loop μ-loop
 returns-2 c = let a = c .before .before .before .before .before .before .before .before .before .before .before .before .args in let l = c .before .before .before .before .before .before .before .before .loop in
     record {
       reading = ap (λ k. refusedAt k (l .line)) (c .before .number .ensures) ∙ sym (l .inv .4
-          ∙ step-refused-there (a .bytes .now) (a .rows .now) (a .n) (l .steps) (l .m) (l .line) (l .at) _ _ _ (c .before .before .before .before .before .before .step-line .ensures) (not-false _ (c .before .before .before .before .if1 .left)) (omega arith) (l .inv .0) (c .before .before .judge-first .result) (c .before .before .judge-first .ensures)
+          ∙ step-refused-there (a .bytes .now) (a .rows .now) (a .n) (l .steps) (l .m) (l .line) (l .at) _ _ _ (c .before .before .before .before .before .before .step-line .ensures) (not-false _ (c .before .before .before .before .if1 .left)) (l .inv .0) (c .before .before .judge-step .result) (c .before .before .judge-step .ensures)
           (λ e. c .if2 .taken (c .before .number .ensures ∙ e)));
       bounds = tt;
     }
@@ -60,7 +60,7 @@ returns-2 c = let a = c .before .before .before .before .before .before .before 
 put-step-requires : tie.Need-put-step-requires Inv-loop μ-loop
 put-step-requires c κs = let a = c .before .before .before .before .before .before .before .before .before .before .before .before .before .args in let l = c .before .before .before .before .before .before .before .before .before .loop in
     let held = sym (c .before .before .number .ensures) ∙ c .before .if2 .left in
-    (step-room (a .bytes .now) (a .rows .now) (a .n) (l .steps) (l .m) (l .line) (l .at) _ _ _ (c .before .before .before .before .before .before .before .step-line .ensures) (not-false _ (c .before .before .before .before .before .if1 .left)) (omega arith) (l .inv .0) (c .before .before .before .judge-first .result) (c .before .before .before .judge-first .ensures) held (l .inv .1), l .inv .1)
+    (step-room (a .bytes .now) (a .rows .now) (a .n) (l .steps) (l .m) (l .line) (l .at) _ _ _ (c .before .before .before .before .before .before .before .step-line .ensures) (not-false _ (c .before .before .before .before .before .if1 .left)) (l .inv .0) (c .before .before .before .judge-step .result) (c .before .before .before .judge-step .ensures) held (l .inv .1), l .inv .1)
 
 add-m : tie.Need-add-m Inv-loop μ-loop
 add-m c = omega arith
@@ -76,12 +76,12 @@ loop-again c = let a = c .before .before .before .before .before .before .before
     let held = sym (c .before .before .before .before .before .number .ensures) ∙ c .before .before .before .before .if2 .left in
     let right = not-false _ (c .before .before .before .before .before .before .before .before .if1 .left) in
     let bounds = c .before .before .before .before .before .before .before .before .before .before .step-line .ensures .right right in
-    let room = step-room (a .bytes .now) (a .rows .now) (a .n) (l .steps) (l .m) (l .line) (l .at) _ _ _ (c .before .before .before .before .before .before .before .before .before .before .step-line .ensures) right (omega arith) (l .inv .0) (c .before .before .before .before .before .before .judge-first .result) (c .before .before .before .before .before .before .judge-first .ensures) held (l .inv .1) in (
+    let room = step-room (a .bytes .now) (a .rows .now) (a .n) (l .steps) (l .m) (l .line) (l .at) _ _ _ (c .before .before .before .before .before .before .before .before .before .before .step-line .ensures) right (l .inv .0) (c .before .before .before .before .before .before .judge-step .result) (c .before .before .before .before .before .before .judge-step .ensures) held (l .inv .1) in (
       omega arith,
       omega arith,
       omega arith,
       omega arith,
-      l .inv .4 ∙ step-held-there (a .bytes .now) (a .rows .now) (a .n) (l .steps) (l .m) (l .line) (l .at) _ _ _ (c .before .before .before .before .before .before .before .before .before .before .step-line .ensures) right (omega arith) (l .inv .0) (c .before .before .before .before .before .before .judge-first .result) (c .before .before .before .before .before .before .judge-first .ensures) held _ (c .before .before .put-step .ensures),
+      l .inv .4 ∙ step-held-there (a .bytes .now) (a .rows .now) (a .n) (l .steps) (l .m) (l .line) (l .at) _ _ _ (c .before .before .before .before .before .before .before .before .before .before .step-line .ensures) right (l .inv .0) (c .before .before .before .before .before .before .judge-step .result) (c .before .before .before .before .before .before .judge-step .ensures) held _ (c .before .before .put-step .ensures),
     )
 
 same-length-3 : tie.Need-same-length-3 Inv-loop μ-loop
@@ -101,7 +101,7 @@ read-steps-spec =
     step-line-requires
     same-length
     returns
-    judge-first-requires
+    judge-step-requires
     number-requires
     same-length-2
     returns-2

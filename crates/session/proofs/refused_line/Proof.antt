@@ -1,7 +1,7 @@
 -- `refused_line` meets its contract. Assumes nothing.
 use mathlib.Core.Path.{refl}
-use Rattle.session.specs.Book.{answer}
-use Rattle.session.proofs.Accepted.{if-accepted, if-refused}
+use Rattle.calls.specs.Book.{answer}
+use Rattle.calls.proofs.Accepted.{if-accepted, if-refused}
 use Rattle.session.proofs.refused_line.Statement.{statement}
 use Rattle.session.proofs.refused_line.Tie as tie
 

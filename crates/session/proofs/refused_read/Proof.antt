@@ -1,6 +1,6 @@
 -- `refused_read` meets its contract. Assumes nothing.
 use mathlib.Core.Path.{ap}
-use Rattle.session.specs.Book.{answer}
+use Rattle.calls.specs.Book.{answer}
 use Rattle.session.proofs.refused_read.Statement.{statement}
 use Rattle.session.proofs.refused_read.Tie as tie
 

@@ -1,28 +1,19 @@
 -- `term_in_place` meets its contract: the row is written just where it is held. Assumes nothing.
+use Prim.Native.Nat.{min}
 use mathlib.Core.Path.{_≡_, sym, ap, _∙_}
 use native.Mathlib.Omega.{arith}
-use Rattle.session.specs.Answers.{termAnswerOf}
-use Rattle.session.proofs.Accepted.{if-accepted, if-refused}
-use Rattle.session.proofs.Lent.{row-numbers-held, rows-held}
-use Rattle.session.proofs.Refused.{term-refused}
-use Rattle.session.proofs.TermJudged.{term-accepted}
+use Rattle.terms.specs.Row.{maxRows}
+use Rattle.calls.specs.Answers.{termAnswerOf}
+use Rattle.calls.proofs.Accepted.{if-accepted, if-refused}
+use Rattle.calls.proofs.Lent.{rows-held}
+use Rattle.calls.proofs.Refused.{term-refused}
+use Rattle.calls.proofs.TermJudged.{term-accepted}
 use borrow.Author.Needs.{needs}
 use Rattle.session.proofs.term_in_place.Statement.{statement}
 use Rattle.session.proofs.term_in_place.Tie as tie
 
-mul-end : tie.Need-mul-end
-mul-end c = search needs
-
-slice-reshare-prefix-judge-term : tie.Need-slice-reshare-prefix-judge-term
-slice-reshare-prefix-judge-term c = search needs
-
-slice-aggregate-judge-term : tie.Need-slice-aggregate-judge-term
-slice-aggregate-judge-term c = let a = c .before .before .args in
-    sym (row-numbers-held (a .rows .now) (a .n) (omega arith) (omega arith))
-
 judge-term-requires : tie.Need-judge-term-requires
-judge-term-requires c κs = let a = c .before .before .args in
-    omega (arith, rows-held (a .rows .now) (a .n) (omega arith) (omega arith))
+judge-term-requires c κs = search needs
 
 enum-told : tie.Need-enum-told
 enum-told c = search needs
@@ -32,7 +23,7 @@ put-row-requires c κs = let a = c .before .before .before .before .before .befo
     let judged = c .before .before .before .judge-term .ensures in
     let held : termAnswerOf (c .before .before .before .judge-term .result) .number ≡ 0 = ap (λ t. termAnswerOf t .number) (c .before .enum-told .given .1) in
     let room = term-accepted _ _ (sym (ap (λ t. t .number) judged) ∙ held) .room in
-    (omega (arith, room, rows-held (a .rows .now) (a .n) (omega arith) (omega arith)), omega arith)
+    (omega (arith, room, rows-held (a .rows .now) (min (a .n) maxRows) (omega arith) (omega arith)), omega arith)
 
 same-length : tie.Need-same-length
 same-length c = search needs
@@ -55,9 +46,6 @@ pub term-in-place-spec : {M : Type 1} → statement M
 term-in-place-spec =
     tie.close
     (tie.spec
-    mul-end
-    slice-reshare-prefix-judge-term
-    slice-aggregate-judge-term
     judge-term-requires
     enum-told
     put-row-requires

@@ -4,18 +4,18 @@ use borrow.Author.Needs.{needs}
 use Rattle.session.proofs.Session.select.Statement.{statement}
 use Rattle.session.proofs.Session.select.Tie as tie
 
-clamp-requires : tie.Need-clamp-requires
-clamp-requires c κs = search needs
+first-rows-requires : tie.Need-first-rows-requires
+first-rows-requires c κs = search needs
 
-select-in-table-requires : tie.Need-select-in-table-requires
-select-in-table-requires c κs = search needs
+select-on-requires : tie.Need-select-on-requires
+select-on-requires c κs = search needs
 
 same-length : tie.Need-same-length
 same-length c = search needs
 
 returns : tie.Need-returns
 unfolding view
-returns c = rw (← c .before .before .before .before .before .before .clamp .ensures) (c .before .before .select-in-table .ensures)
+returns c = rw (← c .before .before .before .before .first-rows .ensures) (c .before .before .select-on .ensures)
 
 pub select-spec : {M : Type 1} → statement M
-select-spec = tie.close (tie.spec clamp-requires select-in-table-requires same-length returns)
+select-spec = tie.close (tie.spec first-rows-requires select-on-requires same-length returns)

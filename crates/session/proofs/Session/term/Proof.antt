@@ -1,7 +1,7 @@
 -- `Session::term` meets its contract: the count grows just where the row is held. Assumes nothing.
 use mathlib.Core.Path.{ap}
-use Rattle.session.specs.Answers.{termAnswerOf}
-use Rattle.session.proofs.Refused.{term-refused}
+use Rattle.calls.specs.Answers.{termAnswerOf}
+use Rattle.calls.proofs.Refused.{term-refused}
 use Rattle.session.proofs.TermMade.{term-made-held, term-made-refused}
 use borrow.Author.Needs.{needs}
 use Rattle.session.proofs.Session.term.Statement.{statement}

@@ -1,0 +1,20 @@
+-- Accepted and refused answers. Assumes nothing.
+use mathlib.Core.Path.{_≡_, refl}
+use Prim.Native.Nat.{_<_}
+use mathlib.Core.Bool.{Bool, true, false, cond}
+use native.Mathlib.Omega.{arith}
+use borrow.Author.Tests.{eq-eqb, ne-eqb}
+use Rattle.calls.specs.Book.{Answer, accepted}
+
+-- an answer t that is the one asked for, u
+module _ {A : Type 0} (t u : Answer) (same : t ≡ u) (x y : A) where
+  pub if-accepted : t .number ≡ 0 → x ≡ cond (accepted u) x y
+  if-accepted e = rw (← same, eq-eqb (t .number) 0 e)
+
+  pub if-refused : ¬ (t .number ≡ 0) → y ≡ cond (accepted u) x y
+  if-refused f = rw (← same, ne-eqb (t .number) 0 f)
+
+-- an accepted answer is not that of the first refusal, so its test failed
+pub test-failed : (b : Bool) (t u : Answer) → 0 < t .number → cond b t u .number ≡ 0 → (b ≡ false) × (u .number ≡ 0)
+test-failed true t u h e = absurd (omega arith)
+test-failed false t u h e = (refl, e)

@@ -1,0 +1,119 @@
+-- Laws of every book that calls lead to. Assumes nothing.
+use Prim.Native.Nat.{ℕ, suc, _+_, _<_}
+use mathlib.Core.Path.{_≡_, refl, sym}
+use mathlib.Core.Bool.{Bool, true, false, cond, _&&_, decide-iff}
+use mathlib.Core.List.{List, [], _∷_, _++_, map}
+use mathlib.Core.Logic.{⊎-elim}
+use native.Mathlib.Omega.{arith}
+use lib.Dec.{leb, eqb}
+use lib.ListN.{length, getD, length-append, List·getD-append}
+use lib.Seq.{getD-at}
+use mir.Facts.{yes-and, yes-leb, yes-eqb}
+use borrow.Author.Tests.{eqb-true}
+use Rattle.xpath.proofs.Reflect.{below-suc}
+use Rattle.terms.specs.Row.{Row, rowAt, noRow, find}
+use Rattle.terms.specs.Fields.{maxKind, badPlace}
+use Rattle.terms.specs.Nesting.{maxNesting, nesting}
+use Rattle.terms.specs.Table.{isWellFormed, isNew, Built, empty, more}
+use Rattle.terms.proofs.Find.{find-le}
+use Rattle.terms.proofs.Decode.{term-stays}
+use Rattle.rules.specs.Lists.{Every}
+use Rattle.rules.specs.Claim.{says, IsTrue}
+use Rattle.rules.specs.Yields.{Yields}
+use Rattle.rules.specs.Decision.{yields-dec}
+use Rattle.rules.proofs.Sound.{yields-sound}
+use Rattle.calls.specs.Book.{Step, noStep, Book, book, Answer, accepted}
+use Rattle.calls.specs.TermCall.{termAnswer, termBook}
+use Rattle.calls.specs.StepCall.{sameSort, claimOf, premisesOf, isYielded, stepAnswer, stepBook}
+use Rattle.calls.specs.Calls.{term, step, bookNext, Reachable, fresh, after}
+use Rattle.calls.proofs.TermJudged.{term-accepted}
+use Rattle.calls.proofs.StepJudged.{step-accepted}
+use Rattle.calls.proofs.Premises.{SidesHeld, sides-held, HeldIn, premises-held}
+
+-- what is left after a call, by whether it was accepted
+by-accepted : {A : Type 0} (P : A → Type 0) (t : Answer) (x y : A) → (t .number ≡ 0 → P x) → P y → P (cond (accepted t) x y)
+by-accepted P t x y f g = by-test (accepted t) refl
+  where
+    by-test : (b : Bool) → accepted t ≡ b → P (cond b x y)
+    by-test true e = f (eqb-true (t .number) 0 e)
+    by-test false e = g
+
+-- a held row stays as it is when a row is added
+module _ (rs : List Row) (r : Row) (i : ℕ) (h : i < length rs) where
+  row-stays : rowAt (rs ++ (r ∷ [])) i ≡ rowAt rs i
+  row-stays = List·getD-append rs (r ∷ []) noRow i h
+
+-- the rows of a held step, and what it says, stay as they are when a row is added
+module _ (rs : List Row) (r : Row) (p : Step) (held : SidesHeld rs p) where
+  grown : length (rs ++ (r ∷ [])) ≡ length rs + 1
+  grown = length-append rs (r ∷ [])
+
+  sides-stay : SidesHeld (rs ++ (r ∷ [])) p
+  unfolding sameSort
+  sides-stay =
+      record {
+        left = omega (arith, grown, held .left);
+        right = omega (arith, grown, held .right);
+        one-sort = rw (row-stays rs r (p .left) (held .left), row-stays rs r (p .right) (held .right)) (held .one-sort);
+      }
+
+  claim-stays : claimOf (rs ++ (r ∷ [])) p ≡ claimOf rs p
+  unfolding claimOf says
+  claim-stays =
+      rw (row-stays rs r (p .left) (held .left), term-stays rs (r ∷ []) (p .left) (held .left), term-stays rs (r ∷ []) (p .right) (held .right))
+
+pub record BookLaws (b : Book) : Type 0 where
+  pub built : Built (b .rows)
+  pub sides : (i : ℕ) → i < length (b .steps) → SidesHeld (b .rows) (getD (b .steps) i noStep)
+  pub claims : (i : ℕ) → i < length (b .steps) → IsTrue (claimOf (b .rows) (getD (b .steps) i noStep))
+
+row-added : (rs : List Row) (ps : List Step) (r : Row) → BookLaws (book rs ps) → termAnswer rs r .number ≡ 0 → BookLaws (book (rs ++ (r ∷ [])) ps)
+unfolding isWellFormed isNew
+row-added rs ps r w e =
+    let t = term-accepted rs r e in
+    record {
+      built = more r (w .built)
+          (yes-and (leb (r .kind) maxKind && eqb (badPlace rs r) 0) (leb (nesting rs r) maxNesting)
+          (yes-and (leb (r .kind) maxKind) (eqb (badPlace rs r) 0) (yes-leb (t .kind)) (yes-eqb (let z : badPlace rs r ≡ 0 = omega (arith, t .fields) in z)))
+          (yes-leb (t .nesting)))
+          (yes-eqb (let z : find rs r ≡ length rs = omega (arith, t .new, find-le rs r) in z));
+      sides = λ i h. sides-stay rs r (getD ps i noStep) (w .sides i h);
+      claims = λ i h. rw (claim-stays rs r (getD ps i noStep) (w .sides i h)) (w .claims i h);
+    }
+
+-- what holds of each step, and of one more, holds of each step of both
+each-and-last : (P : Step → Type 0) (ps : List Step) (p : Step) → ((i : ℕ) → i < length ps → P (getD ps i noStep)) → P p
+    → (i : ℕ) → i < length (ps ++ (p ∷ [])) → P (getD (ps ++ (p ∷ [])) i noStep)
+each-and-last P ps p f g i h =
+    let n = length-append ps (p ∷ []) in
+    let k : i < suc (length ps) = omega arith in
+    ⊎-elim (λ e. rw (getD-at ps p [] noStep i (sym e)) g) (λ l. rw (List·getD-append ps (p ∷ []) noStep i l) (f i l)) (below-suc k)
+
+-- what holds of held steps says so of premises
+premises-true : (rs : List Row) (ps qs : List Step) → ((i : ℕ) → i < length ps → IsTrue (claimOf rs (getD ps i noStep)))
+    → Every (HeldIn ps) qs → Every IsTrue (map (claimOf rs) qs)
+premises-true rs ps [] f h = tt
+premises-true rs ps (q ∷ qs) f h = (rw (h .0 .2) (f (h .0 .0) (h .0 .1)), premises-true rs ps qs f (h .1))
+
+step-added : (b : Book) (p : Step) → BookLaws b → stepAnswer b p .number ≡ 0 → BookLaws (book (b .rows) (b .steps ++ (p ∷ [])))
+unfolding stepAnswer isYielded
+step-added b p w e =
+    let t = step-accepted (isYielded b p) b p e in
+    let yields : Yields (p .rule) (claimOf (b .rows) p) (map (claimOf (b .rows)) (premisesOf (b .steps) p)) =
+    decide-iff (yields-dec (p .rule) (claimOf (b .rows) p) (map (claimOf (b .rows)) (premisesOf (b .steps) p))) .0 (t .yielded) in
+    let premises = premises-true (b .rows) (b .steps) (premisesOf (b .steps) p) (w .claims) (premises-held (b .steps) p (t .premises)) in
+    record {
+      built = w .built;
+      sides = each-and-last (SidesHeld (b .rows)) (b .steps) p (w .sides) (sides-held (b .rows) p (t .sides));
+      claims = each-and-last (λ q. IsTrue (claimOf (b .rows) q)) (b .steps) p (w .claims) (yields-sound (p .rule) _ _ yields premises);
+    }
+
+pub reachable-laws : {b : Book} → Reachable b → BookLaws b
+unfolding bookNext termBook stepBook
+reachable-laws fresh = record { built = empty; sides = λ i h. absurd (omega arith); claims = λ i h. absurd (omega arith) }
+reachable-laws (after {b} (term r) h) =
+    let w = reachable-laws h in
+    by-accepted (λ rs. BookLaws (book rs (b .steps))) (termAnswer (b .rows) r) _ _ (row-added (b .rows) (b .steps) r w) w
+reachable-laws (after {b} (step p) h) =
+    let w = reachable-laws h in
+    by-accepted (λ ps. BookLaws (book (b .rows) ps)) (stepAnswer b p) _ _ (step-added b p w) w

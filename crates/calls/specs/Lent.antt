@@ -1,0 +1,36 @@
+-- Lent numbers as rows and as steps. Assumes nothing.
+use Prim.Native.Nat.{ℕ, _*_, min}
+use mathlib.Core.List.{List, [], _∷_}
+use lib.ListN.{take}
+use Rattle.terms.specs.Row.{Row, tableOf, maxRows}
+use Rattle.calls.specs.Book.{Step, step, maxSteps}
+
+-- how many numbers a row has, and a step
+abbrev pub rowWidth : ℕ
+rowWidth = 4
+
+abbrev pub stepWidth : ℕ
+stepWidth = 5
+
+-- the steps of a list of numbers, five a step, without an incomplete last step
+unfoldable pub stepsOf : List ℕ → List Step
+stepsOf [] = []
+stepsOf (n ∷ []) = []
+stepsOf (n ∷ l ∷ []) = []
+stepsOf (n ∷ l ∷ r ∷ []) = []
+stepsOf (n ∷ l ∷ r ∷ i ∷ []) = []
+stepsOf (n ∷ l ∷ r ∷ i ∷ j ∷ xs) = step n l r i j ∷ stepsOf xs
+
+-- the numbers of the first n rows and steps; a count above its limit is read as the limit
+abbrev pub rowsIn : (n : ℕ) → List ℕ → List ℕ
+rowsIn n xs = take (rowWidth * min n maxRows) xs
+
+abbrev pub stepsIn : (n : ℕ) → List ℕ → List ℕ
+stepsIn n xs = take (stepWidth * min n maxSteps) xs
+
+-- the first n rows and steps
+abbrev pub firstRows : (n : ℕ) → List ℕ → List Row
+firstRows n xs = tableOf (rowsIn n xs)
+
+abbrev pub firstSteps : (n : ℕ) → List ℕ → List Step
+firstSteps n xs = stepsOf (stepsIn n xs)

@@ -1,0 +1,9 @@
+pub mod Book
+pub mod TermCall
+pub mod StepCall
+pub mod SelectCall
+pub mod Calls
+pub mod Lent
+pub mod Answers
+pub mod Promises
+pub mod CallCases
