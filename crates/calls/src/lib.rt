@@ -126,8 +126,7 @@ pub fn judge_term(rows: &[u16], n: usize, row: Row) -> TermAnswer
     term_answer(held, row)
 }
 
-// How many steps the numbers are.
-pub fn step_count(steps: &[u16]) -> usize
+fn step_count(steps: &[u16]) -> usize
     ensures { λ r. ⌜ r ≡ length (stepsOf (now (steps .entry))) ⌝ }
 {
     steps.len() / STEP_WIDTH

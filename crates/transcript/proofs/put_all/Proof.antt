@@ -1,26 +1,26 @@
--- `put_marked` is safe and ends: the loop counts. Assumes nothing.
+-- `put_all` is safe and ends: the loop counts. Assumes nothing.
 use Prim.Native.Nat.{_-_, _≤_}
 use mathlib.Core.Path.{_≡_}
 use native.Mathlib.Omega.{arith}
 use lib.ListN.{length}
 use borrow.Author.Needs.{needs}
-use Rattle.replay.proofs.put_marked.Statement.{statement}
-use Rattle.replay.proofs.put_marked.Tie as tie
+use Rattle.transcript.proofs.put_all.Statement.{statement}
+use Rattle.transcript.proofs.put_all.Tie as tie
 
 abbrev Inv-loop : tie.InvT-loop
-Inv-loop line₀ used marks end₀ i₀ line end i = (i ≤ length marks) × (length line ≡ length line₀)
+Inv-loop line₀ used bytes end₀ i₀ line end i = (i ≤ length bytes) × (length line ≡ length line₀)
 
 abbrev μ-loop : tie.MeasureT-loop
-μ-loop line₀ used marks end₀ i₀ line end i = length marks - i
+μ-loop line₀ used bytes end₀ i₀ line end i = length bytes - i
 
 loop-holds : tie.Need-loop-holds Inv-loop μ-loop
 loop-holds c = omega arith
 
-shared-slice-read-put-node : tie.Need-shared-slice-read-put-node Inv-loop μ-loop
-shared-slice-read-put-node c = omega arith
+shared-slice-read-put : tie.Need-shared-slice-read-put Inv-loop μ-loop
+shared-slice-read-put c = omega arith
 
-put-node-requires : tie.Need-put-node-requires Inv-loop μ-loop
-put-node-requires c κs = search needs
+put-requires : tie.Need-put-requires Inv-loop μ-loop
+put-requires c κs = search needs
 
 add-i : tie.Need-add-i Inv-loop μ-loop
 add-i c = omega arith
@@ -37,15 +37,15 @@ same-length c = omega arith
 returns : tie.Need-returns Inv-loop μ-loop
 returns c = search needs
 
-pub put-marked-spec : {M : Type 1} → statement M
-put-marked-spec =
+pub put-all-spec : {M : Type 1} → statement M
+put-all-spec =
     tie.close
     (tie.spec
     Inv-loop
     μ-loop
     loop-holds
-    shared-slice-read-put-node
-    put-node-requires
+    shared-slice-read-put
+    put-requires
     add-i
     loop-less
     loop-again

@@ -3,8 +3,8 @@ use mathlib.Core.Path.{sym}
 use native.Mathlib.Omega.{arith}
 use lib.Seq.{length-take-le}
 use borrow.Author.Needs.{needs}
-use Rattle.replay.proofs.select.Statement.{statement}
-use Rattle.replay.proofs.select.Tie as tie
+use Rattle.transcript.proofs.select.Statement.{statement}
+use Rattle.transcript.proofs.select.Tie as tie
 
 filled-marks-requires : tie.Need-filled-marks-requires
 filled-marks-requires c κs = search needs

@@ -2,8 +2,8 @@
 use mathlib.Core.Path.{sym}
 use lib.Seq.{length-take-le}
 use borrow.Author.Needs.{needs}
-use Rattle.replay.proofs.write_line.Statement.{statement}
-use Rattle.replay.proofs.write_line.Tie as tie
+use Rattle.transcript.proofs.write_line.Statement.{statement}
+use Rattle.transcript.proofs.write_line.Tie as tie
 
 put-requires : tie.Need-put-requires
 put-requires c κs = search needs

@@ -1,0 +1,229 @@
+// Makes the calls of a script on a session, a call a line, and prints the answers in one of two styles.
+use script::Call;
+use script::SelectCall;
+use script::StepCall;
+use script::TermCall;
+use session::Session;
+ghost use mathlib.Core.Path.{_≡_};
+ghost use Prim.Native.Nat.{_≤_};
+ghost use lib.ListN.{length};
+ghost use Rattle.script.specs.Command.{maxMarks, maxNumbers};
+
+// Refusal 10: a line of the wrong form.
+const WRONG_FORM: u16 = 10;
+
+// The most bytes that `run` takes.
+pub const MAX_INPUT: usize = 65536;
+
+// What the lent marks hold before a select.
+const FILL: u8 = 7;
+
+// Longer than the longest line: a word, two numbers, and 512 nodes of at most three digits.
+const LINE: usize = 4096;
+
+const NEWLINE: u8 = 10;
+
+const SPACE: u8 = 32;
+
+// What is printed. `Answers`: `NUMBER VALUE` for each call but document, and after an accepted select the marked nodes; a script has one
+// session, so `fresh` is no call. `Nodes`: the marked nodes of each accepted select, and `refused NUMBER VALUE` for what is refused;
+// `fresh` starts a new session.
+pub enum Style {
+    Answers,
+    Nodes,
+}
+
+// Puts b behind the first `used` bytes, where there is room; gives how many are used now.
+fn put(line: &mut [u8], used: usize, b: u8) -> usize {
+    if line.len() <= used {
+        return used;
+    }
+    line[used] = b;
+    used + 1
+}
+
+fn put_all(line: &mut [u8], used: usize, bytes: &[u8]) -> usize {
+    let mut end = used;
+    let mut i = 0;
+    while i < bytes.len() {
+        end = put(line, end, bytes[i]);
+        i += 1;
+    }
+    end
+}
+
+// A space, but none at the line's start.
+fn put_space(line: &mut [u8], used: usize) -> usize {
+    if used == 0 {
+        return 0;
+    }
+    put(line, used, SPACE)
+}
+
+fn put_number(line: &mut [u8], used: usize, n: u64) -> usize {
+    let start = put_space(line, used);
+    let mut digits = [0u8; 20];
+    let count = io::decimal(n, &mut digits);
+    put_all(line, start, &digits[..count])
+}
+
+fn put_pair(line: &mut [u8], used: usize, number: u16, value: u64) -> usize {
+    let first = put_number(line, used, number as u64);
+    put_number(line, first, value)
+}
+
+// An answer in a style: nothing where it is an accepted one that `Nodes` leaves out.
+fn put_answer(line: &mut [u8], style: Style, number: u16, value: u64) -> usize {
+    match style {
+        Style::Answers => put_pair(line, 0, number, value),
+        Style::Nodes => {
+            if number == 0 {
+                return 0;
+            }
+            let word = put_all(line, 0, b"refused");
+            put_pair(line, word, number, value)
+        }
+    }
+}
+
+fn write_line(line: &mut [u8], used: usize) {
+    let end = put(line, used, NEWLINE);
+    if end <= line.len() {
+        io::write_all(1, &line[..end]);
+    }
+}
+
+// No line where the style leaves the answer out.
+fn print(style: Style, number: u16, value: u64) {
+    let mut line = [0u8; LINE];
+    let used = put_answer(&mut line, style, number, value);
+    if used != 0 {
+        write_line(&mut line, used);
+    }
+}
+
+fn term(s: Session, t: TermCall, style: Style) -> Session {
+    let made = s.term(t.kind, t.a, t.b, t.c);
+    let answer = made.answer;
+    print(style, answer.number(), answer.value() as u64);
+    made.session
+}
+
+fn step(s: Session, p: StepCall, style: Style) -> Session {
+    let made = s.step(p.rule, p.left, p.right, p.first, p.second);
+    let answer = made.answer;
+    print(style, answer.number(), answer.value() as u64);
+    made.session
+}
+
+fn put_node(line: &mut [u8], used: usize, mark: u8, node: usize) -> usize {
+    if mark != 1 {
+        return used;
+    }
+    put_number(line, used, node as u64)
+}
+
+fn put_marked(line: &mut [u8], used: usize, marks: &[u8]) -> usize {
+    let mut end = used;
+    let mut i = 0;
+    while i < marks.len() {
+        end = put_node(line, end, marks[i], i);
+        i += 1;
+    }
+    end
+}
+
+fn select_into(s: Session, document: &[u16], q: SelectCall, style: Style, marks: &mut [u8]) {
+    let answer = s.select(q.row, document, q.context, q.limit, marks);
+    let number = answer.number();
+    let mut line = [0u8; LINE];
+    let used = put_answer(&mut line, style, number, answer.value() as u64);
+    if number != 0 {
+        write_line(&mut line, used);
+        return;
+    }
+    let end = put_marked(&mut line, used, marks);
+    write_line(&mut line, end);
+}
+
+fn filled_marks() -> [u8; script::MAX_MARKS]
+    ensures { λ r. ⌜ maxMarks ≡ length r ⌝ }
+{
+    [FILL; script::MAX_MARKS]
+}
+
+fn select(s: Session, document: &[u16], q: SelectCall, style: Style)
+    requires { ⌜ q .marks ≤ maxMarks ⌝ }
+{
+    let mut buffer = filled_marks();
+    let size = q.marks;
+    select_into(s, document, q, style, &mut buffer[..size]);
+}
+
+// Whether a style takes the call.
+fn is_taken(call: Call, style: Style) -> bool {
+    match call {
+        Call::Other => false,
+        Call::Fresh => match style {
+            Style::Answers => false,
+            Style::Nodes => true,
+        },
+        _ => true,
+    }
+}
+
+fn no_document() -> [u16; script::MAX_NUMBERS]
+    ensures { λ r. ⌜ maxNumbers ≡ length r ⌝ }
+{
+    [0; script::MAX_NUMBERS]
+}
+
+fn make_calls(input: &[u8], style: Style) {
+    let mut s = Session::new();
+    let mut document = no_document();
+    let mut count = 0;
+    let mut at = 0;
+    let mut line: usize = 0;
+    while at < input.len() {
+        line += 1;
+        let read = script::call_at(input, at);
+        let call = read.call;
+        if !is_taken(call, style) {
+            print(style, WRONG_FORM, line as u64);
+            return;
+        }
+        match call {
+            Call::Term(t) => {
+                let after = term(s, t, style);
+                s = after;
+            }
+            Call::Step(p) => {
+                let after = step(s, p, style);
+                s = after;
+            }
+            Call::Document(n) => {
+                let numbers = read.numbers;
+                document = numbers;
+                count = n;
+            }
+            Call::Select(q) => select(s, &document[..count], q, style),
+            Call::Fresh => {
+                let after = Session::new();
+                s = after;
+            }
+            Call::Other => {}
+        }
+        at = read.next;
+    }
+}
+
+// Makes the calls of a script, a call a line, from a fresh session. A line of another form ends the run, and prints its number as a
+// refusal; so does input that is too long, with line 0 and no call made. It gives nothing back and lends nothing to write, so there is
+// nothing for a contract to equate: what it prints is beyond contracts, since the C library's write is.
+pub fn run(input: &[u8], style: Style) {
+    if MAX_INPUT < input.len() {
+        print(style, WRONG_FORM, 0);
+        return;
+    }
+    make_calls(input, style);
+}
