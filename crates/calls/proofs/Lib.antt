@@ -2,10 +2,9 @@ pub mod Accepted
 pub mod TermJudged
 pub mod StepJudged
 pub mod SelectJudged
-pub mod Lent
+pub mod Tables
 pub mod Refused
 pub mod Premises
 pub mod Reached
 pub mod Yielded
 pub mod ByTerms
-pub mod Contracts

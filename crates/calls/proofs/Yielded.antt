@@ -6,9 +6,9 @@ use lib.ListN.{length, getD, take}
 use Rattle.rules.specs.RowYields.{Sides}
 use Rattle.calls.specs.Book.{Step}
 use Rattle.calls.specs.StepCall.{stepNumbered}
-use Rattle.calls.specs.Lent.{stepsOf}
+use Rattle.calls.specs.Tables.{stepsOf}
 use Rattle.calls.specs.Promises.{sidesOf}
-use Rattle.calls.proofs.Lent.{step-lent, step-past}
+use Rattle.calls.proofs.Tables.{step-lent, step-past}
 
 take-nil : (k : ℕ) (A : Type 0) → _≡_ {A = List A} (take k []) []
 take-nil zero A = refl

@@ -9,8 +9,8 @@ use Rattle.calls.specs.declared.SelectAnswer.the-variants as SelectCases
 use Rattle.calls.specs.declared.Step.{Step as CodeStep}
 use Rattle.calls.specs.Book.{Step, step, Answer, answer}
 
-abbrev pub stepIn : CodeStep → Step
-stepIn p = step (p .rule) (p .left) (p .right) (p .first) (p .second)
+abbrev pub stepOf : CodeStep → Step
+stepOf p = step (p .rule) (p .left) (p .right) (p .first) (p .second)
 
 abbrev pub termAnswerOf : TermAnswer → Answer
 termAnswerOf (TermCases.Held n) = answer 0 n

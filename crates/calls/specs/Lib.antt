@@ -3,7 +3,8 @@ pub mod TermCall
 pub mod StepCall
 pub mod SelectCall
 pub mod Calls
-pub mod Lent
+pub mod Tables
 pub mod Answers
 pub mod Promises
 pub mod CallCases
+pub mod TableCases

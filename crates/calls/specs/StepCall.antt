@@ -31,7 +31,7 @@ badPremise held p =
     cond (not (premiseOk (leb 1 (premiseCount (p .rule))) held (p .first))) 1
     (cond (not (premiseOk (leb 2 (premiseCount (p .rule))) held (p .second))) 2 0)
 
--- step i of the book, counted from 1
+-- step i of the book, counted from 1; of 0, step 1
 abbrev pub stepNumbered : List Step → ℕ → Step
 stepNumbered ps i = getD ps (i - 1) noStep
 

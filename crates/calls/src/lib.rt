@@ -15,8 +15,8 @@ ghost use Rattle.rules.specs.Lent.{sidesIn};
 ghost use Rattle.calls.specs.Book.{maxSteps, book};
 ghost use Rattle.calls.specs.TermCall.{termAnswer};
 ghost use Rattle.calls.specs.StepCall.{sameSort, badSide, premiseOk, badPremise, stepNumbered};
-ghost use Rattle.calls.specs.Lent.{stepsOf, rowsIn, stepsIn, firstRows, firstSteps};
-ghost use Rattle.calls.specs.Answers.{termAnswerOf, stepAnswerOf, selectAnswerOf, evaluationAnswer, stepIn};
+ghost use Rattle.calls.specs.Tables.{stepsOf, firstRowNumbers, firstStepNumbers, firstRows, firstSteps};
+ghost use Rattle.calls.specs.Answers.{termAnswerOf, stepAnswerOf, selectAnswerOf, evaluationAnswer, stepOf};
 ghost use Rattle.calls.specs.Promises.{sidesOf, rowYielded, rowStepAnswer, SelectMade};
 
 // A step has five numbers.
@@ -79,14 +79,14 @@ fn front(numbers: &[u16], count: usize) -> &[u16]
 
 // The numbers of the first n rows.
 pub fn first_rows(rows: &[u16], n: usize) -> &[u16]
-    ensures { λ r. ⌜ now r ≡ rowsIn n (now (rows .entry)) ⌝ }
+    ensures { λ r. ⌜ now r ≡ firstRowNumbers n (now (rows .entry)) ⌝ }
 {
     front(rows, terms::ROW_WIDTH * clamp(n, terms::MAX_ROWS))
 }
 
 // The numbers of the first m steps.
 pub fn first_steps(steps: &[u16], m: usize) -> &[u16]
-    ensures { λ r. ⌜ now r ≡ stepsIn m (now (steps .entry)) ⌝ }
+    ensures { λ r. ⌜ now r ≡ firstStepNumbers m (now (steps .entry)) ⌝ }
 {
     front(steps, STEP_WIDTH * clamp(m, MAX_STEPS))
 }
@@ -142,7 +142,7 @@ fn place_of(i: u16) -> usize
     xpath::wide(i) - 1
 }
 
-// The rows of step i, counted from 1; zeros where there is none.
+// The rows of step i, counted from 1, and of 0 those of step 1; zeros where there is no such step.
 pub fn sides_of(steps: &[u16], i: u16) -> Sides
     ensures { λ r. ⌜ sidesIn r ≡ sidesOf (stepNumbered (stepsOf (now (steps .entry))) i) ⌝ }
 {
@@ -173,7 +173,7 @@ fn same_sort(rows: &[u16], i: usize, j: usize) -> bool
 
 // The place of refusal 5, 0 if there is none.
 fn bad_side(rows: &[u16], step: Step) -> u16
-    ensures { λ r. ⌜ r ≡ badSide (tableOf (now (rows .entry))) (stepIn step) ⌝ }
+    ensures { λ r. ⌜ r ≡ badSide (tableOf (now (rows .entry))) (stepOf step) ⌝ }
 {
     let n = terms::row_count(rows);
     let left = xpath::wide(step.left);
@@ -199,7 +199,7 @@ fn premise_ok(needed: bool, held: usize, i: u16) -> bool
 
 // The place of refusal 6, 0 if there is none.
 fn bad_premise(held: usize, step: Step) -> u16
-    ensures { λ r. ⌜ r ≡ badPremise held (stepIn step) ⌝ }
+    ensures { λ r. ⌜ r ≡ badPremise held (stepOf step) ⌝ }
 {
     let count = rules::premise_count(step.rule);
     if !premise_ok(1 <= count, held, step.first) {
@@ -213,7 +213,7 @@ fn bad_premise(held: usize, step: Step) -> u16
 
 // Whether the rule yields the step, judged by row numbers.
 fn is_yielded(rows: &[u16], steps: &[u16], step: Step) -> bool
-    ensures { λ r. ⌜ r ≡ rowYielded (book (tableOf (now (rows .entry))) (stepsOf (now (steps .entry)))) (stepIn step) ⌝ }
+    ensures { λ r. ⌜ r ≡ rowYielded (book (tableOf (now (rows .entry))) (stepsOf (now (steps .entry)))) (stepOf step) ⌝ }
 {
     let first = sides_of(steps, step.first);
     let second = sides_of(steps, step.second);
@@ -222,7 +222,7 @@ fn is_yielded(rows: &[u16], steps: &[u16], step: Step) -> bool
 
 // Whether refusal 7 applies.
 fn rule_refuses(rows: &[u16], steps: &[u16], step: Step) -> bool
-    ensures { λ r. ⌜ r ≡ not (rowYielded (book (tableOf (now (rows .entry))) (stepsOf (now (steps .entry)))) (stepIn step)) ⌝ }
+    ensures { λ r. ⌜ r ≡ not (rowYielded (book (tableOf (now (rows .entry))) (stepsOf (now (steps .entry)))) (stepOf step)) ⌝ }
 {
     !is_yielded(rows, steps, step)
 }
@@ -230,7 +230,7 @@ fn rule_refuses(rows: &[u16], steps: &[u16], step: Step) -> bool
 // The answer of a step call on the rows and steps: the first refusal that applies, or the new step's number.
 fn step_answer(rows: &[u16], steps: &[u16], step: Step) -> StepAnswer
     requires { ⌜ length (stepsOf (now steps)) ≤ maxSteps ⌝ }
-    ensures { λ r. ⌜ stepAnswerOf r ≡ rowStepAnswer (book (tableOf (now (rows .entry))) (stepsOf (now (steps .entry)))) (stepIn step) ⌝ }
+    ensures { λ r. ⌜ stepAnswerOf r ≡ rowStepAnswer (book (tableOf (now (rows .entry))) (stepsOf (now (steps .entry)))) (stepOf step) ⌝ }
 {
     let held = step_count(steps);
     let side = bad_side(rows, step);
@@ -262,11 +262,11 @@ pub fn judge_step<'a>(
     m: usize,
     step: Step,
 ) -> StepAnswer
-    ensures { λ r. ⌜ stepAnswerOf r ≡ rowStepAnswer (book (firstRows n (now (rows .entry))) (firstSteps m (now (steps .entry)))) (stepIn step) ⌝ }
+    ensures { λ r. ⌜ stepAnswerOf r ≡ rowStepAnswer (book (firstRows n (now (rows .entry))) (firstSteps m (now (steps .entry)))) (stepOf step) ⌝ }
 {
-    let held = first_rows(rows, n);
-    let before = first_steps(steps, m);
-    step_answer(held, before, step)
+    let held_rows = first_rows(rows, n);
+    let held_steps = first_steps(steps, m);
+    step_answer(held_rows, held_steps, step)
 }
 
 // The answer of a select call that comes to an evaluation.

@@ -2,6 +2,7 @@
 use Prim.Native.Nat.{ℕ}
 use mathlib.Core.Bool.{Bool, true, false, cond, _&&_}
 use mathlib.Core.List.{List, [], _∷_}
+use mathlib.Core.Option.{Option, none}
 use lib.Dec.{eqb}
 
 abbrev pub newline : ℕ
@@ -37,6 +38,10 @@ inFirstPart x (w ∷ ws) = (x ∷ w) ∷ ws
 unfoldable pub parts : List ℕ → List (List ℕ)
 parts [] = [] ∷ []
 parts (x ∷ xs) = cond (eqb x space) ([] ∷ parts xs) (inFirstPart x (parts xs))
+
+-- what `read` makes of the parts of a line that has its newline
+abbrev pub partsRead : {A : Type 0} → (read : List (List ℕ) → Option A) → Line → Option A
+partsRead read l = cond (l .ended) (read (parts (l .bytes))) none
 
 unfoldable pub sameBytes : List ℕ → List ℕ → Bool
 sameBytes [] [] = true

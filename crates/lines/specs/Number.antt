@@ -5,7 +5,7 @@ use mathlib.Core.List.{List, [], _∷_}
 use mathlib.Core.Option.{Option, none, some, Option·elim}
 use lib.Dec.{leb, eqb}
 use lib.ListN.{replicate}
-use Rattle.lines.specs.Line.{Line, parts}
+use Rattle.lines.specs.Line.{Line, partsRead}
 
 abbrev pub digit0 : ℕ
 digit0 = 48
@@ -41,17 +41,17 @@ appendDigits n (x ∷ xs) = appendDigits (appendDigit n x) xs
 abbrev pub numberUpTo : (most : ℕ) → List ℕ → Option ℕ
 numberUpTo most xs = cond (isDecimal xs && leb (appendDigits 0 xs) most) (some (appendDigits 0 xs)) none
 
--- the numbers that the parts write, one for each bound and none above its bound
-unfoldable pub within : (bounds : List ℕ) → List (List ℕ) → Option (List ℕ)
-within [] [] = some []
-within [] (w ∷ ws) = none
-within (b ∷ bs) [] = none
-within (b ∷ bs) (w ∷ ws) = Option·elim (numberUpTo b w) none (λ n. Option·elim (within bs ws) none (λ ns. some (n ∷ ns)))
+-- the numbers that the parts write, one for each bound and each at most its bound
+unfoldable pub numbersUpTo : (bounds : List ℕ) → List (List ℕ) → Option (List ℕ)
+numbersUpTo [] [] = some []
+numbersUpTo [] (w ∷ ws) = none
+numbersUpTo (b ∷ bs) [] = none
+numbersUpTo (b ∷ bs) (w ∷ ws) = Option·elim (numberUpTo b w) none (λ n. Option·elim (numbersUpTo bs ws) none (λ ns. some (n ∷ ns)))
 
--- `count` numbers, each of which a line of numbers may have
-abbrev pub numbersIn : (count : ℕ) → List (List ℕ) → Option (List ℕ)
-numbersIn count ws = within (replicate count maxNumber) ws
+-- the numbers that the parts write, `count` of them, each at most 65535
+abbrev pub lineNumbers : (count : ℕ) → List (List ℕ) → Option (List ℕ)
+lineNumbers count ws = numbersUpTo (replicate count maxNumber) ws
 
 -- the numbers of a line that has `count` numbers, with one space between two, and its newline; none of any other line
 unfoldable pub numbersOf : (count : ℕ) → Line → Option (List ℕ)
-numbersOf count l = cond (l .ended) (numbersIn count (parts (l .bytes))) none
+numbersOf count l = partsRead (lineNumbers count) l

@@ -8,8 +8,8 @@ use lib.Dec.{leb, ltb, eqb}
 use lib.ListN.{length, drop, replicate}
 use Rattle.lines.specs.declared.Digits.{Digits}
 use Rattle.lines.specs.declared.Digits.the-variants as DigitsCases
-use Rattle.lines.specs.Line.{Line, lines, parts}
-use Rattle.lines.specs.Number.{digit0, isDigit, appendDigit, numberUpTo, numbersIn}
+use Rattle.lines.specs.Line.{Line, lines, partsRead}
+use Rattle.lines.specs.Number.{digit0, isDigit, appendDigit, numberUpTo, lineNumbers}
 
 unfoldable pub upTo : (most n : ℕ) → Option ℕ
 upTo most n = cond (leb n most) (some n) none
@@ -61,14 +61,14 @@ pub record NumberMet (most end : ℕ) (xs : List ℕ) (at : ℕ) (ok : Bool) (va
   pub right : ok ≡ true → (at < next) × (next ≤ length xs)
   pub wrong : ok ≡ false → (value ≡ 0) × (next ≡ length xs)
 
--- what `read` makes of the parts of the first line, where that line has its newline
+-- what `read` makes of the parts of the first line
 unfoldable pub firstParts : {A : Type 0} → (read : List (List ℕ) → Option A) → List Line → Option A
 firstParts read [] = none
-firstParts read (l ∷ ls) = cond (l .ended) (read (parts (l .bytes))) none
+firstParts read (l ∷ ls) = partsRead read l
 
 -- the first line, where it has `count` numbers
 abbrev pub firstNumbers : (count : ℕ) → List Line → Option (List ℕ)
-firstNumbers count ls = firstParts (numbersIn count) ls
+firstNumbers count ls = firstParts (lineNumbers count) ls
 
 -- the line that starts at `at` of the text xs: whether it has `count` numbers, which, and where the next line starts; of any other line
 -- zeros, and the text's length

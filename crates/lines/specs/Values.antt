@@ -5,7 +5,7 @@ use mathlib.Core.List.{[], _∷_, _++_, map}
 use mathlib.Core.Option.{none, some, Option·elim}
 use Rattle.lines.specs.Ascii.{ascii}
 use Rattle.lines.specs.Line.{line, inFirstLine, lines, inFirstPart, parts}
-use Rattle.lines.specs.Number.{maxNumber, isDigit, areDigits, isDecimal, appendDigits, numberUpTo, within, numbersOf}
+use Rattle.lines.specs.Number.{maxNumber, isDigit, areDigits, isDecimal, appendDigits, numberUpTo, numbersUpTo, numbersOf}
 use Rattle.lines.specs.Read.{cut, numberBefore, numberCut}
 use Rattle.lines.specs.Written.{digitsOf, decimal, lineText}
 
@@ -65,7 +65,7 @@ four-numbers : map (λ text. numbersOf 4 (line (ascii text) true))
     ∷ "0 0 0 65535"
     ∷ "65535 10 0 7" ∷ [])
     ≡ some (2 ∷ 1 ∷ 0 ∷ 2 ∷ []) ∷ some (0 ∷ 0 ∷ 0 ∷ 65535 ∷ []) ∷ some (65535 ∷ 10 ∷ 0 ∷ 7 ∷ []) ∷ []
-unfolding ascii numbersOf within Option·elim parts inFirstPart isDecimal areDigits isDigit appendDigits
+unfolding ascii numbersOf numbersUpTo Option·elim parts inFirstPart isDecimal areDigits isDigit appendDigits
 four-numbers = refl
 
 -- a leading zero, 65536, two spaces, a space at the end or at the start, three numbers, five, a carriage return, a letter, a tab, nothing, spaces
@@ -83,7 +83,7 @@ not-four : map (λ text. numbersOf 4 (line (ascii text) true))
     ∷ ""
     ∷ "   " ∷ [])
     ≡ none ∷ none ∷ none ∷ none ∷ none ∷ none ∷ none ∷ none ∷ none ∷ none ∷ none ∷ none ∷ []
-unfolding ascii numbersOf within Option·elim parts inFirstPart isDecimal areDigits isDigit appendDigits
+unfolding ascii numbersOf numbersUpTo Option·elim parts inFirstPart isDecimal areDigits isDigit appendDigits
 not-four = refl
 
 -- a line without its newline

@@ -9,14 +9,14 @@ use native.Mathlib.Omega.{arith}
 use lib.ListN.{length, drop, length-append}
 use borrow.Author.Tests.{lt-leb}
 use Rattle.lines.specs.Line.{newline, space, lines}
-use Rattle.lines.specs.Number.{maxNumber, numberUpTo, within}
+use Rattle.lines.specs.Number.{maxNumber, numberUpTo, numbersUpTo}
 use Rattle.lines.specs.Read.{NumberMet, firstParts}
 use Rattle.lines.proofs.Cutting.{lines-at}
 use Rattle.lines.proofs.Parts.{prepended, Reads, first-none, first-mapped, no-newline-in, next-behind, number-before-space, number-before-newline, number-found, nothing-read, PartsMet}
 use Rattle.script.specs.Command.{maxNumbers, allNumbers, atMost}
 
 reads-all : Reads maxNumber allNumbers allNumbers
-unfolding within
+unfolding numbersUpTo
 reads-all w ws = refl
 
 abbrev appended : List ℕ → Option (List ℕ) → Option (List ℕ)
@@ -55,7 +55,7 @@ module _ (xs : List ℕ) (at from : ℕ) (ns : List ℕ) (so-far : SoFar xs at f
       }
 
   pub last-of-all : (v next : ℕ) → NumberMet maxNumber newline xs from true v next → PartsMet allNumbers xs at true (ns ++ v ∷ []) next
-  unfolding within Option·elim
+  unfolding numbersUpTo Option·elim
   last-of-all v next m =
       let found = number-found maxNumber newline (drop from xs) v (drop next xs) (m .number) in
       let r = m .right refl in
@@ -73,7 +73,7 @@ module _ (xs : List ℕ) (at from : ℕ) (ns : List ℕ) (so-far : SoFar xs at f
 
   -- the line goes on, and there is always one more part
   pub numbers-full : length ns ≡ maxNumbers → atMost maxNumbers (firstParts allNumbers (lines (drop at xs))) ≡ none
-  unfolding atMost within Option·elim
+  unfolding atMost numbersUpTo Option·elim
   numbers-full e =
       rw (so-far .numbers)
       (sym (first-mapped cut-off refl (λ ws. cut-off (allNumbers ws)) allNumbers (λ ws. refl) (lines (drop from xs)))

@@ -16,7 +16,7 @@ use Rattle.script.specs.declared.Call.{Call}
 use Rattle.script.specs.declared.Call.the-variants as CallCases
 use Rattle.script.specs.declared.CallLine.{CallLine}
 use Rattle.lines.proofs.SameBytes.{same-bytes}
-use Rattle.lines.specs.Number.{within}
+use Rattle.lines.specs.Number.{numbersUpTo}
 use Rattle.script.specs.Command.{Command, termBytes, stepBytes, selectBytes, documentBytes, freshBytes, named, commandOf}
 use Rattle.script.specs.Read.{noNumbers, callLine, countOf, marksOf, commandIn, CallMet}
 use Rattle.script.proofs.Calls.{no-numbers-size, no-call, is-call}
@@ -87,7 +87,7 @@ module _ (xs : List ℕ) (at : ℕ)
     not-so w y r e t n s i = absurd (false≢true (sym n ∙ ap (startsWith (y ++ e ∷ [])) (t ∙ ap (λ v. v ++ e ∷ r) i) ∙ s))
 
     pub no-word : CallMet commandOf xs at (callLine CallCases.Other (length xs))
-    unfolding ascii commandOf named within Option·elim startsWith
+    unfolding ascii commandOf named numbersUpTo Option·elim startsWith
     no-word = no-call commandOf xs at (by-part (first-part (drop at xs)))
       where
         by-part : FirstPart (drop at xs) → firstParts commandOf (lines (drop at xs)) ≡ none

@@ -7,7 +7,7 @@ use lib.Dec.{leb}
 use lib.ListN.{length}
 use Rattle.lines.specs.Ascii.{ascii}
 use Rattle.lines.specs.Line.{sameBytes}
-use Rattle.lines.specs.Number.{maxNumber, within, numbersIn}
+use Rattle.lines.specs.Number.{maxNumber, numbersUpTo, lineNumbers}
 
 pub data Word : Type 0 where
   term : Word
@@ -50,7 +50,7 @@ maxNumbers = 1539
 
 -- as many numbers as there are parts
 abbrev pub allNumbers : List (List ℕ) → Option (List ℕ)
-allNumbers ws = numbersIn (length ws) ws
+allNumbers ws = lineNumbers (length ws) ws
 
 -- the numbers, where there are not more than `most`
 unfoldable pub atMost : (most : ℕ) → Option (List ℕ) → Option (List ℕ)
@@ -67,8 +67,8 @@ named w o = Option·elim o none (λ ns. some (command w ns))
 unfoldable pub commandOf : List (List ℕ) → Option Command
 commandOf [] = none
 commandOf (w ∷ ws) =
-    cond (sameBytes w termBytes) (named term (numbersIn 4 ws))
-    (cond (sameBytes w stepBytes) (named step (numbersIn 5 ws))
-    (cond (sameBytes w selectBytes) (named select (within selectBounds ws))
+    cond (sameBytes w termBytes) (named term (lineNumbers 4 ws))
+    (cond (sameBytes w stepBytes) (named step (lineNumbers 5 ws))
+    (cond (sameBytes w selectBytes) (named select (numbersUpTo selectBounds ws))
     (cond (sameBytes w documentBytes) (named document (atMost maxNumbers (allNumbers ws)))
-    (cond (sameBytes w freshBytes) (named fresh (within [] ws)) none))))
+    (cond (sameBytes w freshBytes) (named fresh (numbersUpTo [] ws)) none))))

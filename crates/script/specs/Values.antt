@@ -6,7 +6,7 @@ use mathlib.Core.Option.{none, some, Option·elim}
 use lib.ListN.{replicate}
 use Rattle.lines.specs.Ascii.{ascii}
 use Rattle.lines.specs.Line.{inFirstLine, lines, inFirstPart, parts, sameBytes}
-use Rattle.lines.specs.Number.{isDigit, areDigits, isDecimal, appendDigits, within}
+use Rattle.lines.specs.Number.{isDigit, areDigits, isDecimal, appendDigits, numbersUpTo}
 use Rattle.lines.specs.Read.{firstParts}
 use Rattle.script.specs.Command.{command, term, step, select, document, fresh, documentBytes, atMost, named, commandOf}
 
@@ -23,7 +23,7 @@ commands : map (λ text. firstParts commandOf (lines (ascii text)))
     ∷ some (command document (0 ∷ 0 ∷ 7 ∷ []))
     ∷ some (command document [])
     ∷ some (command fresh []) ∷ []
-unfolding ascii commandOf named atMost firstParts lines inFirstLine parts inFirstPart sameBytes within Option·elim isDecimal areDigits isDigit appendDigits
+unfolding ascii commandOf named atMost firstParts lines inFirstLine parts inFirstPart sameBytes numbersUpTo Option·elim isDecimal areDigits isDigit appendDigits
 commands = refl
 
 -- no line, an empty line, fresh without its newline, a term of three numbers, of five, with a space at its end, with two spaces, with a
@@ -51,7 +51,7 @@ no-commands : map (λ text. firstParts commandOf (lines (ascii text)))
     ∷ "fresh \n"
     ∷ "fresh 0\n" ∷ [])
     ≡ none ∷ none ∷ none ∷ none ∷ none ∷ none ∷ none ∷ none ∷ none ∷ none ∷ none ∷ none ∷ none ∷ none ∷ none ∷ none ∷ none ∷ none ∷ none ∷ none ∷ []
-unfolding ascii commandOf named atMost firstParts lines inFirstLine parts inFirstPart sameBytes within Option·elim isDecimal areDigits isDigit appendDigits
+unfolding ascii commandOf named atMost firstParts lines inFirstLine parts inFirstPart sameBytes numbersUpTo Option·elim isDecimal areDigits isDigit appendDigits
 no-commands = refl
 
 -- the parts of a document of n zeros
@@ -60,9 +60,9 @@ zeros n = documentBytes ∷ replicate n (ascii "0")
 
 -- 1,539 numbers, and 1,540
 longest-document : commandOf (zeros 1539) ≡ some (command document (replicate 1539 0))
-unfolding ascii zeros commandOf named atMost sameBytes within Option·elim isDecimal isDigit appendDigits
+unfolding ascii zeros commandOf named atMost sameBytes numbersUpTo Option·elim isDecimal isDigit appendDigits
 longest-document = refl
 
 too-long : commandOf (zeros 1540) ≡ none
-unfolding ascii zeros commandOf named atMost sameBytes within Option·elim isDecimal isDigit appendDigits
+unfolding ascii zeros commandOf named atMost sameBytes numbersUpTo Option·elim isDecimal isDigit appendDigits
 too-long = refl

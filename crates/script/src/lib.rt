@@ -1,7 +1,7 @@
 // A line of a script as a call on a session: a word, and numbers after it, one space before each.
 ghost use mathlib.Core.Path.{_≡_};
 ghost use lib.ListN.{length};
-ghost use Rattle.lines.specs.Number.{within, numbersIn};
+ghost use Rattle.lines.specs.Number.{numbersUpTo, lineNumbers};
 ghost use Rattle.script.specs.Command.{term, step, select, document, maxNumbers, allNumbers, atMost, selectBounds, named, commandOf};
 ghost use Rattle.script.specs.Read.{noNumbers, callLine, CallMet};
 
@@ -84,7 +84,7 @@ fn other(bytes: &[u8]) -> CallLine
 
 // The numbers of a term at `at`, to the line's end.
 fn term_call(bytes: &[u8], at: usize) -> CallLine
-    ensures { λ r. ⌜ CallMet (λ ws. named term (numbersIn 4 ws)) (now (bytes .entry)) at r ⌝ }
+    ensures { λ r. ⌜ CallMet (λ ws. named term (lineNumbers 4 ws)) (now (bytes .entry)) at r ⌝ }
 {
     let row = lines::row_line(bytes, at);
     if !row.ok {
@@ -100,7 +100,7 @@ fn term_call(bytes: &[u8], at: usize) -> CallLine
 }
 
 fn step_call(bytes: &[u8], at: usize) -> CallLine
-    ensures { λ r. ⌜ CallMet (λ ws. named step (numbersIn 5 ws)) (now (bytes .entry)) at r ⌝ }
+    ensures { λ r. ⌜ CallMet (λ ws. named step (lineNumbers 5 ws)) (now (bytes .entry)) at r ⌝ }
 {
     let step = lines::step_line(bytes, at);
     if !step.ok {
@@ -117,7 +117,7 @@ fn step_call(bytes: &[u8], at: usize) -> CallLine
 }
 
 fn select_call(bytes: &[u8], at: usize) -> CallLine
-    ensures { λ r. ⌜ CallMet (λ ws. named select (within selectBounds ws)) (now (bytes .entry)) at r ⌝ }
+    ensures { λ r. ⌜ CallMet (λ ws. named select (numbersUpTo selectBounds ws)) (now (bytes .entry)) at r ⌝ }
 {
     let row = lines::number_at(bytes, at, SPACE, MAX_NUMBER);
     let context = lines::number_at(bytes, row.next, SPACE, MAX_NUMBER);

@@ -10,14 +10,14 @@ use Rattle.terms.specs.Row.{Row}
 use Rattle.rules.specs.Lists.{Every}
 use Rattle.lines.specs.Ascii.{ascii}
 use Rattle.lines.specs.Line.{newline, Line, line, inFirstPart, lines, parts, sameBytes, isLine, firstIs}
-use Rattle.lines.specs.Number.{isDigit, isDecimal, appendDigits, within, numbersOf}
+use Rattle.lines.specs.Number.{isDigit, isDecimal, appendDigits, numbersUpTo, numbersOf}
 use Rattle.lines.specs.Read.{firstParts, firstNumbers}
 use Rattle.lines.proofs.Cutting.{lines-at}
 use Rattle.lines.proofs.Written.{line-reads-back}
 use Rattle.session.specs.declared.Session.{Session}
 use Rattle.calls.specs.Book.{Step, answer}
 use Rattle.calls.specs.Calls.{step, Seen}
-use Rattle.calls.specs.Lent.{rowWidth}
+use Rattle.calls.specs.Tables.{rowWidth}
 use Rattle.session.specs.View.{view, freshSession, rowNumbers, stepNumbers}
 use Rattle.session.specs.Bundle.{rowNames, stepNames, rowText, rowsText, stepsText, bundleText}
 use Rattle.calls.specs.Promises.{rowStepAnswer}
@@ -34,7 +34,7 @@ use Rattle.session.proofs.Views.{fresh-view}
 
 -- the second names line is no term line
 no-row-in-names : numbersOf rowWidth (line stepNames true) ≡ none
-unfolding numbersOf within isDecimal isDigit appendDigits parts inFirstPart stepNames ascii Option·elim
+unfolding numbersOf numbersUpTo isDecimal isDigit appendDigits parts inFirstPart stepNames ascii Option·elim
 no-row-in-names = refl
 
 not-names : (ls : List Line) (ns : List ℕ) → firstNumbers rowWidth ls ≡ some ns → firstIs stepNames ls ≡ false

@@ -17,7 +17,7 @@ use Rattle.session.specs.declared.Session.{Session}
 use Rattle.calls.specs.declared.TermAnswer.{TermAnswer}
 use Rattle.calls.specs.declared.StepAnswer.{StepAnswer}
 use Rattle.calls.specs.Book.{maxSteps, book, answer}
-use Rattle.calls.specs.Lent.{rowWidth, stepWidth, firstRows, firstSteps}
+use Rattle.calls.specs.Tables.{rowWidth, stepWidth, firstRows, firstSteps}
 use Rattle.session.specs.View.{view, stepNumbers, freshSession}
 use Rattle.calls.specs.Answers.{termAnswerOf, stepAnswerOf}
 use Rattle.calls.specs.Promises.{rowStepAnswer}
@@ -25,7 +25,7 @@ use Rattle.session.specs.Promises.{TermPlaced}
 use Rattle.session.specs.Bundle.{rowNames, stepNames, rowOfNumbers, stepOfNumbers}
 use Rattle.session.specs.Reading.{refusedAt, wrongForm, stepsRead, rowsRead}
 use Rattle.session.specs.ReadCall.{holding}
-use Rattle.calls.proofs.Lent.{rows-held, steps-held}
+use Rattle.calls.proofs.Tables.{rows-held, steps-held}
 use Rattle.session.proofs.LinesRead.{names-read, row-wrong, row-held, row-refused, step-wrong, step-held, step-refused, no-lines, some-line}
 use Rattle.calls.proofs.StepJudged.{step-accepted}
 use Rattle.session.proofs.StepMade.{step-made-held, step-made-refused}

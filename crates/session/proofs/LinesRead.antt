@@ -16,7 +16,7 @@ use Rattle.session.specs.declared.TermResult.{TermResult}
 use Rattle.session.specs.declared.StepResult.{StepResult}
 use Rattle.calls.specs.Book.{accepted}
 use Rattle.calls.specs.TermCall.{termAnswer}
-use Rattle.calls.specs.Lent.{rowWidth, stepWidth}
+use Rattle.calls.specs.Tables.{rowWidth, stepWidth}
 use Rattle.session.specs.View.{view, withRow, withStep}
 use Rattle.calls.specs.Answers.{termAnswerOf, stepAnswerOf}
 use Rattle.calls.specs.Promises.{rowStepAnswer}

@@ -6,7 +6,7 @@ use lib.Seq.{sets}
 use Rattle.session.specs.declared.Session.{Session}
 use Rattle.calls.specs.declared.StepAnswer.{StepAnswer}
 use Rattle.calls.specs.Book.{Step, book}
-use Rattle.calls.specs.Lent.{stepWidth, firstRows, firstSteps}
+use Rattle.calls.specs.Tables.{stepWidth, firstRows, firstSteps}
 use Rattle.session.specs.View.{stepsHeld, view, stepNumbers, withStep}
 use Rattle.calls.specs.Answers.{stepAnswerOf}
 use Rattle.calls.specs.Promises.{rowStepAnswer}
@@ -14,11 +14,11 @@ use Rattle.session.specs.Promises.{StepMet}
 use Rattle.calls.proofs.Accepted.{if-accepted, if-refused}
 use Rattle.calls.proofs.ByTerms.{row-answer-by-terms}
 
-module _ (s : Session) (p : Step) (t : StepAnswer) (placed : stepAnswerOf t ≡ rowStepAnswer (book (firstRows (s .«row_count») (s .rows)) (firstSteps (s .«step_count») (s .steps))) p)
+module _ (s : Session) (p : Step) (t : StepAnswer) (answered : stepAnswerOf t ≡ rowStepAnswer (book (firstRows (s .«row_count») (s .rows)) (firstSteps (s .«step_count») (s .steps))) p)
   where
     judged : stepAnswerOf t ≡ rowStepAnswer (view s) p
     unfolding view
-    judged = placed
+    judged = answered
 
     pub step-made-held : stepAnswerOf t .number ≡ 0 → (m : ℕ) → m ≡ stepsHeld s → (ys : List ℕ) → ys ≡ sets (s .steps) (stepWidth * m) (stepNumbers p)
         → StepMet s p (record { answer = t; session = record { rows = s .rows; «row_count» = s .«row_count»; steps = ys; «step_count» = m + 1 } })

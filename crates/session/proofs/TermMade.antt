@@ -8,7 +8,7 @@ use Rattle.terms.specs.Row.{Row, maxRows}
 use Rattle.session.specs.declared.Session.{Session}
 use Rattle.calls.specs.declared.TermAnswer.{TermAnswer}
 use Rattle.calls.specs.TermCall.{termAnswer}
-use Rattle.calls.specs.Lent.{rowWidth}
+use Rattle.calls.specs.Tables.{rowWidth}
 use Rattle.session.specs.View.{rowsHeld, view, rowNumbers, withRow}
 use Rattle.calls.specs.Answers.{termAnswerOf}
 use Rattle.session.specs.Promises.{TermMet, TermPlaced}

@@ -9,9 +9,9 @@ use Rattle.terms.specs.Row.{Row, tableOf, maxRows}
 use Rattle.terms.proofs.Lent.{table-append}
 use Rattle.session.specs.declared.Session.{Session}
 use Rattle.calls.specs.Book.{Step, maxSteps, book, emptyBook}
-use Rattle.calls.specs.Lent.{rowWidth, stepWidth, stepsOf}
+use Rattle.calls.specs.Tables.{rowWidth, stepWidth, stepsOf}
 use Rattle.session.specs.View.{rowsHeld, stepsHeld, view, freshSession, rowNumbers, stepNumbers, withRow, withStep}
-use Rattle.calls.proofs.Lent.{steps-append, rows-held, steps-held}
+use Rattle.calls.proofs.Tables.{steps-append, rows-held, steps-held}
 
 -- numbers written after the first m are the next of the first m and those
 take-sets : (xs : List ℕ) (m : ℕ) (vs : List ℕ) → m + length vs ≤ length xs → take (m + length vs) (sets xs m vs) ≡ take m xs ++ vs

@@ -16,11 +16,11 @@ use Rattle.rules.specs.Decision as decision
 use Rattle.rules.specs.Decision.{yields-dec}
 use Rattle.lines.specs.Ascii.{ascii}
 use Rattle.lines.specs.Line.{inFirstLine, lines, inFirstPart, parts, sameBytes, isLine}
-use Rattle.lines.specs.Number.{isDigit, areDigits, isDecimal, appendDigits, within, numbersOf}
+use Rattle.lines.specs.Number.{isDigit, areDigits, isDecimal, appendDigits, numbersUpTo, numbersOf}
 use Rattle.session.specs.declared.Report.{Report}
 use Rattle.calls.specs.TermCall.{termAnswer}
 use Rattle.calls.specs.StepCall.{sameSort, badSide, premiseOk, badPremise, claimOf, premisesOf, stepAnswerBy, isYielded, stepAnswer}
-use Rattle.calls.specs.Lent.{stepsOf}
+use Rattle.calls.specs.Tables.{stepsOf}
 use Rattle.session.specs.View.{view, freshSession, withRow, withStep}
 use Rattle.session.specs.Bundle.{rowNames, stepNames, rowOfLine, stepOfLine}
 use Rattle.session.specs.Reading.{stepsRead, rowsRead, linesRead, reading}
@@ -106,5 +106,5 @@ reports :
     -- the rows are those of the last step
     ∷ audited (example ++ "2 1 1 0 0\n") is reportBy 0 0 2 1 1
     ∷ [])
-unfolding ascii report reading linesRead rowsRead stepsRead rowNames stepNames rowOfLine stepOfLine lines inFirstLine parts inFirstPart sameBytes isLine numbersOf within isDecimal areDigits isDigit appendDigits Option·elim view tableOf stepsOf freshSession withRow withStep termAnswer badPlace fieldsOf fieldOk heldPath heldQualifier isPath isQualifier nesting nestings entriesFrom nestingBy operandNesting find sameRow stepAnswer stepAnswerBy sameSort badSide premiseOk badPremise claimOf premisesOf isYielded says termAt terms termBy asPath asQualifier premiseCount firstCount formsOf formsIn rules decide yields-dec decision.someFormFits
+unfolding ascii report reading linesRead rowsRead stepsRead rowNames stepNames rowOfLine stepOfLine lines inFirstLine parts inFirstPart sameBytes isLine numbersOf numbersUpTo isDecimal areDigits isDigit appendDigits Option·elim view tableOf stepsOf freshSession withRow withStep termAnswer badPlace fieldsOf fieldOk heldPath heldQualifier isPath isQualifier nesting nestings entriesFrom nestingBy operandNesting find sameRow stepAnswer stepAnswerBy sameSort badSide premiseOk badPremise claimOf premisesOf isYielded says termAt terms termBy asPath asQualifier premiseCount firstCount formsOf formsIn rules decide yields-dec decision.someFormFits
 reports = refl

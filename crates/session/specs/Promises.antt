@@ -14,7 +14,7 @@ use Rattle.calls.specs.Book.{Step, accepted}
 use Rattle.calls.specs.TermCall.{termAnswer}
 use Rattle.calls.specs.StepCall.{stepAnswer}
 use Rattle.calls.specs.Calls.{Reachable}
-use Rattle.calls.specs.Lent.{rowWidth, firstRows}
+use Rattle.calls.specs.Tables.{rowWidth, firstRows}
 use Rattle.calls.specs.Promises.{rowStepAnswer, SelectMade}
 use Rattle.session.specs.View.{view, rowNumbers, withRow, withStep}
 use Rattle.calls.specs.Answers.{termAnswerOf, stepAnswerOf}

@@ -3,7 +3,6 @@ use Prim.Native.Nat.{ℕ, _≤_}
 use mathlib.Core.Path.{_≡_}
 use mathlib.Core.List.{List}
 use lib.ListN.{length, drop}
-use Rattle.terms.specs.Row.{maxRows}
 use Rattle.lines.specs.Line.{lines}
 use Rattle.session.specs.declared.Session.{Session}
 use Rattle.session.specs.declared.ReadAnswer.{ReadAnswer}
@@ -41,7 +40,7 @@ afterRows bytes xs (RowsCases.Refused k line) = refusedAt k line
 
 -- the numbers that the code goes on with
 abbrev pub RowsBounds : List ℕ → RowsEnd → Type 0
-RowsBounds bytes (RowsCases.Held n line at) = (n ≤ maxRows) × (line ≤ at) × (at ≤ length bytes)
+RowsBounds bytes (RowsCases.Held n line at) = (line ≤ at) × (at ≤ length bytes)
 RowsBounds bytes (RowsCases.Refused k line) = Unit {0}
 
 -- the term lines from line 2 on, which starts at `start`, on the numbers xs, which become ys

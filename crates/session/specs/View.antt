@@ -1,19 +1,19 @@
 -- A session as a book. Assumes nothing.
-use Prim.Native.Nat.{ℕ, _+_, _*_, min}
+use Prim.Native.Nat.{ℕ, _+_, _*_}
 use mathlib.Core.List.{List, [], _∷_}
 use lib.ListN.{replicate}
 use lib.Seq.{sets}
 use Rattle.terms.specs.Row.{Row, maxRows}
 use Rattle.session.specs.declared.Session.{Session}
 use Rattle.calls.specs.Book.{Step, maxSteps, Book, book}
-use Rattle.calls.specs.Lent.{rowWidth, stepWidth, firstRows, firstSteps}
+use Rattle.calls.specs.Tables.{rowWidth, stepWidth, rowsCounted, stepsCounted, firstRows, firstSteps}
 
--- how many rows and steps are held: a count above its limit is read as the limit
+-- how many rows and steps are held
 abbrev pub rowsHeld : Session → ℕ
-rowsHeld s = min (s .«row_count») maxRows
+rowsHeld s = rowsCounted (s .«row_count»)
 
 abbrev pub stepsHeld : Session → ℕ
-stepsHeld s = min (s .«step_count») maxSteps
+stepsHeld s = stepsCounted (s .«step_count»)
 
 unfoldable pub view : Session → Book
 view s = book (firstRows (s .«row_count») (s .rows)) (firstSteps (s .«step_count») (s .steps))

@@ -16,8 +16,8 @@ ghost use Rattle.rules.specs.Lent.{sidesIn};
 ghost use Rattle.lines.specs.Line.{lines, firstIs};
 ghost use Rattle.calls.specs.Book.{step, maxSteps, answer, accepted};
 ghost use Rattle.calls.specs.StepCall.{stepNumbered};
-ghost use Rattle.calls.specs.Lent.{rowWidth, stepWidth};
-ghost use Rattle.calls.specs.Answers.{stepIn};
+ghost use Rattle.calls.specs.Tables.{rowWidth, stepWidth};
+ghost use Rattle.calls.specs.Answers.{stepOf};
 ghost use Rattle.calls.specs.Promises.{sidesOf};
 ghost use Rattle.session.specs.View.{view, freshSession, rowNumbers, stepNumbers};
 ghost use Rattle.session.specs.Promises.{TermMet, TermPlaced, StepMet, SelectMet};
@@ -131,7 +131,7 @@ fn term_in_table(rows: &mut [u16; ROW_NUMBERS], n: usize, row: Row) -> TermAnswe
 // Step m, counted from 0, becomes `step`.
 fn put_step(steps: &mut [u16], m: usize, step: Step)
     requires { ⌜ (m < maxSteps) × (length (now steps) ≡ stepWidth * maxSteps) ⌝ }
-    ensures { λ r. ⌜ now (steps .exit) ≡ sets (now (steps .entry)) (stepWidth * m) (stepNumbers (stepIn step)) ⌝ }
+    ensures { λ r. ⌜ now (steps .exit) ≡ sets (now (steps .entry)) (stepWidth * m) (stepNumbers (stepOf step)) ⌝ }
 {
     let at = calls::STEP_WIDTH * m;
     steps[at] = step.rule;
@@ -144,7 +144,7 @@ fn put_step(steps: &mut [u16], m: usize, step: Step)
 // The same in a session's table.
 fn put_in_table(steps: &mut [u16; STEP_NUMBERS], m: usize, step: Step)
     requires { ⌜ (m < maxSteps) × (length (now steps) ≡ stepWidth * maxSteps) ⌝ }
-    ensures { λ r. ⌜ now (steps .exit) ≡ sets (now (steps .entry)) (stepWidth * m) (stepNumbers (stepIn step)) ⌝ }
+    ensures { λ r. ⌜ now (steps .exit) ≡ sets (now (steps .entry)) (stepWidth * m) (stepNumbers (stepOf step)) ⌝ }
 {
     put_step(steps, m, step)
 }
@@ -213,8 +213,7 @@ fn read_steps(
     n: usize,
     steps: &mut [u16],
 ) -> StepsEnd
-    requires { ⌜ (first ≤ start) × (start ≤ length (now bytes)) ⌝ }
-    requires { ⌜ (n ≤ maxRows) × (length (now rows) ≡ rowWidth * maxRows) × (length (now steps) ≡ stepWidth * maxSteps) ⌝ }
+    requires { ⌜ (first ≤ start) × (start ≤ length (now bytes)) × (length (now steps) ≡ stepWidth * maxSteps) ⌝ }
     ensures { λ r. ⌜ StepsReadMet (now (bytes .entry)) start first (now (rows .entry)) n (now (steps .entry)) (now (steps .exit)) r ⌝ }
 {
     let mut m = 0;
@@ -223,10 +222,8 @@ fn read_steps(
     while at < bytes.len() {
         let text = lines::step_line(bytes, at);
         if !text.ok {
-            return StepsEnd::Refused {
-                number: WRONG_FORM,
-                line,
-            };
+            let number = WRONG_FORM;
+            return StepsEnd::Refused { number, line };
         }
         let step = Step {
             rule: text.rule,

@@ -3,7 +3,7 @@ use mathlib.Core.Path.{sym}
 use native.Mathlib.Omega.{arith}
 use lib.Seq.{length-take-le}
 use borrow.Author.Needs.{needs}
-use Rattle.calls.proofs.Lent.{take-clamped}
+use Rattle.calls.proofs.Tables.{take-clamped}
 use Rattle.calls.proofs.front.Statement.{statement}
 use Rattle.calls.proofs.front.Tie as tie
 

@@ -1,7 +1,7 @@
 -- `judge_step` meets its contract. Assumes nothing.
 use mathlib.Core.Path.{_∙_}
 use borrow.Author.Needs.{needs}
-use Rattle.calls.proofs.Lent.{few-steps}
+use Rattle.calls.proofs.Tables.{few-steps}
 use Rattle.calls.proofs.judge_step.Statement.{statement}
 use Rattle.calls.proofs.judge_step.Tie as tie
 

@@ -1,7 +1,7 @@
 -- `judge_term` meets its contract. Assumes nothing.
 use mathlib.Core.Path.{_∙_}
 use borrow.Author.Needs.{needs}
-use Rattle.calls.proofs.Lent.{few-rows}
+use Rattle.calls.proofs.Tables.{few-rows}
 use Rattle.calls.proofs.judge_term.Statement.{statement}
 use Rattle.calls.proofs.judge_term.Tie as tie
 

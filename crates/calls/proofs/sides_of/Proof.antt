@@ -1,6 +1,6 @@
 -- `sides_of` meets its contract. Assumes nothing.
 use native.Mathlib.Omega.{arith}
-use Rattle.calls.proofs.Lent.{steps-lent}
+use Rattle.calls.proofs.Tables.{steps-lent}
 use Rattle.calls.proofs.Yielded.{sides-lent, sides-past}
 use borrow.Author.Needs.{needs}
 use Rattle.calls.proofs.sides_of.Statement.{statement}

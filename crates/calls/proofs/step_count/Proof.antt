@@ -1,6 +1,6 @@
 -- `step_count` meets its contract. Assumes nothing.
 use mathlib.Core.Path.{sym}
-use Rattle.calls.proofs.Lent.{steps-lent}
+use Rattle.calls.proofs.Tables.{steps-lent}
 use Rattle.calls.proofs.step_count.Statement.{statement}
 use Rattle.calls.proofs.step_count.Tie as tie
 

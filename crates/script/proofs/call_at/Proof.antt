@@ -6,7 +6,7 @@ use native.Mathlib.Omega.{arith}
 use borrow.Author.Needs.{needs}
 use Rattle.lines.specs.Ascii.{ascii}
 use Rattle.lines.specs.Line.{newline, space, sameBytes}
-use Rattle.lines.specs.Number.{within}
+use Rattle.lines.specs.Number.{numbersUpTo}
 use Rattle.lines.proofs.Cutting.{lacks}
 use Rattle.lines.proofs.Start.{starts}
 use Rattle.script.specs.declared.Call.the-variants as CallCases
@@ -107,7 +107,7 @@ call-line-requires : tie.Need-call-line-requires
 call-line-requires c κs = search needs
 
 returns-5 : tie.Need-returns-5
-unfolding ascii lacks commandOf sameBytes named atMost within Option·elim
+unfolding ascii lacks commandOf sameBytes named atMost numbersUpTo Option·elim
 returns-5 c = let a = c .before .before .before .before .before .before .before .before .before .before .before .before .before .before .before .before .before .args in
     rw (c .call-line .ensures) (word-alone documentBytes refl refl (a .bytes .now) (a .at) (CallCases.Document 0) _ refl refl refl refl (sym (c .before .before .is-line .ensures) ∙ c .before .if5 .taken))
 
@@ -126,7 +126,7 @@ call-line-requires-2 : tie.Need-call-line-requires-2
 call-line-requires-2 c κs = search needs
 
 returns-6 : tie.Need-returns-6
-unfolding ascii lacks commandOf sameBytes named atMost within Option·elim
+unfolding ascii lacks commandOf sameBytes named atMost numbersUpTo Option·elim
 returns-6 c = let a = c .before .before .before .before .before .before .before .before .before .before .before .before .before .before .before .before .before .before .before .before .args in
     rw (c .call-line2 .ensures) (word-alone freshBytes refl refl (a .bytes .now) (a .at) CallCases.Fresh _ refl refl refl refl (sym (c .before .before .is-line2 .ensures) ∙ c .before .if6 .taken))
 

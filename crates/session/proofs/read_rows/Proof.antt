@@ -7,7 +7,7 @@ use borrow.Author.Needs.{needs}
 use borrow.Author.Tests.{not-true, not-false}
 use Rattle.terms.specs.Row.{maxRows}
 use Rattle.lines.specs.Line.{lines}
-use Rattle.calls.specs.Lent.{rowWidth}
+use Rattle.calls.specs.Tables.{rowWidth}
 use Rattle.session.specs.View.{freshSession}
 use Rattle.calls.specs.Promises.{rowStepAnswer}
 use Rattle.session.specs.Reading.{refusedAt, rowsRead}
@@ -47,7 +47,7 @@ same-length c = omega arith
 returns : tie.Need-returns Inv-loop μ-loop
 returns c = let a = c .before .before .before .before .before .before .args in let l = c .before .before .before .loop in
     let (reading, inside) = names-there (a .bytes .now) (l .rows) (l .n) (l .line) (l .at) (sym (c .before .is-step-names .ensures) ∙ c .if1 .taken) in
-    record { reading = sym (l .inv .4 ∙ reading); bounds = (omega arith, omega arith, inside) }
+    record { reading = sym (l .inv .4 ∙ reading); bounds = (omega arith, inside) }
 
 row-line-requires : tie.Need-row-line-requires Inv-loop μ-loop
 row-line-requires c κs = search needs

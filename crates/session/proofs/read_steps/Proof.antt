@@ -7,7 +7,7 @@ use borrow.Author.Needs.{needs}
 use borrow.Author.Tests.{not-true, not-false}
 use Rattle.lines.specs.Line.{lines}
 use Rattle.calls.specs.Book.{maxSteps}
-use Rattle.calls.specs.Lent.{stepWidth}
+use Rattle.calls.specs.Tables.{stepWidth}
 use Rattle.calls.specs.Promises.{rowStepAnswer}
 use Rattle.session.specs.Reading.{refusedAt, stepsRead}
 use Rattle.session.specs.ReadCall.{holding}

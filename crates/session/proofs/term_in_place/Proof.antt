@@ -5,7 +5,7 @@ use native.Mathlib.Omega.{arith}
 use Rattle.terms.specs.Row.{maxRows}
 use Rattle.calls.specs.Answers.{termAnswerOf}
 use Rattle.calls.proofs.Accepted.{if-accepted, if-refused}
-use Rattle.calls.proofs.Lent.{rows-held}
+use Rattle.calls.proofs.Tables.{rows-held}
 use Rattle.calls.proofs.Refused.{term-refused}
 use Rattle.calls.proofs.TermJudged.{term-accepted}
 use borrow.Author.Needs.{needs}

@@ -4,7 +4,7 @@ use mathlib.Core.Path.{_≡_, _∙_}
 use lib.ListN.{length}
 use borrow.Author.Needs.{needs}
 use Rattle.calls.specs.Book.{maxSteps}
-use Rattle.calls.specs.Lent.{stepWidth}
+use Rattle.calls.specs.Tables.{stepWidth}
 use Rattle.session.specs.View.{view}
 use Rattle.session.proofs.Views.{steps-viewed}
 use Rattle.session.proofs.Session.last_step.Statement.{statement}

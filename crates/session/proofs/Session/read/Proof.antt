@@ -47,7 +47,7 @@ slice-aggregate-read-steps-2 c = search needs
 
 read-steps-requires : tie.Need-read-steps-requires
 read-steps-requires c κs = let bounds = rows-bounds (c .before .before .before .before .before .before .before .before .before .before .before .before .before .before .args .bytes .now) (sym (c .before .before .before .before .before .before .before .before .before .before .before .is-row-names .ensures) ∙ not-false _ (c .before .before .before .before .before .before .before .before .before .before .if1 .left)) _ _ (c .before .before .before .before .before .before .before .before .before .no-rows .ensures) _ _ (c .before .before .before .before .before .before .before .read-rows .ensures) (c .before .before .before .before .ended .given .1) in
-    ((bounds .1, bounds .2), (bounds .0, c .before .before .before .before .before .before .before .read-rows .kept .1 .1 .0 ∙ ap length (c .before .before .before .before .before .before .before .before .before .no-rows .ensures) ∙ fresh-sized .rows, ap length (c .before .before .no-steps .ensures) ∙ fresh-sized .steps))
+    (bounds .0, bounds .1, ap length (c .before .before .no-steps .ensures) ∙ fresh-sized .steps)
 
 enum-known-last : tie.Need-enum-known-last
 enum-known-last c = search needs

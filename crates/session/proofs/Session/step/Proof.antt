@@ -5,10 +5,10 @@ use native.Mathlib.Omega.{arith}
 use lib.ListN.{length}
 use borrow.Author.Needs.{needs}
 use Rattle.calls.specs.Book.{maxSteps}
-use Rattle.calls.specs.Lent.{stepWidth}
+use Rattle.calls.specs.Tables.{stepWidth}
 use Rattle.calls.specs.Answers.{stepAnswerOf}
 use Rattle.calls.specs.Promises.{rowStepAnswer}
-use Rattle.calls.proofs.Lent.{steps-held}
+use Rattle.calls.proofs.Tables.{steps-held}
 use Rattle.calls.proofs.Refused.{step-refused}
 use Rattle.calls.proofs.StepJudged.{step-accepted}
 use Rattle.session.proofs.StepMade.{step-made-held, step-made-refused}

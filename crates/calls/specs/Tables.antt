@@ -1,4 +1,4 @@
--- Lent numbers as rows and as steps. Assumes nothing.
+-- Tables of numbers as rows and as steps. Assumes nothing.
 use Prim.Native.Nat.{ℕ, _*_, min}
 use mathlib.Core.List.{List, [], _∷_}
 use lib.ListN.{take}
@@ -21,16 +21,23 @@ stepsOf (n ∷ l ∷ r ∷ []) = []
 stepsOf (n ∷ l ∷ r ∷ i ∷ []) = []
 stepsOf (n ∷ l ∷ r ∷ i ∷ j ∷ xs) = step n l r i j ∷ stepsOf xs
 
--- the numbers of the first n rows and steps; a count above its limit is read as the limit
-abbrev pub rowsIn : (n : ℕ) → List ℕ → List ℕ
-rowsIn n xs = take (rowWidth * min n maxRows) xs
+-- how many rows and steps a count says are held: one above the limit is read as the limit
+abbrev pub rowsCounted : ℕ → ℕ
+rowsCounted n = min n maxRows
 
-abbrev pub stepsIn : (n : ℕ) → List ℕ → List ℕ
-stepsIn n xs = take (stepWidth * min n maxSteps) xs
+abbrev pub stepsCounted : ℕ → ℕ
+stepsCounted n = min n maxSteps
+
+-- the numbers of the first n rows and steps
+abbrev pub firstRowNumbers : (n : ℕ) → List ℕ → List ℕ
+firstRowNumbers n xs = take (rowWidth * rowsCounted n) xs
+
+abbrev pub firstStepNumbers : (n : ℕ) → List ℕ → List ℕ
+firstStepNumbers n xs = take (stepWidth * stepsCounted n) xs
 
 -- the first n rows and steps
 abbrev pub firstRows : (n : ℕ) → List ℕ → List Row
-firstRows n xs = tableOf (rowsIn n xs)
+firstRows n xs = tableOf (firstRowNumbers n xs)
 
 abbrev pub firstSteps : (n : ℕ) → List ℕ → List Step
-firstSteps n xs = stepsOf (stepsIn n xs)
+firstSteps n xs = stepsOf (firstStepNumbers n xs)

@@ -8,7 +8,7 @@ use lib.Seq.{length-take-le}
 use Rattle.terms.specs.Row.{tableOf, maxRows}
 use Rattle.terms.proofs.Lent.{rows-lent}
 use Rattle.calls.specs.Book.{Step, step, noStep, maxSteps}
-use Rattle.calls.specs.Lent.{rowWidth, stepWidth, stepsOf, rowsIn, stepsIn}
+use Rattle.calls.specs.Tables.{rowWidth, stepWidth, stepsOf, firstRowNumbers, firstStepNumbers}
 
 -- the first numbers, as many as asked for, or all
 pub take-clamped : (n k : ℕ) (xs : List ℕ) → n ≡ min k (length xs) → take n xs ≡ take k xs
@@ -21,17 +21,17 @@ take-clamped (suc n) (suc k) (x ∷ xs) e = ap (λ (ys : List ℕ). x ∷ ys) (t
 
 -- the first of the rows that a session has room for
 module _ (xs : List ℕ) (n : ℕ) (few : n ≤ maxRows) (size : length xs ≡ rowWidth * maxRows) where
-  pub row-numbers-held : length (take (rowWidth * n) xs) ≡ rowWidth * n
+  row-numbers-held : length (take (rowWidth * n) xs) ≡ rowWidth * n
   row-numbers-held = length-take-le (rowWidth * n) xs (omega arith)
 
   pub rows-held : length (tableOf (take (rowWidth * n) xs)) ≡ n
   rows-held = rows-lent (take (rowWidth * n) xs) ∙ rw row-numbers-held (omega arith)
 
--- no more rows than the limit are the first ones
-pub few-rows : (n : ℕ) (xs ys : List ℕ) → ys ≡ rowsIn n xs → length (tableOf ys) ≤ maxRows
+-- the first rows are no more than the limit
+pub few-rows : (n : ℕ) (xs ys : List ℕ) → ys ≡ firstRowNumbers n xs → length (tableOf ys) ≤ maxRows
 few-rows n xs ys e =
-    let count : length (rowsIn n xs) ≤ rowWidth * maxRows = omega (arith, length-take (rowWidth * min n maxRows) xs) in
-    rw e (omega (arith, rows-lent (rowsIn n xs)))
+    let count : length (firstRowNumbers n xs) ≤ rowWidth * maxRows = omega (arith, length-take (rowWidth * min n maxRows) xs) in
+    rw e (omega (arith, rows-lent (firstRowNumbers n xs)))
 
 -- n whole steps, and then other numbers
 pub steps-append : (n : ℕ) (xs ys : List ℕ) → length xs ≡ 5 * n → stepsOf (xs ++ ys) ≡ stepsOf xs ++ stepsOf ys
@@ -75,13 +75,14 @@ step-past xs i h = List·getD-eq-default (stepsOf xs) noStep (rw steps-lent h)
 
 -- the first of the steps that a session has room for
 module _ (xs : List ℕ) (n : ℕ) (few : n ≤ maxSteps) (size : length xs ≡ stepWidth * maxSteps) where
-  pub step-numbers-held : length (take (stepWidth * n) xs) ≡ stepWidth * n
+  step-numbers-held : length (take (stepWidth * n) xs) ≡ stepWidth * n
   step-numbers-held = length-take-le (stepWidth * n) xs (omega arith)
 
   pub steps-held : length (stepsOf (take (stepWidth * n) xs)) ≡ n
   steps-held = steps-lent (take (stepWidth * n) xs) ∙ rw step-numbers-held (omega arith)
 
-pub few-steps : (n : ℕ) (xs ys : List ℕ) → ys ≡ stepsIn n xs → length (stepsOf ys) ≤ maxSteps
+-- the first steps are no more than the limit
+pub few-steps : (n : ℕ) (xs ys : List ℕ) → ys ≡ firstStepNumbers n xs → length (stepsOf ys) ≤ maxSteps
 few-steps n xs ys e =
-    let count : length (stepsIn n xs) ≤ stepWidth * maxSteps = omega (arith, length-take (stepWidth * min n maxSteps) xs) in
-    rw e (omega (arith, steps-lent (stepsIn n xs)))
+    let count : length (firstStepNumbers n xs) ≤ stepWidth * maxSteps = omega (arith, length-take (stepWidth * min n maxSteps) xs) in
+    rw e (omega (arith, steps-lent (firstStepNumbers n xs)))
