@@ -1,16 +1,14 @@
 // Reads a bundle from standard input and prints the answer, the refused line or 0, the steps held, and the rows of the last step, or
 // zeros, under a heading.
 
-// One byte more than audit takes, so that longer input shows.
-const ROOM: usize = 65537;
-
 fn space(value: u64) {
     io::write_all(1, b" ");
     io::print_decimal(1, value);
 }
 
 fn main() {
-    let mut bytes = [0u8; ROOM];
+    // One byte more than audit takes, so that longer input shows.
+    let mut bytes = [0u8; session::AUDIT_LIMIT + 1];
     let n = io::read_full(0, &mut bytes);
     let report = session::audit(&bytes[..n]);
     io::write_all(1, b"answer line steps left right\n");

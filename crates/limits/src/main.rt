@@ -2,6 +2,7 @@
 // within the limit, and the one beyond it.
 use session::Session;
 ghost use mathlib.Core.Path.{_≡_};
+ghost use Prim.Native.Nat.{_≤_};
 ghost use lib.ListN.{length};
 
 const ROOT: u16 = 1;
@@ -91,16 +92,22 @@ fn texts() -> [u16; 1539]
     d
 }
 
+// Selects from the root of the document that the first numbers of `texts` are, as many as `size` says.
+fn print_select(s: Session, row: u16, size: usize, limit: u32)
+    requires { ⌜ size ≤ 1539 ⌝ }
+{
+    let d = texts();
+    let mut marks = [7u8; 600];
+    let answer = s.select(row, &d[..size], 0, limit, &mut marks);
+    print(answer.number(), answer.value());
+}
+
 // 512 nodes and 513.
 fn nodes() {
     let made = Session::new().term(ROOT, 0, 0, 0);
     let s = made.session;
-    let d = texts();
-    let mut marks = [7u8; 600];
-    let most = s.select(0, &d[..1536], 0, 1, &mut marks);
-    print(most.number(), most.value());
-    let more = s.select(0, &d, 0, 1, &mut marks);
-    print(more.number(), more.value());
+    print_select(s, 0, 1536, 1);
+    print_select(s, 0, 1539, 1);
 }
 
 // descendant::node()/descendant::node() from the root of a document of 511 texts makes 513 visits: the limit met, and one too few.
@@ -108,12 +115,8 @@ fn visits() {
     let path = Session::new().term(STEP, DESCENDANT, NODE, 0);
     let made = path.session.term(COMPOSITION, 0, 0, 0);
     let s = made.session;
-    let d = texts();
-    let mut marks = [7u8; 600];
-    let met = s.select(1, &d[..1536], 0, 513, &mut marks);
-    print(met.number(), met.value());
-    let passed = s.select(1, &d[..1536], 0, 512, &mut marks);
-    print(passed.number(), passed.value());
+    print_select(s, 1, 1536, 513);
+    print_select(s, 1, 1536, 512);
 }
 
 fn main() {

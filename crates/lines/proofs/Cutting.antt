@@ -1,13 +1,15 @@
 -- Texts cut at a byte: their lines, and the parts of a line. Assumes nothing.
-use Prim.Native.Nat.{ℕ}
+use Prim.Native.Nat.{ℕ, suc, _≤_, _<_}
 use mathlib.Core.Path.{_≡_, refl, ap}
-use mathlib.Core.Bool.{Bool, true, false, not, _&&_, false≢true}
+use mathlib.Core.Bool.{Bool, true, false, cond, not, _&&_, false≢true}
 use mathlib.Core.List.{List, [], _∷_, _++_}
 use mathlib.Core.Option.{Option, none, some, Option·elim}
+use native.Mathlib.Omega.{arith}
 use lib.Dec.{eqb}
-use lib.ListN.{drop}
+use lib.ListN.{length, getD, drop, drop-of-length-le}
+use lib.Seq.{drop-cons}
 use borrow.Author.Tests.{eqb-true, eq-eqb}
-use Rattle.lines.specs.Line.{newline, space, line, inFirstLine, lines, inFirstPart, parts}
+use Rattle.lines.specs.Line.{newline, space, Line, line, inFirstLine, lines, inFirstPart, parts}
 use Rattle.lines.specs.Read.{bytesBefore, cut, firstParts}
 
 -- the byte e stands nowhere in the bytes
@@ -87,3 +89,24 @@ pub no-next-line : (xs : List ℕ) → Free newline xs → drop 1 (lines xs) ≡
 unfolding lines
 no-next-line [] f = refl
 no-next-line (x ∷ xs) f = rw (lines-whole x xs f)
+
+-- past the end of a text there is no line
+pub no-lines : (xs : List ℕ) (at : ℕ) → length xs ≤ at → lines (drop at xs) ≡ []
+unfolding lines
+no-lines xs at h = rw (drop-of-length-le xs {i = at} h)
+
+-- a text that is not empty has a line
+lines-some : (x : ℕ) (xs : List ℕ) → ¬ (lines (x ∷ xs) ≡ [])
+unfolding lines inFirstLine
+lines-some x xs = by-test (eqb x newline) (lines xs)
+  where
+    cons-nil : (l : Line) (ls : List Line) → ¬ (l ∷ ls ≡ [])
+    cons-nil l ls e = let z : length (l ∷ ls) ≡ 0 = ap length e in omega arith
+
+    by-test : (b : Bool) (ls : List Line) → ¬ (cond b (line [] true ∷ ls) (inFirstLine x ls) ≡ [])
+    by-test true ls = cons-nil _ ls
+    by-test false [] = cons-nil _ []
+    by-test false (l ∷ ls) = cons-nil _ ls
+
+pub some-line : (xs : List ℕ) (at : ℕ) → at < length xs → ¬ (lines (drop at xs) ≡ [])
+some-line xs at h = rw (drop-cons xs at 0 h) (lines-some (getD xs at 0) (drop (suc at) xs))

@@ -9,15 +9,15 @@ ghost use Rattle.lines.specs.Line.{newline};
 ghost use Rattle.lines.specs.Number.{digit0, maxNumber, isDigit};
 ghost use Rattle.lines.specs.Read.{upTo, firstDigit, oneMore, writtenNumber, NumberMet, LineMet, startsWith};
 
-const NEWLINE: u8 = 10;
+pub const NEWLINE: u8 = 10;
 
-const SPACE: u8 = 32;
+pub const SPACE: u8 = 32;
 
 const DIGIT_0: u8 = 48;
 
 const DIGIT_9: u8 = 57;
 
-const MAX_NUMBER: u32 = 65535;
+pub const MAX_NUMBER: u32 = 65535;
 
 // The number that some digits write, if they write one.
 enum Digits {

@@ -5,12 +5,6 @@ ghost use Rattle.lines.specs.Number.{numbersUpTo, lineNumbers};
 ghost use Rattle.script.specs.Command.{term, step, select, document, maxNumbers, allNumbers, atMost, selectBounds, named, commandOf};
 ghost use Rattle.script.specs.Read.{noNumbers, callLine, CallMet};
 
-const SPACE: u8 = 32;
-
-const NEWLINE: u8 = 10;
-
-const MAX_NUMBER: u32 = 65535;
-
 const MAX_LIMIT: u32 = 4294967295;
 
 // The length of the longest marks buffer.
@@ -119,10 +113,10 @@ fn step_call(bytes: &[u8], at: usize) -> CallLine
 fn select_call(bytes: &[u8], at: usize) -> CallLine
     ensures { λ r. ⌜ CallMet (λ ws. named select (numbersUpTo selectBounds ws)) (now (bytes .entry)) at r ⌝ }
 {
-    let row = lines::number_at(bytes, at, SPACE, MAX_NUMBER);
-    let context = lines::number_at(bytes, row.next, SPACE, MAX_NUMBER);
-    let limit = lines::number_at(bytes, context.next, SPACE, MAX_LIMIT);
-    let marks = lines::number_at(bytes, limit.next, NEWLINE, MAX_MARKS as u32);
+    let row = lines::number_at(bytes, at, lines::SPACE, lines::MAX_NUMBER);
+    let context = lines::number_at(bytes, row.next, lines::SPACE, lines::MAX_NUMBER);
+    let limit = lines::number_at(bytes, context.next, lines::SPACE, MAX_LIMIT);
+    let marks = lines::number_at(bytes, limit.next, lines::NEWLINE, MAX_MARKS as u32);
     if !marks.ok {
         return other(bytes);
     }
@@ -142,9 +136,9 @@ fn document_call(bytes: &[u8], at: usize) -> CallLine
     let mut count = 0;
     let mut from = at;
     while count < MAX_NUMBERS {
-        let more = lines::number_at(bytes, from, SPACE, MAX_NUMBER);
+        let more = lines::number_at(bytes, from, lines::SPACE, lines::MAX_NUMBER);
         if !more.ok {
-            let last = lines::number_at(bytes, from, NEWLINE, MAX_NUMBER);
+            let last = lines::number_at(bytes, from, lines::NEWLINE, lines::MAX_NUMBER);
             if !last.ok {
                 return other(bytes);
             }

@@ -11,7 +11,7 @@ use Rattle.terms.specs.Row.{maxRows}
 use Rattle.lines.specs.Ascii.{ascii}
 use Rattle.lines.specs.Line.{newline, lines, firstIs}
 use Rattle.lines.specs.Read.{firstNumbers, LineMet}
-use Rattle.lines.proofs.Cutting.{Free, lacks, lacks-free}
+use Rattle.lines.proofs.Cutting.{Free, lacks, lacks-free, no-lines, some-line}
 use Rattle.lines.proofs.Start.{line-passed}
 use Rattle.session.specs.declared.Session.{Session}
 use Rattle.calls.specs.declared.TermAnswer.{TermAnswer}
@@ -26,7 +26,7 @@ use Rattle.session.specs.Bundle.{rowNames, stepNames, rowOfNumbers, step
 use Rattle.session.specs.Reading.{refusedAt, wrongForm, stepsRead, rowsRead}
 use Rattle.session.specs.ReadCall.{holding}
 use Rattle.calls.proofs.Tables.{rows-held, steps-held}
-use Rattle.session.proofs.LinesRead.{names-read, row-wrong, row-held, row-refused, step-wrong, step-held, step-refused, no-lines, some-line}
+use Rattle.session.proofs.LinesRead.{names-read, row-wrong, row-held, row-refused, step-wrong, step-held, step-refused}
 use Rattle.calls.proofs.StepJudged.{step-accepted}
 use Rattle.session.proofs.StepMade.{step-made-held, step-made-refused}
 use Rattle.calls.proofs.TermJudged.{term-accepted}

@@ -1,14 +1,11 @@
 -- The reading of a bundle, call by call. Assumes nothing.
-use Prim.Native.Nat.{ℕ, suc, _+_, _≤_, _<_}
+use Prim.Native.Nat.{ℕ, _+_}
 use mathlib.Core.Path.{_≡_, refl, sym, ap, _∙_}
-use mathlib.Core.Bool.{Bool, true, false, cond, false≢true}
+use mathlib.Core.Bool.{true, false, cond, false≢true}
 use mathlib.Core.List.{List, [], _∷_}
 use mathlib.Core.Option.{none, some, Option·elim, Option·some-ne-none}
-use native.Mathlib.Omega.{arith}
-use lib.Dec.{eqb}
-use lib.ListN.{length, getD, drop, drop-of-length-le}
-use lib.Seq.{drop-cons}
-use Rattle.lines.specs.Line.{newline, Line, line, inFirstLine, lines, firstIs}
+use lib.ListN.{drop}
+use Rattle.lines.specs.Line.{Line, firstIs}
 use Rattle.lines.specs.Number.{numbersOf}
 use Rattle.lines.specs.Read.{firstParts, firstNumbers}
 use Rattle.session.specs.declared.Session.{Session}
@@ -79,23 +76,3 @@ module _ (s : Session) (n : ℕ) where
 
     pub step-refused : ¬ (stepAnswerOf (t .answer) .number ≡ 0) → stepsRead rowStepAnswer s n ls ≡ refusedAt (stepAnswerOf (t .answer) .number) n
     step-refused f = step-called ls ns first ∙ sym (if-refused _ _ (m .answer) _ _ f) ∙ ap (λ a. refusedAt (a .number) n) (sym (m .answer))
-
-pub no-lines : (xs : List ℕ) (at : ℕ) → length xs ≤ at → lines (drop at xs) ≡ []
-unfolding lines
-no-lines xs at h = rw (drop-of-length-le xs {i = at} h)
-
--- a text that is not empty has a line
-lines-some : (x : ℕ) (xs : List ℕ) → ¬ (lines (x ∷ xs) ≡ [])
-unfolding lines inFirstLine
-lines-some x xs = by-test (eqb x newline) (lines xs)
-  where
-    cons-nil : (l : Line) (ls : List Line) → ¬ (l ∷ ls ≡ [])
-    cons-nil l ls e = let z : length (l ∷ ls) ≡ 0 = ap length e in omega arith
-
-    by-test : (b : Bool) (ls : List Line) → ¬ (cond b (line [] true ∷ ls) (inFirstLine x ls) ≡ [])
-    by-test true ls = cons-nil _ ls
-    by-test false [] = cons-nil _ []
-    by-test false (l ∷ ls) = cons-nil _ ls
-
-pub some-line : (xs : List ℕ) (at : ℕ) → at < length xs → ¬ (lines (drop at xs) ≡ [])
-some-line xs at h = rw (drop-cons xs at 0 h) (lines-some (getD xs at 0) (drop (suc at) xs))

@@ -30,7 +30,7 @@ ghost use Rattle.session.specs.Audit.{report};
 const WRONG_FORM: u16 = 10;
 
 // The most bytes that audit takes.
-const AUDIT_LIMIT: usize = 65536;
+pub const AUDIT_LIMIT: usize = 65536;
 
 // The names lines of a bundle.
 const ROW_NAMES: [u8; ROW_NAMES_LENGTH] = *b"kind a b c";

@@ -5,14 +5,15 @@ use script::StepCall;
 use script::TermCall;
 use session::Session;
 ghost use mathlib.Core.Path.{_≡_};
+ghost use mathlib.Core.List.{[]};
 ghost use Prim.Native.Nat.{_≤_};
 ghost use lib.ListN.{length};
+ghost use Rattle.lines.specs.Line.{lines};
 ghost use Rattle.script.specs.Command.{maxMarks, maxNumbers};
+ghost use Rattle.script.specs.Read.{commandIn};
+ghost use Rattle.transcript.specs.Run.{isTaken, endingLine};
 
-// Refusal 10: a line of the wrong form.
-const WRONG_FORM: u16 = 10;
-
-// The most bytes that `run` takes.
+// The most bytes that a program takes.
 pub const MAX_INPUT: usize = 65536;
 
 // What the lent marks hold before a select.
@@ -20,10 +21,6 @@ const FILL: u8 = 7;
 
 // Longer than the longest line: a word, two numbers, and 512 nodes of at most three digits.
 const LINE: usize = 4096;
-
-const NEWLINE: u8 = 10;
-
-const SPACE: u8 = 32;
 
 // What is printed. `Answers`: `NUMBER VALUE` for each call but document, and after an accepted select the marked nodes; a script has one
 // session, so `fresh` is no call. `Nodes`: the marked nodes of each accepted select, and `refused NUMBER VALUE` for what is refused;
@@ -57,7 +54,7 @@ fn put_space(line: &mut [u8], used: usize) -> usize {
     if used == 0 {
         return 0;
     }
-    put(line, used, SPACE)
+    put(line, used, lines::SPACE)
 }
 
 fn put_number(line: &mut [u8], used: usize, n: u64) -> usize {
@@ -87,7 +84,7 @@ fn put_answer(line: &mut [u8], style: Style, number: u16, value: u64) -> usize {
 }
 
 fn write_line(line: &mut [u8], used: usize) {
-    let end = put(line, used, NEWLINE);
+    let end = put(line, used, lines::NEWLINE);
     if end <= line.len() {
         io::write_all(1, &line[..end]);
     }
@@ -161,14 +158,19 @@ fn select(s: Session, document: &[u16], q: SelectCall, style: Style)
 }
 
 // Whether a style takes the call.
-fn is_taken(call: Call, style: Style) -> bool {
+fn is_taken(call: Call, style: Style) -> bool
+    ensures { λ r. ⌜ r ≡ isTaken style (commandIn call []) ⌝ }
+{
     match call {
-        Call::Other => false,
+        Call::Term(_) => true,
+        Call::Step(_) => true,
+        Call::Document(_) => true,
+        Call::Select(_) => true,
         Call::Fresh => match style {
             Style::Answers => false,
             Style::Nodes => true,
         },
-        _ => true,
+        Call::Other => false,
     }
 }
 
@@ -178,7 +180,11 @@ fn no_document() -> [u16; script::MAX_NUMBERS]
     [0; script::MAX_NUMBERS]
 }
 
-fn make_calls(input: &[u8], style: Style) {
+// Makes the calls of a script, a call a line, from a fresh session, and prints their answers. Gives the number of the line that ended it, the
+// first that is not taken; 0 if all were. What is printed is beyond contracts, since the C library's write is.
+pub fn run(input: &[u8], style: Style) -> usize
+    ensures { λ r. ⌜ r ≡ endingLine style 1 (lines (now (input .entry))) ⌝ }
+{
     let mut s = Session::new();
     let mut document = no_document();
     let mut count = 0;
@@ -189,8 +195,7 @@ fn make_calls(input: &[u8], style: Style) {
         let read = script::call_at(input, at);
         let call = read.call;
         if !is_taken(call, style) {
-            print(style, WRONG_FORM, line as u64);
-            return;
+            return line;
         }
         match call {
             Call::Term(t) => {
@@ -215,15 +220,5 @@ fn make_calls(input: &[u8], style: Style) {
         }
         at = read.next;
     }
-}
-
-// Makes the calls of a script, a call a line, from a fresh session. A line of another form ends the run, and prints its number as a
-// refusal; so does input that is too long, with line 0 and no call made. It gives nothing back and lends nothing to write, so there is
-// nothing for a contract to equate: what it prints is beyond contracts, since the C library's write is.
-pub fn run(input: &[u8], style: Style) {
-    if MAX_INPUT < input.len() {
-        print(style, WRONG_FORM, 0);
-        return;
-    }
-    make_calls(input, style);
+    0
 }

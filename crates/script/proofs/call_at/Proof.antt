@@ -12,7 +12,6 @@ use Rattle.lines.proofs.Start.{starts}
 use Rattle.script.specs.declared.Call.the-variants as CallCases
 use Rattle.script.specs.Command.{termBytes, stepBytes, selectBytes, documentBytes, freshBytes, atMost, named, commandOf}
 use Rattle.script.proofs.Words.{word-and-numbers, word-alone, no-word}
-use borrow.Author.Needs.{needs}
 use Rattle.script.proofs.call_at.Statement.{statement}
 use Rattle.script.proofs.call_at.Tie as tie
 

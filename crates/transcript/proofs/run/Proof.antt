@@ -1,17 +1,22 @@
--- `make_calls` is safe and ends: each line starts after the one before. Assumes nothing.
-use Prim.Native.Nat.{_-_, _≤_}
-use mathlib.Core.Path.{sym, subst}
+-- `run` meets its contract: the line that ends it is the first not taken from `at` on. Assumes nothing.
+use Prim.Native.Nat.{_+_, _-_, _≤_}
+use mathlib.Core.Path.{_≡_, refl, sym, subst, _∙_}
 use native.Mathlib.Omega.{arith}
-use lib.ListN.{length}
+use lib.ListN.{length, drop}
 use lib.Seq.{length-take-le}
 use Rattle.script.specs.Command.{maxMarks, maxNumbers}
 use Rattle.script.specs.Read.{countOf, marksOf}
 use borrow.Author.Needs.{needs}
-use Rattle.transcript.proofs.make_calls.Statement.{statement}
-use Rattle.transcript.proofs.make_calls.Tie as tie
+use borrow.Author.Tests.{not-true, not-false}
+use Rattle.lines.specs.Line.{lines}
+use Rattle.transcript.specs.Run.{endingLine}
+use Rattle.transcript.proofs.Ending.{no-line-left, line-ends, line-passed}
+use Rattle.transcript.proofs.run.Statement.{statement}
+use Rattle.transcript.proofs.run.Tie as tie
 
 abbrev Inv-loop : tie.InvT-loop
-Inv-loop input style s₀ document₀ count₀ at₀ line₀ s document count at line = (line ≤ at) × (at ≤ length input) × (count ≤ length document)
+Inv-loop input style s₀ document₀ count₀ at₀ line₀ s document count at line =
+    (line ≤ at) × (at ≤ length input) × (count ≤ length document) × (endingLine style 1 (lines input) ≡ endingLine style (line + 1) (lines (drop at input)))
 
 abbrev μ-loop : tie.MeasureT-loop
 μ-loop input style s₀ document₀ count₀ at₀ line₀ s document count at line = length input - at
@@ -23,7 +28,7 @@ no-document-requires : tie.Need-no-document-requires Inv-loop μ-loop
 no-document-requires c κs = search needs
 
 loop-holds : tie.Need-loop-holds Inv-loop μ-loop
-loop-holds c = omega arith
+loop-holds c = (omega arith, omega arith, omega arith, refl)
 
 add-line : tie.Need-add-line Inv-loop μ-loop
 add-line c = omega arith
@@ -34,11 +39,9 @@ call-at-requires c κs = search needs
 is-taken-requires : tie.Need-is-taken-requires Inv-loop μ-loop
 is-taken-requires c κs = search needs
 
-print-requires : tie.Need-print-requires Inv-loop μ-loop
-print-requires c κs = search needs
-
 returns : tie.Need-returns Inv-loop μ-loop
-returns c = search needs
+returns c = let l = c .before .before .before .before .loop in
+    line-ends _ _ (c .before .before .before .before .before .before .before .before .args .input .now) (l .at) (c .before .before .before .loop-test .taken) _ (c .before .before .call-at .ensures) _ (c .before .is-taken .ensures) (not-true _ (c .if1 .taken)) ∙ sym (l .inv .3)
 
 enum-known-call : tie.Need-enum-known-call Inv-loop μ-loop
 enum-known-call c = search needs
@@ -80,46 +83,56 @@ loop-less : tie.Need-loop-less Inv-loop μ-loop
 loop-less c = let read = c .before .before .before .before .before .before .call-at .ensures in omega (arith, read .further, read .inside)
 
 loop-again : tie.Need-loop-again Inv-loop μ-loop
-loop-again c = let read = c .before .before .before .before .before .before .call-at .ensures in omega (arith, read .further, read .inside)
+loop-again c = let b = c .before .before .before .before in let read = b .before .before .call-at .ensures in let l = b .before .before .before .before .loop in
+    let passed = line-passed _ _ (b .before .before .before .before .before .before .before .before .args .input .now) (l .at) (b .before .before .before .loop-test .taken) _ read _ (b .before .is-taken .ensures) (not-false _ (b .if1 .left)) in
+    (omega (arith, read .further), omega (arith, read .inside), omega (arith), l .inv .3 ∙ passed)
 
 loop-less-2 : tie.Need-loop-less-2 Inv-loop μ-loop
 loop-less-2 c = let read = c .before .before .before .before .before .before .call-at .ensures in omega (arith, read .further, read .inside)
 
 loop-again-2 : tie.Need-loop-again-2 Inv-loop μ-loop
-loop-again-2 c = let read = c .before .before .before .before .before .before .call-at .ensures in omega (arith, read .further, read .inside)
+loop-again-2 c = let b = c .before .before .before .before in let read = b .before .before .call-at .ensures in let l = b .before .before .before .before .loop in
+    let passed = line-passed _ _ (b .before .before .before .before .before .before .before .before .args .input .now) (l .at) (b .before .before .before .loop-test .taken) _ read _ (b .before .is-taken .ensures) (not-false _ (b .if1 .left)) in
+    (omega (arith, read .further), omega (arith, read .inside), omega (arith), l .inv .3 ∙ passed)
 
 loop-less-3 : tie.Need-loop-less-3 Inv-loop μ-loop
 loop-less-3 c = let read = c .before .before .before .before .before .before .call-at .ensures in omega (arith, read .further, read .inside)
 
 loop-again-3 : tie.Need-loop-again-3 Inv-loop μ-loop
-loop-again-3 c =
-    let read = c .before .before .before .before .before .before .call-at .ensures in
+loop-again-3 c = let b = c .before .before .before .before in let read = b .before .before .call-at .ensures in let l = b .before .before .before .before .loop in
     let fits = subst (λ call. countOf call ≤ maxNumbers) (c .before .before .call3 .given .1) (read .count) in
-    omega (arith, read .further, read .inside, read .size)
+    let passed = line-passed _ _ (b .before .before .before .before .before .before .before .before .args .input .now) (l .at) (b .before .before .before .loop-test .taken) _ read _ (b .before .is-taken .ensures) (not-false _ (b .if1 .left)) in
+    (omega (arith, read .further), omega (arith, read .inside), omega (arith, read .size), l .inv .3 ∙ passed)
 
 loop-less-4 : tie.Need-loop-less-4 Inv-loop μ-loop
 loop-less-4 c = let read = c .before .before .before .before .before .before .before .call-at .ensures in omega (arith, read .further, read .inside)
 
 loop-again-4 : tie.Need-loop-again-4 Inv-loop μ-loop
-loop-again-4 c = let read = c .before .before .before .before .before .before .before .call-at .ensures in omega (arith, read .further, read .inside)
+loop-again-4 c = let b = c .before .before .before .before .before in let read = b .before .before .call-at .ensures in let l = b .before .before .before .before .loop in
+    let passed = line-passed _ _ (b .before .before .before .before .before .before .before .before .args .input .now) (l .at) (b .before .before .before .loop-test .taken) _ read _ (b .before .is-taken .ensures) (not-false _ (b .if1 .left)) in
+    (omega (arith, read .further), omega (arith, read .inside), omega (arith), l .inv .3 ∙ passed)
 
 loop-less-5 : tie.Need-loop-less-5 Inv-loop μ-loop
 loop-less-5 c = let read = c .before .before .before .before .before .call-at .ensures in omega (arith, read .further, read .inside)
 
 loop-again-5 : tie.Need-loop-again-5 Inv-loop μ-loop
-loop-again-5 c = let read = c .before .before .before .before .before .call-at .ensures in omega (arith, read .further, read .inside)
+loop-again-5 c = let b = c .before .before .before in let read = b .before .before .call-at .ensures in let l = b .before .before .before .before .loop in
+    let passed = line-passed _ _ (b .before .before .before .before .before .before .before .before .args .input .now) (l .at) (b .before .before .before .loop-test .taken) _ read _ (b .before .is-taken .ensures) (not-false _ (b .if1 .left)) in
+    (omega (arith, read .further), omega (arith, read .inside), omega (arith), l .inv .3 ∙ passed)
 
 loop-less-6 : tie.Need-loop-less-6 Inv-loop μ-loop
 loop-less-6 c = let read = c .before .before .before .before .call-at .ensures in omega (arith, read .further, read .inside)
 
 loop-again-6 : tie.Need-loop-again-6 Inv-loop μ-loop
-loop-again-6 c = let read = c .before .before .before .before .call-at .ensures in omega (arith, read .further, read .inside)
+loop-again-6 c = let b = c .before .before in let read = b .before .before .call-at .ensures in let l = b .before .before .before .before .loop in
+    let passed = line-passed _ _ (b .before .before .before .before .before .before .before .before .args .input .now) (l .at) (b .before .before .before .loop-test .taken) _ read _ (b .before .is-taken .ensures) (not-false _ (b .if1 .left)) in
+    (omega (arith, read .further), omega (arith, read .inside), omega (arith), l .inv .3 ∙ passed)
 
 returns-2 : tie.Need-returns-2 Inv-loop μ-loop
-returns-2 c = search needs
+returns-2 c = let l = c .before .loop in no-line-left _ _ (c .before .before .before .before .before .args .input .now) (l .at) (c .loop-test .left) ∙ sym (l .inv .3)
 
-pub make-calls-spec : {M : Type 1} → statement M
-make-calls-spec =
+pub run-spec : {M : Type 1} → statement M
+run-spec =
     tie.close
     (tie.spec
     Inv-loop
@@ -130,7 +143,6 @@ make-calls-spec =
     add-line
     call-at-requires
     is-taken-requires
-    print-requires
     returns
     enum-known-call
     term-requires

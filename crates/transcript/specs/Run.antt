@@ -1,0 +1,31 @@
+-- The line that ends the run of a script. Assumes nothing.
+use Prim.Native.Nat.{ℕ, _+_}
+use mathlib.Core.Bool.{Bool, true, false, cond}
+use mathlib.Core.List.{List, [], _∷_}
+use mathlib.Core.Option.{Option, none, some}
+use Rattle.lines.specs.Line.{Line, partsRead}
+use Rattle.script.specs.Command.{Word, term, step, select, document, fresh, Command, commandOf}
+use Rattle.transcript.specs.declared.Style.{Style}
+use Rattle.transcript.specs.declared.Style.the-variants.{Answers, Nodes}
+
+-- where answers are printed, a script has one session
+abbrev pub freshTaken : Style → Bool
+freshTaken Answers = false
+freshTaken Nodes = true
+
+abbrev pub wordTaken : Style → Word → Bool
+wordTaken s term = true
+wordTaken s step = true
+wordTaken s select = true
+wordTaken s document = true
+wordTaken s fresh = freshTaken s
+
+-- a line that is no command is never taken
+abbrev pub isTaken : Style → Option Command → Bool
+isTaken s none = false
+isTaken s (some c) = wordTaken s (c .word)
+
+-- the number of the first line that is not taken, where the lines count from n; 0 if there is none
+unfoldable pub endingLine : Style → (n : ℕ) → List Line → ℕ
+endingLine s n [] = 0
+endingLine s n (l ∷ ls) = cond (isTaken s (partsRead commandOf l)) (endingLine s (n + 1) ls) n
