@@ -1,7 +1,9 @@
 /* Measures the proved read against the reference's on one bundle, and the proved selection against libxml2's XPath with compiled
- * expressions on a document nested 500 levels and on a flat one. Prints tables in Markdown. run.sh builds and runs it. */
+ * expressions on a document nested 500 levels and on a flat one: on a tree that stands already, and with the parsing of the document's
+ * text. Then the longest time of one visit. Prints tables in Markdown. run.sh builds and runs it. */
 
 #include "spinebriar.h"
+#include <libxml/parser.h>
 #include <libxml/tree.h>
 #include <libxml/xpath.h>
 #include <stdbool.h>
@@ -132,6 +134,8 @@ typedef struct {
     uint16_t rows[NODES][3];
     xmlDocPtr tree;
     xmlNodePtr nodes[NODES];
+    xmlChar *text; /* the same document as XML */
+    int text_length;
 } Document;
 
 static const char *const NAMES[] = {"", "e1", "e2", "e3"};
@@ -181,6 +185,14 @@ static void make_tree(Document *d) {
     }
     for (long n = 0; n < NODES; n++) d->nodes[n]->_private = (void *)n;
     xmlXPathOrderDocElems(d->tree);
+    xmlDocDumpMemory(d->tree, &d->text, &d->text_length);
+}
+
+/* The node after this one in document order. */
+static xmlNodePtr next_node(xmlNodePtr node) {
+    if (node->children) return node->children;
+    while (!node->next) node = node->parent;
+    return node->next;
 }
 
 /* select */
@@ -243,6 +255,30 @@ static xmlXPathObjectPtr evaluate(const Selection *s) {
 
 static void run_libxml2(const void *of) { xmlXPathFreeObject(evaluate(of)); }
 
+static xmlDocPtr parse(const Document *d) {
+    xmlDocPtr tree = xmlReadMemory((const char *)d->text, d->text_length, NULL, NULL, XML_PARSE_HUGE);
+    check(tree != NULL, "libxml2 refuses the document's text");
+    return tree;
+}
+
+/* Parses the text, finds the context node and evaluates the compiled expression; how many nodes it selects. */
+static int parse_and_evaluate(const Selection *s) {
+    xmlDocPtr tree = parse(s->document);
+    xmlXPathOrderDocElems(tree);
+    xmlXPathContextPtr evaluation = xmlXPathNewContext(tree);
+    evaluation->node = (xmlNodePtr)tree;
+    for (int n = 0; n < s->context; n++) evaluation->node = next_node(evaluation->node);
+    xmlXPathObjectPtr result = xmlXPathCompiledEval(s->expression, evaluation);
+    check(result && result->type == XPATH_NODESET, "libxml2 gives no node set");
+    int selected = result->nodesetval ? result->nodesetval->nodeNr : 0;
+    xmlXPathFreeObject(result);
+    xmlXPathFreeContext(evaluation);
+    xmlFreeDoc(tree);
+    return selected;
+}
+
+static void run_parse_and_evaluate(const void *of) { parse_and_evaluate(of); }
+
 /* Sees that libxml2, the reference and the proved selection mark the same nodes; how many. */
 static int compare_marks(const Selection *s) {
     uint8_t theirs[NODES] = {0}, plain[NODES], ours[NODES];
@@ -258,14 +294,15 @@ static int compare_marks(const Selection *s) {
     return selected;
 }
 
-static void bench_selectors(Document *d) {
+static void bench_selectors(const Document *d, Call *theirs) {
     xmlXPathContextPtr evaluation = xmlXPathNewContext(d->tree);
     for (size_t i = 0; i < sizeof SELECTORS / sizeof SELECTORS[0]; i++) {
         const Selector *selector = &SELECTORS[i];
         uint16_t context = strcmp(d->name, "nested") == 0 ? selector->nested : selector->flat;
         Selection s = {selector, d, context, xmlXPathCompile((const xmlChar *)selector->xpath), evaluation};
         int selected = compare_marks(&s);
-        Timing sides[2] = {{.call = run_libxml2}, {.call = run_select}};
+        check(parse_and_evaluate(&s) == selected, "the document's text has another selection");
+        Timing sides[2] = {{.call = theirs}, {.call = run_select}};
         measure(sides, 2, &s);
         printf("| %s | ", d->name);
         print_cell(selector->xpath);
@@ -276,29 +313,126 @@ static void bench_selectors(Document *d) {
     xmlXPathFreeContext(evaluation);
 }
 
-/* The void path, for which libxml2 has no expression: what a call costs beside the evaluation. */
-static void bench_void(const Document *d) {
+static void bench_documents(const Document *documents, Call *theirs, const char *what) {
+    printf("\nSelecting on documents of %d nodes, %s, in microseconds:\n\n", NODES, what);
+    printf("| document | selector | nodes | libxml2 min | median | ours min | median | ratio of min | of median |\n");
+    printf("|---|---|---|---|---|---|---|---|---|\n");
+    for (int i = 0; i < 2; i++) bench_selectors(&documents[i], theirs);
+}
+
+/* The void path on the same document, for which libxml2 has no expression: what a call costs beside the evaluation. */
+static void run_void(const void *of) {
     static const Selector nothing = {"", 0, 0, {{0, 0, 0, 0}}, 1};
-    Selection s = {&nothing, d, 0, NULL, NULL};
-    Timing side = {.call = run_select};
+    const Selection *s = of;
+    Selection v = {&nothing, s->document, 0, NULL, NULL};
+    run_select(&v);
+}
+
+static void bench_void(const Document *d) {
+    Selection s = {NULL, d, 0, NULL, NULL};
+    Timing side = {.call = run_void};
     measure(&side, 1, &s);
     printf("| %s | %.2f | %.2f |\n", d->name, min_us(&side), median_us(&side));
+}
+
+/* The longest time of one visit */
+
+/* Elements one in the other. */
+static void make_chain(Document *d) {
+    d->name = "chain";
+    for (int n = 1; n < NODES; n++) put(d, n, 1, n - 1, 1);
+}
+
+/* Elements under the root. */
+static void make_star(Document *d) {
+    d->name = "star";
+    for (int n = 1; n < NODES; n++) put(d, n, 1, 0, 1);
+}
+
+/* Elements one in the other, and one more under each. */
+static void make_comb(Document *d) {
+    d->name = "comb";
+    for (int n = 1; n < NODES; n++) put(d, n, 1, n % 2 ? (n > 1 ? n - 2 : 0) : n - 1, 1);
+}
+
+static const char *const AXES[] = {"self", "child", "parent", "descendant", "ancestor", "descendant-or-self", "ancestor-or-self",
+                                   "following-sibling", "preceding-sibling", "following", "preceding"};
+enum { AXIS_COUNT = sizeof AXES / sizeof AXES[0] };
+
+/* Microseconds of a visit: what a call that makes so many takes beyond the void path's. The least of some rounds, since what else the
+ * machine does only adds. */
+static double visit_us(const Selection *s, double visits) {
+    double least = 1e9;
+    for (int round = 0; round < 3; round++) {
+        Timing sides[2] = {{.call = run_select}, {.call = run_void}};
+        measure(sides, 2, s);
+        double time = (min_us(&sides[0]) - min_us(&sides[1])) / visits;
+        if (time < least) least = time;
+    }
+    return least < 0 ? 0 : least;
+}
+
+/* One step from the nodes along the document: one visit. */
+static double longest_step(const Document *d, int axis, int *from) {
+    double longest = -1;
+    for (int context = 0; context < NODES; context = 8 * context + 7) {
+        Selector selector = {"", 0, 0, {{2, (uint16_t)axis, 0, 1}}, 1};
+        Selection s = {&selector, d, (uint16_t)context, NULL, NULL};
+        double time = visit_us(&s, 1);
+        if (time <= longest) continue;
+        longest = time;
+        *from = context;
+    }
+    return longest;
+}
+
+/* The step from every node: a visit for each of the nodes and two more. */
+static double composed_step(const Document *d, int axis) {
+    Selector selector = {"", 0, 0, {{2, 5, 2, 0}, {2, (uint16_t)axis, 0, 1}, {4, 0, 1, 0}}, 3};
+    Selection s = {&selector, d, 0, NULL, NULL};
+    return visit_us(&s, NODES + 2);
+}
+
+/* Visits of operators whose operands cost nothing: their own marks are cleared, looked through and compared. */
+static void bench_operators(const Document *d) {
+    static const struct {
+        Selector selector;
+        int visits;
+    } cases[] = {
+        {{"V/V", 0, 0, {{0, 0, 0, 0}, {4, 0, 0, 0}}, 2}, 2},
+        {{".[V in V]", 0, 0, {{0, 0, 0, 0}, {2, 0, 2, 0}, {11, 0, 0, 0}, {5, 1, 2, 0}}, 4}, 5},
+    };
+    for (size_t i = 0; i < sizeof cases / sizeof cases[0]; i++) {
+        Selection s = {&cases[i].selector, d, 0, NULL, NULL};
+        printf("| %s | %s | | %.2f |\n", d->name, cases[i].selector.xpath, visit_us(&s, cases[i].visits));
+    }
+}
+
+static void bench_visits(const Document *d) {
+    for (int axis = 0; axis < AXIS_COUNT; axis++) {
+        int from = 0;
+        double longest = longest_step(d, axis, &from);
+        printf("| %s | %s | %.2f from %d | %.2f |\n", d->name, AXES[axis], longest, from, composed_step(d, axis));
+    }
+    bench_operators(d);
 }
 
 int main(int argc, char **argv) {
     check(argc == 2, "usage: bench BUNDLE");
     bench_read(argv[1]);
-    static Document documents[2];
+    static Document documents[2], shapes[3];
     make_nested(&documents[0]);
     make_flat(&documents[1]);
-    printf("\nSelecting on documents of %d nodes, in microseconds:\n\n", NODES);
-    printf("| document | selector | nodes | libxml2 min | median | ours min | median | ratio of min | of median |\n");
-    printf("|---|---|---|---|---|---|---|---|---|\n");
-    for (int i = 0; i < 2; i++) {
-        make_tree(&documents[i]);
-        bench_selectors(&documents[i]);
-    }
+    for (int i = 0; i < 2; i++) make_tree(&documents[i]);
+    bench_documents(documents, run_libxml2, "libxml2 on a tree that stands already");
+    bench_documents(documents, run_parse_and_evaluate, "libxml2 with the parsing of the document");
     printf("\nOurs on the void path, which selects nothing, in microseconds:\n\n| document | min | median |\n|---|---|---|\n");
     for (int i = 0; i < 2; i++) bench_void(&documents[i]);
+    printf("\nOne visit, in microseconds: of AXIS::e1, the longest; the mean of descendant-or-self::node()/AXIS::e1 from the root:\n\n");
+    printf("| document | axis | longest | mean |\n|---|---|---|---|\n");
+    make_chain(&shapes[0]);
+    make_star(&shapes[1]);
+    make_comb(&shapes[2]);
+    for (int i = 0; i < 3; i++) bench_visits(&shapes[i]);
     return 0;
 }

@@ -302,7 +302,8 @@ pub fn select_on(
     if !terms::is_held_path(rows, row) {
         return SelectAnswer::BadArgument(2);
     }
-    let done = selection::evaluate(rows, xpath::wide(row), document, x, limit, marks);
+    let ends = xpath::ends_of(document);
+    let done = selection::evaluate(rows, xpath::wide(row), document, &ends, x, limit, marks);
     select_answer(done)
 }
 

@@ -13,30 +13,28 @@ use Rattle.xpath.specs.Meaning.{selects}
 use Rattle.xpath.specs.Visits.{visits}
 use Rattle.terms.specs.Row.{Row}
 use Rattle.terms.specs.Decode.{terms, termAt, pathIn, pathAt}
-use Rattle.selection.specs.Marks.{marked, written}
-use Rattle.selection.specs.Parts.{PathFound}
+use Rattle.selection.specs.Marks.{Clear, written}
+use Rattle.marking.specs.Added.{marked}
+use Rattle.selection.specs.Parts.{PathAdded}
 use Rattle.selection.specs.Evaluation.{selected, no-room, limit-passed, outcome, pathEvaluated}
 use Rattle.selection.proofs.Limits.{cost-passes}
+use Rattle.selection.proofs.Parts.{fresh-marks}
 use Rattle.selection.proofs.Marks.{written-cong}
 
 -- with all rows of the table
-pub row-found : (rs : List Row) (d : Document) (top r x limit : ℕ) {finished : Bool} {made : ℕ} (m : List ℕ) →
-    top ≡ length rs → PathFound d (pathIn (terms (take top rs)) r) x 0 limit finished made m →
-    PathFound d (pathAt rs r) x 0 limit finished made m
+pub row-found : (rs : List Row) (d : Document) (top r x limit : ℕ) {finished : Bool} {made : ℕ} (old m : List ℕ) →
+    top ≡ length rs → PathAdded d (pathIn (terms (take top rs)) r) x 0 limit finished made old m →
+    PathAdded d (pathAt rs r) x 0 limit finished made old m
 unfolding termAt
-row-found rs d top r x limit m e w = rw (e, take-length rs) at w
+row-found rs d top r x limit old m e w = rw (e, take-length rs) at w
 
 module _ (p : Path) (d : Document) (x limit : ℕ) (buffer : List ℕ) where
-  pub too-many : maxNodes < length d → outcome no-room buffer ≡ pathEvaluated p d x limit buffer
-  unfolding pathEvaluated
-  too-many h = rw (lt-ltb maxNodes (length d) h)
-
   module _ (l : length d ≤ maxNodes) where
     pub too-short : length buffer < length d → outcome no-room buffer ≡ pathEvaluated p d x limit buffer
     unfolding pathEvaluated
     too-short h = rw (le-ltb maxNodes (length d) l, lt-ltb (length buffer) (length d) h)
 
-    module _ (b : length d ≤ length buffer) {finished : Bool} {made : ℕ} (m : List ℕ) (w : PathFound d p x 0 limit finished made m) where
+    module _ (b : length d ≤ length buffer) {finished : Bool} {made : ℕ} (old m : List ℕ) (z : Clear old) (w : PathAdded d p x 0 limit finished made old m) where
       pub passed : finished ≡ false → outcome limit-passed buffer ≡ pathEvaluated p d x limit buffer
       unfolding pathEvaluated
       passed t =
@@ -53,6 +51,6 @@ module _ (p : Path) (d : Document) (x limit : ℕ) (buffer : List ℕ) where
             le-leb (visits d p x) limit (omega (arith, w .made-fits)),
             o,
             e,
-            written-cong (length d) (marked m) (selects d p x) buffer (w .result-is t),
+            written-cong (length d) (marked m) (selects d p x) buffer (fresh-marks old m z (w .result-is t)),
             v,
           )

@@ -5,12 +5,12 @@ use mathlib.Core.Bool.{Bool, true, false, cond, _&&_, _||_, true≢false, false�
 use mathlib.Core.List.{List}
 use mathlib.Core.Logic.{⊎-elim}
 use native.Mathlib.Omega.{arith}
-use lib.Dec.{leb, eqb, eqb·suc-zero}
+use lib.Dec.{leb, eqb}
 use lib.ListN.{length, getD, set, take, length-take, List·getD-eq-default}
-use lib.Seq.{getD-set-same, getD-set-other}
 use borrow.Author.Tests.{leb-true, ne-eqb, lt-ltb}
 use Rattle.xpath.specs.Document.{Document}
 use Rattle.xpath.specs.Term.{Path, Qualifier, Void, Root, Step, Union, Composition, Filter, True, False, Not, And, Or, In}
+use Rattle.xpath.specs.Axis.{onAxis, passes}
 use Rattle.xpath.specs.Meaning.{selects, holds}
 use Rattle.xpath.specs.Visits.{visits, qualifierVisits}
 use Rattle.xpath.proofs.Reflect.{le-or-lt, eq-or-ne}
@@ -19,7 +19,8 @@ use Rattle.terms.specs.Fields.{maxKind}
 use Rattle.terms.specs.Decode.{Term, noTerm, termBy, terms, termAt, asPath, asQualifier, pathIn, qualifierIn}
 use Rattle.terms.proofs.Decode.{term-past, term-at, term-take}
 use Rattle.terms.proofs.ByKind.{Kind, void-kind, root-kind, step-kind, union-kind, composition-kind, filter-kind, true-kind, false-kind, not-kind, and-kind, or-kind, in-kind, kind-of}
-use Rattle.selection.specs.Marks.{Marks, Clear}
+use Rattle.marking.specs.Added.{Added}
+use Rattle.marking.proofs.Added.{nothing-added, added-cong, added-set}
 use Rattle.selection.specs.Parts.{pathHasOperands, qualifierHasOperands, leafPath}
 
 -- row r of the first `top` rows
@@ -111,16 +112,20 @@ module _ (ts : List Term) (r : Row) where
 
 module _ (d : Document) (x : ℕ) where
   -- the marks of the root and of the void path
-  module _ (m : List ℕ) (c : Clear m) where
-    pub root-marks : Marks (length d) (set m 0 1) (selects d Root x)
-    unfolding selects
-    root-marks zero h = rw (getD-set-same m 0 1 0 (omega (arith, c .size)), lt-ltb 0 (length d) h)
-    root-marks (suc y) h =
-        rw (getD-set-other m 0 (suc y) 1 0 (λ e. absurd (omega arith)), c .zeros (suc y), eqb·suc-zero y, and-false)
+  pub root-added : (m : List ℕ) → 0 < length d → 0 < length m → Added (length d) m (set m 0 1) (selects d Root x)
+  unfolding selects
+  root-added m k l =
+      added-set (selects d Root x) 0 (nothing-added (λ y. false) (λ y h. refl)) l
+      (rw (lt-ltb 0 (length d) k))
+      (λ y h ne. rw (ne-eqb y 0 ne, and-false))
 
-    pub void-marks : (r : Row) → ¬ (r .kind ≡ 2) → ¬ (r .kind ≡ 1) → Marks (length d) m (selects d (leafPath r) x)
-    unfolding selects
-    void-marks r n o y h = rw (void-leaf r n o, c .zeros y)
+  pub step-added : (a t c : ℕ) {old new : List ℕ} → Added (length d) old new (λ y. onAxis a d x y && passes t c d y) → Added (length d) old new (selects d (Step a t c) x)
+  unfolding selects
+  step-added a t c u = added-cong _ u (λ y h. rw (lt-ltb y (length d) h))
+
+  pub void-added : (m : List ℕ) (r : Row) → ¬ (r .kind ≡ 2) → ¬ (r .kind ≡ 1) → Added (length d) m m (selects d (leafPath r) x)
+  unfolding selects
+  void-added m r n o = nothing-added _ (λ y h. rw (void-leaf r n o))
 
   pub leaf-visits : (r : Row) → visits d (leafPath r) x ≡ 1
   unfolding visits leafPath

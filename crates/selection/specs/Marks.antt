@@ -3,13 +3,9 @@ use Prim.Native.Nat.{ℕ, zero, suc, _<_}
 use mathlib.Core.Path.{_≡_}
 use mathlib.Core.Bool.{Bool, cond}
 use mathlib.Core.List.{List}
-use lib.Dec.{eqb}
 use lib.ListN.{length, getD, set}
 use Rattle.xpath.specs.Document.{maxNodes}
-
--- y is marked
-abbrev pub marked : List ℕ → ℕ → Bool
-marked m y = eqb (getD m y 0) 1
+use Rattle.marking.specs.Added.{marked}
 
 -- of the first n nodes, m marks those of the set s
 abbrev pub Marks : ℕ → List ℕ → (ℕ → Bool) → Type 0

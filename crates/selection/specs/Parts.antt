@@ -1,42 +1,60 @@
 -- What the parts of an evaluation find: a path's marks, a qualifier's value. Assumes nothing.
-use Prim.Native.Nat.{ℕ}
+use Prim.Native.Nat.{ℕ, _≤_, _<_}
 use mathlib.Core.Path.{_≡_}
 use mathlib.Core.Bool.{Bool, cond, _&&_}
 use mathlib.Core.List.{List, [], _∷_}
 use lib.Dec.{leb}
 use lib.ListN.{length, getD, take}
 use Rattle.xpath.specs.Bounded.{anyBelow, sumBelow}
-use Rattle.xpath.specs.Document.{Document}
+use Rattle.xpath.specs.Document.{Document, maxNodes}
+use Rattle.xpath.specs.Ends.{Prepared}
 use Rattle.xpath.specs.Term.{Path, Qualifier, Void, Root, Step}
 use Rattle.xpath.specs.Meaning.{selects, holds}
 use Rattle.xpath.specs.Visits.{visits, qualifierVisits}
 use Rattle.terms.specs.Fields.{maxKind, lastPath}
 use Rattle.terms.specs.Row.{Row, tableOf}
-use Rattle.terms.specs.Decode.{Term, terms}
-use Rattle.selection.specs.Marks.{Marks}
+use Rattle.terms.specs.Decode.{Term, terms, pathIn, qualifierIn}
+use Rattle.marking.specs.Added.{Added}
 use Rattle.selection.specs.Limit.{UnderLimit}
 
--- the marks m are what p selects from x
-abbrev pub PathFound : Document → Path → ℕ → (before limit : ℕ) (finished : Bool) (made : ℕ) (m : List ℕ) → Type 0
-PathFound d p x before limit finished made m =
-    UnderLimit (Marks (length d) m (selects d p x)) (visits d p x) before limit finished made
+-- what p selects from x is marked in `new` beside what `old` marks
+abbrev pub PathAdded : Document → Path → ℕ → (before limit : ℕ) (finished : Bool) (made : ℕ) (old new : List ℕ) → Type 0
+PathAdded d p x before limit finished made old new =
+    UnderLimit (Added (length d) old new (selects d p x)) (visits d p x) before limit finished made
 
 -- the value v is that of f at x
 abbrev pub QualifierFound : Document → Qualifier → ℕ → (before limit : ℕ) (finished : Bool) (made : ℕ) (v : Bool) → Type 0
 QualifierFound d f x before limit finished made v =
     UnderLimit (v ≡ holds d f x) (qualifierVisits d f x) before limit finished made
 
--- the marks m are what q selects from the nodes of the set s
-abbrev pub CompositionFound : Document → (ℕ → Bool) → Path → (limit : ℕ) (finished : Bool) (made : ℕ) (m : List ℕ) → Type 0
-CompositionFound d s q limit finished made m =
-    UnderLimit (Marks (length d) m (λ y. anyBelow (length d) (λ z. s z && selects d q z y)))
+-- what q selects from the nodes of the set s is marked beside what `old` marks
+abbrev pub CompositionAdded : Document → (ℕ → Bool) → Path → (limit : ℕ) (finished : Bool) (made : ℕ) (old new : List ℕ) → Type 0
+CompositionAdded d s q limit finished made old new =
+    UnderLimit (Added (length d) old new (λ y. anyBelow (length d) (λ z. s z && selects d q z y)))
     (sumBelow (length d) (λ z. cond (s z) (visits d q z) 0)) 0 limit finished made
 
--- the marks m are the nodes of the set s at which f is true
-abbrev pub FilterFound : Document → (ℕ → Bool) → Qualifier → (limit : ℕ) (finished : Bool) (made : ℕ) (m : List ℕ) → Type 0
-FilterFound d s f limit finished made m =
-    UnderLimit (Marks (length d) m (λ y. s y && holds d f y))
+-- the nodes of the set s at which f is true are marked beside what `old` marks
+abbrev pub FilterAdded : Document → (ℕ → Bool) → Qualifier → (limit : ℕ) (finished : Bool) (made : ℕ) (old new : List ℕ) → Type 0
+FilterAdded d s f limit finished made old new =
+    UnderLimit (Added (length d) old new (λ y. s y && holds d f y))
     (sumBelow (length d) (λ z. cond (s z) (qualifierVisits d f z) 0)) 0 limit finished made
+
+-- the second operand of row r, a composition or else a filter, at the nodes of the set s
+pub record SecondAdded (d : Document) (ts : List Term) (r : Row) (s : ℕ → Bool) (limit : ℕ) (finished : Bool) (made : ℕ) (old new : List ℕ) : Type 0 where
+  pub made-fits : made ≤ limit
+  pub composed : r .kind ≡ 4 → CompositionAdded d s (pathIn ts (r .b)) limit finished made old new
+  pub filtered : ¬ (r .kind ≡ 4) → FilterAdded d s (qualifierIn ts (r .b)) limit finished made old new
+
+-- x is a node of a prepared document
+pub record NodeOf (d : Document) (es : List ℕ) (x : ℕ) : Type 0 where
+  pub prepared : Prepared d es
+  pub row : x < length d
+
+-- a prepared document, and marks of a set and other marks with room for it
+pub record SetFrom (d : Document) (es : List ℕ) (first out : List ℕ) : Type 0 where
+  pub prepared : Prepared d es
+  pub set-room : length first ≡ maxNodes
+  pub room : length out ≡ maxNodes
 
 -- the terms of the first `top` rows of the lent table
 abbrev pub termsBelow : List ℕ → ℕ → List Term

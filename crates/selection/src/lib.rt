@@ -3,20 +3,20 @@ use terms::Row;
 use xpath::MAX_NODES;
 ghost use mathlib.Core.Path.{_≡_};
 ghost use mathlib.Core.Bool.{_&&_, _||_, not, true, cond};
-ghost use Prim.Native.Nat.{_+_, _≤_};
+ghost use Prim.Native.Nat.{_≤_};
 ghost use lib.Dec.{eqb};
 ghost use lib.ListN.{length};
 ghost use Rattle.xpath.specs.Bounded.{allBelow};
 ghost use Rattle.xpath.specs.Document.{documentOf, maxNodes};
-ghost use Rattle.xpath.specs.Term.{Step, In};
+ghost use Rattle.xpath.specs.Term.{Union, In};
 ghost use Rattle.xpath.specs.Meaning.{selects};
-ghost use Rattle.xpath.specs.Visits.{visits};
 ghost use Rattle.terms.specs.Row.{tableOf};
 ghost use Rattle.terms.specs.Lent.{rowOf};
 ghost use Rattle.terms.specs.Decode.{termBy, asPath, asQualifier, pathIn, qualifierIn};
-ghost use Rattle.selection.specs.Marks.{marked, Marks, Clear, written};
+ghost use Rattle.marking.specs.Added.{marked, Added, StepFrom};
+ghost use Rattle.selection.specs.Marks.{Marks, Clear, written};
 ghost use Rattle.selection.specs.Limit.{Stopped};
-ghost use Rattle.selection.specs.Parts.{PathFound, QualifierFound, CompositionFound, FilterFound, termsBelow, pathHasOperands, qualifierHasOperands, leafPath};
+ghost use Rattle.selection.specs.Parts.{PathAdded, QualifierFound, CompositionAdded, FilterAdded, SecondAdded, SetFrom, NodeOf, termsBelow, pathHasOperands, qualifierHasOperands, leafPath};
 ghost use Rattle.selection.specs.Evaluation.{outcome, evaluated};
 ghost use Rattle.selection.specs.Answer.{answerOf};
 
@@ -46,11 +46,10 @@ pub enum Evaluated {
     LimitPassed,
 }
 
-// The nodes that a path selects, if the visits that it needs were within the limit.
+// Whether the visits that a path needs were within the limit, and how many they were.
 struct PathResult {
     finished: bool,
     visits: u32,
-    marks: [u8; MAX_NODES],
 }
 
 // The value of a qualifier, if the visits that it needs were within the limit.
@@ -67,43 +66,25 @@ fn empty_marks() -> [u8; MAX_NODES]
     [0; MAX_NODES]
 }
 
-// Marks what either marks.
-fn union_marks(a: [u8; MAX_NODES], b: [u8; MAX_NODES]) -> [u8; MAX_NODES]
-    ensures { λ r. ⌜ Marks maxNodes r (λ y. marked a y || marked b y) ⌝ }
-{
-    let mut out = empty_marks();
-    let mut y: usize = 0;
-    while y < MAX_NODES {
-        if xpath::or(a[y] == 1, b[y] == 1) {
-            out[y] = 1;
-        }
-        y += 1;
-    }
-    out
-}
-
 // Whether each of the first n nodes that a marks is marked in b.
-fn is_included(a: [u8; MAX_NODES], b: [u8; MAX_NODES], n: usize) -> bool
-    requires { ⌜ n ≤ maxNodes ⌝ }
-    ensures { λ r. ⌜ r ≡ allBelow n (λ y. not (marked a y) || marked b y) ⌝ }
+fn is_included(a: &[u8], b: &[u8], n: usize) -> bool
+    requires { ⌜ (n ≤ length (now a)) × (n ≤ length (now b)) ⌝ }
+    ensures { λ r. ⌜ r ≡ allBelow n (λ y. not (marked (now (a .entry)) y) || marked (now (b .entry)) y) ⌝ }
 {
+    let mut ok = true;
     let mut y: usize = 0;
     while y < n {
-        if a[y] == 1 {
-            if b[y] != 1 {
-                return false;
-            }
-        }
+        ok = xpath::and(ok, xpath::or(a[y] != 1, b[y] == 1));
         y += 1;
     }
-    true
+    ok
 }
 
 // Writes 1 or 0 for each of the first n nodes, as m marks it.
-fn copy_out(m: [u8; MAX_NODES], n: usize, buffer: &mut [u8])
-    requires { ⌜ n ≤ maxNodes ⌝ }
+fn copy_out(m: &[u8], n: usize, buffer: &mut [u8])
+    requires { ⌜ n ≤ length (now m) ⌝ }
     requires { ⌜ n ≤ length (now buffer) ⌝ }
-    ensures { λ _. ⌜ now (buffer .exit) ≡ written n (marked m) (now (buffer .entry)) ⌝ }
+    ensures { λ _. ⌜ now (buffer .exit) ≡ written n (marked (now (m .entry))) (now (buffer .entry)) ⌝ }
 {
     let mut y: usize = 0;
     while y < n {
@@ -116,38 +97,26 @@ fn copy_out(m: [u8; MAX_NODES], n: usize, buffer: &mut [u8])
     }
 }
 
-// What a step selects. The node test comes first: an axis may need a climb for each node.
-fn step_marks(d: &[u16], axis: usize, test: usize, name: usize, x: usize) -> [u8; MAX_NODES]
-    requires { ⌜ length (documentOf (now d)) ≤ maxNodes ⌝ }
-    ensures { λ r. ⌜ Marks (length (documentOf (now (d .entry)))) r (selects (documentOf (now (d .entry))) (Step axis test name) x) ⌝ }
-{
-    let n = xpath::node_count(d);
-    let mut out = empty_marks();
-    let mut y: usize = 0;
-    while y < n {
-        if xpath::passes_test(d, test, name, y) {
-            if xpath::on_axis(d, axis, x, y) {
-                out[y] = 1;
-            }
-        }
-        y += 1;
-    }
-    out
-}
-
-// What a path without operands selects.
-fn leaf_marks(d: &[u16], row: Row, x: usize) -> [u8; MAX_NODES]
-    requires { ⌜ length (documentOf (now d)) ≤ maxNodes ⌝ }
-    ensures { λ r. ⌜ Marks (length (documentOf (now (d .entry)))) r (selects (documentOf (now (d .entry))) (leafPath (rowOf row)) x) ⌝ }
+// Marks what a path without operands selects.
+fn mark_leaf(d: &[u16], ends: &[u16], row: Row, x: usize, out: &mut [u8])
+    requires { ⌜ StepFrom (documentOf (now d)) (now ends) x (now out) ⌝ }
+    ensures { λ _. ⌜ Added (length (documentOf (now (d .entry)))) (now (out .entry)) (now (out .exit)) (selects (documentOf (now (d .entry))) (leafPath (rowOf row)) x) ⌝ }
 {
     if row.kind == STEP {
-        return step_marks(d, row.a as usize, row.b as usize, row.c as usize, x);
+        marking::mark_step(
+            d,
+            ends,
+            row.a as usize,
+            row.b as usize,
+            row.c as usize,
+            x,
+            out,
+        );
+        return;
     }
-    let mut out = empty_marks();
     if row.kind == ROOT {
         out[0] = 1;
     }
-    out
 }
 
 // Whether the kind is union, composition or filter.
@@ -181,7 +150,6 @@ fn path_stopped() -> PathResult
     PathResult {
         finished: false,
         visits: 0,
-        marks: empty_marks(),
     }
 }
 
@@ -196,10 +164,19 @@ fn qualifier_stopped() -> QualifierResult
     }
 }
 
-// What the path in row r, of the first `top` rows, selects from x; a row past them is read as the void path.
-fn eval_path(rows: &[u16], d: &[u16], top: usize, r: usize, x: usize, limit: u32) -> PathResult
-    requires { ⌜ length (documentOf (now d)) ≤ maxNodes ⌝ }
-    ensures { λ m. ⌜ PathFound (documentOf (now (d .entry))) (pathIn (termsBelow (now (rows .entry)) top) r) x 0 limit (m .finished) (m .visits) (m .marks) ⌝ }
+// Marks what the path in row r, of the first `top` rows, selects from x; a row past them is read as the void path.
+fn eval_path(
+    rows: &[u16],
+    d: &[u16],
+    ends: &[u16],
+    top: usize,
+    r: usize,
+    x: usize,
+    limit: u32,
+    out: &mut [u8],
+) -> PathResult
+    requires { ⌜ StepFrom (documentOf (now d)) (now ends) x (now out) ⌝ }
+    ensures { λ m. ⌜ PathAdded (documentOf (now (d .entry))) (pathIn (termsBelow (now (rows .entry)) top) r) x 0 limit (m .finished) (m .visits) (now (out .entry)) (now (out .exit)) ⌝ }
 {
     if limit == 0 {
         return path_stopped();
@@ -208,24 +185,21 @@ fn eval_path(rows: &[u16], d: &[u16], top: usize, r: usize, x: usize, limit: u32
         return PathResult {
             finished: true,
             visits: 1,
-            marks: empty_marks(),
         };
     }
     let row = terms::row_at(rows, r);
     if !path_has_operands(row.kind) {
+        mark_leaf(d, ends, row, x, out);
         return PathResult {
             finished: true,
             visits: 1,
-            marks: leaf_marks(d, row, x),
         };
     }
-    let m = eval_path_operands(rows, d, r, row, x, limit - 1);
+    let m = eval_path_operands(rows, d, ends, r, row, x, limit - 1, out);
     let visits = 1 + m.visits;
-    let marks = m.marks;
     PathResult {
         finished: m.finished,
         visits: visits,
-        marks: marks,
     }
 }
 
@@ -233,117 +207,138 @@ fn eval_path(rows: &[u16], d: &[u16], top: usize, r: usize, x: usize, limit: u32
 fn eval_path_operands(
     rows: &[u16],
     d: &[u16],
+    ends: &[u16],
     top: usize,
     row: Row,
     x: usize,
     limit: u32,
+    out: &mut [u8],
 ) -> PathResult
-    requires { ⌜ length (documentOf (now d)) ≤ maxNodes ⌝ }
+    requires { ⌜ StepFrom (documentOf (now d)) (now ends) x (now out) ⌝ }
     requires { ⌜ pathHasOperands (row .kind) ≡ true ⌝ }
-    ensures { λ m. ⌜ PathFound (documentOf (now (d .entry))) (asPath (termBy (termsBelow (now (rows .entry)) top) (rowOf row))) x 1 limit (m .finished) (m .visits) (m .marks) ⌝ }
+    ensures { λ m. ⌜ PathAdded (documentOf (now (d .entry))) (asPath (termBy (termsBelow (now (rows .entry)) top) (rowOf row))) x 1 limit (m .finished) (m .visits) (now (out .entry)) (now (out .exit)) ⌝ }
 {
-    let first = eval_path(rows, d, top, row.a as usize, x, limit);
+    let a = row.a as usize;
+    let b = row.b as usize;
+    if row.kind == UNION {
+        return eval_union(rows, d, ends, top, a, b, x, limit, out);
+    }
+    let mut first = empty_marks();
+    let m = eval_path(rows, d, ends, top, a, x, limit, &mut first);
+    if !m.finished {
+        return path_stopped();
+    }
+    let used = m.visits;
+    let second = eval_second_operand(rows, d, ends, top, row, &first, limit - used, out);
+    let visits = used + second.visits;
+    PathResult {
+        finished: second.finished,
+        visits: visits,
+    }
+}
+
+// Marks what the paths in rows a and b select from x.
+fn eval_union(
+    rows: &[u16],
+    d: &[u16],
+    ends: &[u16],
+    top: usize,
+    a: usize,
+    b: usize,
+    x: usize,
+    limit: u32,
+    out: &mut [u8],
+) -> PathResult
+    requires { ⌜ StepFrom (documentOf (now d)) (now ends) x (now out) ⌝ }
+    ensures { λ m. ⌜ PathAdded (documentOf (now (d .entry))) (Union (pathIn (termsBelow (now (rows .entry)) top) a) (pathIn (termsBelow (now (rows .entry)) top) b)) x 1 limit (m .finished) (m .visits) (now (out .entry)) (now (out .exit)) ⌝ }
+{
+    let first = eval_path(rows, d, ends, top, a, x, limit, out);
     if !first.finished {
         return path_stopped();
     }
     let used = first.visits;
-    let marks = first.marks;
-    let second = eval_second_operand(rows, d, top, row, x, marks, limit - used);
+    let second = eval_path(rows, d, ends, top, b, x, limit - used, out);
     let visits = used + second.visits;
-    let out = second.marks;
     PathResult {
         finished: second.finished,
         visits: visits,
-        marks: out,
     }
 }
 
-// The second operand of a union, a composition or a filter; `first` marks what the first one selects.
+// The second operand of a composition or a filter, at the nodes marked in `first`.
 fn eval_second_operand(
     rows: &[u16],
     d: &[u16],
+    ends: &[u16],
     top: usize,
     row: Row,
-    x: usize,
-    first: [u8; MAX_NODES],
+    first: &[u8],
     limit: u32,
+    out: &mut [u8],
 ) -> PathResult
-    requires { ⌜ length (documentOf (now d)) ≤ maxNodes ⌝ }
-    requires { ⌜ pathHasOperands (row .kind) ≡ true ⌝ }
-    requires { ⌜ Marks (length (documentOf (now d))) first (selects (documentOf (now d)) (pathIn (termsBelow (now rows) top) (row .a)) x) ⌝ }
-    ensures { λ m. ⌜ PathFound (documentOf (now (d .entry))) (asPath (termBy (termsBelow (now (rows .entry)) top) (rowOf row))) x (1 + visits (documentOf (now (d .entry))) (pathIn (termsBelow (now (rows .entry)) top) (row .a)) x) limit (m .finished) (m .visits) (m .marks) ⌝ }
+    requires { ⌜ SetFrom (documentOf (now d)) (now ends) (now first) (now out) ⌝ }
+    ensures { λ m. ⌜ SecondAdded (documentOf (now (d .entry))) (termsBelow (now (rows .entry)) top) (rowOf row) (marked (now (first .entry))) limit (m .finished) (m .visits) (now (out .entry)) (now (out .exit)) ⌝ }
 {
     let b = row.b as usize;
-    if row.kind == UNION {
-        let m = eval_path(rows, d, top, b, x, limit);
-        let marks = m.marks;
-        return PathResult {
-            finished: m.finished,
-            visits: m.visits,
-            marks: union_marks(first, marks),
-        };
-    }
     if row.kind == COMPOSITION {
-        return eval_composition(rows, d, top, b, first, limit);
+        return eval_composition(rows, d, ends, top, b, first, limit, out);
     }
-    eval_filter(rows, d, top, b, first, limit)
+    eval_filter(rows, d, ends, top, b, first, limit, out)
 }
 
-// What the path in row b selects from the nodes marked in `first`.
+// Marks what the path in row b selects from the nodes marked in `first`.
 fn eval_composition(
     rows: &[u16],
     d: &[u16],
+    ends: &[u16],
     top: usize,
     b: usize,
-    first: [u8; MAX_NODES],
+    first: &[u8],
     limit: u32,
+    out: &mut [u8],
 ) -> PathResult
-    requires { ⌜ length (documentOf (now d)) ≤ maxNodes ⌝ }
-    ensures { λ m. ⌜ CompositionFound (documentOf (now (d .entry))) (marked first) (pathIn (termsBelow (now (rows .entry)) top) b) limit (m .finished) (m .visits) (m .marks) ⌝ }
+    requires { ⌜ SetFrom (documentOf (now d)) (now ends) (now first) (now out) ⌝ }
+    ensures { λ m. ⌜ CompositionAdded (documentOf (now (d .entry))) (marked (now (first .entry))) (pathIn (termsBelow (now (rows .entry)) top) b) limit (m .finished) (m .visits) (now (out .entry)) (now (out .exit)) ⌝ }
 {
     let n = xpath::node_count(d);
-    let mut out = empty_marks();
     let mut used: u32 = 0;
     let mut z: usize = 0;
     while z < n {
         if first[z] == 1 {
-            let m = eval_path(rows, d, top, b, z, limit - used);
+            let m = eval_path(rows, d, ends, top, b, z, limit - used, out);
             if !m.finished {
                 return path_stopped();
             }
             used += m.visits;
-            let inner = m.marks;
-            let next = union_marks(out, inner);
-            out = next;
         }
         z += 1;
     }
     PathResult {
         finished: true,
         visits: used,
-        marks: out,
     }
 }
 
-// The nodes marked in `first` at which the qualifier in row b is true.
+// Marks the nodes marked in `first` at which the qualifier in row b is true.
 fn eval_filter(
     rows: &[u16],
     d: &[u16],
+    ends: &[u16],
     top: usize,
     b: usize,
-    first: [u8; MAX_NODES],
+    first: &[u8],
     limit: u32,
+    out: &mut [u8],
 ) -> PathResult
-    requires { ⌜ length (documentOf (now d)) ≤ maxNodes ⌝ }
-    ensures { λ m. ⌜ FilterFound (documentOf (now (d .entry))) (marked first) (qualifierIn (termsBelow (now (rows .entry)) top) b) limit (m .finished) (m .visits) (m .marks) ⌝ }
+    requires { ⌜ SetFrom (documentOf (now d)) (now ends) (now first) (now out) ⌝ }
+    ensures { λ m. ⌜ FilterAdded (documentOf (now (d .entry))) (marked (now (first .entry))) (qualifierIn (termsBelow (now (rows .entry)) top) b) limit (m .finished) (m .visits) (now (out .entry)) (now (out .exit)) ⌝ }
 {
     let n = xpath::node_count(d);
-    let mut out = empty_marks();
     let mut used: u32 = 0;
     let mut z: usize = 0;
     while z < n {
         if first[z] == 1 {
-            let q = eval_qualifier(rows, d, top, b, z, limit - used);
+            let q = eval_qualifier(rows, d, ends, top, b, z, limit - used);
             if !q.finished {
                 return path_stopped();
             }
@@ -357,7 +352,6 @@ fn eval_filter(
     PathResult {
         finished: true,
         visits: used,
-        marks: out,
     }
 }
 
@@ -365,12 +359,13 @@ fn eval_filter(
 fn eval_qualifier(
     rows: &[u16],
     d: &[u16],
+    ends: &[u16],
     top: usize,
     r: usize,
     x: usize,
     limit: u32,
 ) -> QualifierResult
-    requires { ⌜ length (documentOf (now d)) ≤ maxNodes ⌝ }
+    requires { ⌜ NodeOf (documentOf (now d)) (now ends) x ⌝ }
     ensures { λ q. ⌜ QualifierFound (documentOf (now (d .entry))) (qualifierIn (termsBelow (now (rows .entry)) top) r) x 0 limit (q .finished) (q .visits) (q .value) ⌝ }
 {
     if limit == 0 {
@@ -391,7 +386,7 @@ fn eval_qualifier(
             value: row.kind == TRUE,
         };
     }
-    let q = eval_qualifier_operands(rows, d, r, row, x, limit - 1);
+    let q = eval_qualifier_operands(rows, d, ends, r, row, x, limit - 1);
     let visits = 1 + q.visits;
     QualifierResult {
         finished: q.finished,
@@ -404,21 +399,22 @@ fn eval_qualifier(
 fn eval_qualifier_operands(
     rows: &[u16],
     d: &[u16],
+    ends: &[u16],
     top: usize,
     row: Row,
     x: usize,
     limit: u32,
 ) -> QualifierResult
-    requires { ⌜ length (documentOf (now d)) ≤ maxNodes ⌝ }
+    requires { ⌜ NodeOf (documentOf (now d)) (now ends) x ⌝ }
     requires { ⌜ qualifierHasOperands (row .kind) ≡ true ⌝ }
     ensures { λ q. ⌜ QualifierFound (documentOf (now (d .entry))) (asQualifier (termBy (termsBelow (now (rows .entry)) top) (rowOf row))) x 1 limit (q .finished) (q .visits) (q .value) ⌝ }
 {
     let a = row.a as usize;
     let b = row.b as usize;
     if row.kind == INCLUSION {
-        return eval_inclusion(rows, d, top, a, b, x, limit);
+        return eval_inclusion(rows, d, ends, top, a, b, x, limit);
     }
-    let left = eval_qualifier(rows, d, top, a, x, limit);
+    let left = eval_qualifier(rows, d, ends, top, a, x, limit);
     if row.kind == NOT {
         return QualifierResult {
             finished: left.finished,
@@ -430,7 +426,7 @@ fn eval_qualifier_operands(
         return qualifier_stopped();
     }
     let used = left.visits;
-    let right = eval_qualifier(rows, d, top, b, x, limit - used);
+    let right = eval_qualifier(rows, d, ends, top, b, x, limit - used);
     let visits = used + right.visits;
     QualifierResult {
         finished: right.finished,
@@ -443,54 +439,30 @@ fn eval_qualifier_operands(
 fn eval_inclusion(
     rows: &[u16],
     d: &[u16],
+    ends: &[u16],
     top: usize,
     a: usize,
     b: usize,
     x: usize,
     limit: u32,
 ) -> QualifierResult
-    requires { ⌜ length (documentOf (now d)) ≤ maxNodes ⌝ }
+    requires { ⌜ NodeOf (documentOf (now d)) (now ends) x ⌝ }
     ensures { λ q. ⌜ QualifierFound (documentOf (now (d .entry))) (In (pathIn (termsBelow (now (rows .entry)) top) a) (pathIn (termsBelow (now (rows .entry)) top) b)) x 1 limit (q .finished) (q .visits) (q .value) ⌝ }
 {
-    let first = eval_path(rows, d, top, a, x, limit);
+    let mut marks = empty_marks();
+    let first = eval_path(rows, d, ends, top, a, x, limit, &mut marks);
     if !first.finished {
         return qualifier_stopped();
     }
     let used = first.visits;
-    let marks = first.marks;
-    let second = eval_path(rows, d, top, b, x, limit - used);
+    let mut others = empty_marks();
+    let second = eval_path(rows, d, ends, top, b, x, limit - used, &mut others);
     let visits = used + second.visits;
-    let others = second.marks;
     QualifierResult {
         finished: second.finished,
         visits: visits,
-        value: is_included(marks, others, xpath::node_count(d)),
+        value: is_included(&marks, &others, xpath::node_count(d)),
     }
-}
-
-// Writes 1 or 0 for each node of a document that the marks have room for.
-fn evaluate_within(
-    rows: &[u16],
-    row: usize,
-    d: &[u16],
-    x: usize,
-    limit: u32,
-    marks: &mut [u8],
-) -> Evaluated
-    requires { ⌜ length (documentOf (now d)) ≤ maxNodes ⌝ }
-    ensures { λ r. ⌜ outcome (answerOf r) (now (marks .exit)) ≡ evaluated (tableOf (now (rows .entry))) row (documentOf (now (d .entry))) x limit (now (marks .entry)) ⌝ }
-{
-    let n = xpath::node_count(d);
-    let found = eval_path(rows, d, terms::row_count(rows), row, x, limit);
-    if marks.len() < n {
-        return Evaluated::NoRoom;
-    }
-    if !found.finished {
-        return Evaluated::LimitPassed;
-    }
-    let out = found.marks;
-    copy_out(out, n, marks);
-    Evaluated::Selected(found.visits)
 }
 
 // Writes 1 or 0 for each node of the document into `marks`, as the path in row `row` selects it from x. Where it does not answer
@@ -499,15 +471,24 @@ pub fn evaluate(
     rows: &[u16],
     row: usize,
     d: &[u16],
+    ends: &[u16],
     x: usize,
     limit: u32,
     marks: &mut [u8],
 ) -> Evaluated
+    requires { ⌜ NodeOf (documentOf (now d)) (now ends) x ⌝ }
     ensures { λ r. ⌜ outcome (answerOf r) (now (marks .exit)) ≡ evaluated (tableOf (now (rows .entry))) row (documentOf (now (d .entry))) x limit (now (marks .entry)) ⌝ }
 {
-    if MAX_NODES < xpath::node_count(d) {
-        Evaluated::NoRoom
-    } else {
-        evaluate_within(rows, row, d, x, limit, marks)
+    let n = xpath::node_count(d);
+    if marks.len() < n {
+        return Evaluated::NoRoom;
     }
+    let top = terms::row_count(rows);
+    let mut out = empty_marks();
+    let found = eval_path(rows, d, ends, top, row, x, limit, &mut out);
+    if !found.finished {
+        return Evaluated::LimitPassed;
+    }
+    copy_out(&out, n, marks);
+    Evaluated::Selected(found.visits)
 }

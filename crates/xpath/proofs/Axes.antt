@@ -6,10 +6,10 @@ use lib.ListN.{List·getD-eq-default}
 use Rattle.xpath.specs.Document.{Document}
 use Rattle.xpath.specs.Axis.{onAxis, passes}
 
-pub no-axis : (a : ℕ) (d : Document) (x y : ℕ) → 11 ≤ a → false ≡ onAxis a d x y
+pub past-last-axis : (a : ℕ) (d : Document) (x y : ℕ) → 11 ≤ a → false ≡ onAxis a d x y
 unfolding onAxis
-no-axis a d x y h = rw (List·getD-eq-default)
+past-last-axis a d x y h = rw (List·getD-eq-default)
 
-pub no-test : (t c : ℕ) (d : Document) (y : ℕ) → 6 ≤ t → false ≡ passes t c d y
+pub past-last-test : (t c : ℕ) (d : Document) (y : ℕ) → 6 ≤ t → false ≡ passes t c d y
 unfolding passes
-no-test t c d y h = rw (List·getD-eq-default)
+past-last-test t c d y h = rw (List·getD-eq-default)

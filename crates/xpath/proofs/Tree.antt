@@ -92,7 +92,7 @@ module _ (d : Document) (w : T (wellFormed d)) where
   row-ok n l = all-yes (length d) (rowOk d) ((and-yes (leb 1 (length d)) (allBelow (length d) (rowOk d)) w) .1) n l
 
   -- what is asked of row n + 1: its parent is row n or an ancestor of it, and is the root or an element; it is no root itself
-  row-facts : (n : ℕ) → suc n < length d →
+  pub row-facts : (n : ℕ) → suc n < length d →
       ((parentAt d (suc n) ≡ n) ⊎ Ancestor d (parentAt d (suc n)) n) × (kindAt d (parentAt d (suc n)) ≤ 1) × (0 < kindAt d (suc n))
   unfolding rowOk kindAndNameOk
   row-facts n l =

@@ -1,5 +1,6 @@
 pub mod Bounded
 pub mod Document
+pub mod Ends
 pub mod Axis
 pub mod Term
 pub mod Meaning

@@ -1,14 +1,16 @@
-// Documents lent as 16-bit numbers, three a row: their check, the axes and the node tests. Every function takes every input; a
-// number that no whole row has is read as 0.
+// Documents lent as 16-bit numbers, three a row: their check, where their subtrees end, and the node tests. A number that no whole
+// row has is read as 0.
 ghost use mathlib.Core.Path.{_≡_};
-ghost use mathlib.Core.Bool.{_&&_, _||_, not, cond};
+ghost use mathlib.Core.Bool.{_&&_, _||_, cond};
 ghost use mathlib.Core.Option.{none, some};
 ghost use Prim.Native.Nat.{suc, _+_, _*_, _/_, _<_, _≤_};
 ghost use lib.ListN.{length, getD};
-ghost use lib.Dec.{ltb, eqb};
+ghost use lib.Dec.{T, ltb, eqb};
 ghost use Rattle.xpath.specs.Bounded.{firstBelow};
-ghost use Rattle.xpath.specs.Document.{kindAt, parentAt, nameAt, isChild, isAncestor, areSiblings, kindAndNameOk, rowOk, documentOf, badRow, documentRefusal, maxNodes};
-ghost use Rattle.xpath.specs.Axis.{onAxis, passes};
+ghost use Rattle.xpath.specs.Document.{kindAt, parentAt, nameAt, isAncestor, kindAndNameOk, rowOk, documentOf};
+ghost use Rattle.xpath.specs.Document.{badRow, documentRefusal, maxNodes, wellFormed};
+ghost use Rattle.xpath.specs.Ends.{Ends, Filled};
+ghost use Rattle.xpath.specs.Axis.{passes};
 ghost use Rattle.xpath.specs.Check.{refusalOf};
 
 // The largest document that a call takes.
@@ -63,7 +65,7 @@ fn kind_at(d: &[u16], y: usize) -> usize
     number_at(d, y, 0)
 }
 
-fn parent_at(d: &[u16], y: usize) -> usize
+pub fn parent_at(d: &[u16], y: usize) -> usize
     ensures { λ r. ⌜ r ≡ parentAt (documentOf (now (d .entry))) y ⌝ }
 {
     number_at(d, y, 1)
@@ -75,14 +77,8 @@ fn name_at(d: &[u16], y: usize) -> usize
     number_at(d, y, 2)
 }
 
-fn is_child(d: &[u16], x: usize, y: usize) -> bool
-    ensures { λ r. ⌜ r ≡ isChild (documentOf (now (d .entry))) x y ⌝ }
-{
-    and(y != 0, parent_at(d, y) == x)
-}
-
 // Whether the climb from y to the root meets x.
-pub fn is_ancestor(d: &[u16], x: usize, y: usize) -> bool
+fn is_ancestor(d: &[u16], x: usize, y: usize) -> bool
     ensures { λ r. ⌜ r ≡ isAncestor (documentOf (now (d .entry))) x y ⌝ }
 {
     let mut at = y;
@@ -105,38 +101,6 @@ fn is_ancestor_or_self(d: &[u16], x: usize, y: usize) -> bool
     ensures { λ r. ⌜ r ≡ (eqb x y || isAncestor (documentOf (now (d .entry))) x y) ⌝ }
 {
     if x == y { true } else { is_ancestor(d, x, y) }
-}
-
-// Whether y comes after x and is no descendant of it. It climbs only where y comes after x.
-fn follows(d: &[u16], x: usize, y: usize) -> bool
-    ensures { λ r. ⌜ r ≡ (ltb x y && not (isAncestor (documentOf (now (d .entry))) x y)) ⌝ }
-{
-    if x < y { !is_ancestor(d, x, y) } else { false }
-}
-
-fn are_siblings(d: &[u16], x: usize, y: usize) -> bool
-    ensures { λ r. ⌜ r ≡ areSiblings (documentOf (now (d .entry))) x y ⌝ }
-{
-    and(and(x != 0, is_child(d, parent_at(d, x), y)), x != y)
-}
-
-pub fn on_axis(d: &[u16], axis: usize, x: usize, y: usize) -> bool
-    ensures { λ r. ⌜ r ≡ onAxis axis (documentOf (now (d .entry))) x y ⌝ }
-{
-    match axis {
-        0 => x == y,
-        1 => is_child(d, x, y),
-        2 => is_child(d, y, x),
-        3 => is_ancestor(d, x, y),
-        4 => is_ancestor(d, y, x),
-        5 => is_ancestor_or_self(d, x, y),
-        6 => is_ancestor_or_self(d, y, x),
-        7 => and(are_siblings(d, x, y), x < y),
-        8 => and(are_siblings(d, x, y), y < x),
-        9 => follows(d, x, y),
-        10 => follows(d, y, x),
-        _ => false,
-    }
 }
 
 pub fn passes_test(d: &[u16], test: usize, name: usize, y: usize) -> bool
@@ -228,4 +192,35 @@ pub fn check_document(d: &[u16]) -> DocumentCheck
         return DocumentCheck::Refused(bad as u16);
     }
     DocumentCheck::Accepted
+}
+
+// Room for every row, and each number is v.
+fn filled(v: u16) -> [u16; MAX_NODES]
+    ensures { λ r. ⌜ Filled v r ⌝ }
+{
+    [v; MAX_NODES]
+}
+
+// Where the subtree of each row ends: the rows after it and before its end are its descendants.
+pub fn ends_of(d: &[u16]) -> [u16; MAX_NODES]
+    requires { ⌜ length (documentOf (now d)) ≤ maxNodes ⌝ }
+    requires { ⌜ T (wellFormed (documentOf (now d))) ⌝ }
+    ensures { λ r. ⌜ Ends (documentOf (now (d .entry))) r ⌝ }
+{
+    let n = node_count(d);
+    let mut ends = filled(n as u16);
+    let mut last: usize = 0;
+    let mut at: usize = 0;
+    while last + 1 < n {
+        let i = last + 1;
+        let parent = parent_at(d, i);
+        if parent < at {
+            ends[at] = i as u16;
+            at = parent_at(d, at);
+        } else {
+            last = i;
+            at = i;
+        }
+    }
+    ends
 }

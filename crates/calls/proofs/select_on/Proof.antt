@@ -3,6 +3,7 @@ use borrow.Author.Tests.{not-true, not-false}
 use mathlib.Core.Path.{sym, ap, _∙_}
 use native.Mathlib.Omega.{arith}
 use Rattle.xpath.specs.Check.{refusalOf}
+use Rattle.xpath.proofs.Refusal.{accepted-iff}
 use Rattle.calls.proofs.SelectJudged.{bad-document, bad-context, bad-row, select-evaluated}
 use borrow.Author.Needs.{needs}
 use Rattle.calls.proofs.select_on.Statement.{statement}
@@ -27,22 +28,28 @@ node-count-requires : tie.Need-node-count-requires
 node-count-requires c κs = search needs
 
 returns-2 : tie.Need-returns-2
-returns-2 c = let taken = sym (ap refusalOf (c .before .before .before .enum-told .given .1)) ∙ c .before .before .before .before .before .check-document .ensures in
-    bad-context _ _ _ _ _ _ taken (omega arith)
+returns-2 c = bad-context _ _ _ _ _ _ (sym (ap refusalOf (c .before .before .before .enum-told .given .1)) ∙ c .before .before .before .before .before .check-document .ensures) (omega arith)
 
 is-held-path-requires : tie.Need-is-held-path-requires
 is-held-path-requires c κs = search needs
 
 returns-3 : tie.Need-returns-3
-returns-3 c = let b = c .before .before in
-    let taken = sym (ap refusalOf (b .before .before .before .enum-told .given .1)) ∙ b .before .before .before .before .before .check-document .ensures in
-    bad-row _ _ _ _ _ _ taken (omega arith) (sym (c .before .is-held-path .ensures) ∙ not-true _ (c .if2 .taken))
+returns-3 c = bad-row _ _ _ _ _ _ (sym (ap refusalOf (c .before .before .before .before .before .enum-told .given .1)) ∙ c .before .before .before .before .before .before .before .check-document .ensures) (omega arith) (sym (c .before .is-held-path .ensures) ∙ not-true _ (c .if2 .taken))
+
+ends-of-requires : tie.Need-ends-of-requires
+ends-of-requires c κs =
+    let r = accepted-iff (c .before .before .before .before .before .before .before .before .before .before .before .args .document .now) .0 (sym (sym (ap refusalOf (c .before .before .before .before .before .enum-told .given .1)) ∙ c .before .before .before .before .before .before .before .check-document .ensures)) in (r .1, r .2)
 
 wide-requires-2 : tie.Need-wide-requires-2
 wide-requires-2 c κs = search needs
 
+slice-aggregate-evaluate : tie.Need-slice-aggregate-evaluate
+slice-aggregate-evaluate c = search needs
+
 evaluate-requires : tie.Need-evaluate-requires
-evaluate-requires c κs = search needs
+evaluate-requires c κs =
+    let r = accepted-iff (c .before .before .before .before .before .before .before .before .before .before .before .before .before .before .before .args .document .now) .0 (sym (sym (ap refusalOf (c .before .before .before .before .before .before .before .before .before .enum-told .given .1)) ∙ c .before .before .before .before .before .before .before .before .before .before .before .check-document .ensures)) in
+    record { prepared = record { few = r .1; formed = r .2; ends = c .before .before .before .ends-of .ensures }; row = omega arith }
 
 select-answer-requires : tie.Need-select-answer-requires
 select-answer-requires c κs = search needs
@@ -51,10 +58,11 @@ same-length : tie.Need-same-length
 same-length c = search needs
 
 returns-4 : tie.Need-returns-4
-returns-4 c = let b = c .before .before .before .before .before .before .before .before in
-    let taken = sym (ap refusalOf (b .before .before .before .enum-told .given .1)) ∙ b .before .before .before .before .before .check-document .ensures in
-    let path = sym (c .before .before .before .before .before .before .before .is-held-path .ensures) ∙ not-false _ (c .before .before .before .before .before .before .if2 .left) in
-    select-evaluated _ _ _ _ _ _ taken (omega arith) path _ _ _ (c .select-answer .ensures) (c .before .before .before .evaluate .ensures ∙ rw (c .before .before .before .before .before .wide2 .ensures, b .before .before .wide .ensures))
+returns-4 c =
+    let taken = sym (ap refusalOf (c .before .before .before .before .before .before .before .before .before .before .before .before .before .enum-told .given .1)) ∙ c .before .before .before .before .before .before .before .before .before .before .before .before .before .before .before .check-document .ensures in
+    let path = sym (c .before .before .before .before .before .before .before .before .before .is-held-path .ensures) ∙ not-false _ (c .before .before .before .before .before .before .before .before .if2 .left) in
+    select-evaluated _ _ _ _ _ _ taken (omega arith) path _ _ _ (c .select-answer .ensures)
+    (c .before .before .before .evaluate .ensures ∙ rw (c .before .before .before .before .before .before .wide2 .ensures, c .before .before .before .before .before .before .before .before .before .before .before .before .wide .ensures))
 
 pub select-on-spec : {M : Type 1} → statement M
 select-on-spec =
@@ -69,7 +77,9 @@ select-on-spec =
     returns-2
     is-held-path-requires
     returns-3
+    ends-of-requires
     wide-requires-2
+    slice-aggregate-evaluate
     evaluate-requires
     select-answer-requires
     same-length

@@ -1,6 +1,7 @@
--- `evaluate` meets its contract. Assumes nothing.
+-- `selection::evaluate` meets its contract, test by test. Assumes nothing.
 use native.Mathlib.Omega.{arith}
-use Rattle.selection.proofs.Outcome.{too-many}
+use borrow.Author.Tests.{not-true, not-false}
+use Rattle.selection.proofs.Outcome.{row-found, too-short, passed, copied}
 use borrow.Author.Needs.{needs}
 use Rattle.selection.proofs.evaluate.Statement.{statement}
 use Rattle.selection.proofs.evaluate.Tie as tie
@@ -8,18 +9,73 @@ use Rattle.selection.proofs.evaluate.Tie as tie
 node-count-requires : tie.Need-node-count-requires
 node-count-requires c κs = search needs
 
-evaluate-within-requires : tie.Need-evaluate-within-requires
-evaluate-within-requires c κs = search needs
-
 returns : tie.Need-returns
-returns c = too-many _ _ _ _ _ (omega arith)
+returns c =
+    let counted = c .before in
+    let start = counted .before .before .before .before .before in
+    too-short _ _ _ _ _ (start .pre .prepared .few) (omega arith)
+
+row-count-requires : tie.Need-row-count-requires
+row-count-requires c κs = search needs
+
+empty-marks-requires : tie.Need-empty-marks-requires
+empty-marks-requires c κs = search needs
+
+slice-aggregate-eval-path : tie.Need-slice-aggregate-eval-path
+slice-aggregate-eval-path c = search needs
+
+eval-path-requires : tie.Need-eval-path-requires
+eval-path-requires c κs = search needs
+
+returns-2 : tie.Need-returns-2
+returns-2 c =
+    let evaluated = c .before .before .before in
+    let cleared = evaluated .before .before in
+    let counted = cleared .before .before .before in
+    let start = counted .before .before .before .before .before in
+    let e = evaluated .eval-path in
+    passed _ _ _ _ _ (start .pre .prepared .few) (omega (arith, counted .node-count .ensures)) _ _
+    (cleared .empty-marks .ensures)
+    (row-found _ _ _ _ _ _ _ _ (cleared .before .row-count .ensures) (e .ensures))
+    (not-true (e .result .finished) (c .if2 .taken))
+
+slice-aggregate-copy-out : tie.Need-slice-aggregate-copy-out
+slice-aggregate-copy-out c = search needs
+
+copy-out-requires : tie.Need-copy-out-requires
+copy-out-requires c κs = search needs
 
 same-length : tie.Need-same-length
 same-length c = search needs
 
-returns-2 : tie.Need-returns-2
-returns-2 c = search needs
+returns-3 : tie.Need-returns-3
+returns-3 c =
+    let copied-out = c .before .before in
+    let finished = copied-out .before .before .before in
+    let evaluated = finished .before .before .before in
+    let cleared = evaluated .before .before in
+    let counted = cleared .before .before .before in
+    let start = counted .before .before .before .before .before in
+    let e = evaluated .eval-path in
+    let n = counted .node-count in
+    copied _ _ _ _ _ (start .pre .prepared .few) (omega (arith, n .ensures)) _ _
+    (cleared .empty-marks .ensures)
+    (row-found _ _ _ _ _ _ _ _ (cleared .before .row-count .ensures) (e .ensures))
+    (n .result) _ (not-false (e .result .finished) (finished .if2 .left)) (n .ensures)
+    (copied-out .copy-out .ensures)
 
 pub evaluate-spec : {M : Type 1} → statement M
 evaluate-spec =
-    tie.close (tie.spec node-count-requires evaluate-within-requires returns same-length returns-2)
+    tie.close
+    (tie.spec
+    node-count-requires
+    returns
+    row-count-requires
+    empty-marks-requires
+    slice-aggregate-eval-path
+    eval-path-requires
+    returns-2
+    slice-aggregate-copy-out
+    copy-out-requires
+    same-length
+    returns-3)

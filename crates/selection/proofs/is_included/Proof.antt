@@ -1,14 +1,12 @@
 -- `selection::is_included` meets its contract. Assumes nothing.
 use Prim.Native.Nat.{ℕ, _≤_, _-_}
 use mathlib.Core.Path.{_≡_, refl, sym, _∙_}
-use mathlib.Core.Bool.{Bool, true, not, _||_, or-true}
+use mathlib.Core.Bool.{Bool, not, _||_}
 use mathlib.Core.List.{List}
-use mathlib.Core.Logic.{⊎-elim}
 use native.Mathlib.Omega.{arith}
-use borrow.Author.Tests.{eq-eqb, ne-eqb}
 use Rattle.xpath.specs.Bounded.{allBelow}
-use Rattle.selection.specs.Marks.{marked}
-use Rattle.selection.proofs.Folds.{all-more, all-fails}
+use Rattle.marking.specs.Added.{marked}
+use Rattle.selection.proofs.Folds.{all-more}
 use Rattle.selection.proofs.is_included.Statement.{statement}
 use Rattle.selection.proofs.is_included.Tie as tie
 
@@ -16,27 +14,26 @@ abbrev included : List ℕ → List ℕ → ℕ → Bool
 included a b y = not (marked a y) || marked b y
 
 abbrev Inv-loop : tie.InvT-loop
-Inv-loop n a b y₀ y = (y ≤ n) × (allBelow y (included a b) ≡ true)
+Inv-loop a b n ok₀ y₀ ok y = (y ≤ n) × (ok ≡ allBelow y (included a b))
 
 abbrev μ-loop : tie.MeasureT-loop
-μ-loop n a b y₀ y = n - y
+μ-loop a b n ok₀ y₀ ok y = n - y
 
 loop-holds : tie.Need-loop-holds Inv-loop μ-loop
 unfolding allBelow
 loop-holds c = (omega arith, refl)
 
-array-read-if1 : tie.Need-array-read-if1 Inv-loop μ-loop
-array-read-if1 c = omega arith
+shared-slice-read-or : tie.Need-shared-slice-read-or Inv-loop μ-loop
+shared-slice-read-or c = omega arith
 
-array-read-if2 : tie.Need-array-read-if2 Inv-loop μ-loop
-array-read-if2 c = omega arith
+shared-slice-read-or-2 : tie.Need-shared-slice-read-or-2 Inv-loop μ-loop
+shared-slice-read-or-2 c = omega arith
 
-returns : tie.Need-returns Inv-loop μ-loop
-returns c =
-    let a = c .before .before .before .before .args in
-    sym
-    (all-fails (included (a .t1) (a .t2)) (a .n) (c .before .before .before .loop .y) (c .before .before .loop-test .taken)
-    (rw (eq-eqb _ 1 (c .before .if1 .taken), ne-eqb _ 1 (c .if2 .taken))))
+or-requires : tie.Need-or-requires Inv-loop μ-loop
+or-requires c κs = tt
+
+and-requires : tie.Need-and-requires Inv-loop μ-loop
+and-requires c κs = tt
 
 add-y : tie.Need-add-y Inv-loop μ-loop
 add-y c = omega arith
@@ -46,17 +43,14 @@ loop-less c = omega arith
 
 loop-again : tie.Need-loop-again Inv-loop μ-loop
 loop-again c =
-    let a = c .before .before .before .args in
-    let l = c .before .before .loop in (
-      omega arith,
-      all-more (included (a .t1) (a .t2)) (l .y)
-          ∙ rw (l .inv .1) (⊎-elim (λ w. rw (eq-eqb _ 1 (w .1 .left), or-true)) (λ w. rw (ne-eqb _ 1 (w .left))) (c .if1 .came)),
-    )
+    let a = c .before .before .before .before .before .before .before .before .args in
+    let l = c .before .before .before .before .before .loop in
+    (omega arith, c .and .ensures ∙ rw (l .inv .1, c .before .or .ensures) (sym (all-more (included (a .a .now) (a .b .now)) (l .y))))
 
-returns-2 : tie.Need-returns-2 Inv-loop μ-loop
-returns-2 c =
-    let e : c .before .before .args .n ≡ c .before .loop .y = omega arith in
-    rw e (sym (c .before .loop .inv .1))
+returns : tie.Need-returns Inv-loop μ-loop
+returns c =
+    let e : c .before .before .before .before .args .n ≡ c .before .loop .y = omega arith in
+    rw e (c .before .loop .inv .1)
 
 pub is-included-spec : {M : Type 1} → statement M
 is-included-spec =
@@ -65,10 +59,11 @@ is-included-spec =
     Inv-loop
     μ-loop
     loop-holds
-    array-read-if1
-    array-read-if2
-    returns
+    shared-slice-read-or
+    shared-slice-read-or-2
+    or-requires
+    and-requires
     add-y
     loop-less
     loop-again
-    returns-2)
+    returns)

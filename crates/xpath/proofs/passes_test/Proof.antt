@@ -1,7 +1,7 @@
 -- `passes_test` meets its contract, arm by arm. Assumes nothing.
 use mathlib.Core.Path.{_∙_}
 use Rattle.xpath.specs.Axis.{passes}
-use Rattle.xpath.proofs.Axes.{no-test}
+use Rattle.xpath.proofs.Axes.{past-last-test}
 use Rattle.xpath.proofs.Cases.{past-arms}
 use borrow.Author.Needs.{needs}
 use Rattle.xpath.proofs.passes_test.Statement.{statement}
@@ -41,7 +41,7 @@ unfolding passes
 returns-6 c = rw (c .match .keys6, c .before .kind-at .ensures)
 
 returns-7 : tie.Need-returns-7
-returns-7 c = no-test _ _ _ _ (past-arms _ 6 (c .match .rest))
+returns-7 c = past-last-test _ _ _ _ (past-arms _ 6 (c .match .rest))
 
 pub passes-test-spec : {M : Type 1} → statement M
 passes-test-spec =

@@ -1,0 +1,78 @@
+-- `marking::mark_following_siblings` meets its contract. Assumes nothing.
+use mathlib.Core.Path.{_≡_, _∙_}
+use native.Mathlib.Omega.{arith}
+use native.Mathlib.Nat.{pos-of-ne-zero}
+use borrow.Author.Needs.{needs}
+use lib.ListN.{length}
+use Rattle.xpath.specs.Document.{documentOf}
+use Rattle.xpath.specs.Axis.{passes}
+use Rattle.xpath.proofs.Tree.{parent-smaller}
+use Rattle.marking.proofs.Steps.{following-sibling-marked, root-following-sibling, later-siblings}
+use Rattle.marking.proofs.mark_following_siblings.Statement.{statement}
+use Rattle.marking.proofs.mark_following_siblings.Tie as tie
+
+returns : tie.Need-returns
+returns c =
+    let a = c .before .before .before .before .args in
+    let g = c .before .before .before .before .pre in
+    root-following-sibling (documentOf (a .d .now)) (a .ends .now) (g .prepared) (passes (a .test) (a .name) (documentOf (a .d .now))) (a .x) (g .row) (c .if1 .taken)
+
+parent-at-requires : tie.Need-parent-at-requires
+parent-at-requires c κs = search needs
+
+mul-wide : tie.Need-mul-wide
+mul-wide c = search needs
+
+shared-slice-read-wide : tie.Need-shared-slice-read-wide
+shared-slice-read-wide c = search needs
+
+wide-requires : tie.Need-wide-requires
+wide-requires c κs = search needs
+
+mul-wide-2 : tie.Need-mul-wide-2
+mul-wide-2 c =
+    let a = c .before .before .before .before .before .before .before .args in
+    let g = c .before .before .before .before .before .before .before .pre in
+    let s = parent-smaller _ (g .prepared .formed) (a .x) (g .row) (pos-of-ne-zero (c .before .before .before .if1 .left)) in
+    omega (arith, c .before .before .parent-at .ensures, g .prepared .few, g .row)
+
+shared-slice-read-wide-2 : tie.Need-shared-slice-read-wide-2
+shared-slice-read-wide-2 c =
+    let a = c .before .before .before .before .before .before .before .before .args in
+    let g = c .before .before .before .before .before .before .before .before .pre in
+    let s = parent-smaller _ (g .prepared .formed) (a .x) (g .row) (pos-of-ne-zero (c .before .before .before .before .if1 .left)) in
+    omega (arith, c .before .before .before .parent-at .ensures, g .prepared .ends .room, g .row)
+
+wide-requires-2 : tie.Need-wide-requires-2
+wide-requires-2 c κs = search needs
+
+mark-children-requires : tie.Need-mark-children-requires
+mark-children-requires c κs =
+    let a = c .before .before .before .before .before .before .before .before .before .before .args in
+    let g = c .before .before .before .before .before .before .before .before .before .before .pre in
+    (g .prepared, (g .room, rw (c .before .before .before .wide .ensures, c .before .wide2 .ensures) (later-siblings (documentOf (a .d .now)) (a .ends .now) (g .prepared) (a .x) (c .before .before .before .before .before .parent-at .result) (g .row) (pos-of-ne-zero (c .before .before .before .before .before .before .if1 .left)) (c .before .before .before .before .before .parent-at .ensures))))
+
+same-length : tie.Need-same-length
+same-length c = search needs
+
+returns-2 : tie.Need-returns-2
+returns-2 c =
+    let a = c .before .before .before .before .before .before .before .before .before .before .before .before .before .args in
+    let g = c .before .before .before .before .before .before .before .before .before .before .before .before .before .pre in
+    following-sibling-marked (documentOf (a .d .now)) (a .ends .now) (g .prepared) (passes (a .test) (a .name) (documentOf (a .d .now))) (a .x) (g .row) _ (pos-of-ne-zero (c .before .before .before .before .before .before .before .before .before .if1 .left)) (c .before .before .before .before .before .before .before .before .parent-at .ensures) (rw (c .before .before .before .before .before .before .wide .ensures, c .before .before .before .before .wide2 .ensures) at (c .before .before .mark-children .ensures))
+
+pub mark-following-siblings-spec : {M : Type 1} → statement M
+mark-following-siblings-spec =
+    tie.close
+    (tie.spec
+    returns
+    parent-at-requires
+    mul-wide
+    shared-slice-read-wide
+    wide-requires
+    mul-wide-2
+    shared-slice-read-wide-2
+    wide-requires-2
+    mark-children-requires
+    same-length
+    returns-2)

@@ -1,0 +1,91 @@
+-- `marking::mark_preceding` meets its contract. Assumes nothing.
+use Prim.Native.Nat.{ℕ, _+_, _-_, _≤_, _<_}
+use mathlib.Core.Path.{_≡_, sym, _∙_}
+use mathlib.Core.Bool.{Bool, _&&_}
+use mathlib.Core.Logic.{⊎-elim}
+use native.Mathlib.Omega.{arith}
+use borrow.Author.Needs.{needs}
+use lib.Dec.{leb}
+use lib.ListN.{length, getD}
+use Rattle.xpath.specs.Document.{documentOf}
+use Rattle.xpath.specs.Axis.{passes}
+use Rattle.marking.specs.Added.{Added}
+use Rattle.marking.proofs.Added.{between, up-start, up-marked, up-left, up-end}
+use Rattle.marking.proofs.mark_preceding.Statement.{statement}
+use Rattle.marking.proofs.mark_preceding.Tie as tie
+
+abbrev Inv-loop : tie.InvT-loop
+Inv-loop d ends test name x out₀ y₀ out y =
+    (y ≤ x) × Added (length (documentOf d)) out₀ out (between 0 y (λ k. leb (getD ends k 0) x && passes test name (documentOf d) k))
+
+abbrev μ-loop : tie.MeasureT-loop
+μ-loop d ends test name x out₀ y₀ out y = x - y
+
+loop-holds : tie.Need-loop-holds Inv-loop μ-loop
+loop-holds c = (omega arith, up-start _ _)
+
+mul-wide : tie.Need-mul-wide Inv-loop μ-loop
+mul-wide c = search needs
+
+shared-slice-read-wide : tie.Need-shared-slice-read-wide Inv-loop μ-loop
+shared-slice-read-wide c = search needs
+
+wide-requires : tie.Need-wide-requires Inv-loop μ-loop
+wide-requires c κs = tt
+
+passes-test-requires : tie.Need-passes-test-requires Inv-loop μ-loop
+passes-test-requires c κs = tt
+
+and-requires : tie.Need-and-requires Inv-loop μ-loop
+and-requires c κs = tt
+
+slice-write-out : tie.Need-slice-write-out Inv-loop μ-loop
+slice-write-out c = search needs
+
+add-y : tie.Need-add-y Inv-loop μ-loop
+add-y c = search needs
+
+loop-less : tie.Need-loop-less Inv-loop μ-loop
+loop-less c = search needs
+
+loop-again : tie.Need-loop-again Inv-loop μ-loop
+loop-again c =
+    let a = c .before .before .before .before .before .before .before .before .before .before .args in
+    let l = c .before .before .before .before .before .before .loop in
+    let f : ℕ → Bool = λ k. leb (getD (a .ends .now) k 0) (a .x) && passes (a .test) (a .name) (documentOf (a .d .now)) k in
+    let e : f (l .y) ≡ (c .before .and .result) = sym (c .before .and .ensures ∙ rw (c .before .before .before .wide .ensures, c .before .before .passes-test .ensures)) in (
+      omega arith,
+      ⊎-elim
+          (λ w. rw (w .1) (up-marked f 0 (l .y) (l .y + 1) (l .inv .1) (omega arith) (omega arith) (λ k m a b. absurd (omega arith)) (omega (arith, l .inv .1 .size)) (e ∙ w .0 .taken)))
+          (λ w. rw (w .1) (up-left f 0 (l .y) (l .y + 1) (l .inv .1) (omega arith) (omega arith) (λ k m a b. absurd (omega arith)) (e ∙ w .0 .left)))
+          (c .if1 .came),
+    )
+
+same-length : tie.Need-same-length Inv-loop μ-loop
+same-length c = search needs
+
+returns : tie.Need-returns Inv-loop μ-loop
+returns c =
+    let a = c .before .before .before .before .before .args in
+    let l = c .before .loop in
+    up-end (λ k. leb (getD (a .ends .now) k 0) (a .x) && passes (a .test) (a .name) (documentOf (a .d .now)) k) 0 (a .x) (l .y) (l .inv .1) (omega arith)
+    (λ k m a b. absurd (omega arith))
+
+pub mark-preceding-spec : {M : Type 1} → statement M
+mark-preceding-spec =
+    tie.close
+    (tie.spec
+    Inv-loop
+    μ-loop
+    loop-holds
+    mul-wide
+    shared-slice-read-wide
+    wide-requires
+    passes-test-requires
+    and-requires
+    slice-write-out
+    add-y
+    loop-less
+    loop-again
+    same-length
+    returns)

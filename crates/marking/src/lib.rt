@@ -1,0 +1,201 @@
+// The nodes that a step selects, marked beside those that are marked already. The document is well formed, and `ends` has the ends of its rows'
+// subtrees, so that no axis needs a look at every node.
+ghost use mathlib.Core.Path.{_≡_};
+ghost use mathlib.Core.Bool.{_&&_};
+ghost use Prim.Native.Nat.{_≤_, _<_};
+ghost use lib.Dec.{T, ltb, leb};
+ghost use lib.ListN.{length, getD};
+ghost use Rattle.xpath.specs.Document.{documentOf, isChild, isAncestor, wellFormed, maxNodes};
+ghost use Rattle.xpath.specs.Ends.{Prepared};
+ghost use Rattle.xpath.specs.Axis.{onAxis, passes};
+ghost use Rattle.marking.specs.Added.{Added, ChildrenFrom, StepFrom};
+
+// The nodes from lo on and before hi that pass the test.
+fn mark_range(d: &[u16], test: usize, name: usize, lo: usize, hi: usize, out: &mut [u8])
+    requires { ⌜ (lo ≤ hi) × (hi ≤ length (now out)) ⌝ }
+    ensures { λ _. ⌜ Added (length (documentOf (now (d .entry)))) (now (out .entry)) (now (out .exit)) (λ y. (leb lo y && ltb y hi) && passes test name (documentOf (now (d .entry))) y) ⌝ }
+{
+    let mut y = lo;
+    while y < hi {
+        if xpath::passes_test(d, test, name, y) {
+            out[y] = 1;
+        }
+        y += 1;
+    }
+}
+
+// The nodes before x whose subtrees end before it, and that pass the test.
+fn mark_preceding(d: &[u16], ends: &[u16], test: usize, name: usize, x: usize, out: &mut [u8])
+    requires { ⌜ (x ≤ length (now out)) × (x ≤ length (now ends)) ⌝ }
+    ensures { λ _. ⌜ Added (length (documentOf (now (d .entry)))) (now (out .entry)) (now (out .exit)) (λ y. (leb 0 y && ltb y x) && (leb (getD (now (ends .entry)) y 0) x && passes test name (documentOf (now (d .entry))) y)) ⌝ }
+{
+    let mut y: usize = 0;
+    while y < x {
+        let end = xpath::wide(ends[y]);
+        if xpath::and(end <= x, xpath::passes_test(d, test, name, y)) {
+            out[y] = 1;
+        }
+        y += 1;
+    }
+}
+
+// The row after the subtree of y, where the next child of y's parent stands if there is one.
+fn after_subtree(ends: &[u16], y: usize) -> usize
+    requires { ⌜ y < length (now ends) ⌝ }
+    ensures { λ r. ⌜ r ≡ getD (now (ends .entry)) y 0 ⌝ }
+{
+    let after = xpath::wide(ends[y]);
+    after
+}
+
+// The children of p from lo on and before hi that pass the test. Where there are any, lo is one.
+fn mark_children(
+    d: &[u16],
+    ends: &[u16],
+    test: usize,
+    name: usize,
+    p: usize,
+    lo: usize,
+    hi: usize,
+    out: &mut [u8],
+)
+    requires { ⌜ Prepared (documentOf (now d)) (now ends) ⌝ }
+    requires { ⌜ length (now out) ≡ maxNodes ⌝ }
+    requires { ⌜ ChildrenFrom (documentOf (now d)) (now ends) p lo hi ⌝ }
+    ensures { λ _. ⌜ Added (length (documentOf (now (d .entry)))) (now (out .entry)) (now (out .exit)) (λ y. (leb lo y && ltb y hi) && (isChild (documentOf (now (d .entry))) p y && passes test name (documentOf (now (d .entry))) y)) ⌝ }
+{
+    let mut y = lo;
+    while y < hi {
+        let next = after_subtree(ends, y);
+        if xpath::passes_test(d, test, name, y) {
+            out[y] = 1;
+        }
+        y = next;
+    }
+}
+
+// The ancestors of x that pass the test.
+fn mark_ancestors(d: &[u16], test: usize, name: usize, x: usize, out: &mut [u8])
+    requires { ⌜ (T (wellFormed (documentOf (now d)))) × (x < length (documentOf (now d))) × (length (documentOf (now d)) ≤ length (now out)) ⌝ }
+    ensures { λ _. ⌜ Added (length (documentOf (now (d .entry)))) (now (out .entry)) (now (out .exit)) (λ y. isAncestor (documentOf (now (d .entry))) y x && passes test name (documentOf (now (d .entry))) y) ⌝ }
+{
+    let mut at = x;
+    while 0 < at {
+        at = xpath::parent_at(d, at);
+        if xpath::passes_test(d, test, name, at) {
+            out[at] = 1;
+        }
+    }
+}
+
+// The parent of x, if it passes the test.
+fn mark_parent(d: &[u16], ends: &[u16], test: usize, name: usize, x: usize, out: &mut [u8])
+    requires { ⌜ StepFrom (documentOf (now d)) (now ends) x (now out) ⌝ }
+    ensures { λ _. ⌜ Added (length (documentOf (now (d .entry)))) (now (out .entry)) (now (out .exit)) (λ y. onAxis 2 (documentOf (now (d .entry))) x y && passes test name (documentOf (now (d .entry))) y) ⌝ }
+{
+    if x == 0 {
+        return;
+    }
+    let p = xpath::parent_at(d, x);
+    mark_range(d, test, name, p, p + 1, out);
+}
+
+// The siblings after x that pass the test.
+fn mark_following_siblings(
+    d: &[u16],
+    ends: &[u16],
+    test: usize,
+    name: usize,
+    x: usize,
+    out: &mut [u8],
+)
+    requires { ⌜ StepFrom (documentOf (now d)) (now ends) x (now out) ⌝ }
+    ensures { λ _. ⌜ Added (length (documentOf (now (d .entry)))) (now (out .entry)) (now (out .exit)) (λ y. onAxis 7 (documentOf (now (d .entry))) x y && passes test name (documentOf (now (d .entry))) y) ⌝ }
+{
+    if x == 0 {
+        return;
+    }
+    let p = xpath::parent_at(d, x);
+    let first = xpath::wide(ends[x]);
+    let end = xpath::wide(ends[p]);
+    mark_children(d, ends, test, name, p, first, end, out);
+}
+
+// The siblings before x that pass the test.
+fn mark_preceding_siblings(
+    d: &[u16],
+    ends: &[u16],
+    test: usize,
+    name: usize,
+    x: usize,
+    out: &mut [u8],
+)
+    requires { ⌜ StepFrom (documentOf (now d)) (now ends) x (now out) ⌝ }
+    ensures { λ _. ⌜ Added (length (documentOf (now (d .entry)))) (now (out .entry)) (now (out .exit)) (λ y. onAxis 8 (documentOf (now (d .entry))) x y && passes test name (documentOf (now (d .entry))) y) ⌝ }
+{
+    if x == 0 {
+        return;
+    }
+    let p = xpath::parent_at(d, x);
+    mark_children(d, ends, test, name, p, p + 1, x, out);
+}
+
+// What a step selects from x.
+pub fn mark_step(
+    d: &[u16],
+    ends: &[u16],
+    axis: usize,
+    test: usize,
+    name: usize,
+    x: usize,
+    out: &mut [u8],
+)
+    requires { ⌜ StepFrom (documentOf (now d)) (now ends) x (now out) ⌝ }
+    ensures { λ _. ⌜ Added (length (documentOf (now (d .entry)))) (now (out .entry)) (now (out .exit)) (λ y. onAxis axis (documentOf (now (d .entry))) x y && passes test name (documentOf (now (d .entry))) y) ⌝ }
+{
+    let end = xpath::wide(ends[x]);
+    if axis == 0 {
+        mark_range(d, test, name, x, x + 1, out);
+        return;
+    }
+    if axis == 1 {
+        mark_children(d, ends, test, name, x, x + 1, end, out);
+        return;
+    }
+    if axis == 2 {
+        mark_parent(d, ends, test, name, x, out);
+        return;
+    }
+    if axis == 3 {
+        mark_range(d, test, name, x + 1, end, out);
+        return;
+    }
+    if axis == 4 {
+        mark_ancestors(d, test, name, x, out);
+        return;
+    }
+    if axis == 5 {
+        mark_range(d, test, name, x, end, out);
+        return;
+    }
+    if axis == 6 {
+        mark_range(d, test, name, x, x + 1, out);
+        mark_ancestors(d, test, name, x, out);
+        return;
+    }
+    if axis == 7 {
+        mark_following_siblings(d, ends, test, name, x, out);
+        return;
+    }
+    if axis == 8 {
+        mark_preceding_siblings(d, ends, test, name, x, out);
+        return;
+    }
+    if axis == 9 {
+        mark_range(d, test, name, end, xpath::node_count(d), out);
+        return;
+    }
+    if axis == 10 {
+        mark_preceding(d, ends, test, name, x, out);
+    }
+}
