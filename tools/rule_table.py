@@ -1,10 +1,11 @@
 #!/usr/bin/env python3
-"""Holds the rule table of crate `rules` against the text of document 01. Run it at the repository's root:
+"""Holds the rule table of crate `rules` against the text of documents 01 and 02. Run it at the repository's root:
 
-    tools/rule_table.py ../shared/01-scope.md
+    tools/rule_table.py ../shared/01-scope.md ../shared/02-change-requests.md
 
 It reads three things apart from each other, each with a grammar of its own, and compares them form by form, in order:
-  1. the sentences of 01 under "Rules", with 01's binding: a filter, `/`, `|`; `not`, `and`, `or`;
+  1. the sentences of 01 under "Rules", with 01's binding: a filter, `/`, `|`; `not`, `and`, `or`; a rule that a request of 02 changes is
+     read from CHANGES instead, a list of requests, each with the words of 02 that say so, which must stand in its text;
   2. crates/rules/specs/Table.antt, with the fixities that specs/Form.antt and specs/Notation.antt declare;
   3. the numbers of crates/rules/src/tables.rt.
 It compares the axis order in the same way: 01's sentence, specs/Order.antt, AXIS_PAIRS.
@@ -149,6 +150,13 @@ WRITTEN_OUT = {
     53: ['ancestor-or-self::N = ancestor::N|self::N'],
     55: ['preceding::N = (ancestor-or-self::node()/preceding-sibling::node())/descendant-or-self::N'],
 }
+# what the requests of 02 change: the request, its words, and the sentences of each rule from then on
+CHANGES = [
+    ('T-01', 'From now on that premise may end in `*` or in `node()`.', {
+        10: ['p/a::N <= r/b::M, b from 3 to 10, from a::N <= b::M, p <= r/b::*',
+             'p/a::N <= r/b::M, b from 3 to 10, from a::N <= b::M, p <= r/b::node()'],
+    }),
+]
 REFERRING = {3: 'p <= r from p <= q, q <= r; so for =>', 53: 'so for ancestors', 55: 'so for preceding',
              22: '(child::T in V) => (descendant::N in V);', 23: 'the same with parent, ancestor. T is node(), or T is `*` and N a name or `*`'}
 
@@ -174,7 +182,18 @@ def forms_of(rule, text, before):
     return [(rule, (sign, left, right), [], conditions), (rule, (sign, right, left), [], conditions)]
 
 
-def document(path):
+def changed_rules(path):
+    """The sentences of the rules that requests change. The words of each request must stand in its paragraph of 02."""
+    text = {name: body for name, body in re.findall(r'\*\*(T-\d\d)\.(.*)', open(path, encoding='utf-8').read())}
+    sentences = {}
+    for request, said, rules in CHANGES:
+        if said not in text[request]:
+            raise SystemExit('02: %s has no words %r' % (request, said))
+        sentences.update(rules)
+    return sentences
+
+
+def document(path, changed):
     text = open(path, encoding='utf-8').read().split('## Rules')[1].split('A step is `rule left')[0]
     body = ' '.join(line[2:].strip() for line in text.split('\n') if line.startswith('- '))
     starts, at = [], 0
@@ -193,7 +212,7 @@ def document(path):
         if rule in (22, 23):
             forms += two_cases(rule, *(('child', 'descendant') if rule == 22 else ('parent', 'ancestor')))
             continue
-        parts = WRITTEN_OUT.get(rule, [x.strip() for x in sentence.split(';')])
+        parts = changed.get(rule, WRITTEN_OUT.get(rule, [x.strip() for x in sentence.split(';')]))
         for part in parts:
             forms += forms_of(rule, part, forms[-1][1] if forms else None)
     return forms
@@ -391,15 +410,18 @@ def compare(what, left, right, found):
 
 
 def main():
-    if len(sys.argv) != 2:
+    if len(sys.argv) != 3:
         raise SystemExit(__doc__)
     specs, tables = 'crates/rules/specs', 'crates/rules/src/tables.rt'
-    forms, pairs = document(sys.argv[1]), document_axes(sys.argv[1])
-    checks = [compare('forms of 01 and of Table.antt', forms, specification(specs), forms),
-              compare('forms of 01 and of tables.rt', forms, constants(tables), forms),
-              compare('axis pairs of 01 and of Order.antt', pairs, specification_axes(specs), pairs),
-              compare('axis pairs of 01 and of tables.rt', pairs, pairs_of(tables, 'AXIS_PAIRS'), pairs)]
+    changed = changed_rules(sys.argv[2])
+    forms, pairs = document(sys.argv[1], changed), document_axes(sys.argv[1])
+    checks = [compare('forms of the papers and of Table.antt', forms, specification(specs), forms),
+              compare('forms of the papers and of tables.rt', forms, constants(tables), forms),
+              compare('axis pairs of the papers and of Order.antt', pairs, specification_axes(specs), pairs),
+              compare('axis pairs of the papers and of tables.rt', pairs, pairs_of(tables, 'AXIS_PAIRS'), pairs)]
     print('rules %d to %d; written out by hand: 3 for =>, 22, 23, 53, 55, and the phrases of the side conditions' % (forms[0][0], forms[-1][0]))
+    for request, _, rules in CHANGES:
+        print('%s changes rule %s' % (request, ', '.join(map(str, sorted(rules)))))
     sys.exit(0 if all(checks) else 1)
 
 

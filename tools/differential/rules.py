@@ -96,6 +96,7 @@ def table():
         (8, [step(a, N) <= step(b, M)], []),
         (9, [p[f] <= r[g]], [p <= r, f <= g]),
         (10, [p / step(a, N) <= r / step(b, M)], [step(a, N) <= step(b, M), p <= r / step(b, STAR)]),
+        (10, [p / step(a, N) <= r / step(b, M)], [step(a, N) <= step(b, M), p <= r / step(b, NODE)]),
         (11, [p / q <= r / s], [p[some(q)] <= r, q <= s]),
         (12, [inclusion(p, q) <= inclusion(r, s)], [r <= p, q <= s]),
         (13, [~f <= ~g], [g <= f]),

@@ -9,12 +9,13 @@ use Rattle.xpath.specs.Document.{Document, kindAt, parentAt, wellFormed}
 use Rattle.xpath.specs.Axis.{passes}
 use Rattle.xpath.proofs.Reflect.{facts, eq-or-ne, le-or-lt}
 use Rattle.xpath.proofs.Tree.{parent-is, ancestor-trans, ancestor-cases, descendant-positive, child-toward, parent-smaller, root-above, root-kind, ancestor-is-element}
-use Rattle.xpath.proofs.Facts.{OnAxis, some-iff}
+use Rattle.xpath.proofs.Facts.{Selects, OnAxis, some-iff}
 use Rattle.xpath.proofs.Order.{or-self-of-ancestor, or-self-in-document, following-by-siblings, preceding-by-siblings, axis-transitive}
-use Rattle.rules.specs.Form.{AxisLetter, TestLetter, _::_, _⟦_⟧, a-below-b, N-below-M, b-from-3-to-10, N-a-name-or-star, N-not-node}
+use Rattle.rules.specs.Form.{AxisLetter, TestLetter, TestForm, _::_, _⟦_⟧, a-below-b, N-below-M, b-from-3-to-10, N-a-name-or-star, N-not-node}
 use Rattle.rules.specs.Notation
-use Rattle.rules.specs.Instance.{pathFor}
-use Rattle.rules.proofs.RuleSound.{RuleSound, each-way}
+use Rattle.rules.specs.Instance.{axisFor, testFor, pathFor, claimFor, meets}
+use Rattle.rules.specs.RuleTen.{rule10Form}
+use Rattle.rules.proofs.RuleSound.{FormSound, RuleSound, each-way}
 use Rattle.rules.proofs.Orders.{axis-below, test-below, element-test, yes-star, no-root}
 
 module _ (d : Document) (w : T (wellFormed d)) where
@@ -22,16 +23,18 @@ module _ (d : Document) (w : T (wellFormed d)) where
   unfolding RuleSound
   rule8 = (λ e met g x y k l (o, t). (axis-below d w (e .axis AxisLetter.a) (e .axis AxisLetter.b) (met a-below-b tt) x y k l o, test-below (e .test TestLetter.N) (e .test TestLetter.M) d y (met N-below-M tt) t), tt)
 
+  -- the test that ends the second premise of rule 10 is not looked at: the axis b goes on from where it led
+  rule10-ending : (test : TestForm) → FormSound d (rule10Form test)
+  unfolding meets claimFor pathFor axisFor testFor Selects
+  rule10-ending test e met (F, (G, _)) x y k l (z, m, s, t) =
+      let (low, high) = simp facts at (met b-from-3-to-10 tt) in
+      let (u, j, v, (o, _)) = G x z k m s in
+      let (c, q) = F z y m l t in
+      (u, j, v, (axis-transitive d w (e .axis AxisLetter.b) low high u z y j l o c, q))
+
   pub rule10 : RuleSound d 10
   unfolding RuleSound
-  rule10 = (
-    λ e met (F, (G, _)) x y k l (z, m, s, t).
-        let (low, high) = simp facts at (met b-from-3-to-10 tt) in
-        let (u, j, v, (o, _)) = G x z k m s in
-        let (c, q) = F z y m l t in
-        (u, j, v, (axis-transitive d w (e .axis AxisLetter.b) low high u z y j l o c, q)),
-    tt,
-  )
+  rule10 = (rule10-ending Notation.star-test, (rule10-ending Notation.node-test, tt))
 
   pub rule22 : RuleSound d 22
   unfolding RuleSound OnAxis passes

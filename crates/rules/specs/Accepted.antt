@@ -1,7 +1,7 @@
 -- Steps that the rules yield: at least one for each form of each rule, in each direction. Assumes nothing.
 use Prim.Native.Nat.{ℕ}
 use mathlib.Core.Bool.{Bool, _&&_}
-use mathlib.Core.List.{List, [], _∷_, _++_, List·Memᴰ}
+use mathlib.Core.List.{List, [], _∷_, _++_, map, List·Memᴰ}
 use lib.Dec.{T, eqb}
 use Rattle.xpath.specs.Axis.{self, child, parent, descendant, ancestor, descendant-or-self, ancestor-or-self, following-sibling, preceding-sibling, following, preceding, name-test, star-test, node-test, text-test}
 use Rattle.xpath.specs.Term.{Path, Qualifier, Void, Root, Step, Union, Composition, Filter, True, False, Not, And, Or, In, some-of}
@@ -65,6 +65,26 @@ a ::node = Step a node-test 0
 
 abbrev pub _::text : ℕ → Path
 a ::text = Step a text-test 0
+
+-- rule 10 with its second premise ending in node(), on an axis in place of b
+abbrev pub endingInNode : ℕ → Sample
+endingInNode b =
+    sample 10 (Containment (Composition p (child ::N)) (Composition r (b ::M)))
+    (Containment (child ::N) (b ::M) ∷ Containment p (Composition r (b ::node)) ∷ [])
+
+-- on each axis from 3 to 10
+abbrev pub endingsInNode : List Sample
+endingsInNode =
+    map endingInNode
+    (descendant
+    ∷ ancestor
+    ∷ descendant-or-self
+    ∷ ancestor-or-self
+    ∷ following-sibling
+    ∷ preceding-sibling
+    ∷ following
+    ∷ preceding
+    ∷ [])
 
 unfoldable pub accepted : List Sample
 accepted =
@@ -134,6 +154,7 @@ accepted =
     ++ containments 55 (preceding ::N) (Composition (Composition (ancestor-or-self ::node) (preceding-sibling ::node)) (descendant-or-self ::N))
     ++ (sample 56 (Containment (Composition p Root) Root) [] ∷ sample 57 (Containment Root (ancestor-or-self ::node)) [] ∷ [])
     ++ containments 58 (Composition (preceding ::node) (self ::N)) (preceding ::N)
+    ++ endingsInNode
 
 abbrev pub sampleYielded : Sample → Bool
 sampleYielded x = someFormFits (x .rule) (x .claim) (x .premises)

@@ -12,7 +12,7 @@ abbrev pub patternDepth : ℕ
 patternDepth = 6
 
 abbrev pub formCount : ℕ
-formCount = 91
+formCount = 92
 
 abbrev pub axisPairCount : ℕ
 axisPairCount = 21
@@ -171,6 +171,8 @@ patternCodes =
     ∷ 4_032_104_000
     ∷ 2_039_002_000
     ∷ 4_189_175_000
+    ∷ 2_040_002_000
+    ∷ 4_034_191_000
     ∷ []
 
 unfoldable pub formCodes : List ℕ
@@ -186,6 +188,7 @@ formCodes =
     ∷ 7_067_068_002
     ∷ 8_069_070_120
     ∷ 9_071_072_002
+    ∷ 10_073_074_302
     ∷ 10_073_074_302
     ∷ 11_067_068_002
     ∷ 12_080_081_002
@@ -282,6 +285,7 @@ premiseCodes =
     ∷ 0
     ∷ 32_034_036_037
     ∷ 69_070_032_076
+    ∷ 69_070_032_192
     ∷ 79_034_033_035
     ∷ 34_032_033_035
     ∷ 37_036_000_000

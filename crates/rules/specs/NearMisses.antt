@@ -4,14 +4,14 @@ use mathlib.Core.Path.{_≡_, refl}
 use mathlib.Core.Bool.{Bool, not, cond}
 use mathlib.Core.List.{List, [], _∷_, _++_, map, List·Memᴰ}
 use lib.Dec.{T, T-not, eqb}
-use Rattle.xpath.specs.Axis.{self, child, parent, descendant, ancestor, descendant-or-self, ancestor-or-self, following-sibling, preceding-sibling, following, preceding, name-test}
+use Rattle.xpath.specs.Axis.{self, child, parent, descendant, ancestor, descendant-or-self, ancestor-or-self, following-sibling, preceding-sibling, following, preceding, name-test, comment-test, instruction-test}
 use Rattle.xpath.specs.Term.{Path, Qualifier, Void, Root, Step, Union, Composition, Filter, True, False, Not, And, Or, In, some-of}
 use Rattle.rules.specs.Claim.{Claim, Containment, Implication}
 use Rattle.rules.specs.Table.{rules}
 use Rattle.rules.specs.Lists.{allOf}
 use Rattle.rules.specs.Yields.{formsIn, formsOf}
 use Rattle.rules.specs.Decision.{someFormFits, yes-yielded, all-of-yes}
-use Rattle.rules.specs.Accepted.{Sample, sample, p, q, r, s, f, g, h, _::N, _::M, _::star, _::node, _::text, accepted, sampleYielded, SampleYields}
+use Rattle.rules.specs.Accepted.{Sample, sample, p, q, r, s, f, g, h, _::N, _::M, _::star, _::node, _::text, endingInNode, accepted, sampleYielded, SampleYields}
 
 -- there is no rule before 1 and none after 58
 pub no-rule-0 : formsOf 0 ≡ []
@@ -22,11 +22,13 @@ pub no-rule-59 : formsOf 59 ≡ []
 unfolding formsOf formsIn rules
 no-rule-59 = refl
 
--- rule 10 with an axis in place of b
-abbrev rule10With : ℕ → Sample
+-- rule 10 with an axis in place of b, ending in `*` and in node()
+abbrev rule10With : ℕ → List Sample
 rule10With b =
     sample 10 (Containment (Composition p (child ::N)) (Composition r (b ::M)))
     (Containment (child ::N) (b ::M) ∷ Containment p (Composition r (b ::star)) ∷ [])
+    ∷ endingInNode b
+    ∷ []
 
 unfoldable pub nearMisses : List Sample
 nearMisses =
@@ -41,11 +43,6 @@ nearMisses =
     ∷ sample 8 (Containment (child ::node) (descendant ::star)) []
     ∷ sample 26 (Containment (Composition p (child ::N)) (Composition Root (descendant ::M))) []
     ∷ sample 26 (Containment (Composition p (child ::text)) (Composition Root (descendant ::star))) []
-    -- b isn't from 3 to 10
-    ∷ rule10With parent
-    ∷ rule10With child
-    ∷ rule10With self
-    ∷ rule10With 11
     -- T is `*`, and N is neither a name nor `*`
     ∷ sample 22 (Implication (In (child ::star) Void) (In (descendant ::node) Void)) []
     ∷ sample 22 (Implication (In (child ::star) Void) (In (descendant ::text) Void)) []
@@ -64,7 +61,16 @@ nearMisses =
     ∷ sample 52 (Containment (descendant-or-self ::star) (Union (descendant ::node) (self ::star))) []
     ∷ sample 58 (Containment (Composition (preceding ::node) (self ::text)) (preceding ::star)) []
     -- another test in place of `*` or node()
-    ∷ sample 10 (Containment (Composition p (child ::N)) (Composition r (descendant ::M))) (Containment (child ::N) (descendant ::M) ∷ Containment p (Composition r (descendant ::node)) ∷ [])
+    ∷ sample 10 (Containment (Composition p (child ::N)) (Composition r (descendant ::M)))
+    (Containment (child ::N) (descendant ::M) ∷ Containment p (Composition r (descendant ::text)) ∷ [])
+    ∷ sample 10 (Containment (Composition p (child ::N)) (Composition r (descendant ::M)))
+    (Containment (child ::N) (descendant ::M) ∷ Containment p (Composition r (Step descendant comment-test 0)) ∷ [])
+    ∷ sample 10 (Containment (Composition p (child ::N)) (Composition r (descendant ::M)))
+    (Containment (child ::N) (descendant ::M) ∷ Containment p (Composition r (Step descendant instruction-test 0)) ∷ [])
+    ∷ sample 10 (Containment (Composition p (child ::N)) (Composition r (descendant ::M)))
+    (Containment (child ::N) (descendant ::M) ∷ Containment p (Composition r (descendant ::M)) ∷ [])
+    ∷ sample 10 (Containment (Composition p (child ::N)) (Composition r (descendant ::M)))
+    (Containment (child ::N) (descendant ::M) ∷ Containment p (Composition r (following ::node)) ∷ [])
     ∷ sample 22 (Implication (In (child ::N) Void) (In (descendant ::N) Void)) []
     ∷ sample 23 (Implication (In (parent ::N) Void) (In (ancestor ::N) Void)) []
     ∷ sample 28 (Containment (Composition (self ::star) p) p) []
@@ -109,7 +115,8 @@ nearMisses =
     ∷ sample 37 (Containment (Filter (Composition p q) f) (Filter (Composition p q) f)) []
     ∷ sample 50 (Containment (Composition (Filter (parent ::N) f) (child ::M)) (Filter (Union (preceding-sibling ::M) (Union (following-sibling ::M) (self ::M))) (some-of (Filter (parent ::N) f)))) []
     ∷ sample 54 (Containment (following ::N) (Composition (ancestor-or-self ::node) (Composition (following-sibling ::node) (descendant-or-self ::N)))) []
-    ∷ []
+    -- b isn't from 3 to 10
+    ∷ (rule10With parent ++ rule10With child ++ rule10With self ++ rule10With 11)
 
 abbrev pub sampleRefused : Sample → Bool
 sampleRefused x = not (sampleYielded x)

@@ -15,7 +15,8 @@ rules =
     ∷ (7 ▸ p ∕ q <= r ∕ s from p <= r ∷ q <= s ∷ [])
     ∷ (8 ▸ a :: N <= b :: M from [] if a-below-b ∷ N-below-M ∷ [])
     ∷ (9 ▸ p ⟦ f ⟧ <= r ⟦ g ⟧ from p <= r ∷ f => g ∷ [])
-    ∷ (10 ▸ p ∕ a :: N <= r ∕ b :: M from a :: N <= b :: M ∷ p <= r ∕ b :: star-test ∷ [] if b-from-3-to-10 ∷ [])
+    ∷ (10 ▸ p ∕ a :: N <= r ∕ b :: M from a :: N <= b :: M ∷ p <= r ∕ b :: star-test ∷ [] if b-from-3-to-10 ∷ []
+    ++ p ∕ a :: N <= r ∕ b :: M from a :: N <= b :: M ∷ p <= r ∕ b :: node-test ∷ [] if b-from-3-to-10 ∷ [])
     ∷ (11 ▸ p ∕ q <= r ∕ s from p ⟦ some-of q ⟧ <= r ∷ q <= s ∷ [])
     ∷ (12 ▸ (p In q) => (r In s) from r <= p ∷ q <= s ∷ [])
     ∷ (13 ▸ Not f => Not g from g => f ∷ [])

@@ -41,12 +41,19 @@ rows = rowLines ++ "2 1 0 2\n2 3 1 0\n"
 abbrev example : String
 example = rows ++ stepLines ++ "8 0 1 0 0\n"
 
+-- child::mark/following-sibling::node(), then following-sibling::zero, beside child::mark/following-sibling::zero
+abbrev throughComments : String
+throughComments = rowLines ++ "2 1 0 2\n2 7 2 0\n2 7 0 3\n4 0 1 0\n4 3 2 0\n4 0 2 0\n" ++ stepLines ++ "2 2 2 0 0\n2 3 3 0 0\n"
+
 reports :
     AllRight
     -- the example of document 01, and the same without its step, without its rows
     (audited example is reportBy 0 0 1 0 1
     ∷ audited (rows ++ stepLines) is reportBy 0 0 0 0 0
     ∷ audited (rowLines ++ stepLines) is reportBy 0 0 0 0 0
+    -- a chain that passes through comments, and the same with its premises exchanged
+    ∷ audited (throughComments ++ "10 4 5 1 2\n") is reportBy 0 0 3 4 5
+    ∷ audited (throughComments ++ "10 4 5 2 1\n") is reportBy 7 11 0 0 0
     -- the first names line is missing: no bytes, another line, the second one
     ∷ audited "" is reportBy 10 1 0 0 0
     ∷ audited "2 1 0 2\n" is reportBy 10 1 0 0 0
