@@ -19,11 +19,13 @@ these), and the test order.
 import re, sys
 
 AXES = ['self', 'child', 'parent', 'descendant', 'ancestor', 'descendant-or-self', 'ancestor-or-self', 'following-sibling',
-        'preceding-sibling', 'following', 'preceding']
+        'preceding-sibling', 'following', 'preceding']  # 01's
 TESTS = {'*': 1, 'node()': 2, 'star-test': 1, 'node-test': 2}
 KINDS = ['void', 'root', 'step', 'union', 'composition', 'filter', 'true', 'false', 'not', 'and', 'or', 'in']
 LETTERS = ['p', 'q', 'r', 's', 'f', 'g', 'h', 'a', 'b', 'N', 'name of N', 'M', 'name of M']
-CONDITIONS = [None, 'a-below-b', 'N-below-M', 'b-from-3-to-10', 'N-a-name-or-star', 'N-not-node']
+# the conditions that a digit of a form's entry stands for
+CONDITIONS = [[], ['a-below-b'], ['N-below-M'], ['b-from-3-to-10'], ['N-a-name-or-star'], ['N-not-node'], ['a-not-attribute'],
+              ['N-not-node', 'a-not-attribute']]
 
 
 def some(path):
@@ -142,7 +144,8 @@ def is_path(term):
 
 # the phrases that are side conditions
 PHRASES = [(' if a is below b, N below M', ['a-below-b', 'N-below-M']), (', b from 3 to 10,', ['b-from-3-to-10']),
-           (" if N is below M and N isn't node()", ['N-below-M', 'N-not-node'])]
+           (" if N is below M, N isn't node() and a isn't 11", ['N-below-M', 'N-not-node', 'a-not-attribute']),
+           (" if N is below M and N isn't node()", ['N-below-M', 'N-not-node']), (" if a isn't 11", ['a-not-attribute'])]
 
 # the sentences that refer to others, written out
 WRITTEN_OUT = {
@@ -150,13 +153,21 @@ WRITTEN_OUT = {
     53: ['ancestor-or-self::N = ancestor::N|self::N'],
     55: ['preceding::N = (ancestor-or-self::node()/preceding-sibling::node())/descendant-or-self::N'],
 }
-# what the requests of 02 change: the request, its words, and the sentences of each rule from then on
+# what the requests of 02 change: the request, its words, the sentences of each rule from then on, and the axes that it adds, each below itself only
 CHANGES = [
-    ('T-01', 'From now on that premise may end in `*` or in `node()`.', {
+    ('T-01', ['From now on that premise may end in `*` or in `node()`.'], {
         10: ['p/a::N <= r/b::M, b from 3 to 10, from a::N <= b::M, p <= r/b::*',
              'p/a::N <= r/b::M, b from 3 to 10, from a::N <= b::M, p <= r/b::node()'],
-    }),
+    }, []),
+    ('T-05', ['Paths gain axis 11, attribute, below itself only;', 'Rule 50 is withdrawn and answers 7.',
+              'Rule 54 stays only with following::N on the right of `<=`.', "Rules 26 and 58 don't take axis 11."], {
+        26: ["p/a::N <= R/descendant::M if N is below M, N isn't node() and a isn't 11"],
+        50: [],
+        54: ['(ancestor-or-self::node()/following-sibling::node())/descendant-or-self::N <= following::N'],
+        58: ["a::node()/self::N = a::N if a isn't 11"],
+    }, ['attribute']),
 ]
+AXES += [axis for _, _, _, axes in CHANGES for axis in axes]
 REFERRING = {3: 'p <= r from p <= q, q <= r; so for =>', 53: 'so for ancestors', 55: 'so for preceding',
              22: '(child::T in V) => (descendant::N in V);', 23: 'the same with parent, ancestor. T is node(), or T is `*` and N a name or `*`'}
 
@@ -186,9 +197,10 @@ def changed_rules(path):
     """The sentences of the rules that requests change. The words of each request must stand in its paragraph of 02."""
     text = {name: body for name, body in re.findall(r'\*\*(T-\d\d)\.(.*)', open(path, encoding='utf-8').read())}
     sentences = {}
-    for request, said, rules in CHANGES:
-        if said not in text[request]:
-            raise SystemExit('02: %s has no words %r' % (request, said))
+    for request, said, rules, _ in CHANGES:
+        for words in said:
+            if words not in text[request]:
+                raise SystemExit('02: %s has no words %r' % (request, words))
         sentences.update(rules)
     return sentences
 
@@ -306,6 +318,8 @@ def as_list(tree):
 
 def as_forms(rule, tree):
     head = tree[0]
+    if head == '[]':
+        return []
     if head == '++':
         return as_forms(rule, tree[1]) + as_forms(rule, tree[2])
     if head == 'if':
@@ -319,7 +333,7 @@ def as_forms(rule, tree):
 
 def specification(folder):
     operators = fixities(folder + '/Form.antt', folder + '/Notation.antt')
-    text = open(folder + '/Table.antt', encoding='utf-8').read().split('rules =')[1]
+    text = re.sub(r'--.*', '', open(folder + '/Table.antt', encoding='utf-8').read().split('rules =')[1])
     forms = []
     for tree in as_list(Antt(text, operators).term(0)):
         forms += as_forms(int(tree[1][0]), tree[2])
@@ -389,7 +403,7 @@ def constants(path):
         if any(premise[2 * count:]):
             raise SystemExit('tables.rt: a premise too many for rule %d' % rule)
         return (rule, sides(left, right), [sides(*premise[2 * i:2 * i + 2]) for i in range(count)],
-                [CONDITIONS[x] for x in (digits // 100, digits // 10 % 10) if x])
+                CONDITIONS[digits // 100] + CONDITIONS[digits // 10 % 10])
 
     if len(forms) != len(premises):
         raise SystemExit('tables.rt: as many premises as forms are due')
@@ -420,8 +434,8 @@ def main():
               compare('axis pairs of the papers and of Order.antt', pairs, specification_axes(specs), pairs),
               compare('axis pairs of the papers and of tables.rt', pairs, pairs_of(tables, 'AXIS_PAIRS'), pairs)]
     print('rules %d to %d; written out by hand: 3 for =>, 22, 23, 53, 55, and the phrases of the side conditions' % (forms[0][0], forms[-1][0]))
-    for request, _, rules in CHANGES:
-        print('%s changes rule %s' % (request, ', '.join(map(str, sorted(rules)))))
+    for request, _, rules, axes in CHANGES:
+        print('%s changes rules %s%s' % (request, ', '.join(map(str, sorted(rules))), ''.join('; it adds axis ' + axis for axis in axes)))
     sys.exit(0 if all(checks) else 1)
 
 

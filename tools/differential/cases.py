@@ -16,7 +16,7 @@ MOST_BYTES, MOST_NODES, MOST_NUMBERS, MOST_MARKS, MOST_LIMIT = 65536, 512, 1539,
 NAMES = [1, 2, 3, 65535]
 EDGES = [0, 1, 2, 3, 5, 6, 10, 11, 12, 31, 32, 33, 58, 59, 511, 512, 513, 1023, 1024, 1025, 2047, 2048, 2049, 65534, 65535]
 FORMS_WITH_PREMISES = [form for form in FORMS if form[2]]
-CONDITIONED = (8, 10, 22, 23, 26)
+CONDITIONED = (8, 10, 22, 23, 26, 58)
 # Rule 8 has most pairs to decide.
 FORMS_WITH_CONDITIONS = [form for form in FORMS for _ in range(5 if form[0] == 8 else 1) if form[0] in CONDITIONED]
 LOOSER_FORMS = [looser for form in FORMS for looser in looser_forms(form)]
@@ -239,7 +239,7 @@ class Session:
         numbers = document(rng, nodes)
         if rng.random() < damage:
             row = rng.randrange(len(numbers) // 3)
-            place, choices = rng.choice([(0, range(7)), (1, range(row + 2)), (1, range(row + 2)), (2, range(2)), (2, EDGES)])
+            place, choices = rng.choice([(0, [*range(7), 5, 5, 5]), (1, range(row + 2)), (1, range(row + 2)), (2, range(2)), (2, EDGES)])
             numbers[3 * row + place] = rng.choice(choices)
             if rng.random() < 0.3:
                 numbers = numbers[:rng.randrange(len(numbers) + 1)]
@@ -277,7 +277,7 @@ class Session:
         name = 1000
         while len(self.book.rows) < MOST_ROWS:
             name += 1
-            self.term((2, self.rng.randrange(11), 0, name))
+            self.term((2, self.rng.randrange(12), 0, name))
         by_rule = {2: [(2, 0, 0, 0, 0)]}
         for held in self.book.steps:
             by_rule.setdefault(held[0], []).append(held)
@@ -312,14 +312,22 @@ def text_of(lines):
 def document(rng, nodes):
     """The numbers of a document with this many nodes."""
     rows = [(0, 0, 0)]
-    deep = rng.random()
+    deep, attributes = rng.random(), rng.choice([0, 0.3, 0.5])
     while len(rows) < nodes:
         parent = len(rows) - 1
         while parent and (rows[parent][0] != 1 or rng.random() > deep):
             parent = rows[parent][1]
         kind = rng.choice([1, 1, 1, 1, 2, 3, 4])
         rows.append((kind, parent, rng.choice(NAMES) if kind == 1 else 0))
+        while kind == 1 and len(rows) < nodes and rng.random() < attributes:
+            rows.append((5, owner(rows), rng.choice(NAMES)))
     return [number for row in rows for number in row]
+
+
+def owner(rows):
+    """The element that an attribute after these rows belongs to."""
+    kind, parent, _ = rows[-1]
+    return len(rows) - 1 if kind == 1 else parent
 
 
 def many_visits(nodes):

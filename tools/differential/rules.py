@@ -9,7 +9,7 @@ import weakref
 KINDS = "void root step union composition filter true false not and or in".split()
 PATHS = set(KINDS[:6])
 AXES = ("self child parent descendant ancestor descendant-or-self ancestor-or-self following-sibling "
-        "preceding-sibling following preceding").split()
+        "preceding-sibling following preceding attribute").split()
 STAR, NODE = (1, 0), (2, 0)
 PATH_LETTERS, QUALIFIER_LETTERS, AXIS_LETTERS, TEST_LETTERS = "pqrst", "fghi", "abc", "NMTO"
 MOST_ROWS, MOST_STEPS, DEEPEST = 1024, 2048, 32
@@ -82,7 +82,7 @@ def table():
     p, q, r, s, f, g, h = (Term("letter", letter) for letter in "pqrsfgh")
     a, b, N, M, T = "abNMT"
     (self, child, parent, descendant, ancestor, descendant_or_self, ancestor_or_self, following_sibling,
-     preceding_sibling, following, preceding) = map(axis, AXES)
+     preceding_sibling, following, preceding, _) = map(axis, AXES)
     dot = self(NODE)
     return [
         (1, [VOID <= p], []),
@@ -136,12 +136,10 @@ def table():
         (47, equal(f & ~f, FALSE), []),
         (48, equal(child(N)[f] / parent(M), self(M)[some(child(N)[f])]), []),
         (49, equal(descendant(N)[f] / parent(M), descendant_or_self(M)[some(child(N)[f])]), []),
-        (50, equal(parent(N)[f] / child(M),
-                   ((preceding_sibling(M) | following_sibling(M)) | self(M))[some(parent(N)[f])]), []),
         (51, [descendant(N)[f] / child(M) <= descendant(M)[some(parent(N)[f])]], []),
         (52, equal(descendant_or_self(N), descendant(N) | self(N)), []),
         (53, equal(ancestor_or_self(N), ancestor(N) | self(N)), []),
-        (54, equal(following(N), ancestor_or_self(NODE) / following_sibling(NODE) / descendant_or_self(N)), []),
+        (54, [ancestor_or_self(NODE) / following_sibling(NODE) / descendant_or_self(N) <= following(N)], []),
         (55, equal(preceding(N), ancestor_or_self(NODE) / preceding_sibling(NODE) / descendant_or_self(N)), []),
         (56, [p / ROOT <= ROOT], []),
         (57, [ROOT <= ancestor_or_self(NODE)], []),
@@ -150,9 +148,10 @@ def table():
 
 
 FORMS = [(rule, conclusion, premises) for rule, conclusions, premises in table() for conclusion in conclusions]
-PREMISES = {rule: len(premises) for rule, _, premises in FORMS}
+PREMISES = {50: 0} | {rule: len(premises) for rule, _, premises in FORMS}
 
-AXIS_BELOW = {(a, a) for a in range(11)} | {
+ATTRIBUTE = 11
+AXIS_BELOW = {(a, a) for a in range(12)} | {
     (1, 3), (1, 5), (3, 5), (0, 5), (0, 6), (2, 4), (2, 6), (4, 6), (7, 9), (8, 10)}
 
 
@@ -172,7 +171,9 @@ def condition(rule, letters):
     if rule in (22, 23):
         return letters["T"] == NODE or (letters["T"] == STAR and letters["N"][0] in (0, 1))
     if rule == 26:
-        return test_below(letters["N"], letters["M"]) and letters["N"] != NODE
+        return test_below(letters["N"], letters["M"]) and letters["N"] != NODE and letters["a"] != ATTRIBUTE
+    if rule == 58:
+        return letters["a"] != ATTRIBUTE
     return True
 
 
@@ -274,7 +275,7 @@ class Book:
             return False
         operands = ()
         if kind == 2:
-            if a > 10 or b > 5 or (c == 0) != (b != 0):
+            if a > 11 or b > 5 or (c == 0) != (b != 0):
                 return False
             term = step(a, (b, c))
         else:

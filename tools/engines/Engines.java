@@ -26,9 +26,9 @@ public class Engines {
         TreeSet<Integer> select(int context, String xpath) throws Exception;
     }
 
-    /** An element's number is its name without the first letter. */
+    /** An element's or an attribute's number is its name without the first letter. */
     static String row(int kind, int parent, String name) {
-        return kind + " " + parent + " " + (kind == 1 ? name.substring(1) : "0");
+        return kind + " " + parent + " " + (kind == 1 || kind == 5 ? name.substring(1) : "0");
     }
 
     static class Jaxen implements Engine {
@@ -99,12 +99,18 @@ public class Engines {
                 case TEXT -> 2;
                 case COMMENT -> 3;
                 case PROCESSING_INSTRUCTION -> 4;
+                case ATTRIBUTE -> 5;
                 default -> throw new IllegalStateException("node kind " + node.getNodeKind());
             };
             int number = nodes.size();
             nodes.add(node);
             numbers.put(node, number);
-            rows.add(row(kind, parent, kind == 1 ? node.getNodeName().getLocalName() : ""));
+            rows.add(row(kind, parent, kind == 1 || kind == 5 ? node.getNodeName().getLocalName() : ""));
+            if (kind == 1) {
+                for (XdmSequenceIterator<XdmNode> attributes = node.axisIterator(Axis.ATTRIBUTE); attributes.hasNext();) {
+                    add(attributes.next(), number, rows);
+                }
+            }
             for (XdmNode child : node.children()) {
                 add(child, number, rows);
             }

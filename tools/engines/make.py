@@ -3,6 +3,7 @@
 
     python3 tools/engines/make.py [--seed N]                   writes crates/engine_cases/stdin and stdout
     python3 tools/engines/make.py --compare N [--seed N]       holds tools/reference against the engines on N selections
+    python3 tools/engines/make.py --attributes N [--seed N]    holds it against Saxon on N selections on documents with attributes
 
 It needs Python 3, cargo for --compare, and Debian's packages in NEEDED, which it installs if they are missing (as root).
 
@@ -10,7 +11,8 @@ stdin has lines as the program replay reads them: sessions, separated by a line 
 that are all accepted, and `select` calls. stdout has a line for each select: the numbers of the selected nodes in order, with
 one space between them. Rows are numbered in document order, the root node is 0.
 
-The answers are Jaxen's; Saxon and libxml2 must agree, or nothing is written. Saxon gets the term as it stands, in XPath 2.0's
+On documents without attributes the answers are Jaxen's; Saxon and libxml2 must agree, or nothing is written. On documents with attributes
+they are Saxon's alone: the others err in following and preceding there. Saxon gets the term as it stands, in XPath 2.0's
 syntax. XPath 1.0, for Jaxen and libxml2, has nothing but steps on the right of `/`; there p/(q|r) is asked as p/q | p/r,
 p/(q/r) as (p/q)/r, and p/(q[f]) as (p/q)[f]. Inclusion is `count(p | q) = count(q)`. libxml2 2.9 ends the axis preceding at the
 document's first child and leaves that out if it has children; it isn't asked where this may show.
@@ -28,18 +30,22 @@ from pathlib import Path
 TREE = Path(__file__).resolve().parents[2]
 sys.path.insert(0, str(TREE / "tools/differential"))
 from cases import MOST_BYTES, MOST_LIMIT, NAMES, Session, is_quick
-from rules import AXES, NODE, ROOT, VOID, Term, axis, inclusion, some, step
+from rules import AXES, NODE, ROOT, STAR, VOID, Term, axis, inclusion, some, step
 from run import build, output
 
 JAXEN, SAXON = "/usr/share/java/jaxen.jar", "/usr/share/java/Saxon-HE.jar"
 NEEDED = {JAXEN: "libjaxen-java", SAXON: "libsaxonhe-java", "/usr/bin/javac": "default-jdk-headless",
           "/usr/bin/xml2-config": "libxml2-dev", "/usr/bin/cc": "gcc", "/usr/include/stdio.h": "libc6-dev"}
 HERE = Path(__file__).resolve().parent
+SAXON_COMMAND = ["java", "-cp", f"{JAXEN}:{SAXON}", str(HERE / "Engines.java"), "saxon"]
 DOCUMENTS, SELECTIONS, CANDIDATES = 72, 7, 12
+ATTRIBUTED = 24
 PRECEDING = AXES.index("preceding")
 # 01's document: root, log 1, mark 2, a text, zero 3, run 4, mark 2.
 LOG = [(0, 0, 0), (1, 0, 1), (1, 1, 2), (2, 2, 0), (1, 1, 3), (1, 1, 4), (1, 5, 2)]
 MARK, RUN = (0, 2), (0, 4)
+# Row 5 is the owner of attributes 6 and 7, row 8 its first child; rows 2 and 4 are attributes too.
+SERIAL = [(0, 0, 0), (1, 0, 1), (5, 1, 2), (1, 1, 1), (5, 3, 3), (1, 1, 2), (5, 5, 2), (5, 5, 3), (2, 5, 0), (1, 5, 1), (3, 1, 0)]
 
 Question = namedtuple("Question", "document term context")
 
@@ -53,12 +59,18 @@ def install():
 
 # Documents
 
-def document(rng, nodes):
-    """The rows of a document that XML can say: one element under the root, no text beside it, no two texts side by side."""
+def document(rng, nodes, attributes=0):
+    """The rows of a document that XML can say: one element under the root, no text beside it, no two texts side by side.
+
+    An element has a further attribute with probability `attributes`, no two of one name.
+    """
     rows = [(0, 0, 0)]
 
     def add(kind, parent):
         rows.append((kind, parent, rng.choice(NAMES) if kind == 1 else 0))
+        names, owner = rng.sample(NAMES, len(NAMES)) if attributes and kind == 1 else [], len(rows) - 1
+        while names and rng.random() < attributes:
+            rows.append((5, owner, names.pop()))
 
     def add_beside():
         for _ in range(rng.choice([0, 0, 0, 1, 2])):
@@ -71,7 +83,7 @@ def document(rng, nodes):
         parent = len(rows) - 1
         while rows[parent][0] != 1 or (parent != top and rng.random() > deep):
             parent = rows[parent][1]
-        before = [kind for kind, above, _ in rows if above == parent]
+        before = [kind for kind, above, _ in rows if above == parent and kind != 5]
         kind = rng.choice([1, 1, 1, 1, 2, 2, 3, 4])
         if kind != 2 or before[-1:] != [2]:
             add(kind, parent)
@@ -82,8 +94,10 @@ def document(rng, nodes):
 def xml(rows):
     def text(number):
         kind, _, name = rows[number]
-        inner = "".join(text(n) for n, row in enumerate(rows) if n and row[1] == number)
-        return [inner, f"<e{name}>{inner}</e{name}>", "t", "<!--c-->", "<?i d?>"][kind]
+        under = [n for n, row in enumerate(rows) if n and row[1] == number]
+        inner = "".join(text(n) for n in under if rows[n][0] != 5)
+        attributes = "".join(f' e{rows[n][2]}=""' for n in under if rows[n][0] == 5)
+        return [inner, f"<e{name}{attributes}>{inner}</e{name}>", "t", "<!--c-->", "<?i d?>"][kind]
     return text(0)
 
 
@@ -271,6 +285,12 @@ def log_questions():
         (descendant(MARK)[some(parent(RUN))], 5)]]
 
 
+def attribute_questions():
+    """Each axis, with node() and with `*`, from an attribute, its owner, its owner's first child and the root."""
+    return [Question(SERIAL, step(number, test), context)
+            for context in (6, 5, 8, 0) for number in range(len(AXES)) for test in (NODE, STAR)]
+
+
 def make(seed, directory):
     """The cases. Of a few candidates for each selection, the one that selects most beside the root is taken, mostly."""
     rng = random.Random(seed)
@@ -279,10 +299,17 @@ def make(seed, directory):
     for _ in range(DOCUMENTS - 1):
         rows = document(rng, rng.choice([3, 6, 9, 12, 16, 24]))
         groups += [questions_on(rng, rows, next(shape), CANDIDATES) for _ in range(SELECTIONS)]
-    answered = iter(answers([question for group in groups for question in group], directory))
+    plain = [question for group in groups for question in group]
+    attributed = [[question] for question in attribute_questions()]
+    for _ in range(ATTRIBUTED - 1):
+        rows = document(rng, rng.choice([3, 6, 9, 12, 16, 24]), rng.choice([0.3, 0.5, 0.7]))
+        attributed += [questions_on(rng, rows, next(shape), CANDIDATES) for _ in range(SELECTIONS)]
+    by_saxon = ask(SAXON_COMMAND, [question for group in attributed for question in group], xpath2)
+    groups += attributed
+    answered = iter([*answers(plain, directory), *by_saxon])
     chosen = []
     for group in groups:
-        pairs = [(question, next(answered)) for question in group]
+        pairs = [(question, answer) for question in group if (answer := next(answered)) != "refused"]
         most = max(pairs, key=lambda pair: len(set(pair[1].split()) - {"0"}))
         chosen.append(most if rng.random() < 0.85 else pairs[0])
     questions, selected = zip(*chosen)
@@ -304,6 +331,33 @@ def report(text, selected, questions):
     print(f"{text.count('document')} documents, {len(questions)} selections, {selected.count('')} select nothing, {len(text)} bytes")
     for name, counter in (("axes", axes), ("tests", tests), ("kinds", kinds)):
         print(f"  selections with {name}: " + ", ".join(f"{key} {counter[key]}" for key in sorted(counter, key=str)))
+
+
+def compare_attributes(seed, count):
+    """Holds the reference's select against Saxon on documents with attributes. The other engines err there."""
+    rng = random.Random(seed)
+    shape = shapes(rng)
+    questions = []
+    while len(questions) < count:
+        rows = document(rng, rng.choice([2, 5, 10, 20, 40]), rng.choice([0.3, 0.5, 0.7]))
+        questions += [q for _ in range(10) for q in questions_on(rng, rows, next(shape), 2)]
+    right = ask(SAXON_COMMAND, questions, xpath2)
+    reference = build(TREE / "tools/reference")
+    printed = []
+    for group in by_document(questions):
+        session = session_of(rng, group)
+        lines = output([reference, "replay"], session.text()).decode().splitlines()
+        printed += [line for line, accepted in zip(lines, session.accepted()) if accepted is None]
+    from_attributes = 0
+    for question, answer, line in zip(questions, right, printed):
+        if answer == "refused":
+            continue
+        from_attributes += question.document[question.context][0] == 5
+        if line.split(" ")[0] != "0" or " ".join(line.split(" ")[2:]) != answer:
+            sys.exit(f"the reference gives {line}, Saxon {answer}, to {xpath2(question.term)} "
+                     f"from {question.context} of {xml(question.document)}")
+    print(f"seed {seed}: the reference gives Saxon's answer to each of {len(questions) - right.count('refused')} selections on documents "
+          f"with attributes, {from_attributes} from attributes; {right.count('')} select nothing, Saxon refused {right.count('refused')}")
 
 
 def compare(seed, count, directory):
@@ -334,8 +388,11 @@ def main():
     parser = argparse.ArgumentParser(description=__doc__, formatter_class=argparse.RawDescriptionHelpFormatter)
     parser.add_argument("--seed", type=int, default=1)
     parser.add_argument("--compare", type=int, metavar="N")
+    parser.add_argument("--attributes", type=int, metavar="N")
     options = parser.parse_args()
     install()
+    if options.attributes:
+        return compare_attributes(options.seed, options.attributes)
     with tempfile.TemporaryDirectory() as directory:
         if options.compare:
             return compare(options.seed, options.compare, directory)

@@ -37,11 +37,11 @@ pub term-answers :
     answers
     (term 2 1 0 2 ∷ term 2 3 1 0 ∷ term 6 0 0 0
     -- the kind comes before the fields, the first bad field counts, a held row is no new one
-    ∷ term 12 0 0 0 ∷ term 12 9 9 9 ∷ term 3 0 2 0 ∷ term 3 9 9 9 ∷ term 2 11 0 2 ∷ term 2 1 0 2 ∷ term 6 0 0 0
-    ∷ term 4 0 1 0 ∷ [])
+    ∷ term 12 0 0 0 ∷ term 12 9 9 9 ∷ term 3 0 2 0 ∷ term 3 9 9 9 ∷ term 2 12 0 2 ∷ term 2 1 0 2 ∷ term 6 0 0 0
+    ∷ term 4 0 1 0 ∷ term 2 11 0 2 ∷ [])
     ≡ answer 0 0 ∷ answer 0 1 ∷ answer 0 2
     ∷ answer 1 0 ∷ answer 1 0 ∷ answer 2 2 ∷ answer 2 1 ∷ answer 2 1 ∷ answer 12 0 ∷ answer 12 2
-    ∷ answer 0 3 ∷ []
+    ∷ answer 0 3 ∷ answer 0 4 ∷ []
 unfolding bookSeen bookAnswer bookNext termBook termAnswer badPlace fieldsOf fieldOk heldPath heldQualifier isPath isQualifier nesting nestings entriesFrom nestingBy operandNesting find sameRow
 term-answers = refl
 
@@ -55,6 +55,8 @@ pub step-answers :
     -- a premise that the rule has none of, one that is not held, and premises before the rule's judgement
     ∷ step 8 0 1 1 0 ∷ step 8 0 1 0 1 ∷ step 3 0 1 0 1 ∷ step 3 0 1 1 2 ∷ step 3 1 0 1 0
     ∷ step 8 1 0 0 0
+    -- rule 50 has no premise and yields nothing
+    ∷ step 50 0 1 0 0 ∷ step 50 0 0 0 0 ∷ step 50 0 1 1 0 ∷ step 50 0 1 0 1
     -- a step again, p <= p, transitivity with its premises in order and not, true => true
     ∷ step 8 0 1 0 0 ∷ step 2 0 0 0 0 ∷ step 3 0 1 3 1 ∷ step 3 0 1 1 3 ∷ step 14 2 2 0 0 ∷ [])
     ≡ answer 0 0 ∷ answer 0 1 ∷ answer 0 2
@@ -62,6 +64,7 @@ pub step-answers :
     ∷ answer 4 0 ∷ answer 4 0 ∷ answer 4 0 ∷ answer 5 1 ∷ answer 5 2 ∷ answer 5 2 ∷ answer 5 1
     ∷ answer 6 1 ∷ answer 6 2 ∷ answer 6 1 ∷ answer 6 2 ∷ answer 6 2
     ∷ answer 7 0
+    ∷ answer 7 0 ∷ answer 7 0 ∷ answer 6 1 ∷ answer 6 2
     ∷ answer 0 2 ∷ answer 0 3 ∷ answer 0 4 ∷ answer 7 0 ∷ answer 0 5 ∷ []
 unfolding bookSeen bookAnswer bookNext termBook termAnswer badPlace fieldsOf fieldOk heldPath heldQualifier isPath isQualifier nesting nestings entriesFrom nestingBy operandNesting find sameRow stepBook stepAnswer stepAnswerBy sameSort badSide premiseOk badPremise claimOf premisesOf isYielded says termAt terms termBy asPath asQualifier premiseCount firstCount formsOf formsIn rules decide yields-dec decision.someFormFits
 step-answers = refl

@@ -5,10 +5,10 @@ use mathlib.Core.Bool.{Bool, true, false, _&&_, _||_, and-false, or-false}
 use mathlib.Core.List.{List}
 use mathlib.Core.Logic.{_⊎_, _≢_, inl, inr, ⊎-elim}
 use native.Mathlib.Omega.{arith}
-use lib.Dec.{ltb, leb}
+use lib.Dec.{ltb, leb, eqb}
 use lib.ListN.{length, getD, set, length-set}
 use lib.Seq.{getD-set-same, getD-set-other}
-use borrow.Author.Tests.{lt-ltb, le-ltb, le-leb, lt-leb}
+use borrow.Author.Tests.{lt-ltb, le-ltb, le-leb, lt-leb, eq-eqb, ne-eqb}
 use Rattle.xpath.proofs.Reflect.{eq-or-ne, le-or-lt}
 use Rattle.marking.specs.Added.{marked, Added}
 
@@ -35,6 +35,17 @@ module _ {n : ℕ} {old new : List ℕ} {s : ℕ → Bool} where
 
 pub nothing-added : {n : ℕ} {old : List ℕ} (s : ℕ → Bool) → ((y : ℕ) → y < n → s y ≡ false) → Added n old old s
 nothing-added s e = record { size = refl; marks = λ y h. sym (rw (e y h, or-false)) }
+
+-- one node, if it is in t
+module _ {n : ℕ} {old : List ℕ} (t : ℕ → Bool) (k : ℕ) where
+  pub node-marked : k < length old → t k ≡ true → Added n old (set old k 1) (λ y. eqb k y && t y)
+  node-marked l e =
+      added-set (λ y. eqb k y && t y) k (nothing-added (λ y. false) (λ y h. refl)) l (rw (eq-eqb k k refl, e)) (λ y h ne. rw (ne-eqb k y (λ q. ne (sym q))))
+
+  pub node-left : t k ≡ false → Added n old old (λ y. eqb k y && t y)
+  node-left e =
+      nothing-added (λ y. eqb k y && t y)
+      (λ y h. ⊎-elim (λ q. let z : t y ≡ false = ap t q ∙ e in rw (z, and-false)) (λ ne. rw (ne-eqb k y (λ q. ne (sym q)))) (eq-or-ne y k))
 
 -- the nodes of f from lo on and before hi
 abbrev pub between : ℕ → ℕ → (ℕ → Bool) → ℕ → Bool

@@ -1,11 +1,12 @@
 -- Marks that are added to marks. Assumes nothing.
 use Prim.Native.Nat.{ℕ, _≤_, _<_}
 use mathlib.Core.Path.{_≡_}
-use mathlib.Core.Bool.{Bool, true, _||_}
+use mathlib.Core.Bool.{Bool, true, not, cond, _&&_, _||_}
 use mathlib.Core.List.{List}
 use lib.Dec.{eqb}
 use lib.ListN.{length, getD}
-use Rattle.xpath.specs.Document.{Document, isChild, maxNodes}
+use Rattle.xpath.specs.Document.{Document, isAttribute, isChild, maxNodes}
+use Rattle.xpath.specs.Axis.{attribute, passes}
 use Rattle.xpath.specs.Ends.{Prepared}
 
 -- y is marked
@@ -16,6 +17,15 @@ marked m y = eqb (getD m y 0) 1
 pub record Added (n : ℕ) (old new : List ℕ) (s : ℕ → Bool) : Type 0 where
   pub size : length new ≡ length old
   pub marks : (y : ℕ) → y < n → marked new y ≡ (marked old y || s y)
+
+-- y is a node that axis a, one of child, descendant, the siblings, following, preceding and attribute, may hold: an attribute on axis
+-- 11, another node on any other
+unfoldable pub mayHold : ℕ → Document → ℕ → Bool
+mayHold a d y = cond (eqb a attribute) (isAttribute d y) (not (isAttribute d y))
+
+-- axis a may hold y, and y passes the test
+abbrev pub candidate : ℕ → ℕ → ℕ → Document → ℕ → Bool
+candidate a t c d y = mayHold a d y && passes a t c d y
 
 -- lo is a child of p unless hi is reached; hi is no further than the end of p's subtree
 pub record ChildrenFrom (d : Document) (es : List ℕ) (p lo hi : ℕ) : Type 0 where

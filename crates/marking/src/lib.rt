@@ -3,43 +3,82 @@
 ghost use mathlib.Core.Path.{_≡_};
 ghost use mathlib.Core.Bool.{_&&_};
 ghost use Prim.Native.Nat.{_≤_, _<_};
-ghost use lib.Dec.{T, ltb, leb};
+ghost use lib.Dec.{T, ltb, leb, eqb};
 ghost use lib.ListN.{length, getD};
 ghost use Rattle.xpath.specs.Document.{documentOf, isChild, isAncestor, wellFormed, maxNodes};
 ghost use Rattle.xpath.specs.Ends.{Prepared};
 ghost use Rattle.xpath.specs.Axis.{onAxis, passes};
-ghost use Rattle.marking.specs.Added.{Added, ChildrenFrom, StepFrom};
+ghost use Rattle.marking.specs.Added.{Added, mayHold, candidate, ChildrenFrom, StepFrom};
 
-// The nodes from lo on and before hi that pass the test.
-fn mark_range(d: &[u16], test: usize, name: usize, lo: usize, hi: usize, out: &mut [u8])
+// Whether y is a node that the axis, but for the node itself, may hold: an attribute on axis 11, another node on any other.
+fn may_hold(d: &[u16], axis: usize, y: usize) -> bool
+    ensures { λ r. ⌜ r ≡ mayHold axis (documentOf (now (d .entry))) y ⌝ }
+{
+    if axis == 11 {
+        xpath::is_attribute(d, y)
+    } else {
+        !xpath::is_attribute(d, y)
+    }
+}
+
+// Whether the axis may hold y, and y passes the test.
+fn is_candidate(d: &[u16], axis: usize, test: usize, name: usize, y: usize) -> bool
+    ensures { λ r. ⌜ r ≡ candidate axis test name (documentOf (now (d .entry))) y ⌝ }
+{
+    xpath::and(
+        may_hold(d, axis, y),
+        xpath::passes_test(d, axis, test, name, y),
+    )
+}
+
+// The node itself, if it passes the test.
+fn mark_node(d: &[u16], axis: usize, test: usize, name: usize, at: usize, out: &mut [u8])
+    requires { ⌜ at < length (now out) ⌝ }
+    ensures { λ _. ⌜ Added (length (documentOf (now (d .entry)))) (now (out .entry)) (now (out .exit)) (λ y. eqb at y && passes axis test name (documentOf (now (d .entry))) y) ⌝ }
+{
+    if xpath::passes_test(d, axis, test, name, at) {
+        out[at] = 1;
+    }
+}
+
+// The nodes from lo on and before hi that the axis has and that pass the test.
+fn mark_range(
+    d: &[u16],
+    axis: usize,
+    test: usize,
+    name: usize,
+    lo: usize,
+    hi: usize,
+    out: &mut [u8],
+)
     requires { ⌜ (lo ≤ hi) × (hi ≤ length (now out)) ⌝ }
-    ensures { λ _. ⌜ Added (length (documentOf (now (d .entry)))) (now (out .entry)) (now (out .exit)) (λ y. (leb lo y && ltb y hi) && passes test name (documentOf (now (d .entry))) y) ⌝ }
+    ensures { λ _. ⌜ Added (length (documentOf (now (d .entry)))) (now (out .entry)) (now (out .exit)) (λ y. (leb lo y && ltb y hi) && candidate axis test name (documentOf (now (d .entry))) y) ⌝ }
 {
     let mut y = lo;
     while y < hi {
-        if xpath::passes_test(d, test, name, y) {
+        if is_candidate(d, axis, test, name, y) {
             out[y] = 1;
         }
         y += 1;
     }
 }
 
-// The nodes before x whose subtrees end before it, and that pass the test.
+// The nodes before x whose subtrees end before it, no attributes, that pass the test.
 fn mark_preceding(d: &[u16], ends: &[u16], test: usize, name: usize, x: usize, out: &mut [u8])
     requires { ⌜ (x ≤ length (now out)) × (x ≤ length (now ends)) ⌝ }
-    ensures { λ _. ⌜ Added (length (documentOf (now (d .entry)))) (now (out .entry)) (now (out .exit)) (λ y. (leb 0 y && ltb y x) && (leb (getD (now (ends .entry)) y 0) x && passes test name (documentOf (now (d .entry))) y)) ⌝ }
+    ensures { λ _. ⌜ Added (length (documentOf (now (d .entry)))) (now (out .entry)) (now (out .exit)) (λ y. (leb 0 y && ltb y x) && (leb (getD (now (ends .entry)) y 0) x && candidate 10 test name (documentOf (now (d .entry))) y)) ⌝ }
 {
     let mut y: usize = 0;
     while y < x {
         let end = xpath::wide(ends[y]);
-        if xpath::and(end <= x, xpath::passes_test(d, test, name, y)) {
+        if xpath::and(end <= x, is_candidate(d, 10, test, name, y)) {
             out[y] = 1;
         }
         y += 1;
     }
 }
 
-// The row after the subtree of y, where the next child of y's parent stands if there is one.
+// The row after the subtree of y, where the next row under y's parent stands if there is one.
 fn after_subtree(ends: &[u16], y: usize) -> usize
     requires { ⌜ y < length (now ends) ⌝ }
     ensures { λ r. ⌜ r ≡ getD (now (ends .entry)) y 0 ⌝ }
@@ -48,10 +87,11 @@ fn after_subtree(ends: &[u16], y: usize) -> usize
     after
 }
 
-// The children of p from lo on and before hi that pass the test. Where there are any, lo is one.
+// The rows under p from lo on and before hi that the axis has and that pass the test. Where there are any, lo is one.
 fn mark_children(
     d: &[u16],
     ends: &[u16],
+    axis: usize,
     test: usize,
     name: usize,
     p: usize,
@@ -62,12 +102,12 @@ fn mark_children(
     requires { ⌜ Prepared (documentOf (now d)) (now ends) ⌝ }
     requires { ⌜ length (now out) ≡ maxNodes ⌝ }
     requires { ⌜ ChildrenFrom (documentOf (now d)) (now ends) p lo hi ⌝ }
-    ensures { λ _. ⌜ Added (length (documentOf (now (d .entry)))) (now (out .entry)) (now (out .exit)) (λ y. (leb lo y && ltb y hi) && (isChild (documentOf (now (d .entry))) p y && passes test name (documentOf (now (d .entry))) y)) ⌝ }
+    ensures { λ _. ⌜ Added (length (documentOf (now (d .entry)))) (now (out .entry)) (now (out .exit)) (λ y. (leb lo y && ltb y hi) && (isChild (documentOf (now (d .entry))) p y && candidate axis test name (documentOf (now (d .entry))) y)) ⌝ }
 {
     let mut y = lo;
     while y < hi {
         let next = after_subtree(ends, y);
-        if xpath::passes_test(d, test, name, y) {
+        if is_candidate(d, axis, test, name, y) {
             out[y] = 1;
         }
         y = next;
@@ -77,12 +117,12 @@ fn mark_children(
 // The ancestors of x that pass the test.
 fn mark_ancestors(d: &[u16], test: usize, name: usize, x: usize, out: &mut [u8])
     requires { ⌜ (T (wellFormed (documentOf (now d)))) × (x < length (documentOf (now d))) × (length (documentOf (now d)) ≤ length (now out)) ⌝ }
-    ensures { λ _. ⌜ Added (length (documentOf (now (d .entry)))) (now (out .entry)) (now (out .exit)) (λ y. isAncestor (documentOf (now (d .entry))) y x && passes test name (documentOf (now (d .entry))) y) ⌝ }
+    ensures { λ _. ⌜ Added (length (documentOf (now (d .entry)))) (now (out .entry)) (now (out .exit)) (λ y. isAncestor (documentOf (now (d .entry))) y x && passes 4 test name (documentOf (now (d .entry))) y) ⌝ }
 {
     let mut at = x;
     while 0 < at {
         at = xpath::parent_at(d, at);
-        if xpath::passes_test(d, test, name, at) {
+        if xpath::passes_test(d, 4, test, name, at) {
             out[at] = 1;
         }
     }
@@ -91,13 +131,12 @@ fn mark_ancestors(d: &[u16], test: usize, name: usize, x: usize, out: &mut [u8])
 // The parent of x, if it passes the test.
 fn mark_parent(d: &[u16], ends: &[u16], test: usize, name: usize, x: usize, out: &mut [u8])
     requires { ⌜ StepFrom (documentOf (now d)) (now ends) x (now out) ⌝ }
-    ensures { λ _. ⌜ Added (length (documentOf (now (d .entry)))) (now (out .entry)) (now (out .exit)) (λ y. onAxis 2 (documentOf (now (d .entry))) x y && passes test name (documentOf (now (d .entry))) y) ⌝ }
+    ensures { λ _. ⌜ Added (length (documentOf (now (d .entry)))) (now (out .entry)) (now (out .exit)) (λ y. onAxis 2 (documentOf (now (d .entry))) x y && passes 2 test name (documentOf (now (d .entry))) y) ⌝ }
 {
     if x == 0 {
         return;
     }
-    let p = xpath::parent_at(d, x);
-    mark_range(d, test, name, p, p + 1, out);
+    mark_node(d, 2, test, name, xpath::parent_at(d, x), out);
 }
 
 // The siblings after x that pass the test.
@@ -110,15 +149,15 @@ fn mark_following_siblings(
     out: &mut [u8],
 )
     requires { ⌜ StepFrom (documentOf (now d)) (now ends) x (now out) ⌝ }
-    ensures { λ _. ⌜ Added (length (documentOf (now (d .entry)))) (now (out .entry)) (now (out .exit)) (λ y. onAxis 7 (documentOf (now (d .entry))) x y && passes test name (documentOf (now (d .entry))) y) ⌝ }
+    ensures { λ _. ⌜ Added (length (documentOf (now (d .entry)))) (now (out .entry)) (now (out .exit)) (λ y. onAxis 7 (documentOf (now (d .entry))) x y && passes 7 test name (documentOf (now (d .entry))) y) ⌝ }
 {
-    if x == 0 {
+    if xpath::or(x == 0, xpath::is_attribute(d, x)) {
         return;
     }
     let p = xpath::parent_at(d, x);
     let first = xpath::wide(ends[x]);
     let end = xpath::wide(ends[p]);
-    mark_children(d, ends, test, name, p, first, end, out);
+    mark_children(d, ends, 7, test, name, p, first, end, out);
 }
 
 // The siblings before x that pass the test.
@@ -131,13 +170,13 @@ fn mark_preceding_siblings(
     out: &mut [u8],
 )
     requires { ⌜ StepFrom (documentOf (now d)) (now ends) x (now out) ⌝ }
-    ensures { λ _. ⌜ Added (length (documentOf (now (d .entry)))) (now (out .entry)) (now (out .exit)) (λ y. onAxis 8 (documentOf (now (d .entry))) x y && passes test name (documentOf (now (d .entry))) y) ⌝ }
+    ensures { λ _. ⌜ Added (length (documentOf (now (d .entry)))) (now (out .entry)) (now (out .exit)) (λ y. onAxis 8 (documentOf (now (d .entry))) x y && passes 8 test name (documentOf (now (d .entry))) y) ⌝ }
 {
-    if x == 0 {
+    if xpath::or(x == 0, xpath::is_attribute(d, x)) {
         return;
     }
     let p = xpath::parent_at(d, x);
-    mark_children(d, ends, test, name, p, p + 1, x, out);
+    mark_children(d, ends, 8, test, name, p, p + 1, x, out);
 }
 
 // What a step selects from x.
@@ -151,15 +190,15 @@ pub fn mark_step(
     out: &mut [u8],
 )
     requires { ⌜ StepFrom (documentOf (now d)) (now ends) x (now out) ⌝ }
-    ensures { λ _. ⌜ Added (length (documentOf (now (d .entry)))) (now (out .entry)) (now (out .exit)) (λ y. onAxis axis (documentOf (now (d .entry))) x y && passes test name (documentOf (now (d .entry))) y) ⌝ }
+    ensures { λ _. ⌜ Added (length (documentOf (now (d .entry)))) (now (out .entry)) (now (out .exit)) (λ y. onAxis axis (documentOf (now (d .entry))) x y && passes axis test name (documentOf (now (d .entry))) y) ⌝ }
 {
     let end = xpath::wide(ends[x]);
     if axis == 0 {
-        mark_range(d, test, name, x, x + 1, out);
+        mark_node(d, 0, test, name, x, out);
         return;
     }
     if axis == 1 {
-        mark_children(d, ends, test, name, x, x + 1, end, out);
+        mark_children(d, ends, 1, test, name, x, x + 1, end, out);
         return;
     }
     if axis == 2 {
@@ -167,7 +206,7 @@ pub fn mark_step(
         return;
     }
     if axis == 3 {
-        mark_range(d, test, name, x + 1, end, out);
+        mark_range(d, 3, test, name, x + 1, end, out);
         return;
     }
     if axis == 4 {
@@ -175,11 +214,12 @@ pub fn mark_step(
         return;
     }
     if axis == 5 {
-        mark_range(d, test, name, x, end, out);
+        mark_node(d, 0, test, name, x, out);
+        mark_range(d, 3, test, name, x + 1, end, out);
         return;
     }
     if axis == 6 {
-        mark_range(d, test, name, x, x + 1, out);
+        mark_node(d, 0, test, name, x, out);
         mark_ancestors(d, test, name, x, out);
         return;
     }
@@ -192,10 +232,14 @@ pub fn mark_step(
         return;
     }
     if axis == 9 {
-        mark_range(d, test, name, end, xpath::node_count(d), out);
+        mark_range(d, 9, test, name, end, xpath::node_count(d), out);
         return;
     }
     if axis == 10 {
         mark_preceding(d, ends, test, name, x, out);
+        return;
+    }
+    if axis == 11 {
+        mark_children(d, ends, 11, test, name, x, x + 1, end, out);
     }
 }

@@ -11,19 +11,21 @@ use Rattle.rules.specs.Instance.{meets}
 use Rattle.rules.specs.Decode.{Entry, claimPatternOf, conditionOf, formEntry, countAt, premisesAt, formAt}
 use Rattle.rules.specs.RowYields.{Sides, Match, matchClaim, matchClaims, emptyMatch, numbersIn, matchForm, formYields}
 
--- k is none of 1 to 5
+-- k is none of 1 to 7
 abbrev NoCondition : ℕ → Type 0
-NoCondition k = ((((Unit {0} × (k ≡ 1 → ⊥)) × (k ≡ 2 → ⊥)) × (k ≡ 3 → ⊥)) × (k ≡ 4 → ⊥)) × (k ≡ 5 → ⊥)
+NoCondition k = ((((((Unit {0} × (k ≡ 1 → ⊥)) × (k ≡ 2 → ⊥)) × (k ≡ 3 → ⊥)) × (k ≡ 4 → ⊥)) × (k ≡ 5 → ⊥)) × (k ≡ 6 → ⊥)) × (k ≡ 7 → ⊥)
 
 no-condition : (k : ℕ) → NoCondition k → conditionOf k ≡ []
 unfolding conditionOf
 no-condition zero h = refl
-no-condition (suc zero) h = absurd (h .0 .0 .0 .0 .1 refl)
-no-condition (suc (suc zero)) h = absurd (h .0 .0 .0 .1 refl)
-no-condition (suc (suc (suc zero))) h = absurd (h .0 .0 .1 refl)
-no-condition (suc (suc (suc (suc zero)))) h = absurd (h .0 .1 refl)
-no-condition (suc (suc (suc (suc (suc zero))))) h = absurd (h .1 refl)
-no-condition (suc (suc (suc (suc (suc (suc k)))))) h = refl
+no-condition (suc zero) h = absurd (h .0 .0 .0 .0 .0 .0 .1 refl)
+no-condition (suc (suc zero)) h = absurd (h .0 .0 .0 .0 .0 .1 refl)
+no-condition (suc (suc (suc zero))) h = absurd (h .0 .0 .0 .0 .1 refl)
+no-condition (suc (suc (suc (suc zero)))) h = absurd (h .0 .0 .0 .1 refl)
+no-condition (suc (suc (suc (suc (suc zero))))) h = absurd (h .0 .0 .1 refl)
+no-condition (suc (suc (suc (suc (suc (suc zero)))))) h = absurd (h .0 .1 refl)
+no-condition (suc (suc (suc (suc (suc (suc (suc zero))))))) h = absurd (h .1 refl)
+no-condition (suc (suc (suc (suc (suc (suc (suc (suc k)))))))) h = refl
 
 module _ (m : Match) (k : ℕ) where
   pub none-asked : NoCondition k → true ≡ allOf (meets (numbersIn m)) (conditionOf k)
@@ -33,6 +35,11 @@ module _ (m : Match) (k : ℕ) where
   pub one-asked : (c : Condition) {b : Bool} → conditionOf k ≡ c ∷ [] → b ≡ meets (numbersIn m) c → b ≡ allOf (meets (numbersIn m)) (conditionOf k)
   unfolding allOf
   one-asked c e q = rw e (q ∙ sym (and-true (meets (numbersIn m) c)))
+
+  pub two-asked : (c t : Condition) {b : Bool} → conditionOf k ≡ c ∷ t ∷ [] → b ≡ (meets (numbersIn m) c && meets (numbersIn m) t) →
+      b ≡ allOf (meets (numbersIn m)) (conditionOf k)
+  unfolding allOf
+  two-asked c t e q = rw (e, and-true) q
 
 pub all-of-append : {A : Type 0} (f : A → Bool) (xs ys : List A) → allOf f (xs ++ ys) ≡ (allOf f xs && allOf f ys)
 unfolding allOf

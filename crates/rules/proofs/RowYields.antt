@@ -15,7 +15,7 @@ use Rattle.terms.specs.Fields.{isPath, isQualifier, heldPath, heldQualifier}
 use Rattle.terms.specs.Decode.{pathAt, qualifierAt}
 use Rattle.terms.specs.Table.{Built}
 use Rattle.rules.specs.Lists.{allOf, anyOf, Every}
-use Rattle.rules.specs.Form.{ClaimForm, _<=_, _=>_, Condition, a-below-b, N-below-M, b-from-3-to-10, N-a-name-or-star, N-not-node, Form}
+use Rattle.rules.specs.Form.{ClaimForm, _<=_, _=>_, Condition, a-below-b, N-below-M, b-from-3-to-10, N-a-name-or-star, N-not-node, a-not-attribute, Form}
 use Rattle.rules.specs.Claim.{Containment, Implication, says}
 use Rattle.rules.specs.Instance.{Letters, claimFor, meets}
 use Rattle.rules.specs.Yields.{formsOf, Yields}
@@ -100,6 +100,7 @@ numbers-meet rs m N-below-M = refl
 numbers-meet rs m b-from-3-to-10 = refl
 numbers-meet rs m N-a-name-or-star = refl
 numbers-meet rs m N-not-node = refl
+numbers-meet rs m a-not-attribute = refl
 
 empty-sized : Sized emptyMatch
 unfolding emptyMatch

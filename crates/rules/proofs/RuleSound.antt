@@ -37,7 +37,11 @@ unfoldable pub RuleSound : Document → ℕ → Type 0
 unfolding formsOf formsIn rules meets claimFor pathFor axisFor testFor Selects
 RuleSound d n = Every (FormSound d) (formsOf n)
 
--- an equation, used from either side
+-- an equation, used from either side, under conditions or none
+pub each-way-if : (ts : List Condition) {A B : Letters → Type 0} → ((e : Letters) → MeetsAll e ts → A e × B e) →
+    ((e : Letters) → MeetsAll e ts → Unit {0} → A e) × (((e : Letters) → MeetsAll e ts → Unit {0} → B e) × Unit {0})
+each-way-if ts h = (λ e met g. (h e met) .0, (λ e met g. (h e met) .1, tt))
+
 pub each-way : {A B : Letters → Type 0} → ((e : Letters) → A e × B e) →
     ((e : Letters) → MeetsAll e [] → Unit {0} → A e) × (((e : Letters) → MeetsAll e [] → Unit {0} → B e) × Unit {0})
-each-way h = (λ e met g. (h e) .0, (λ e met g. (h e) .1, tt))
+each-way h = each-way-if [] (λ e met. h e)

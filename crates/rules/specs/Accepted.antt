@@ -3,7 +3,7 @@ use Prim.Native.Nat.{ℕ}
 use mathlib.Core.Bool.{Bool, _&&_}
 use mathlib.Core.List.{List, [], _∷_, _++_, map, List·Memᴰ}
 use lib.Dec.{T, eqb}
-use Rattle.xpath.specs.Axis.{self, child, parent, descendant, ancestor, descendant-or-self, ancestor-or-self, following-sibling, preceding-sibling, following, preceding, name-test, star-test, node-test, text-test}
+use Rattle.xpath.specs.Axis.{self, child, parent, descendant, ancestor, descendant-or-self, ancestor-or-self, following-sibling, preceding-sibling, following, preceding, attribute, name-test, star-test, node-test, text-test}
 use Rattle.xpath.specs.Term.{Path, Qualifier, Void, Root, Step, Union, Composition, Filter, True, False, Not, And, Or, In, some-of}
 use Rattle.rules.specs.Claim.{Claim, Containment, Implication}
 use Rattle.rules.specs.Lists.{allOf, anyOf}
@@ -86,6 +86,22 @@ endingsInNode =
     ∷ preceding
     ∷ [])
 
+-- the axes that rules 26 and 58 take
+abbrev otherThanAttribute : List ℕ
+otherThanAttribute =
+    self
+    ∷ child
+    ∷ parent
+    ∷ descendant
+    ∷ ancestor
+    ∷ descendant-or-self
+    ∷ ancestor-or-self
+    ∷ following-sibling
+    ∷ preceding-sibling
+    ∷ following
+    ∷ preceding
+    ∷ []
+
 unfoldable pub accepted : List Sample
 accepted =
     (sample 1 (Containment Void p) []
@@ -98,6 +114,7 @@ accepted =
     ∷ sample 6 (Containment (Union p q) r) (Containment p r ∷ Containment q r ∷ [])
     ∷ sample 7 (Containment (Composition p q) (Composition r s)) (Containment p r ∷ Containment q s ∷ [])
     ∷ sample 8 (Containment (child ::N) (descendant ::star)) []
+    ∷ sample 8 (Containment (attribute ::N) (attribute ::star)) []
     ∷ sample 9 (Containment (Filter p f) (Filter r g)) (Containment p r ∷ Implication f g ∷ [])
     ∷ sample 10 (Containment (Composition p (child ::N)) (Composition r (descendant ::M))) (Containment (child ::N) (descendant ::M) ∷ Containment p (Composition r (descendant ::star)) ∷ [])
     ∷ sample 10 (Containment (Composition p (child ::N)) (Composition r (preceding ::M))) (Containment (child ::N) (preceding ::M) ∷ Containment p (Composition r (preceding ::star)) ∷ [])
@@ -120,7 +137,6 @@ accepted =
     ∷ sample 23 (Implication (In (parent ::star) Void) (In (ancestor ::star) Void)) []
     ∷ sample 24 (Containment p Void) (Implication True (In p Void) ∷ [])
     ∷ sample 25 (Containment (Filter p (And f g)) Void) (Implication f (Not g) ∷ [])
-    ∷ sample 26 (Containment (Composition p (preceding ::N)) (Composition Root (descendant ::star))) []
     ∷ sample 26 (Containment (Composition p (child ::text)) (Composition Root (descendant ::node))) []
     ∷ [])
     ++ containments 27 p (Filter p True)
@@ -146,14 +162,15 @@ accepted =
     ++ implications 47 (And f (Not f)) False
     ++ containments 48 (Composition (Filter (child ::N) f) (parent ::M)) (Filter (self ::M) (some-of (Filter (child ::N) f)))
     ++ containments 49 (Composition (Filter (descendant ::N) f) (parent ::M)) (Filter (descendant-or-self ::M) (some-of (Filter (child ::N) f)))
-    ++ containments 50 (Composition (Filter (parent ::N) f) (child ::M)) (Filter (Union (Union (preceding-sibling ::M) (following-sibling ::M)) (self ::M)) (some-of (Filter (parent ::N) f)))
     ++ (sample 51 (Containment (Composition (Filter (descendant ::N) f) (child ::M)) (Filter (descendant ::M) (some-of (Filter (parent ::N) f)))) [] ∷ [])
     ++ containments 52 (descendant-or-self ::N) (Union (descendant ::N) (self ::N))
     ++ containments 53 (ancestor-or-self ::N) (Union (ancestor ::N) (self ::N))
-    ++ containments 54 (following ::N) (Composition (Composition (ancestor-or-self ::node) (following-sibling ::node)) (descendant-or-self ::N))
+    ++ (sample 54 (Containment (Composition (Composition (ancestor-or-self ::node) (following-sibling ::node)) (descendant-or-self ::N)) (following ::N)) [] ∷ [])
     ++ containments 55 (preceding ::N) (Composition (Composition (ancestor-or-self ::node) (preceding-sibling ::node)) (descendant-or-self ::N))
     ++ (sample 56 (Containment (Composition p Root) Root) [] ∷ sample 57 (Containment Root (ancestor-or-self ::node)) [] ∷ [])
-    ++ containments 58 (Composition (preceding ::node) (self ::N)) (preceding ::N)
+    ++ map (λ a. sample 26 (Containment (Composition p (a ::N)) (Composition Root (descendant ::star))) []) otherThanAttribute
+    ++ map (λ a. sample 58 (Containment (Composition (a ::node) (self ::N)) (a ::N)) []) otherThanAttribute
+    ++ map (λ a. sample 58 (Containment (a ::N) (Composition (a ::node) (self ::N))) []) otherThanAttribute
     ++ endingsInNode
 
 abbrev pub sampleYielded : Sample → Bool

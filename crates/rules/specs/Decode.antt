@@ -4,7 +4,7 @@ use mathlib.Core.Bool.{cond}
 use mathlib.Core.List.{List, [], _∷_, _++_}
 use lib.Dec.{ltb}
 use lib.ListN.{getD, take}
-use Rattle.rules.specs.Form.{Condition, a-below-b, N-below-M, b-from-3-to-10, N-a-name-or-star, N-not-node}
+use Rattle.rules.specs.Form.{Condition, a-below-b, N-below-M, b-from-3-to-10, N-a-name-or-star, N-not-node, a-not-attribute}
 use Rattle.rules.specs.Pattern.{Pattern, number, letter, row-of, ClaimPattern, FormPattern}
 use Rattle.rules.specs.Codes.{firstLetter, firstRow, patternDepth, patternCodes, formCodes, premiseCodes}
 
@@ -34,14 +34,15 @@ decode (suc depth) x =
 abbrev pub claimPatternOf : ℕ → ℕ → ClaimPattern
 claimPatternOf x y = record { left = decode patternDepth x; right = decode patternDepth y }
 
--- the condition numbered k; 0 is none
+-- the conditions numbered k; 0 is none
 unfoldable pub conditionOf : ℕ → List Condition
 conditionOf k =
     getD
-    ([] ∷ (a-below-b ∷ []) ∷ (N-below-M ∷ []) ∷ (b-from-3-to-10 ∷ []) ∷ (N-a-name-or-star ∷ []) ∷ (N-not-node ∷ []) ∷ [])
+    ([] ∷ (a-below-b ∷ []) ∷ (N-below-M ∷ []) ∷ (b-from-3-to-10 ∷ []) ∷ (N-a-name-or-star ∷ []) ∷ (N-not-node ∷ [])
+    ∷ (a-not-attribute ∷ []) ∷ (N-not-node ∷ a-not-attribute ∷ []) ∷ [])
     k []
 
--- entry i of the forms: the rule's number, the two sides of the conclusion, and three digits, two conditions and how many premises
+-- entry i of the forms: the rule's number, the two sides of the conclusion, and three digits, two numbers of conditions and how many premises
 unfoldable pub formEntry : ℕ → Entry
 formEntry i = unpacked (getD formCodes i 0)
 

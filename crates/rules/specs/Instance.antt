@@ -2,10 +2,10 @@
 use Prim.Native.Nat.{ℕ}
 use mathlib.Core.Bool.{Bool, not, _&&_, _||_}
 use lib.Dec.{leb, eqb}
-use Rattle.xpath.specs.Axis.{descendant, preceding, name-test, star-test, node-test}
+use Rattle.xpath.specs.Axis.{descendant, preceding, attribute, name-test, star-test, node-test}
 use Rattle.xpath.specs.Term.{Path, Qualifier, Step, Union, Composition, Filter}
 use Rattle.rules.specs.Order.{axisBelow, testBelow}
-use Rattle.rules.specs.Form.{PathLetter, QualifierLetter, AxisLetter, TestLetter, AxisForm, axis, axis-letter, TestForm, test, test-letter, PathForm, path-letter, _::_, _¦_, _∕_, _⟦_⟧, QualifierForm, qualifier-letter, Not_, _And_, _Or_, _In_, ClaimForm, _<=_, _=>_, Condition, a-below-b, N-below-M, b-from-3-to-10, N-a-name-or-star, N-not-node}
+use Rattle.rules.specs.Form.{PathLetter, QualifierLetter, AxisLetter, TestLetter, AxisForm, axis, axis-letter, TestForm, test, test-letter, PathForm, path-letter, _::_, _¦_, _∕_, _⟦_⟧, QualifierForm, qualifier-letter, Not_, _And_, _Or_, _In_, ClaimForm, _<=_, _=>_, Condition, a-below-b, N-below-M, b-from-3-to-10, N-a-name-or-star, N-not-node, a-not-attribute}
 use Rattle.rules.specs.Claim.{Claim, Containment, Implication}
 
 pub record Test : Type 0 where
@@ -56,3 +56,4 @@ meets e N-below-M = testBelow (e .test TestLetter.N .test) (e .test TestLetter.N
 meets e b-from-3-to-10 = leb descendant (e .axis AxisLetter.b) && leb (e .axis AxisLetter.b) preceding
 meets e N-a-name-or-star = eqb (e .test TestLetter.N .test) name-test || eqb (e .test TestLetter.N .test) star-test
 meets e N-not-node = not (eqb (e .test TestLetter.N .test) node-test)
+meets e a-not-attribute = not (eqb (e .axis AxisLetter.a) attribute)

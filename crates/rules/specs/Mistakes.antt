@@ -1,11 +1,11 @@
--- Five mistakes of document 000, each shown false by a document. Assumes nothing.
+-- Five mistakes of document 000, and what attributes make false, each shown false by a document. Assumes nothing.
 use Prim.Native.Nat.{ℕ}
 use mathlib.Core.List.{[], _∷_}
 use native.Mathlib.Omega.{arith}
 use Rattle.xpath.specs.Bounded.{anyBelow, allBelow}
 use Rattle.xpath.specs.Document.{Document, node, rootNode, kindAt, parentAt, nameAt, isChild, climbMeets, isAncestor, areSiblings, kindAndNameOk, rowOk, wellFormed}
-use Rattle.xpath.specs.Axis.{child, parent, descendant, descendant-or-self, ancestor-or-self, following-sibling, following, onAxis, name-test, star-test, text-test, passes}
-use Rattle.xpath.specs.Term.{Path, Qualifier, Void, Step, Union, Composition, Filter, True, Not, And, Or, In, some-of}
+use Rattle.xpath.specs.Axis.{self, child, parent, descendant, descendant-or-self, ancestor-or-self, following-sibling, preceding-sibling, following, attribute, onAxis, name-test, star-test, node-test, text-test, passes}
+use Rattle.xpath.specs.Term.{Path, Qualifier, Void, Root, Step, Union, Composition, Filter, True, Not, And, Or, In, some-of}
 use Rattle.xpath.specs.Meaning.{selects}
 use Rattle.rules.specs.Claim.{Containment, Implication, TrueOn, IsTrue}
 
@@ -61,3 +61,42 @@ pub r-a13-false :
     (Composition (Composition (Step ancestor-or-self star-test 0) (Step following-sibling star-test 0)) (Step descendant-or-self text-test 0))))
 unfolding IsFalse
 r-a13-false claim = claim withText tt 2 (omega arith) 3 tt
+
+-- an element with an attribute and a text in it
+abbrev withAttribute : Document
+withAttribute = rootNode ∷ node 1 0 1 ∷ node 5 1 2 ∷ node 2 1 0 ∷ []
+
+-- 01's rule 50: an attribute's parent has children, and the attribute has no sibling
+pub rule50-false :
+    IsFalse (IsTrue (Containment
+    (Composition (Filter (Step parent node-test 0) True) (Step child node-test 0))
+    (Filter (Union (Union (Step preceding-sibling node-test 0) (Step following-sibling node-test 0)) (Step self node-test 0)) (some-of (Filter (Step parent node-test 0) True)))))
+unfolding IsFalse
+rule50-false claim = claim withAttribute tt 2 (omega arith) 3 tt
+
+-- and the other direction: an attribute is itself, and no child of its parent
+pub rule50-back-false :
+    IsFalse (IsTrue (Containment
+    (Filter (Union (Union (Step preceding-sibling node-test 0) (Step following-sibling node-test 0)) (Step self node-test 0)) (some-of (Filter (Step parent node-test 0) True)))
+    (Composition (Filter (Step parent node-test 0) True) (Step child node-test 0))))
+unfolding IsFalse
+rule50-back-false claim = claim withAttribute tt 2 (omega arith) 2 tt
+
+-- 01's rule 54 with following::N on the left: what follows an attribute begins with its parent's children
+pub rule54-left-false :
+    IsFalse (IsTrue (Containment
+    (Step following node-test 0)
+    (Composition (Composition (Step ancestor-or-self node-test 0) (Step following-sibling node-test 0)) (Step descendant-or-self node-test 0))))
+unfolding IsFalse
+rule54-left-false claim = claim withAttribute tt 2 (omega arith) 3 tt
+
+-- rule 26 with the attribute axis
+pub rule26-attribute-false :
+    IsFalse ((p : Path) → IsTrue (Containment (Composition p (Step attribute star-test 0)) (Composition Root (Step descendant star-test 0))))
+unfolding IsFalse
+rule26-attribute-false rule = rule (Step self node-test 0) withAttribute tt 1 (omega arith) 2 tt
+
+-- rule 58 with the attribute axis: self::* selects no attribute
+pub rule58-attribute-false : IsFalse (IsTrue (Containment (Step attribute star-test 0) (Composition (Step attribute node-test 0) (Step self star-test 0))))
+unfolding IsFalse
+rule58-attribute-false claim = claim withAttribute tt 1 (omega arith) 2 tt

@@ -4,7 +4,7 @@ use mathlib.Core.Path.{_≡_, refl}
 use mathlib.Core.Bool.{Bool, not, cond}
 use mathlib.Core.List.{List, [], _∷_, _++_, map, List·Memᴰ}
 use lib.Dec.{T, T-not, eqb}
-use Rattle.xpath.specs.Axis.{self, child, parent, descendant, ancestor, descendant-or-self, ancestor-or-self, following-sibling, preceding-sibling, following, preceding, name-test, comment-test, instruction-test}
+use Rattle.xpath.specs.Axis.{self, child, parent, descendant, ancestor, descendant-or-self, ancestor-or-self, following-sibling, preceding-sibling, following, preceding, attribute, name-test, comment-test, instruction-test}
 use Rattle.xpath.specs.Term.{Path, Qualifier, Void, Root, Step, Union, Composition, Filter, True, False, Not, And, Or, In, some-of}
 use Rattle.rules.specs.Claim.{Claim, Containment, Implication}
 use Rattle.rules.specs.Table.{rules}
@@ -17,6 +17,11 @@ use Rattle.rules.specs.Accepted.{Sample, sample, p, q, r, s, f, g, h, _:
 pub no-rule-0 : formsOf 0 ≡ []
 unfolding formsOf formsIn rules
 no-rule-0 = refl
+
+-- rule 50 has no form
+pub no-form-50 : formsOf 50 ≡ []
+unfolding formsOf formsIn rules
+no-form-50 = refl
 
 pub no-rule-59 : formsOf 59 ≡ []
 unfolding formsOf formsIn rules
@@ -35,7 +40,10 @@ nearMisses =
     -- a isn't below b
     sample 8 (Containment (descendant ::N) (child ::N)) []
     ∷ sample 8 (Containment (following-sibling ::N) (preceding-sibling ::N)) []
-    ∷ sample 8 (Containment (11 ::N) (11 ::N)) []
+    ∷ sample 8 (Containment (attribute ::N) (child ::N)) []
+    ∷ sample 8 (Containment (child ::N) (attribute ::N)) []
+    ∷ sample 8 (Containment (attribute ::N) (descendant-or-self ::N)) []
+    ∷ sample 8 (Containment (12 ::N) (12 ::N)) []
     -- N isn't below M
     ∷ sample 8 (Containment (child ::N) (descendant ::M)) []
     ∷ sample 8 (Containment (child ::star) (descendant ::N)) []
@@ -50,6 +58,19 @@ nearMisses =
     ∷ sample 23 (Implication (In (parent ::star) Void) (In (ancestor ::text) Void)) []
     -- N is node()
     ∷ sample 26 (Containment (Composition p (child ::node)) (Composition Root (descendant ::node))) []
+    -- a is the attribute axis
+    ∷ sample 26 (Containment (Composition p (attribute ::N)) (Composition Root (descendant ::star))) []
+    ∷ sample 26 (Containment (Composition p (attribute ::text)) (Composition Root (descendant ::text))) []
+    ∷ sample 58 (Containment (Composition (attribute ::node) (self ::N)) (attribute ::N)) []
+    ∷ sample 58 (Containment (attribute ::N) (Composition (attribute ::node) (self ::N))) []
+    ∷ sample 58 (Containment (Composition (attribute ::node) (self ::node)) (attribute ::node)) []
+    ∷ sample 58 (Containment (attribute ::node) (Composition (attribute ::node) (self ::node))) []
+    ∷ sample 58 (Containment (Composition (attribute ::node) (self ::text)) (attribute ::text)) []
+    ∷ sample 58 (Containment (attribute ::text) (Composition (attribute ::node) (self ::text))) []
+    -- rule 50, which has no form, and the direction that rule 54 doesn't have
+    ∷ sample 50 (Containment (Composition (Filter (parent ::N) f) (child ::M)) (Filter (Union (Union (preceding-sibling ::M) (following-sibling ::M)) (self ::M)) (some-of (Filter (parent ::N) f)))) []
+    ∷ sample 50 (Containment (Filter (Union (Union (preceding-sibling ::M) (following-sibling ::M)) (self ::M)) (some-of (Filter (parent ::N) f))) (Composition (Filter (parent ::N) f) (child ::M))) []
+    ∷ sample 54 (Containment (following ::N) (Composition (Composition (ancestor-or-self ::node) (following-sibling ::node)) (descendant-or-self ::N))) []
     -- an axis letter has two values
     ∷ sample 10 (Containment (Composition p (self ::N)) (Composition r (descendant ::M))) (Containment (child ::N) (descendant ::M) ∷ Containment p (Composition r (descendant ::star)) ∷ [])
     ∷ sample 10 (Containment (Composition p (child ::N)) (Composition r (following ::M))) (Containment (child ::N) (descendant ::M) ∷ Containment p (Composition r (descendant ::star)) ∷ [])
@@ -75,8 +96,8 @@ nearMisses =
     ∷ sample 23 (Implication (In (parent ::N) Void) (In (ancestor ::N) Void)) []
     ∷ sample 28 (Containment (Composition (self ::star) p) p) []
     ∷ sample 29 (Containment (Composition p (self ::star)) p) []
-    ∷ sample 54 (Containment (following ::N) (Composition (Composition (ancestor-or-self ::star) (following-sibling ::node)) (descendant-or-self ::N))) []
-    ∷ sample 54 (Containment (following ::N) (Composition (Composition (ancestor-or-self ::node) (following-sibling ::star)) (descendant-or-self ::N))) []
+    ∷ sample 54 (Containment (Composition (Composition (ancestor-or-self ::star) (following-sibling ::node)) (descendant-or-self ::N)) (following ::N)) []
+    ∷ sample 54 (Containment (Composition (Composition (ancestor-or-self ::node) (following-sibling ::star)) (descendant-or-self ::N)) (following ::N)) []
     ∷ sample 55 (Containment (preceding ::N) (Composition (Composition (ancestor-or-self ::star) (preceding-sibling ::node)) (descendant-or-self ::N))) []
     ∷ sample 55 (Containment (preceding ::N) (Composition (Composition (ancestor-or-self ::node) (preceding-sibling ::star)) (descendant-or-self ::N))) []
     ∷ sample 57 (Containment Root (ancestor-or-self ::star)) []
@@ -113,10 +134,10 @@ nearMisses =
     -- grouped otherwise
     ∷ sample 36 (Containment (Composition (Composition p q) r) (Composition (Composition p q) r)) []
     ∷ sample 37 (Containment (Filter (Composition p q) f) (Filter (Composition p q) f)) []
-    ∷ sample 50 (Containment (Composition (Filter (parent ::N) f) (child ::M)) (Filter (Union (preceding-sibling ::M) (Union (following-sibling ::M) (self ::M))) (some-of (Filter (parent ::N) f)))) []
-    ∷ sample 54 (Containment (following ::N) (Composition (ancestor-or-self ::node) (Composition (following-sibling ::node) (descendant-or-self ::N)))) []
+    ∷ sample 54 (Containment (Composition (ancestor-or-self ::node) (Composition (following-sibling ::node) (descendant-or-self ::N))) (following ::N)) []
+    ∷ sample 55 (Containment (preceding ::N) (Composition (ancestor-or-self ::node) (Composition (preceding-sibling ::node) (descendant-or-self ::N)))) []
     -- b isn't from 3 to 10
-    ∷ (rule10With parent ++ rule10With child ++ rule10With self ++ rule10With 11)
+    ∷ (rule10With parent ++ rule10With child ++ rule10With self ++ rule10With attribute)
 
 abbrev pub sampleRefused : Sample → Bool
 sampleRefused x = not (sampleYielded x)

@@ -3,7 +3,7 @@ use Prim.Native.Nat.{ℕ}
 use mathlib.Core.Bool.{Bool, false, _&&_, _||_}
 use mathlib.Core.List.{List, [], _∷_}
 use lib.Dec.{eqb}
-use Rattle.xpath.specs.Axis.{self, child, parent, descendant, ancestor, descendant-or-self, ancestor-or-self, following-sibling, preceding-sibling, following, preceding, name-test, star-test, node-test}
+use Rattle.xpath.specs.Axis.{self, child, parent, descendant, ancestor, descendant-or-self, ancestor-or-self, following-sibling, preceding-sibling, following, preceding, attribute, name-test, star-test, node-test}
 
 -- the pairs of axes whose first one is below the second
 unfoldable pub axisPairs : List (ℕ × ℕ)
@@ -19,6 +19,7 @@ axisPairs =
     ∷ (preceding-sibling, preceding-sibling)
     ∷ (following, following)
     ∷ (preceding, preceding)
+    ∷ (attribute, attribute)
     ∷ (child, descendant)
     ∷ (child, descendant-or-self)
     ∷ (descendant, descendant-or-self)

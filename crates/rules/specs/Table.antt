@@ -1,7 +1,7 @@
 -- The rule table: a line for each rule, its number, its conclusion, its premises in order, its conditions. Signs: `¦`, `∕`, `⟦ ⟧` are
 -- document 01's `|`, `/`, `[ ]`; `≐` and `⇔` are `=`, of paths and of qualifiers; `self :: node-test` is `.`. Assumes nothing.
 use mathlib.Core.List.{List, [], _∷_, _++_}
-use Rattle.rules.specs.Form.{Rule, Void, Root, _::_, _¦_, _∕_, _⟦_⟧, True, False, Not_, _And_, _Or_, _In_, _<=_, _=>_, a-below-b, N-below-M, b-from-3-to-10, N-a-name-or-star, N-not-node}
+use Rattle.rules.specs.Form.{Rule, Void, Root, _::_, _¦_, _∕_, _⟦_⟧, True, False, Not_, _And_, _Or_, _In_, _<=_, _=>_, a-below-b, N-below-M, b-from-3-to-10, N-a-name-or-star, N-not-node, a-not-attribute}
 use Rattle.rules.specs.Notation.{p, q, r, s, f, g, h, a, b, N, M, self, child, parent, descendant, ancestor, descendant-or-self, ancestor-or-self, following-sibling, preceding-sibling, following, preceding, star-test, node-test, some-of, _▸_, _from_, _if_, _≐_, _⇔_}
 
 unfoldable pub rules : List Rule
@@ -32,7 +32,7 @@ rules =
     ∷ (23 ▸ (parent :: node-test In Void) => (ancestor :: N In Void) from [] ++ (parent :: star-test In Void) => (ancestor :: N In Void) from [] if N-a-name-or-star ∷ [])
     ∷ (24 ▸ p <= Void from True => (p In Void) ∷ [])
     ∷ (25 ▸ p ⟦ f And g ⟧ <= Void from f => Not g ∷ [])
-    ∷ (26 ▸ p ∕ a :: N <= Root ∕ descendant :: M from [] if N-below-M ∷ N-not-node ∷ [])
+    ∷ (26 ▸ p ∕ a :: N <= Root ∕ descendant :: M from [] if N-below-M ∷ N-not-node ∷ a-not-attribute ∷ [])
     ∷ (27 ▸ p ≐ p ⟦ True ⟧)
     ∷ (28 ▸ p ≐ self :: node-test ∕ p)
     ∷ (29 ▸ p ≐ p ∕ self :: node-test)
@@ -56,13 +56,13 @@ rules =
     ∷ (47 ▸ f And Not f ⇔ False)
     ∷ (48 ▸ child :: N ⟦ f ⟧ ∕ parent :: M ≐ self :: M ⟦ some-of (child :: N ⟦ f ⟧) ⟧)
     ∷ (49 ▸ descendant :: N ⟦ f ⟧ ∕ parent :: M ≐ descendant-or-self :: M ⟦ some-of (child :: N ⟦ f ⟧) ⟧)
-    ∷ (50 ▸ parent :: N ⟦ f ⟧ ∕ child :: M ≐ ((preceding-sibling :: M ¦ following-sibling :: M) ¦ self :: M) ⟦ some-of (parent :: N ⟦ f ⟧) ⟧)
+    ∷ (50 ▸ [])  -- it yields nothing
     ∷ (51 ▸ descendant :: N ⟦ f ⟧ ∕ child :: M <= descendant :: M ⟦ some-of (parent :: N ⟦ f ⟧) ⟧ from [])
     ∷ (52 ▸ descendant-or-self :: N ≐ descendant :: N ¦ self :: N)
     ∷ (53 ▸ ancestor-or-self :: N ≐ ancestor :: N ¦ self :: N)
-    ∷ (54 ▸ following :: N ≐ (ancestor-or-self :: node-test ∕ following-sibling :: node-test) ∕ descendant-or-self :: N)
+    ∷ (54 ▸ (ancestor-or-self :: node-test ∕ following-sibling :: node-test) ∕ descendant-or-self :: N <= following :: N from [])
     ∷ (55 ▸ preceding :: N ≐ (ancestor-or-self :: node-test ∕ preceding-sibling :: node-test) ∕ descendant-or-self :: N)
     ∷ (56 ▸ p ∕ Root <= Root from [])
     ∷ (57 ▸ Root <= ancestor-or-self :: node-test from [])
-    ∷ (58 ▸ a :: node-test ∕ self :: N ≐ a :: N)
+    ∷ (58 ▸ a :: node-test ∕ self :: N ≐ a :: N if a-not-attribute ∷ [])
     ∷ []

@@ -11,11 +11,11 @@ use Rattle.rules.specs.Order.{axisPairs, isPair, axisBelow, testBelow}
 use Rattle.rules.specs.Table.{rules}
 use Rattle.rules.specs.Yields.{formsIn, formsOf, firstCount, premiseCount}
 
--- the axes that each number from 0 to 11 is below; 11 is no axis
+-- the axes that each number from 0 to 12 is below; 12 is no axis
 pub axes-above :
-    map (λ a. listBelow 12 (axisBelow a)) (listBelow 12 (λ a. true))
+    map (λ a. listBelow 13 (axisBelow a)) (listBelow 13 (λ a. true))
     ≡ (0 ∷ 5 ∷ 6 ∷ []) ∷ (1 ∷ 3 ∷ 5 ∷ []) ∷ (2 ∷ 4 ∷ 6 ∷ []) ∷ (3 ∷ 5 ∷ []) ∷ (4 ∷ 6 ∷ []) ∷ (5 ∷ []) ∷ (6 ∷ [])
-    ∷ (7 ∷ 9 ∷ []) ∷ (8 ∷ 10 ∷ []) ∷ (9 ∷ []) ∷ (10 ∷ []) ∷ [] ∷ []
+    ∷ (7 ∷ 9 ∷ []) ∷ (8 ∷ 10 ∷ []) ∷ (9 ∷ []) ∷ (10 ∷ []) ∷ (11 ∷ []) ∷ [] ∷ []
 unfolding listBelow axisBelow isPair axisPairs
 axes-above = refl
 

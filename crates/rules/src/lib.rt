@@ -59,6 +59,8 @@ const STAR_TEST: u16 = 1;
 
 const NODE_TEST: u16 = 2;
 
+const ATTRIBUTE: u16 = 11;
+
 // The rows that a step is about.
 pub struct Sides {
     pub left: u16,
@@ -247,17 +249,20 @@ fn match_premises(
     match_claim(rows, p.2, p.3, second, one)
 }
 
-// Whether the letters meet the condition numbered k.
+// Whether the letters meet the conditions numbered k.
 fn meets_condition(k: u16, m: Match) -> bool
     ensures { λ r. ⌜ r ≡ allOf (meets (numbersIn (matchOf m))) (conditionOf k) ⌝ }
 {
+    let axis = m.value[AXIS_A];
     let test = m.value[TEST_N];
     match k {
-        1 => axis_below(m.value[AXIS_A], m.value[AXIS_B]),
+        1 => axis_below(axis, m.value[AXIS_B]),
         2 => test_below(test, m.value[NAME_N], m.value[TEST_M], m.value[NAME_M]),
         3 => and(3 <= m.value[AXIS_B], m.value[AXIS_B] <= 10),
         4 => or(test == NAME_TEST, test == STAR_TEST),
         5 => test != NODE_TEST,
+        6 => axis != ATTRIBUTE,
+        7 => and(test != NODE_TEST, axis != ATTRIBUTE),
         _ => true,
     }
 }

@@ -119,7 +119,7 @@ module _ (d : Document) (x : ℕ) where
       (rw (lt-ltb 0 (length d) k))
       (λ y h ne. rw (ne-eqb y 0 ne, and-false))
 
-  pub step-added : (a t c : ℕ) {old new : List ℕ} → Added (length d) old new (λ y. onAxis a d x y && passes t c d y) → Added (length d) old new (selects d (Step a t c) x)
+  pub step-added : (a t c : ℕ) {old new : List ℕ} → Added (length d) old new (λ y. onAxis a d x y && passes a t c d y) → Added (length d) old new (selects d (Step a t c) x)
   unfolding selects
   step-added a t c u = added-cong _ u (λ y h. rw (lt-ltb y (length d) h))
 

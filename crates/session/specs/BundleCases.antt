@@ -97,9 +97,9 @@ reports :
     ∷ audited (example ++ "2 1 0 2\n") is reportBy 10 6 0 0 0
     -- numbers 0 and 65535
     ∷ audited (rowLines ++ "0 0 0 0\n2 1 0 65535\n" ++ stepLines) is reportBy 0 0 0 0 0
-    -- a refused row gives its number and its line: kind 12, axis 11, a row that is held
+    -- a refused row gives its number and its line: kind 12, axis 12, a row that is held
     ∷ audited (rows ++ "12 0 0 0\n" ++ stepLines ++ "8 0 1 0 0\n") is reportBy 1 4 0 0 0
-    ∷ audited (rows ++ "2 11 0 2\n" ++ stepLines) is reportBy 2 4 0 0 0
+    ∷ audited (rows ++ "2 12 0 2\n" ++ stepLines) is reportBy 2 4 0 0 0
     ∷ audited (rows ++ "2 1 0 2\n") is reportBy 12 4 0 0 0
     -- a refused step: rule 59, a row that is not held, a premise where there is none, what the rule does not yield
     ∷ audited (rows ++ stepLines ++ "59 0 1 0 0\n") is reportBy 4 5 0 0 0

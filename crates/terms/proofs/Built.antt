@@ -24,7 +24,7 @@ use Rattle.terms.proofs.Nesting.{nesting-at}
 -- what x is in row i of rs, where its place asks for f and the row's test is t; an operand is an earlier row of its sort
 abbrev pub FieldLaw : List Row → ℕ → Field → ℕ → ℕ → Type 0
 FieldLaw rs i unused x t = x ≡ 0
-FieldLaw rs i axis x t = x ≤ 10
+FieldLaw rs i axis x t = x ≤ 11
 FieldLaw rs i test x t = x ≤ 5
 FieldLaw rs i name x t = (t ≡ 0 → 1 ≤ x) × (¬ (t ≡ 0) → x ≡ 0)
 FieldLaw rs i path x t = (x < i) × (rowAt rs x .kind ≤ 5)

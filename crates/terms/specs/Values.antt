@@ -25,15 +25,15 @@ places rows = map (badPlace held) rows
 
 -- good rows of every kind; the least and the greatest axis, test and name
 good : places
-    (row 0 0 0 0 ∷ row 1 0 0 0 ∷ row 2 0 0 1 ∷ row 2 10 0 65535 ∷ row 2 0 1 0 ∷ row 2 10 5 0 ∷ row 3 0 0 0 ∷ row 4 0 0 0
+    (row 0 0 0 0 ∷ row 1 0 0 0 ∷ row 2 0 0 1 ∷ row 2 11 0 65535 ∷ row 2 0 1 0 ∷ row 2 11 5 0 ∷ row 3 0 0 0 ∷ row 4 0 0 0
     ∷ row 5 0 1 0 ∷ row 6 0 0 0 ∷ row 7 0 0 0 ∷ row 8 1 0 0 ∷ row 9 1 1 0 ∷ row 10 1 1 0 ∷ row 11 0 0 0 ∷ [])
     ≡ replicate 15 0
 unfolding badPlace fieldsOf fieldOk heldPath heldQualifier isPath isQualifier
 good = refl
 
--- the first field is bad alone: a field that is not used, axis 11, an operand of the other sort, one that is not held
+-- the first field is bad alone: a field that is not used, axis 12, an operand of the other sort, one that is not held
 bad-first : places
-    (row 0 1 0 0 ∷ row 1 1 0 0 ∷ row 2 11 0 7 ∷ row 3 1 0 0 ∷ row 3 2 0 0 ∷ row 4 1 0 0 ∷ row 4 2 0 0 ∷ row 5 1 1 0 ∷ row 5 2 1 0
+    (row 0 1 0 0 ∷ row 1 1 0 0 ∷ row 2 12 0 7 ∷ row 3 1 0 0 ∷ row 3 2 0 0 ∷ row 4 1 0 0 ∷ row 4 2 0 0 ∷ row 5 1 1 0 ∷ row 5 2 1 0
     ∷ row 6 1 0 0 ∷ row 7 1 0 0 ∷ row 8 0 0 0 ∷ row 8 2 0 0 ∷ row 9 0 1 0 ∷ row 9 2 1 0 ∷ row 10 0 1 0 ∷ row 10 2 1 0 ∷ row 11 1 0 0
     ∷ row 11 2 0 0 ∷ [])
     ≡ replicate 19 1
@@ -58,7 +58,7 @@ unfolding badPlace fieldsOf fieldOk heldPath heldQualifier isPath isQualifier
 bad-third = refl
 
 -- of two bad fields or three, the first
-bad-fields : places (row 0 1 1 1 ∷ row 2 11 6 7 ∷ row 2 11 0 0 ∷ row 2 1 6 7 ∷ row 3 1 1 0 ∷ row 4 1 0 1 ∷ row 5 0 0 1 ∷ row 9 1 0 1 ∷ [])
+bad-fields : places (row 0 1 1 1 ∷ row 2 12 6 7 ∷ row 2 12 0 0 ∷ row 2 1 6 7 ∷ row 3 1 1 0 ∷ row 4 1 0 1 ∷ row 5 0 0 1 ∷ row 9 1 0 1 ∷ [])
     ≡ 1 ∷ 1 ∷ 1 ∷ 2 ∷ 1 ∷ 1 ∷ 2 ∷ 2 ∷ []
 unfolding badPlace fieldsOf fieldOk heldPath heldQualifier isPath isQualifier
 bad-fields = refl

@@ -26,7 +26,7 @@ const FIRST_QUALIFIER: u16 = 6;
 
 pub const MAX_KIND: u16 = 11;
 
-const MAX_AXIS: u16 = 10;
+const MAX_AXIS: u16 = 11;
 
 const MAX_TEST: u16 = 5;
 

@@ -9,7 +9,7 @@ use lib.Dec.{T, ltb, eqb, ltb→lt, lt→ltb}
 use lib.ListN.{length, getD}
 use mir.Facts.{and-yes, yes-and, or-yes}
 use Rattle.xpath.specs.Bounded.{anyBelow}
-use Rattle.xpath.specs.Document.{Document, parentAt, isChild, isAncestor, areSiblings, wellFormed}
+use Rattle.xpath.specs.Document.{Document, kindAt, parentAt, isAttribute, isChild, isAncestor, areSiblings, wellFormed}
 use Rattle.xpath.specs.Axis.{onAxis, passes}
 use Rattle.xpath.specs.Term.{Path, Qualifier, Void, Root, Step, Union, Composition, Filter, True, False, Not, And, Or, In, some-of}
 use Rattle.xpath.specs.Meaning.{selects, holds}
@@ -20,7 +20,11 @@ use Rattle.xpath.proofs.Tree.{Child, Ancestor, child-yes, yes-child, an
 abbrev pub AncestorOrSelf : Document → ℕ → ℕ → Type 0
 AncestorOrSelf d x y = (x ≡ y) ⊎ Ancestor d x y
 
--- y is a following sibling of x
+-- y is no attribute
+abbrev pub NoAttribute : Document → ℕ → Type 0
+NoAttribute d y = ¬ (kindAt d y ≡ 5)
+
+-- x and y have the same parent, and y is later
 abbrev pub FollowingSibling : Document → ℕ → ℕ → Type 0
 FollowingSibling d x y = (0 < x) × (parentAt d y ≡ parentAt d x) × (x < y)
 
@@ -28,21 +32,22 @@ FollowingSibling d x y = (0 < x) × (parentAt d y ≡ parentAt d x) × (x < y)
 abbrev pub Following : Document → ℕ → ℕ → Type 0
 Following d x y = (x < y) × ¬ (Ancestor d x y)
 
--- y is on axis a of x; each axis that looks back is one that looks forward, from y
+-- y is on axis a of x
 unfoldable pub OnAxis : ℕ → Document → ℕ → ℕ → Type 0
 OnAxis a d x y =
     getD
     ((x ≡ y)
-    ∷ Child d x y
+    ∷ (Child d x y × NoAttribute d y)
     ∷ Child d y x
-    ∷ Ancestor d x y
+    ∷ (Ancestor d x y × NoAttribute d y)
     ∷ Ancestor d y x
-    ∷ AncestorOrSelf d x y
+    ∷ ((x ≡ y) ⊎ (Ancestor d x y × NoAttribute d y))
     ∷ AncestorOrSelf d y x
-    ∷ FollowingSibling d x y
-    ∷ FollowingSibling d y x
-    ∷ Following d x y
-    ∷ Following d y x
+    ∷ (FollowingSibling d x y × NoAttribute d x × NoAttribute d y)
+    ∷ (FollowingSibling d y x × NoAttribute d x × NoAttribute d y)
+    ∷ (Following d x y × NoAttribute d y)
+    ∷ (Following d y x × NoAttribute d y)
+    ∷ (Child d x y × (kindAt d y ≡ 5))
     ∷ [])
     a ⊥
 
@@ -51,7 +56,7 @@ unfoldable mutual
   pub Selects : Document → Path → ℕ → ℕ → Type 0
   Selects d Void x y = ⊥
   Selects d Root x y = y ≡ 0
-  Selects d (Step a t c) x y = OnAxis a d x y × T (passes t c d y)
+  Selects d (Step a t c) x y = OnAxis a d x y × T (passes a t c d y)
   Selects d (Union p q) x y = Selects d p x y ⊎ Selects d q x y
   Selects d (Composition p q) x y = (z : ℕ) × (z < length d) × Selects d p x z × Selects d q z y
   Selects d (Filter p f) x y = Selects d p x y × Holds d f y
@@ -68,33 +73,39 @@ unfoldable mutual
 eq-iff-sym : (m n : ℕ) → T (eqb m n) ↔ (n ≡ m)
 eq-iff-sym m n = (λ t. sym ((eq-iff m n) .0 t), λ e. (eq-iff m n) .1 (sym e))
 
-siblings-iff : (d : Document) (x y : ℕ) → T (areSiblings d x y) ↔ ((0 < x) × (0 < y) × (parentAt d y ≡ parentAt d x) × ¬ (x ≡ y))
+siblings-iff : (d : Document) (x y : ℕ) →
+    T (areSiblings d x y) ↔ ((0 < x) × (0 < y) × (parentAt d y ≡ parentAt d x) × ¬ (x ≡ y) × NoAttribute d x × NoAttribute d y)
 unfolding areSiblings
 siblings-iff d x y = (
-  λ t. let r = simp (facts, areSiblings) at t in let c = child-yes d _ _ (r .0 .1) in (omega (arith, r .0 .0), c .0, c .1, r .1),
-  λ s. simp (facts, areSiblings) ((λ e. omega (arith, s .0), yes-child d _ y (s .1, s .2)), s .3),
+  λ t. let r = simp (facts, areSiblings) at t in
+      let c = child-yes d _ _ (r .0 .0 .0 .1) in (omega (arith, r .0 .0 .0 .0), c .0, c .1, r .0 .0 .1, r .0 .1, r .1),
+  λ s. simp (facts, areSiblings) ((((λ e. omega (arith, s .0), yes-child d _ y (s .1, s .2)), s .3), s .4), s .5),
 )
 
-following-sibling-iff : (d : Document) (x y : ℕ) → T (areSiblings d x y && ltb x y) ↔ FollowingSibling d x y
+following-sibling-iff : (d : Document) (x y : ℕ) → T (areSiblings d x y && ltb x y) ↔ (FollowingSibling d x y × NoAttribute d x × NoAttribute d y)
 following-sibling-iff d x y =
     let e = and-via (areSiblings d x y) (ltb x y) (siblings-iff d x y) (le-iff (suc x) y) in (
-      λ t. let r = e .0 t in (r .0 .0, r .0 .2, r .1),
-      λ s. e .1 ((s .0, omega arith, s .1, λ e. omega arith), s .2),
+      λ t. let r = e .0 t in ((r .0 .0, r .0 .2, r .1), r .0 .4, r .0 .5),
+      λ (s, m, n). e .1 ((s .0, omega arith, s .1, λ e. omega arith, m, n), s .2),
     )
 
-preceding-sibling-iff : (d : Document) (x y : ℕ) → T (areSiblings d x y && ltb y x) ↔ FollowingSibling d y x
+preceding-sibling-iff : (d : Document) (x y : ℕ) → T (areSiblings d x y && ltb y x) ↔ (FollowingSibling d y x × NoAttribute d x × NoAttribute d y)
 preceding-sibling-iff d x y =
     let e = and-via (areSiblings d x y) (ltb y x) (siblings-iff d x y) (le-iff (suc y) x) in (
-      λ t. let r = e .0 t in (r .0 .1, sym (r .0 .2), r .1),
-      λ s. e .1 ((omega arith, s .0, sym (s .1), λ e. omega arith), s .2),
+      λ t. let r = e .0 t in ((r .0 .1, sym (r .0 .2), r .1), r .0 .4, r .0 .5),
+      λ (s, m, n). e .1 ((omega arith, s .0, sym (s .1), λ e. omega arith, m, n), s .2),
     )
+
+-- a test of y that leaves attributes out
+pub left-out-via : {A : Type 0} (d : Document) (y : ℕ) (b : Bool) → T b ↔ A → T (b && not (isAttribute d y)) ↔ (A × NoAttribute d y)
+left-out-via d y b e = and-via b (not (isAttribute d y)) e (not-via (isAttribute d y) (eq-iff (kindAt d y) 5))
 
 -- a path never selects a number beyond the document
 pub selects-in-document : (d : Document) (p : Path) (x y : ℕ) → T (selects d p x y) → y < length d
 unfolding selects
 selects-in-document d Void x y t = absurd t
 selects-in-document d Root x y t = ltb→lt y (length d) ((and-yes (ltb y (length d)) (eqb y 0) t) .0)
-selects-in-document d (Step a n c) x y t = ltb→lt y (length d) ((and-yes (ltb y (length d)) (onAxis a d x y && passes n c d y) t) .0)
+selects-in-document d (Step a n c) x y t = ltb→lt y (length d) ((and-yes (ltb y (length d)) (onAxis a d x y && passes a n c d y) t) .0)
 selects-in-document d (Union p q) x y t =
     ⊎-elim (selects-in-document d p x y) (selects-in-document d q x y) (or-yes (selects d p x y) (selects d q x y) t)
 selects-in-document d (Composition p q) x y t =
@@ -109,23 +120,30 @@ module _ (d : Document) (w : T (wellFormed d)) where
   ancestor-iff : (x y : ℕ) → y < length d → T (isAncestor d x y) ↔ Ancestor d x y
   ancestor-iff x y l = (ancestor-yes d x y, yes-ancestor d w x y l)
 
+  descendant-iff : (x y : ℕ) → y < length d → T (isAncestor d x y && not (isAttribute d y)) ↔ (Ancestor d x y × NoAttribute d y)
+  descendant-iff x y l = left-out-via d y (isAncestor d x y) (ancestor-iff x y l)
+
   following-iff : (x y : ℕ) → y < length d → T (ltb x y && not (isAncestor d x y)) ↔ Following d x y
   following-iff x y l = and-via (ltb x y) (not (isAncestor d x y)) (le-iff (suc x) y) (not-via (isAncestor d x y) (ancestor-iff x y l))
 
   pub on-axis-iff : (a x y : ℕ) → x < length d → y < length d → T (onAxis a d x y) ↔ OnAxis a d x y
   unfolding onAxis OnAxis
   on-axis-iff zero x y k l = eq-iff x y
-  on-axis-iff (suc zero) x y k l = child-iff x y
+  on-axis-iff (suc zero) x y k l = left-out-via d y (isChild d x y) (child-iff x y)
   on-axis-iff (suc (suc zero)) x y k l = child-iff y x
-  on-axis-iff (suc (suc (suc zero))) x y k l = ancestor-iff x y l
+  on-axis-iff (suc (suc (suc zero))) x y k l = descendant-iff x y l
   on-axis-iff (suc (suc (suc (suc zero)))) x y k l = ancestor-iff y x k
-  on-axis-iff (suc (suc (suc (suc (suc zero))))) x y k l = or-via (eqb x y) (isAncestor d x y) (eq-iff x y) (ancestor-iff x y l)
+  on-axis-iff (suc (suc (suc (suc (suc zero))))) x y k l = or-via (eqb x y) (isAncestor d x y && not (isAttribute d y)) (eq-iff x y) (descendant-iff x y l)
   on-axis-iff (suc (suc (suc (suc (suc (suc zero)))))) x y k l = or-via (eqb x y) (isAncestor d y x) (eq-iff-sym x y) (ancestor-iff y x k)
   on-axis-iff (suc (suc (suc (suc (suc (suc (suc zero))))))) x y k l = following-sibling-iff d x y
   on-axis-iff (suc (suc (suc (suc (suc (suc (suc (suc zero)))))))) x y k l = preceding-sibling-iff d x y
-  on-axis-iff (suc (suc (suc (suc (suc (suc (suc (suc (suc zero))))))))) x y k l = following-iff x y l
-  on-axis-iff (suc (suc (suc (suc (suc (suc (suc (suc (suc (suc zero)))))))))) x y k l = following-iff y x k
-  on-axis-iff (suc (suc (suc (suc (suc (suc (suc (suc (suc (suc (suc n))))))))))) x y k l = (λ t. t, λ t. t)
+  on-axis-iff (suc (suc (suc (suc (suc (suc (suc (suc (suc zero))))))))) x y k l =
+      left-out-via d y (ltb x y && not (isAncestor d x y)) (following-iff x y l)
+  on-axis-iff (suc (suc (suc (suc (suc (suc (suc (suc (suc (suc zero)))))))))) x y k l =
+      left-out-via d y (ltb y x && not (isAncestor d y x)) (following-iff y x k)
+  on-axis-iff (suc (suc (suc (suc (suc (suc (suc (suc (suc (suc (suc zero))))))))))) x y k l =
+      and-via (isChild d x y) (isAttribute d y) (child-iff x y) (eq-iff (kindAt d y) 5)
+  on-axis-iff (suc (suc (suc (suc (suc (suc (suc (suc (suc (suc (suc (suc n)))))))))))) x y k l = (λ t. t, λ t. t)
 
   -- a test that is guarded by y < length d
   guarded-iff : {A : Type 0} (b : Bool) (y : ℕ) → y < length d → T b ↔ A → T (ltb y (length d) && b) ↔ A
@@ -141,7 +159,7 @@ module _ (d : Document) (w : T (wellFormed d)) where
     selects-iff Void x y k l = (λ t. t, λ t. t)
     selects-iff Root x y k l = guarded-iff (eqb y 0) y l (eq-iff y 0)
     selects-iff (Step a t c) x y k l =
-        guarded-iff (onAxis a d x y && passes t c d y) y l (and-via (onAxis a d x y) (passes t c d y) (on-axis-iff a x y k l) (λ u. u, λ u. u))
+        guarded-iff (onAxis a d x y && passes a t c d y) y l (and-via (onAxis a d x y) (passes a t c d y) (on-axis-iff a x y k l) (λ u. u, λ u. u))
     selects-iff (Union p q) x y k l = or-via (selects d p x y) (selects d q x y) (selects-iff p x y k l) (selects-iff q x y k l)
     selects-iff (Composition p q) x y k l = (
       λ t. let r = any-yes (length d) (λ z. selects d p x z && selects d q z y) t in

@@ -2,6 +2,7 @@ pub mod Reflect
 pub mod Tree
 pub mod Facts
 pub mod Order
+pub mod Attributes
 pub mod Ends
 pub mod Search
 pub mod Lent

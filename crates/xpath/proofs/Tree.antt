@@ -1,6 +1,6 @@
 -- Laws of the tree that a well-formed document is, of any length. Assumes nothing.
 use Prim.Native.Nat.{ℕ, zero, suc, _≤_, _<_}
-use mathlib.Core.Path.{_≡_, refl, sym}
+use mathlib.Core.Path.{_≡_, refl, sym, _∙_}
 use mathlib.Core.Bool.{false, not, _&&_}
 use mathlib.Core.Logic.{_⊎_, inl, inr, ⊎-elim}
 use native.Mathlib.Omega.{arith}
@@ -97,10 +97,24 @@ module _ (d : Document) (w : T (wellFormed d)) where
   unfolding rowOk kindAndNameOk
   row-facts n l =
       let r = simp (facts, rowOk, kindAndNameOk) at (row-ok (suc n) l) in (
-        ⊎-elim (λ e. inl (eqb-yes e)) (λ a. inr (ancestor-yes d _ _ a)) (r .0 .0),
-        r .0 .1,
-        ⊎-elim (λ t. let u = simp facts at t in omega arith) (λ t. let u = simp facts at t in omega arith) (r .1),
+        ⊎-elim (λ e. inl (eqb-yes e)) (λ a. inr (ancestor-yes d _ _ a)) (r .0 .0 .0),
+        r .0 .0 .1,
+        ⊎-elim
+            (λ t. let u = simp facts at t in ⊎-elim (λ e. let k : kindAt d (suc n) ≡ 1 = eqb-yes e in omega arith) (λ e. let k : kindAt d (suc n) ≡ 5 = eqb-yes e in omega arith) (u .0 .0))
+            (λ t. let u = simp facts at t in omega arith)
+            (r .0 .1),
       )
+
+  -- what is asked of row n + 1, an attribute: its parent is an element, and is row n or has row n for an attribute
+  pub attribute-facts : (n : ℕ) → suc n < length d → kindAt d (suc n) ≡ 5 →
+      (kindAt d (parentAt d (suc n)) ≡ 1) × ((parentAt d (suc n) ≡ n) ⊎ ((kindAt d n ≡ 5) × (parentAt d n ≡ parentAt d (suc n))))
+  unfolding rowOk
+  attribute-facts n l k =
+      let r = simp (facts, rowOk) at (row-ok (suc n) l) in
+      ⊎-elim
+      (λ t. absurd (simp facts at t k))
+      (λ t. let u = simp facts at t in (u .0, ⊎-elim (λ e. inl (eqb-yes e)) (λ s. inr (simp facts at s)) (u .1)))
+      (r .1)
 
   parents-smaller : (n : ℕ) → n ≤ length d → ParentsSmaller d n
   parents-smaller zero l k h p = omega arith
@@ -182,3 +196,20 @@ module _ (d : Document) (w : T (wellFormed d)) where
       let b : kindAt d x ≤ 1 = rw e at (parent-kind y l h) in
       omega (arith, kind-positive x (omega arith) p)
   ancestor-is-element {x} {y} l p (above-parent h a) = let q = parent-smaller y l h in ancestor-is-element (omega arith) p a
+
+  -- an ancestor is the root or an element, and so no attribute
+  pub ancestor-kind : {x y : ℕ} → y < length d → Ancestor d x y → kindAt d x ≤ 1
+  ancestor-kind {x} {y} l (parent-is h e) = rw e at (parent-kind y l h)
+  ancestor-kind {x} {y} l (above-parent h a) = let q = parent-smaller y l h in ancestor-kind (omega arith) a
+
+  -- between an element and an attribute of it stand only attributes of it
+  pub attributes-first : (s v : ℕ) → v < length d → kindAt d v ≡ 5 → parentAt d v < s → s ≤ v → (kindAt d s ≡ 5) × (parentAt d s ≡ parentAt d v)
+  attributes-first s zero l k h g = absurd (omega arith)
+  attributes-first s (suc n) l k h g =
+      ⊎-elim
+      (λ e. rw e (k, refl))
+      (λ ne. ⊎-elim
+      (λ p. absurd (omega (arith, ne)))
+      (λ (m, q). let (i, j) = attributes-first s n (omega arith) m (omega arith) (omega (arith, ne)) in (i, j ∙ q))
+      (attribute-facts n l k .1))
+      (eq-or-ne s (suc n))

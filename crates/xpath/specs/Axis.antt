@@ -1,10 +1,10 @@
--- The eleven axes and the six node tests. Assumes nothing.
+-- The twelve axes and the six node tests. Assumes nothing.
 use Prim.Native.Nat.{ℕ}
-use mathlib.Core.Bool.{Bool, true, false, not, _&&_, _||_}
+use mathlib.Core.Bool.{Bool, true, false, not, cond, _&&_, _||_}
 use mathlib.Core.List.{[], _∷_}
 use lib.Dec.{ltb, eqb}
 use lib.ListN.{getD}
-use Rattle.xpath.specs.Document.{Document, kindAt, nameAt, isChild, isAncestor, areSiblings}
+use Rattle.xpath.specs.Document.{Document, kindAt, nameAt, isAttribute, isChild, isAncestor, areSiblings}
 
 -- the numbers of the axes
 abbrev pub self : ℕ
@@ -40,24 +40,28 @@ following = 9
 abbrev pub preceding : ℕ
 preceding = 10
 
-abbrev pub maxAxis : ℕ
-maxAxis = preceding
+abbrev pub attribute : ℕ
+attribute = 11
 
--- y is on axis a of x
+abbrev pub maxAxis : ℕ
+maxAxis = attribute
+
+-- y is on axis a of x; an attribute is on axis 11 of its parent, and on self and the or-self axes of itself
 unfoldable pub onAxis : ℕ → Document → ℕ → ℕ → Bool
 onAxis a d x y =
     getD
     (eqb x y  -- self
-    ∷ isChild d x y  -- child
+    ∷ (isChild d x y && not (isAttribute d y))  -- child
     ∷ isChild d y x  -- parent
-    ∷ isAncestor d x y  -- descendant
+    ∷ (isAncestor d x y && not (isAttribute d y))  -- descendant
     ∷ isAncestor d y x  -- ancestor
-    ∷ (eqb x y || isAncestor d x y)  -- descendant-or-self
+    ∷ (eqb x y || isAncestor d x y && not (isAttribute d y))  -- descendant-or-self
     ∷ (eqb x y || isAncestor d y x)  -- ancestor-or-self
     ∷ (areSiblings d x y && ltb x y)  -- following-sibling
     ∷ (areSiblings d x y && ltb y x)  -- preceding-sibling
-    ∷ (ltb x y && not (isAncestor d x y))  -- following: later rows, not descendants
-    ∷ (ltb y x && not (isAncestor d y x))  -- preceding: earlier rows, not ancestors
+    ∷ (ltb x y && not (isAncestor d x y) && not (isAttribute d y))  -- following: later rows, no descendants, no attributes
+    ∷ (ltb y x && not (isAncestor d y x) && not (isAttribute d y))  -- preceding: earlier rows, no ancestors, no attributes
+    ∷ (isChild d x y && isAttribute d y)  -- attribute
     ∷ [])
     a false
 
@@ -83,12 +87,16 @@ instruction-test = 5
 abbrev pub maxTest : ℕ
 maxTest = instruction-test
 
--- y passes test t with name c
-unfoldable pub passes : ℕ → ℕ → Document → ℕ → Bool
-passes t c d y =
+-- XPath's principal node type of axis a, by its kind, which a name or `*` selects: attributes on axis 11, elements on any other
+abbrev pub principal : ℕ → ℕ
+principal a = cond (eqb a attribute) 5 1
+
+-- y passes test t with name c on axis a
+unfoldable pub passes : ℕ → ℕ → ℕ → Document → ℕ → Bool
+passes a t c d y =
     getD
-    ((eqb (kindAt d y) 1 && eqb (nameAt d y) c)  -- a name: an element of that name
-    ∷ eqb (kindAt d y) 1  -- *: any element
+    ((eqb (kindAt d y) (principal a) && eqb (nameAt d y) c)  -- a name: an element, or an attribute, of that name
+    ∷ eqb (kindAt d y) (principal a)  -- *: any element, or attribute
     ∷ true  -- node()
     ∷ eqb (kindAt d y) 2  -- text()
     ∷ eqb (kindAt d y) 3  -- comment()

@@ -7,7 +7,7 @@ use lib.Dec.{leb, ltb, eqb}
 use lib.ListN.{length, getD}
 use Rattle.xpath.specs.Bounded.{allBelow, firstBelow}
 
--- kinds: 0 root, 1 element, 2 text, 3 comment, 4 processing instruction
+-- kinds: 0 root, 1 element, 2 text, 3 comment, 4 processing instruction, 5 attribute
 pub record Node : Type 0 where
   pub kind : ℕ
   pub parent : ℕ
@@ -32,7 +32,11 @@ parentAt d n = (getD d n rootNode) .parent
 unfoldable pub nameAt : Document → ℕ → ℕ
 nameAt d n = (getD d n rootNode) .name
 
--- y is a child of x; row 0 is no one's child
+-- y is an attribute
+abbrev pub isAttribute : Document → ℕ → Bool
+isAttribute d y = eqb (kindAt d y) 5
+
+-- x is the parent of y, which may be an attribute; row 0 has no parent
 unfoldable pub isChild : Document → ℕ → ℕ → Bool
 isChild d x y = not (eqb y 0) && eqb (parentAt d y) x
 
@@ -41,30 +45,38 @@ unfoldable pub climbMeets : ℕ → Document → ℕ → ℕ → Bool
 climbMeets zero d x y = false
 climbMeets (suc most) d x y = isChild d x y || not (eqb y 0) && climbMeets most d x (parentAt d y)
 
--- x is an ancestor of y: a parent's row is the smaller one, so y parents are enough to reach the root
+-- x is an ancestor of y, which may be an attribute: a parent's row is the smaller one, so y parents are enough to reach the root
 unfoldable pub isAncestor : Document → ℕ → ℕ → Bool
 isAncestor d x y = climbMeets y d x y
 
--- x and y are siblings: they have the same parent and are two; row 0 has no parent
+-- x and y are siblings: they have the same parent and are two, neither an attribute; row 0 has no parent
 unfoldable pub areSiblings : Document → ℕ → ℕ → Bool
-areSiblings d x y = not (eqb x 0) && isChild d (parentAt d x) y && not (eqb x y)
+areSiblings d x y = not (eqb x 0) && isChild d (parentAt d x) y && not (eqb x y) && not (isAttribute d x) && not (isAttribute d y)
 
 abbrev pub maxName : ℕ
 maxName = 65535
 
--- an element's name is 1 to 65535, any other's 0; the kinds of the rows after row 0 are 1 to 4
+-- the name of an element or an attribute is 1 to 65535, any other's 0; the kinds of the rows after row 0 are 1 to 5
 unfoldable pub kindAndNameOk : ℕ → ℕ → Bool
 kindAndNameOk kind name =
-    eqb kind 1 && leb 1 name && leb name maxName
+    (eqb kind 1 || eqb kind 5) && leb 1 name && leb name maxName
     || leb 2 kind && leb kind 4 && eqb name 0
 
--- row n is as it must be: row 0 is `0 0 0`; the parent of a later row is the row before it or an ancestor of that one, and is the root or an element
+-- row n + 1, an attribute, stands where it must: its parent is an element, and is the row before it or has the row before it for an attribute
+abbrev pub attributePlaced : Document → ℕ → Bool
+attributePlaced d n =
+    eqb (kindAt d (parentAt d (suc n))) 1
+    && (eqb (parentAt d (suc n)) n || isAttribute d n && eqb (parentAt d n) (parentAt d (suc n)))
+
+-- row n is as it must be: row 0 is `0 0 0`; the parent of a later row is the row before it or an ancestor of that one, and is the root or an element;
+-- an attribute stands after its parent, with only attributes of that parent between
 unfoldable pub rowOk : Document → ℕ → Bool
 rowOk d zero = eqb (kindAt d 0) 0 && eqb (parentAt d 0) 0 && eqb (nameAt d 0) 0
 rowOk d (suc n) =
     (eqb (parentAt d (suc n)) n || isAncestor d (parentAt d (suc n)) n)
     && leb (kindAt d (parentAt d (suc n))) 1
     && kindAndNameOk (kindAt d (suc n)) (nameAt d (suc n))
+    && (not (isAttribute d (suc n)) || attributePlaced d n)
 
 -- a document of any size
 unfoldable pub wellFormed : Document → Bool

@@ -29,6 +29,10 @@ pub documents-accepted :
     ∷ documentRefusal (lent (rootNode ∷ node 1 0 1 ∷ node 4 1 0 ∷ node 3 1 0 ∷ node 2 1 0 ∷ node 2 1 0 ∷ node 1 1 1 ∷ [])) is none
     -- the greatest name
     ∷ documentRefusal (lent (rootNode ∷ node 1 0 65535 ∷ [])) is none
+    -- attributes: one, two of one element with children after them, one on an inner element, the greatest name, two of one name
+    ∷ documentRefusal (lent (rootNode ∷ node 1 0 1 ∷ node 5 1 1 ∷ [])) is none
+    ∷ documentRefusal (lent (rootNode ∷ node 1 0 1 ∷ node 5 1 3 ∷ node 5 1 3 ∷ [])) is none
+    ∷ documentRefusal (lent (rootNode ∷ node 1 0 1 ∷ node 5 1 3 ∷ node 5 1 4 ∷ node 2 1 0 ∷ node 1 1 2 ∷ node 5 5 65535 ∷ node 2 5 0 ∷ node 1 0 1 ∷ [])) is none
     -- parents several levels up
     ∷ documentRefusal (lent (rootNode ∷ node 1 0 1 ∷ node 1 1 1 ∷ node 1 2 1 ∷ node 1 3 1 ∷ node 2 1 0 ∷ node 2 0 0 ∷ [])) is none
     ∷ [])
@@ -57,9 +61,26 @@ pub documents-refused :
     ∷ documentRefusal (lent (rootNode ∷ node 3 0 1 ∷ [])) is some 1
     ∷ documentRefusal (lent (rootNode ∷ node 4 0 1 ∷ [])) is some 1
     ∷ documentRefusal (lent (rootNode ∷ node 1 0 65536 ∷ [])) is some 1
-    -- a kind above 4
+    -- a kind above 5
+    ∷ documentRefusal (lent (rootNode ∷ node 6 0 0 ∷ [])) is some 1
+    ∷ documentRefusal (lent (rootNode ∷ node 6 0 1 ∷ [])) is some 1
+    -- an attribute of the root, without a name, with a name of more than 16 bits
     ∷ documentRefusal (lent (rootNode ∷ node 5 0 0 ∷ [])) is some 1
     ∷ documentRefusal (lent (rootNode ∷ node 5 0 1 ∷ [])) is some 1
+    ∷ documentRefusal (lent (rootNode ∷ node 1 0 1 ∷ node 5 1 0 ∷ [])) is some 2
+    ∷ documentRefusal (lent (rootNode ∷ node 1 0 1 ∷ node 5 1 65536 ∷ [])) is some 2
+    -- an attribute of a text, a comment, a processing instruction
+    ∷ documentRefusal (lent (rootNode ∷ node 2 0 0 ∷ node 5 1 1 ∷ [])) is some 2
+    ∷ documentRefusal (lent (rootNode ∷ node 1 0 1 ∷ node 2 1 0 ∷ node 5 2 1 ∷ [])) is some 3
+    ∷ documentRefusal (lent (rootNode ∷ node 1 0 1 ∷ node 3 1 0 ∷ node 5 2 1 ∷ [])) is some 3
+    ∷ documentRefusal (lent (rootNode ∷ node 1 0 1 ∷ node 4 1 0 ∷ node 5 2 1 ∷ [])) is some 3
+    -- an attribute after another child (a text, an element, of its owner), after a child's attribute, after a child's child; a parent that is an attribute
+    ∷ documentRefusal (lent (rootNode ∷ node 1 0 1 ∷ node 2 1 0 ∷ node 5 1 1 ∷ [])) is some 3
+    ∷ documentRefusal (lent (rootNode ∷ node 1 0 1 ∷ node 1 1 1 ∷ node 5 2 1 ∷ node 5 1 1 ∷ [])) is some 4
+    ∷ documentRefusal (lent (rootNode ∷ node 1 0 1 ∷ node 1 1 1 ∷ node 1 2 1 ∷ node 5 2 1 ∷ [])) is some 4
+    ∷ documentRefusal (lent (rootNode ∷ node 1 0 1 ∷ node 1 1 1 ∷ node 2 2 0 ∷ node 5 1 1 ∷ [])) is some 4
+    ∷ documentRefusal (lent (rootNode ∷ node 1 0 1 ∷ node 5 1 1 ∷ node 2 2 0 ∷ [])) is some 3
+    ∷ documentRefusal (lent (rootNode ∷ node 1 0 1 ∷ node 5 1 1 ∷ node 5 2 1 ∷ [])) is some 3
     -- a parent that is a text, a comment, a processing instruction
     ∷ documentRefusal (lent (rootNode ∷ node 2 0 0 ∷ node 2 1 0 ∷ [])) is some 2
     ∷ documentRefusal (lent (rootNode ∷ node 3 0 0 ∷ node 2 1 0 ∷ [])) is some 2
@@ -71,8 +92,8 @@ pub documents-refused :
     ∷ documentRefusal (lent (rootNode ∷ node 1 0 1 ∷ node 1 0 1 ∷ node 2 1 0 ∷ [])) is some 3
     ∷ documentRefusal (lent (rootNode ∷ node 1 0 1 ∷ node 1 1 1 ∷ node 1 1 1 ∷ node 2 2 0 ∷ [])) is some 4
     -- the first of two bad rows, and of a bad and an incomplete one
-    ∷ documentRefusal (lent (rootNode ∷ node 1 0 1 ∷ node 1 0 0 ∷ node 5 0 0 ∷ [])) is some 2
-    ∷ documentRefusal (lent (rootNode ∷ node 5 0 0 ∷ []) ++ (2 ∷ 0 ∷ [])) is some 1
+    ∷ documentRefusal (lent (rootNode ∷ node 1 0 1 ∷ node 1 0 0 ∷ node 6 0 0 ∷ [])) is some 2
+    ∷ documentRefusal (lent (rootNode ∷ node 6 0 0 ∷ []) ++ (2 ∷ 0 ∷ [])) is some 1
     ∷ [])
 unfolding documentRefusal lentRows badRow firstBelow Option·elim documentOf rowOk kindAndNameOk kindAt parentAt nameAt isChild climbMeets isAncestor
 documents-refused = refl

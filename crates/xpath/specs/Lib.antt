@@ -10,4 +10,5 @@ pub mod Expected
 pub mod LogCases
 pub mod DocumentCases
 pub mod MeaningCases
+pub mod AttributeCases
 pub mod VisitCases

@@ -14,7 +14,7 @@ unfoldable mutual
   pub selects : Document → Path → ℕ → ℕ → Bool
   selects d Void x y = false
   selects d Root x y = ltb y (length d) && eqb y 0
-  selects d (Step a t c) x y = ltb y (length d) && (onAxis a d x y && passes t c d y)
+  selects d (Step a t c) x y = ltb y (length d) && (onAxis a d x y && passes a t c d y)
   selects d (Union p q) x y = selects d p x y || selects d q x y
   selects d (Composition p q) x y = anyBelow (length d) (λ z. selects d p x z && selects d q z y)
   selects d (Filter p f) x y = selects d p x y && holds d f y

@@ -4,7 +4,7 @@ use mathlib.Core.Bool.{true, false}
 use mathlib.Core.List.{[], _∷_}
 use Rattle.xpath.specs.Bounded.{anyBelow, allBelow, listBelow}
 use Rattle.xpath.specs.Document.{Document, node, rootNode, kindAt, parentAt, nameAt, isChild, climbMeets, isAncestor, areSiblings, kindAndNameOk, rowOk, wellFormed}
-use Rattle.xpath.specs.Axis.{self, child, parent, descendant, ancestor, descendant-or-self, ancestor-or-self, following-sibling, preceding-sibling, following, preceding, onAxis, star-test, node-test, text-test, comment-test, instruction-test, passes}
+use Rattle.xpath.specs.Axis.{self, child, parent, descendant, ancestor, descendant-or-self, ancestor-or-self, following-sibling, preceding-sibling, following, preceding, attribute, onAxis, star-test, node-test, text-test, comment-test, instruction-test, passes}
 use Rattle.xpath.specs.Term.{Void, Root, Step, Union, Composition, Filter, True, False, Not, And, Or, In, some-of}
 use Rattle.xpath.specs.Meaning.{selects, holds, nodes}
 use Rattle.xpath.specs.Expected.{_is_, AllRight, _::_, _::node}
@@ -32,7 +32,7 @@ pub sample-well-formed : wellFormed sample ≡ true
 unfolding wellFormed rowOk kindAndNameOk kindAt parentAt nameAt isChild climbMeets isAncestor allBelow
 sample-well-formed = refl
 
--- each axis from an inner node; there is no axis 11
+-- each axis from an inner node; it has no attribute, and there is no axis 12
 pub axes-from-inner-node :
     AllRight
     (nodes sample (self ::node) 6 is (6 ∷ [])
@@ -46,7 +46,8 @@ pub axes-from-inner-node :
     ∷ nodes sample (preceding-sibling ::node) 6 is (3 ∷ 4 ∷ [])
     ∷ nodes sample (following ::node) 6 is (10 ∷ 11 ∷ 12 ∷ 13 ∷ [])
     ∷ nodes sample (preceding ::node) 6 is (1 ∷ 3 ∷ 4 ∷ 5 ∷ [])
-    ∷ nodes sample (11 ::node) 6 is []
+    ∷ nodes sample (attribute ::node) 6 is []
+    ∷ nodes sample (12 ::node) 6 is []
     ∷ [])
 unfolding nodes listBelow selects onAxis passes kindAt parentAt nameAt isChild climbMeets isAncestor areSiblings
 axes-from-inner-node = refl
@@ -65,6 +66,7 @@ pub axes-from-root :
     ∷ nodes sample (preceding-sibling ::node) 0 is []
     ∷ nodes sample (following ::node) 0 is []
     ∷ nodes sample (preceding ::node) 0 is []
+    ∷ nodes sample (attribute ::node) 0 is []
     ∷ [])
 unfolding nodes listBelow selects onAxis passes kindAt parentAt nameAt isChild climbMeets isAncestor areSiblings
 axes-from-root = refl

@@ -1,17 +1,17 @@
 // Documents lent as 16-bit numbers, three a row: their check, where their subtrees end, and the node tests. A number that no whole
 // row has is read as 0.
 ghost use mathlib.Core.Path.{_≡_};
-ghost use mathlib.Core.Bool.{_&&_, _||_, cond};
+ghost use mathlib.Core.Bool.{_&&_, _||_, not, cond};
 ghost use mathlib.Core.Option.{none, some};
 ghost use Prim.Native.Nat.{suc, _+_, _*_, _/_, _<_, _≤_};
 ghost use lib.ListN.{length, getD};
 ghost use lib.Dec.{T, ltb, eqb};
 ghost use Rattle.xpath.specs.Bounded.{firstBelow};
-ghost use Rattle.xpath.specs.Document.{kindAt, parentAt, nameAt, isAncestor, kindAndNameOk, rowOk, documentOf};
-ghost use Rattle.xpath.specs.Document.{badRow, documentRefusal, maxNodes, wellFormed};
+ghost use Rattle.xpath.specs.Document.{kindAt, parentAt, nameAt, isAttribute, attributePlaced, isAncestor};
+ghost use Rattle.xpath.specs.Document.{kindAndNameOk, rowOk, documentOf, badRow, documentRefusal, maxNodes, wellFormed};
 ghost use Rattle.xpath.specs.Ends.{Ends, Filled};
-ghost use Rattle.xpath.specs.Axis.{passes};
-ghost use Rattle.xpath.specs.Check.{refusalOf};
+ghost use Rattle.xpath.specs.Axis.{principal, passes};
+ghost use Rattle.xpath.specs.Check.{kindOfTest, refusalOf};
 
 // The largest document that a call takes.
 pub const MAX_NODES: usize = 512;
@@ -77,6 +77,12 @@ fn name_at(d: &[u16], y: usize) -> usize
     number_at(d, y, 2)
 }
 
+pub fn is_attribute(d: &[u16], y: usize) -> bool
+    ensures { λ r. ⌜ r ≡ isAttribute (documentOf (now (d .entry))) y ⌝ }
+{
+    kind_at(d, y) == 5
+}
+
 // Whether the climb from y to the root meets x.
 fn is_ancestor(d: &[u16], x: usize, y: usize) -> bool
     ensures { λ r. ⌜ r ≡ isAncestor (documentOf (now (d .entry))) x y ⌝ }
@@ -103,27 +109,68 @@ fn is_ancestor_or_self(d: &[u16], x: usize, y: usize) -> bool
     if x == y { true } else { is_ancestor(d, x, y) }
 }
 
-pub fn passes_test(d: &[u16], test: usize, name: usize, y: usize) -> bool
-    ensures { λ r. ⌜ r ≡ passes test name (documentOf (now (d .entry))) y ⌝ }
+// The kind of node that a name or `*` selects on an axis.
+fn principal_kind(axis: usize) -> usize
+    ensures { λ r. ⌜ r ≡ principal axis ⌝ }
 {
-    let kind = kind_at(d, y);
-    match test {
-        0 => and(kind == 1, name_at(d, y) == name),
-        1 => kind == 1,
-        2 => true,
-        3 => kind == 2,
-        4 => kind == 3,
-        5 => kind == 4,
-        _ => false,
+    if axis == 11 { 5 } else { 1 }
+}
+
+// The kind of node that a test other than node() selects on an axis.
+fn kind_of_test(axis: usize, test: usize) -> usize
+    ensures { λ r. ⌜ r ≡ kindOfTest axis test ⌝ }
+{
+    if test <= 1 {
+        return principal_kind(axis);
     }
+    test - 1
+}
+
+// Comparisons instead of a `match`, since a step asks the same test of one node after the other.
+pub fn passes_test(d: &[u16], axis: usize, test: usize, name: usize, y: usize) -> bool
+    ensures { λ r. ⌜ r ≡ passes axis test name (documentOf (now (d .entry))) y ⌝ }
+{
+    if test == 2 {
+        return true;
+    }
+    if 5 < test {
+        return false;
+    }
+    let fits = kind_at(d, y) == kind_of_test(axis, test);
+    if test == 0 {
+        return and(fits, name_at(d, y) == name);
+    }
+    fits
 }
 
 fn kind_and_name_ok(kind: usize, name: usize) -> bool
     ensures { λ r. ⌜ r ≡ kindAndNameOk kind name ⌝ }
 {
-    let element = and(and(kind == 1, 1 <= name), name <= 65535);
+    let named = and(and(or(kind == 1, kind == 5), 1 <= name), name <= 65535);
     let other = and(and(2 <= kind, kind <= 4), name == 0);
-    or(element, other)
+    or(named, other)
+}
+
+// Whether an attribute in row n + 1 stands where it must.
+fn attribute_placed(d: &[u16], n: usize) -> bool
+    requires { ⌜ n < maxNodes ⌝ }
+    ensures { λ r. ⌜ r ≡ attributePlaced (documentOf (now (d .entry))) n ⌝ }
+{
+    let parent = parent_at(d, n + 1);
+    let after = and(is_attribute(d, n), parent_at(d, n) == parent);
+    and(kind_at(d, parent) == 1, or(parent == n, after))
+}
+
+// Whether row n + 1 stands where it must if it is an attribute. It looks further only where it is one.
+fn attribute_ok(d: &[u16], n: usize) -> bool
+    requires { ⌜ n < maxNodes ⌝ }
+    ensures { λ r. ⌜ r ≡ (not (isAttribute (documentOf (now (d .entry))) (suc n)) || attributePlaced (documentOf (now (d .entry))) n) ⌝ }
+{
+    if is_attribute(d, n + 1) {
+        attribute_placed(d, n)
+    } else {
+        true
+    }
 }
 
 // Whether row n + 1 is as it must be.
@@ -135,10 +182,8 @@ fn later_row_ok(d: &[u16], n: usize) -> bool
     let parent = parent_at(d, i);
     let placed = is_ancestor_or_self(d, parent, n);
     let under = kind_at(d, parent) <= 1;
-    and(
-        and(placed, under),
-        kind_and_name_ok(kind_at(d, i), name_at(d, i)),
-    )
+    let sound = kind_and_name_ok(kind_at(d, i), name_at(d, i));
+    and(and(and(placed, under), sound), attribute_ok(d, n))
 }
 
 fn row_ok(d: &[u16], n: usize) -> bool

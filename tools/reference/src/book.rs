@@ -118,7 +118,7 @@ impl Book {
         let qualifier = |n| self.is_held_qualifier(n);
         let good = match kind {
             0 | 1 | 6 | 7 => [a == 0, b == 0, c == 0],
-            2 => [a <= 10, b <= 5, if b == 0 { c >= 1 } else { c == 0 }],
+            2 => [a <= 11, b <= 5, if b == 0 { c >= 1 } else { c == 0 }],
             3 | 4 | 11 => [path(a), path(b), c == 0],
             5 => [path(a), qualifier(b), c == 0],
             8 => [qualifier(a), b == 0, c == 0],

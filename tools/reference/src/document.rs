@@ -4,7 +4,7 @@ use crate::term::{Axis, Test};
 
 pub const MOST_NODES: usize = 512;
 
-/// A row of a document. Kinds: 0 root, 1 element, 2 text, 3 comment, 4 processing instruction.
+/// A row of a document. Kinds: 0 root, 1 element, 2 text, 3 comment, 4 processing instruction, 5 attribute.
 pub struct Node {
     pub kind: u16,
     pub parent: usize,
@@ -41,10 +41,16 @@ fn row_ok(before: &Document, kind: u16, parent: usize, name: u16) -> bool {
         return (kind, parent, name) == (0, 0, 0);
     }
     let parent_ok = parent == n - 1 || is_ancestor(before, parent, n - 1);
-    (1..=4).contains(&kind)
+    (1..=5).contains(&kind)
         && parent_ok
         && matches!(before[parent].kind, 0 | 1)
-        && (if kind == 1 { name >= 1 } else { name == 0 })
+        && (if kind == 1 || kind == 5 { name >= 1 } else { name == 0 })
+        && (kind != 5 || attribute_ok(before, parent))
+}
+
+/// Whether an attribute of this parent may come next: the parent is an element, and only attributes of it stand between.
+fn attribute_ok(before: &Document, parent: usize) -> bool {
+    before[parent].kind == 1 && before[parent + 1..].iter().all(|node| node.kind == 5 && node.parent == parent)
 }
 
 /// Whether x is an ancestor of y: the climb from y to its parent, as far as the root.
@@ -66,11 +72,24 @@ fn are_siblings(d: &Document, x: usize, y: usize) -> bool {
     x != 0 && y != 0 && x != y && d[x].parent == d[y].parent
 }
 
-/// Whether y is on the axis from x.
+/// Whether y is on the axis from x: as in the tree of parents, and an attribute only where XPath 1.0 has it.
 pub fn on_axis(d: &Document, axis: Axis, x: usize, y: usize) -> bool {
+    let is_attribute = |node: usize| d[node].kind == 5;
+    let allowed = match axis {
+        Axis::SelfNode | Axis::Parent | Axis::Ancestor | Axis::AncestorOrSelf => true,
+        Axis::DescendantOrSelf => x == y || !is_attribute(y),
+        Axis::Child | Axis::Descendant | Axis::Following | Axis::Preceding => !is_attribute(y),
+        Axis::FollowingSibling | Axis::PrecedingSibling => !is_attribute(x) && !is_attribute(y),
+        Axis::Attribute => is_attribute(y),
+    };
+    allowed && in_tree(d, axis, x, y)
+}
+
+/// Whether y is on the axis from x, attributes taken as children of their elements.
+fn in_tree(d: &Document, axis: Axis, x: usize, y: usize) -> bool {
     match axis {
         Axis::SelfNode => y == x,
-        Axis::Child => is_child(d, x, y),
+        Axis::Child | Axis::Attribute => is_child(d, x, y),
         Axis::Parent => is_child(d, y, x),
         Axis::Descendant => is_ancestor(d, x, y),
         Axis::Ancestor => is_ancestor(d, y, x),
@@ -83,11 +102,12 @@ pub fn on_axis(d: &Document, axis: Axis, x: usize, y: usize) -> bool {
     }
 }
 
-/// Whether the node passes the test.
-pub fn passes(node: &Node, test: Test) -> bool {
+/// Whether the node passes the test on the axis.
+pub fn passes(node: &Node, axis: Axis, test: Test) -> bool {
+    let principal = if axis == Axis::Attribute { 5 } else { 1 };
     match test {
-        Test::Name(name) => node.kind == 1 && node.name == name,
-        Test::AnyElement => node.kind == 1,
+        Test::Name(name) => node.kind == principal && node.name == name,
+        Test::AnyElement => node.kind == principal,
         Test::AnyNode => true,
         Test::Text => node.kind == 2,
         Test::Comment => node.kind == 3,

@@ -59,11 +59,10 @@ const RULES: &[(u16, &str, &[&str])] = &[
     (47, "f and not f = false", &[]),
     (48, "child::N[f]/parent::M = self::M[some child::N[f]]", &[]),
     (49, "descendant::N[f]/parent::M = descendant-or-self::M[some child::N[f]]", &[]),
-    (50, "parent::N[f]/child::M = ((preceding-sibling::M|following-sibling::M)|self::M)[some parent::N[f]]", &[]),
     (51, "descendant::N[f]/child::M <= descendant::M[some parent::N[f]]", &[]),
     (52, "descendant-or-self::N = descendant::N|self::N", &[]),
     (53, "ancestor-or-self::N = ancestor::N|self::N", &[]),
-    (54, "following::N = (ancestor-or-self::node()/following-sibling::node())/descendant-or-self::N", &[]),
+    (54, "(ancestor-or-self::node()/following-sibling::node())/descendant-or-self::N <= following::N", &[]),
     (55, "preceding::N = (ancestor-or-self::node()/preceding-sibling::node())/descendant-or-self::N", &[]),
     (56, "p/R <= R", &[]),
     (57, "R <= ancestor-or-self::node()", &[]),
@@ -80,7 +79,8 @@ fn condition(rule: u16, l: &Letters) -> bool {
             Test::AnyElement => matches!(l.test('N'), Test::Name(_) | Test::AnyElement),
             _ => false,
         },
-        26 => test_below(l.test('N'), l.test('M')) && l.test('N') != Test::AnyNode,
+        26 => test_below(l.test('N'), l.test('M')) && l.test('N') != Test::AnyNode && l.axis('a') != Axis::Attribute,
+        58 => l.axis('a') != Axis::Attribute,
         _ => true,
     }
 }
@@ -109,7 +109,7 @@ pub type Says<'t> = (&'t Rc<Term>, &'t Rc<Term>);
 
 /// How many premises the rule has.
 pub fn premises(rule: u16) -> usize {
-    forms()[rule as usize][0].premises.len()
+    forms()[rule as usize].first().map_or(0, |form| form.premises.len())
 }
 
 /// Whether the rule yields a step that says `conclusion`, from as many premises as it has.

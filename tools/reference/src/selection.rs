@@ -34,7 +34,7 @@ impl<'d> Evaluation<'d> {
             Term::Root => nodes = BTreeSet::from([0]),
             Term::Step(axis, test) => {
                 let d = self.document;
-                nodes = (0..d.len()).filter(|&y| on_axis(d, *axis, x, y) && passes(&d[y], *test)).collect()
+                nodes = (0..d.len()).filter(|&y| on_axis(d, *axis, x, y) && passes(&d[y], *axis, *test)).collect()
             }
             Term::Union(q, r) => {
                 for operand in [q, r] {

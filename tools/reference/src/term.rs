@@ -16,9 +16,10 @@ pub enum Axis {
     PrecedingSibling,
     Following,
     Preceding,
+    Attribute,
 }
 
-pub const AXES: [(&str, Axis); 11] = [
+pub const AXES: [(&str, Axis); 12] = [
     ("self", Axis::SelfNode),
     ("child", Axis::Child),
     ("parent", Axis::Parent),
@@ -30,6 +31,7 @@ pub const AXES: [(&str, Axis); 11] = [
     ("preceding-sibling", Axis::PrecedingSibling),
     ("following", Axis::Following),
     ("preceding", Axis::Preceding),
+    ("attribute", Axis::Attribute),
 ];
 
 /// A node test, a name test with its name.

@@ -60,7 +60,7 @@ fn refused_terms() {
     let mut book = Book::default();
     assert_eq!(book.term([12, 0, 0, 0]), (1, 0));
     assert_eq!(book.term([0, 0, 1, 1]), (2, 2));
-    assert_eq!(book.term([2, 11, 6, 0]), (2, 1));
+    assert_eq!(book.term([2, 12, 6, 0]), (2, 1));
     assert_eq!(book.term([2, 10, 6, 0]), (2, 2));
     assert_eq!(book.term([2, 10, 0, 0]), (2, 3));
     assert_eq!(book.term([2, 10, 1, 1]), (2, 3));
@@ -239,7 +239,7 @@ fn mistakes_ruled_out() {
     // 54 with `*` for node()
     let following = |test: u16| {
         format!(
-            "term 2 9 2 0\nterm 2 6 {test} 0\nterm 2 7 {test} 0\nterm 4 1 2 0\nterm 2 5 2 0\nterm 4 3 4 0\nstep 54 0 5 0 0\n"
+            "term 2 9 2 0\nterm 2 6 {test} 0\nterm 2 7 {test} 0\nterm 4 1 2 0\nterm 2 5 2 0\nterm 4 3 4 0\nstep 54 5 0 0 0\n"
         )
     };
     assert_eq!(last(&following(2)), "0 1");

@@ -11,7 +11,7 @@ use Rattle.marking.proofs.mark_ancestors.Tie as tie
 
 abbrev Inv-loop : tie.InvT-loop
 Inv-loop d test name x out₀ at₀ out at =
-    AncestorsFrom (documentOf d) (passes test name (documentOf d)) x at out₀ out
+    AncestorsFrom (documentOf d) (passes 4 test name (documentOf d)) x at out₀ out
 
 abbrev μ-loop : tie.MeasureT-loop
 μ-loop d test name x out₀ at₀ out at = at
@@ -33,7 +33,7 @@ slice-write-out c =
     let g = c .before .before .before .before .before .before .before .pre in
     let l = c .before .before .before .before .loop in
     let p = c .before .before .parent-at in
-    ancestors-inside (documentOf (a .d .now)) (g .0) (passes (a .test) (a .name) (documentOf (a .d .now))) (a .x) (g .1) (a .out .now) (g .2) (l .at) (p .result) (l .out) (l .inv) (omega arith) (p .ensures)
+    ancestors-inside (documentOf (a .d .now)) (g .0) (passes 4 (a .test) (a .name) (documentOf (a .d .now))) (a .x) (g .1) (a .out .now) (g .2) (l .at) (p .result) (l .out) (l .inv) (omega arith) (p .ensures)
 
 loop-less : tie.Need-loop-less Inv-loop μ-loop
 loop-less c =
@@ -41,7 +41,7 @@ loop-less c =
     let g = c .before .before .before .before .before .before .before .pre in
     let l = c .before .before .before .before .loop in
     let p = c .before .before .parent-at in
-    ancestors-less (documentOf (a .d .now)) (g .0) (passes (a .test) (a .name) (documentOf (a .d .now))) (a .x) (g .1) (a .out .now) (g .2) (l .at) (p .result) (l .out) (l .inv) (omega arith) (p .ensures)
+    ancestors-less (documentOf (a .d .now)) (g .0) (passes 4 (a .test) (a .name) (documentOf (a .d .now))) (a .x) (g .1) (a .out .now) (g .2) (l .at) (p .result) (l .out) (l .inv) (omega arith) (p .ensures)
 
 loop-again : tie.Need-loop-again Inv-loop μ-loop
 loop-again c =
@@ -49,7 +49,7 @@ loop-again c =
     let g = c .before .before .before .before .before .before .before .pre in
     let l = c .before .before .before .before .loop in
     let p = c .before .before .parent-at in
-    ancestors-marked (documentOf (a .d .now)) (g .0) (passes (a .test) (a .name) (documentOf (a .d .now))) (a .x) (g .1) (a .out .now) (g .2) (l .at) (p .result) (l .out) (l .inv) (omega arith) (p .ensures) (sym (c .before .passes-test .ensures) ∙ c .if1 .taken)
+    ancestors-marked (documentOf (a .d .now)) (g .0) (passes 4 (a .test) (a .name) (documentOf (a .d .now))) (a .x) (g .1) (a .out .now) (g .2) (l .at) (p .result) (l .out) (l .inv) (omega arith) (p .ensures) (sym (c .before .passes-test .ensures) ∙ c .if1 .taken)
 
 loop-less-2 : tie.Need-loop-less-2 Inv-loop μ-loop
 loop-less-2 c =
@@ -57,7 +57,7 @@ loop-less-2 c =
     let g = c .before .before .before .before .before .before .before .pre in
     let l = c .before .before .before .before .loop in
     let p = c .before .before .parent-at in
-    ancestors-less (documentOf (a .d .now)) (g .0) (passes (a .test) (a .name) (documentOf (a .d .now))) (a .x) (g .1) (a .out .now) (g .2) (l .at) (p .result) (l .out) (l .inv) (omega arith) (p .ensures)
+    ancestors-less (documentOf (a .d .now)) (g .0) (passes 4 (a .test) (a .name) (documentOf (a .d .now))) (a .x) (g .1) (a .out .now) (g .2) (l .at) (p .result) (l .out) (l .inv) (omega arith) (p .ensures)
 
 loop-again-2 : tie.Need-loop-again-2 Inv-loop μ-loop
 loop-again-2 c =
@@ -65,7 +65,7 @@ loop-again-2 c =
     let g = c .before .before .before .before .before .before .before .pre in
     let l = c .before .before .before .before .loop in
     let p = c .before .before .parent-at in
-    ancestors-left (documentOf (a .d .now)) (g .0) (passes (a .test) (a .name) (documentOf (a .d .now))) (a .x) (g .1) (a .out .now) (g .2) (l .at) (p .result) (l .out) (l .inv) (omega arith) (p .ensures) (sym (c .before .passes-test .ensures) ∙ c .if1 .left)
+    ancestors-left (documentOf (a .d .now)) (g .0) (passes 4 (a .test) (a .name) (documentOf (a .d .now))) (a .x) (g .1) (a .out .now) (g .2) (l .at) (p .result) (l .out) (l .inv) (omega arith) (p .ensures) (sym (c .before .passes-test .ensures) ∙ c .if1 .left)
 
 same-length : tie.Need-same-length Inv-loop μ-loop
 same-length c = c .before .loop .inv .added .size

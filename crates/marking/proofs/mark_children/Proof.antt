@@ -7,29 +7,29 @@ use native.Mathlib.Omega.{arith}
 use lib.ListN.{length, getD}
 use Rattle.xpath.specs.Document.{documentOf, maxNodes}
 use Rattle.xpath.specs.Ends.{Prepared}
-use Rattle.xpath.specs.Axis.{passes}
-use Rattle.marking.specs.Added.{ChildrenFrom}
+use Rattle.marking.specs.Added.{candidate, ChildrenFrom}
 use Rattle.marking.proofs.Walks.{ChildrenBelow, AtChild, at-child, children-start, children-end}
 use Rattle.marking.proofs.mark_children.Statement.{statement}
 use Rattle.marking.proofs.mark_children.Tie as tie
 
--- the nodes that pass the test
-abbrev passing : List ℕ → (test name : ℕ) → ℕ → Bool
-passing d test name = passes test name (documentOf d)
+-- the nodes that the axis has and that pass the test
+abbrev passing : List ℕ → (axis test name : ℕ) → ℕ → Bool
+passing d axis test name = candidate axis test name (documentOf d)
 
 abbrev Inv-loop : tie.InvT-loop
-Inv-loop d ends test name p lo hi out₀ y₀ out y = ChildrenBelow (documentOf d) ends (passing d test name) p lo hi y out₀ out
+Inv-loop d ends axis test name p lo hi out₀ y₀ out y =
+    ChildrenBelow (documentOf d) ends (passing d axis test name) p lo hi y out₀ out
 
 abbrev μ-loop : tie.MeasureT-loop
-μ-loop d ends test name p lo hi out₀ y₀ out y = getD ends p 0 - y
+μ-loop d ends axis test name p lo hi out₀ y₀ out y = getD ends p 0 - y
 
 -- what the loop knows at the child y, whose subtree ends at e
-here : (d ends : List ℕ) (test name p lo hi : ℕ) (out₀ : List ℕ) (y e : ℕ) (out : List ℕ) → Prepared (documentOf d) ends →
+here : (d ends : List ℕ) (axis test name p lo hi : ℕ) (out₀ : List ℕ) (y e : ℕ) (out : List ℕ) → Prepared (documentOf d) ends →
     length out₀ ≡ maxNodes → ChildrenFrom (documentOf d) ends p lo hi →
-    ChildrenBelow (documentOf d) ends (passing d test name) p lo hi y out₀ out → y < hi → e ≡ getD ends y 0 →
-    AtChild (documentOf d) ends (passing d test name) p lo hi y e out₀ out
-here d ends test name p lo hi out₀ y e out r s f inv l q =
-    at-child (documentOf d) ends r (passing d test name) p lo hi f out₀ y e out inv l q (omega (arith, r .few))
+    ChildrenBelow (documentOf d) ends (passing d axis test name) p lo hi y out₀ out → y < hi → e ≡ getD ends y 0 →
+    AtChild (documentOf d) ends (passing d axis test name) p lo hi y e out₀ out
+here d ends axis test name p lo hi out₀ y e out r s f inv l q =
+    at-child (documentOf d) ends r (passing d axis test name) p lo hi f out₀ y e out inv l q (omega (arith, r .few))
 
 loop-holds : tie.Need-loop-holds Inv-loop μ-loop
 loop-holds c =
@@ -41,11 +41,11 @@ after-subtree-requires c κs =
     let l = c .before .loop in
     let s = c .before .before .before .before .before in
     let a = s .args in
-    here (a .d .now) (a .ends .now) (a .test) (a .name) (a .p) (a .lo) (a .hi) (a .out .now) (l .y) _ (l .out)
+    here (a .d .now) (a .ends .now) (a .axis) (a .test) (a .name) (a .p) (a .lo) (a .hi) (a .out .now) (l .y) _ (l .out)
     (s .pre .0) (s .pre .1 .0) (s .pre .1 .1) (l .inv) (omega arith) refl .in-ends
 
-passes-test-requires : tie.Need-passes-test-requires Inv-loop μ-loop
-passes-test-requires c κs = tt
+is-candidate-requires : tie.Need-is-candidate-requires Inv-loop μ-loop
+is-candidate-requires c κs = tt
 
 slice-write-out : tie.Need-slice-write-out Inv-loop μ-loop
 slice-write-out c =
@@ -53,7 +53,7 @@ slice-write-out c =
     let l = w .before .before .loop in
     let s = w .before .before .before .before .before .before in
     let a = s .args in
-    let h = here (a .d .now) (a .ends .now) (a .test) (a .name) (a .p) (a .lo) (a .hi) (a .out .now) (l .y) (w .after-subtree .result)
+    let h = here (a .d .now) (a .ends .now) (a .axis) (a .test) (a .name) (a .p) (a .lo) (a .hi) (a .out .now) (l .y) (w .after-subtree .result)
     (l .out) (s .pre .0) (s .pre .1 .0) (s .pre .1 .1) (l .inv) (omega arith) (w .after-subtree .ensures) in
     h .in-marks
 
@@ -63,7 +63,7 @@ loop-less c =
     let l = w .before .before .loop in
     let s = w .before .before .before .before .before .before in
     let a = s .args in
-    let h = here (a .d .now) (a .ends .now) (a .test) (a .name) (a .p) (a .lo) (a .hi) (a .out .now) (l .y) (w .after-subtree .result)
+    let h = here (a .d .now) (a .ends .now) (a .axis) (a .test) (a .name) (a .p) (a .lo) (a .hi) (a .out .now) (l .y) (w .after-subtree .result)
     (l .out) (s .pre .0) (s .pre .1 .0) (s .pre .1 .1) (l .inv) (omega arith) (w .after-subtree .ensures) in
     omega (arith, h .less, s .pre .1 .1 .inside)
 
@@ -73,9 +73,9 @@ loop-again c =
     let l = w .before .before .loop in
     let s = w .before .before .before .before .before .before in
     let a = s .args in
-    let h = here (a .d .now) (a .ends .now) (a .test) (a .name) (a .p) (a .lo) (a .hi) (a .out .now) (l .y) (w .after-subtree .result)
+    let h = here (a .d .now) (a .ends .now) (a .axis) (a .test) (a .name) (a .p) (a .lo) (a .hi) (a .out .now) (l .y) (w .after-subtree .result)
     (l .out) (s .pre .0) (s .pre .1 .0) (s .pre .1 .1) (l .inv) (omega arith) (w .after-subtree .ensures) in
-    h .marked (sym (c .before .passes-test .ensures) ∙ c .if1 .taken)
+    h .marked (sym (c .before .is-candidate .ensures) ∙ c .if1 .taken)
 
 loop-less-2 : tie.Need-loop-less-2 Inv-loop μ-loop
 loop-less-2 c =
@@ -83,7 +83,7 @@ loop-less-2 c =
     let l = w .before .before .loop in
     let s = w .before .before .before .before .before .before in
     let a = s .args in
-    let h = here (a .d .now) (a .ends .now) (a .test) (a .name) (a .p) (a .lo) (a .hi) (a .out .now) (l .y) (w .after-subtree .result)
+    let h = here (a .d .now) (a .ends .now) (a .axis) (a .test) (a .name) (a .p) (a .lo) (a .hi) (a .out .now) (l .y) (w .after-subtree .result)
     (l .out) (s .pre .0) (s .pre .1 .0) (s .pre .1 .1) (l .inv) (omega arith) (w .after-subtree .ensures) in
     omega (arith, h .less, s .pre .1 .1 .inside)
 
@@ -93,9 +93,9 @@ loop-again-2 c =
     let l = w .before .before .loop in
     let s = w .before .before .before .before .before .before in
     let a = s .args in
-    let h = here (a .d .now) (a .ends .now) (a .test) (a .name) (a .p) (a .lo) (a .hi) (a .out .now) (l .y) (w .after-subtree .result)
+    let h = here (a .d .now) (a .ends .now) (a .axis) (a .test) (a .name) (a .p) (a .lo) (a .hi) (a .out .now) (l .y) (w .after-subtree .result)
     (l .out) (s .pre .0) (s .pre .1 .0) (s .pre .1 .1) (l .inv) (omega arith) (w .after-subtree .ensures) in
-    h .left (sym (c .before .passes-test .ensures) ∙ c .if1 .left)
+    h .left (sym (c .before .is-candidate .ensures) ∙ c .if1 .left)
 
 same-length : tie.Need-same-length Inv-loop μ-loop
 same-length c = c .before .loop .inv .added .size
@@ -114,7 +114,7 @@ mark-children-spec =
     μ-loop
     loop-holds
     after-subtree-requires
-    passes-test-requires
+    is-candidate-requires
     slice-write-out
     loop-less
     loop-again

@@ -1,21 +1,25 @@
 -- `marking::mark_following_siblings` meets its contract. Assumes nothing.
-use mathlib.Core.Path.{_≡_, _∙_}
+use mathlib.Core.Path.{_≡_, sym, _∙_}
 use native.Mathlib.Omega.{arith}
-use native.Mathlib.Nat.{pos-of-ne-zero}
-use borrow.Author.Needs.{needs}
-use lib.ListN.{length}
 use Rattle.xpath.specs.Document.{documentOf}
 use Rattle.xpath.specs.Axis.{passes}
 use Rattle.xpath.proofs.Tree.{parent-smaller}
-use Rattle.marking.proofs.Steps.{following-sibling-marked, root-following-sibling, later-siblings}
+use Rattle.marking.proofs.Steps.{following-sibling-marked, no-following-sibling, may-have-siblings, later-siblings}
+use borrow.Author.Needs.{needs}
 use Rattle.marking.proofs.mark_following_siblings.Statement.{statement}
 use Rattle.marking.proofs.mark_following_siblings.Tie as tie
 
+is-attribute-requires : tie.Need-is-attribute-requires
+is-attribute-requires c κs = search needs
+
+or-requires : tie.Need-or-requires
+or-requires c κs = search needs
+
 returns : tie.Need-returns
 returns c =
-    let a = c .before .before .before .before .args in
-    let g = c .before .before .before .before .pre in
-    root-following-sibling (documentOf (a .d .now)) (a .ends .now) (g .prepared) (passes (a .test) (a .name) (documentOf (a .d .now))) (a .x) (g .row) (c .if1 .taken)
+    let a = c .before .before .before .before .before .before .args in
+    let g = c .before .before .before .before .before .before .pre in
+    no-following-sibling (documentOf (a .d .now)) (a .ends .now) (g .prepared) (passes 7 (a .test) (a .name) (documentOf (a .d .now))) (a .x) (g .row) (sym (c .before .or .ensures ∙ rw (c .before .before .is-attribute .ensures)) ∙ c .if1 .taken)
 
 parent-at-requires : tie.Need-parent-at-requires
 parent-at-requires c κs = search needs
@@ -31,16 +35,18 @@ wide-requires c κs = search needs
 
 mul-wide-2 : tie.Need-mul-wide-2
 mul-wide-2 c =
-    let a = c .before .before .before .before .before .before .before .args in
-    let g = c .before .before .before .before .before .before .before .pre in
-    let s = parent-smaller _ (g .prepared .formed) (a .x) (g .row) (pos-of-ne-zero (c .before .before .before .if1 .left)) in
+    let a = c .before .before .before .before .before .before .before .before .before .args in
+    let g = c .before .before .before .before .before .before .before .before .before .pre in
+    let m = may-have-siblings (documentOf (a .d .now)) (a .ends .now) (g .prepared) (passes 0 0 0 (documentOf (a .d .now))) (a .x) (g .row) (sym (c .before .before .before .before .or .ensures ∙ rw (c .before .before .before .before .before .is-attribute .ensures)) ∙ c .before .before .before .if1 .left) in
+    let s = parent-smaller _ (g .prepared .formed) (a .x) (g .row) (m .0) in
     omega (arith, c .before .before .parent-at .ensures, g .prepared .few, g .row)
 
 shared-slice-read-wide-2 : tie.Need-shared-slice-read-wide-2
 shared-slice-read-wide-2 c =
-    let a = c .before .before .before .before .before .before .before .before .args in
-    let g = c .before .before .before .before .before .before .before .before .pre in
-    let s = parent-smaller _ (g .prepared .formed) (a .x) (g .row) (pos-of-ne-zero (c .before .before .before .before .if1 .left)) in
+    let a = c .before .before .before .before .before .before .before .before .before .before .args in
+    let g = c .before .before .before .before .before .before .before .before .before .before .pre in
+    let m = may-have-siblings (documentOf (a .d .now)) (a .ends .now) (g .prepared) (passes 0 0 0 (documentOf (a .d .now))) (a .x) (g .row) (sym (c .before .before .before .before .before .or .ensures ∙ rw (c .before .before .before .before .before .before .is-attribute .ensures)) ∙ c .before .before .before .before .if1 .left) in
+    let s = parent-smaller _ (g .prepared .formed) (a .x) (g .row) (m .0) in
     omega (arith, c .before .before .before .parent-at .ensures, g .prepared .ends .room, g .row)
 
 wide-requires-2 : tie.Need-wide-requires-2
@@ -48,23 +54,27 @@ wide-requires-2 c κs = search needs
 
 mark-children-requires : tie.Need-mark-children-requires
 mark-children-requires c κs =
-    let a = c .before .before .before .before .before .before .before .before .before .before .args in
-    let g = c .before .before .before .before .before .before .before .before .before .before .pre in
-    (g .prepared, (g .room, rw (c .before .before .before .wide .ensures, c .before .wide2 .ensures) (later-siblings (documentOf (a .d .now)) (a .ends .now) (g .prepared) (a .x) (c .before .before .before .before .before .parent-at .result) (g .row) (pos-of-ne-zero (c .before .before .before .before .before .before .if1 .left)) (c .before .before .before .before .before .parent-at .ensures))))
+    let a = c .before .before .before .before .before .before .before .before .before .before .before .before .args in
+    let g = c .before .before .before .before .before .before .before .before .before .before .before .before .pre in
+    let m = may-have-siblings (documentOf (a .d .now)) (a .ends .now) (g .prepared) (passes 0 0 0 (documentOf (a .d .now))) (a .x) (g .row) (sym (c .before .before .before .before .before .before .before .or .ensures ∙ rw (c .before .before .before .before .before .before .before .before .is-attribute .ensures)) ∙ c .before .before .before .before .before .before .if1 .left) in
+    (g .prepared, (g .room, rw (c .before .before .before .wide .ensures, c .before .wide2 .ensures) (later-siblings (documentOf (a .d .now)) (a .ends .now) (g .prepared) (a .x) (c .before .before .before .before .before .parent-at .result) (g .row) (m .0) (c .before .before .before .before .before .parent-at .ensures))))
 
 same-length : tie.Need-same-length
 same-length c = search needs
 
 returns-2 : tie.Need-returns-2
 returns-2 c =
-    let a = c .before .before .before .before .before .before .before .before .before .before .before .before .before .args in
-    let g = c .before .before .before .before .before .before .before .before .before .before .before .before .before .pre in
-    following-sibling-marked (documentOf (a .d .now)) (a .ends .now) (g .prepared) (passes (a .test) (a .name) (documentOf (a .d .now))) (a .x) (g .row) _ (pos-of-ne-zero (c .before .before .before .before .before .before .before .before .before .if1 .left)) (c .before .before .before .before .before .before .before .before .parent-at .ensures) (rw (c .before .before .before .before .before .before .wide .ensures, c .before .before .before .before .wide2 .ensures) at (c .before .before .mark-children .ensures))
+    let a = c .before .before .before .before .before .before .before .before .before .before .before .before .before .before .before .args in
+    let g = c .before .before .before .before .before .before .before .before .before .before .before .before .before .before .before .pre in
+    let m = may-have-siblings (documentOf (a .d .now)) (a .ends .now) (g .prepared) (passes 0 0 0 (documentOf (a .d .now))) (a .x) (g .row) (sym (c .before .before .before .before .before .before .before .before .before .before .or .ensures ∙ rw (c .before .before .before .before .before .before .before .before .before .before .before .is-attribute .ensures)) ∙ c .before .before .before .before .before .before .before .before .before .if1 .left) in
+    following-sibling-marked (documentOf (a .d .now)) (a .ends .now) (g .prepared) (passes 7 (a .test) (a .name) (documentOf (a .d .now))) (a .x) (g .row) _ (m .0) (c .before .before .before .before .before .before .before .before .parent-at .ensures) (m .1) (rw (c .before .before .before .before .before .before .wide .ensures, c .before .before .before .before .wide2 .ensures) at (c .before .before .mark-children .ensures))
 
 pub mark-following-siblings-spec : {M : Type 1} → statement M
 mark-following-siblings-spec =
     tie.close
     (tie.spec
+    is-attribute-requires
+    or-requires
     returns
     parent-at-requires
     mul-wide

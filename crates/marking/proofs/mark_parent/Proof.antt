@@ -1,13 +1,11 @@
 -- `marking::mark_parent` meets its contract. Assumes nothing.
-use mathlib.Core.Path.{_≡_, refl, _∙_}
-use native.Mathlib.Omega.{arith}
 use native.Mathlib.Nat.{pos-of-ne-zero}
-use borrow.Author.Needs.{needs}
-use lib.ListN.{length}
+use native.Mathlib.Omega.{arith}
 use Rattle.xpath.specs.Document.{documentOf}
 use Rattle.xpath.specs.Axis.{passes}
 use Rattle.xpath.proofs.Tree.{parent-smaller}
 use Rattle.marking.proofs.Steps.{parent-marked, root-parent}
+use borrow.Author.Needs.{needs}
 use Rattle.marking.proofs.mark_parent.Statement.{statement}
 use Rattle.marking.proofs.mark_parent.Tie as tie
 
@@ -15,24 +13,17 @@ returns : tie.Need-returns
 returns c =
     let a = c .before .before .before .before .args in
     let g = c .before .before .before .before .pre in
-    root-parent (documentOf (a .d .now)) (a .ends .now) (g .prepared) (passes (a .test) (a .name) (documentOf (a .d .now))) (a .x) (g .row) (c .if1 .taken)
+    root-parent (documentOf (a .d .now)) (a .ends .now) (g .prepared) (passes 2 (a .test) (a .name) (documentOf (a .d .now))) (a .x) (g .row) (c .if1 .taken)
 
 parent-at-requires : tie.Need-parent-at-requires
 parent-at-requires c κs = search needs
 
-add-mark-range : tie.Need-add-mark-range
-add-mark-range c =
-    let a = c .before .before .before .before .before .args in
-    let g = c .before .before .before .before .before .pre in
-    let s = parent-smaller _ (g .prepared .formed) (a .x) (g .row) (pos-of-ne-zero (c .before .if1 .left)) in
-    omega (arith, c .parent-at .ensures, g .prepared .few, g .row)
-
-mark-range-requires : tie.Need-mark-range-requires
-mark-range-requires c κs =
+mark-node-requires : tie.Need-mark-node-requires
+mark-node-requires c κs =
     let a = c .before .before .before .before .before .before .args in
     let g = c .before .before .before .before .before .before .pre in
     let s = parent-smaller _ (g .prepared .formed) (a .x) (g .row) (pos-of-ne-zero (c .before .before .if1 .left)) in
-    (omega arith, omega (arith, c .before .parent-at .ensures, g .prepared .few, g .row, g .room))
+    omega (arith, c .before .parent-at .ensures, g .prepared .few, g .row, g .room)
 
 same-length : tie.Need-same-length
 same-length c = search needs
@@ -41,9 +32,8 @@ returns-2 : tie.Need-returns-2
 returns-2 c =
     let a = c .before .before .before .before .before .before .before .before .before .args in
     let g = c .before .before .before .before .before .before .before .before .before .pre in
-    parent-marked (documentOf (a .d .now)) (a .ends .now) (g .prepared) (passes (a .test) (a .name) (documentOf (a .d .now))) (a .x) (g .row) _ (pos-of-ne-zero (c .before .before .before .before .before .if1 .left)) (c .before .before .before .before .parent-at .ensures) _ refl (c .before .before .mark-range .ensures)
+    parent-marked (documentOf (a .d .now)) (a .ends .now) (g .prepared) (passes 2 (a .test) (a .name) (documentOf (a .d .now))) (a .x) (g .row) _ (pos-of-ne-zero (c .before .before .before .before .before .if1 .left)) (c .before .before .before .before .parent-at .ensures) (c .before .before .mark-node .ensures)
 
 pub mark-parent-spec : {M : Type 1} → statement M
 mark-parent-spec =
-    tie.close
-    (tie.spec returns parent-at-requires add-mark-range mark-range-requires same-length returns-2)
+    tie.close (tie.spec returns parent-at-requires mark-node-requires same-length returns-2)

@@ -8,15 +8,14 @@ use borrow.Author.Needs.{needs}
 use lib.Dec.{leb}
 use lib.ListN.{length, getD}
 use Rattle.xpath.specs.Document.{documentOf}
-use Rattle.xpath.specs.Axis.{passes}
-use Rattle.marking.specs.Added.{Added}
+use Rattle.marking.specs.Added.{Added, candidate}
 use Rattle.marking.proofs.Added.{between, up-start, up-marked, up-left, up-end}
 use Rattle.marking.proofs.mark_preceding.Statement.{statement}
 use Rattle.marking.proofs.mark_preceding.Tie as tie
 
 abbrev Inv-loop : tie.InvT-loop
 Inv-loop d ends test name x out₀ y₀ out y =
-    (y ≤ x) × Added (length (documentOf d)) out₀ out (between 0 y (λ k. leb (getD ends k 0) x && passes test name (documentOf d) k))
+    (y ≤ x) × Added (length (documentOf d)) out₀ out (between 0 y (λ k. leb (getD ends k 0) x && candidate 10 test name (documentOf d) k))
 
 abbrev μ-loop : tie.MeasureT-loop
 μ-loop d ends test name x out₀ y₀ out y = x - y
@@ -33,8 +32,8 @@ shared-slice-read-wide c = search needs
 wide-requires : tie.Need-wide-requires Inv-loop μ-loop
 wide-requires c κs = tt
 
-passes-test-requires : tie.Need-passes-test-requires Inv-loop μ-loop
-passes-test-requires c κs = tt
+is-candidate-requires : tie.Need-is-candidate-requires Inv-loop μ-loop
+is-candidate-requires c κs = tt
 
 and-requires : tie.Need-and-requires Inv-loop μ-loop
 and-requires c κs = tt
@@ -52,8 +51,8 @@ loop-again : tie.Need-loop-again Inv-loop μ-loop
 loop-again c =
     let a = c .before .before .before .before .before .before .before .before .before .before .args in
     let l = c .before .before .before .before .before .before .loop in
-    let f : ℕ → Bool = λ k. leb (getD (a .ends .now) k 0) (a .x) && passes (a .test) (a .name) (documentOf (a .d .now)) k in
-    let e : f (l .y) ≡ (c .before .and .result) = sym (c .before .and .ensures ∙ rw (c .before .before .before .wide .ensures, c .before .before .passes-test .ensures)) in (
+    let f : ℕ → Bool = λ k. leb (getD (a .ends .now) k 0) (a .x) && candidate 10 (a .test) (a .name) (documentOf (a .d .now)) k in
+    let e : f (l .y) ≡ (c .before .and .result) = sym (c .before .and .ensures ∙ rw (c .before .before .before .wide .ensures, c .before .before .is-candidate .ensures)) in (
       omega arith,
       ⊎-elim
           (λ w. rw (w .1) (up-marked f 0 (l .y) (l .y + 1) (l .inv .1) (omega arith) (omega arith) (λ k m a b. absurd (omega arith)) (omega (arith, l .inv .1 .size)) (e ∙ w .0 .taken)))
@@ -68,7 +67,7 @@ returns : tie.Need-returns Inv-loop μ-loop
 returns c =
     let a = c .before .before .before .before .before .args in
     let l = c .before .loop in
-    up-end (λ k. leb (getD (a .ends .now) k 0) (a .x) && passes (a .test) (a .name) (documentOf (a .d .now)) k) 0 (a .x) (l .y) (l .inv .1) (omega arith)
+    up-end (λ k. leb (getD (a .ends .now) k 0) (a .x) && candidate 10 (a .test) (a .name) (documentOf (a .d .now)) k) 0 (a .x) (l .y) (l .inv .1) (omega arith)
     (λ k m a b. absurd (omega arith))
 
 pub mark-preceding-spec : {M : Type 1} → statement M
@@ -81,7 +80,7 @@ mark-preceding-spec =
     mul-wide
     shared-slice-read-wide
     wide-requires
-    passes-test-requires
+    is-candidate-requires
     and-requires
     slice-write-out
     add-y

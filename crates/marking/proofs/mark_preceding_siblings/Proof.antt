@@ -1,51 +1,60 @@
 -- `marking::mark_preceding_siblings` meets its contract. Assumes nothing.
-use mathlib.Core.Path.{_≡_, refl, _∙_}
+use mathlib.Core.Path.{_≡_, refl, sym, _∙_}
 use native.Mathlib.Omega.{arith}
-use native.Mathlib.Nat.{pos-of-ne-zero}
-use borrow.Author.Needs.{needs}
-use lib.ListN.{length}
 use Rattle.xpath.specs.Document.{documentOf}
 use Rattle.xpath.specs.Axis.{passes}
 use Rattle.xpath.proofs.Tree.{parent-smaller}
-use Rattle.marking.proofs.Steps.{preceding-sibling-marked, root-preceding-sibling, earlier-siblings}
+use Rattle.marking.proofs.Steps.{preceding-sibling-marked, no-preceding-sibling, may-have-siblings, earlier-siblings}
+use borrow.Author.Needs.{needs}
 use Rattle.marking.proofs.mark_preceding_siblings.Statement.{statement}
 use Rattle.marking.proofs.mark_preceding_siblings.Tie as tie
 
+is-attribute-requires : tie.Need-is-attribute-requires
+is-attribute-requires c κs = search needs
+
+or-requires : tie.Need-or-requires
+or-requires c κs = search needs
+
 returns : tie.Need-returns
 returns c =
-    let a = c .before .before .before .before .args in
-    let g = c .before .before .before .before .pre in
-    root-preceding-sibling (documentOf (a .d .now)) (a .ends .now) (g .prepared) (passes (a .test) (a .name) (documentOf (a .d .now))) (a .x) (g .row) (c .if1 .taken)
+    let a = c .before .before .before .before .before .before .args in
+    let g = c .before .before .before .before .before .before .pre in
+    no-preceding-sibling (documentOf (a .d .now)) (a .ends .now) (g .prepared) (passes 8 (a .test) (a .name) (documentOf (a .d .now))) (a .x) (g .row) (sym (c .before .or .ensures ∙ rw (c .before .before .is-attribute .ensures)) ∙ c .if1 .taken)
 
 parent-at-requires : tie.Need-parent-at-requires
 parent-at-requires c κs = search needs
 
 add-mark-children : tie.Need-add-mark-children
 add-mark-children c =
-    let a = c .before .before .before .before .before .args in
-    let g = c .before .before .before .before .before .pre in
-    let s = parent-smaller _ (g .prepared .formed) (a .x) (g .row) (pos-of-ne-zero (c .before .if1 .left)) in
+    let a = c .before .before .before .before .before .before .before .args in
+    let g = c .before .before .before .before .before .before .before .pre in
+    let m = may-have-siblings (documentOf (a .d .now)) (a .ends .now) (g .prepared) (passes 0 0 0 (documentOf (a .d .now))) (a .x) (g .row) (sym (c .before .before .or .ensures ∙ rw (c .before .before .before .is-attribute .ensures)) ∙ c .before .if1 .left) in
+    let s = parent-smaller _ (g .prepared .formed) (a .x) (g .row) (m .0) in
     omega (arith, c .parent-at .ensures, g .prepared .few, g .row)
 
 mark-children-requires : tie.Need-mark-children-requires
 mark-children-requires c κs =
-    let a = c .before .before .before .before .before .before .args in
-    let g = c .before .before .before .before .before .before .pre in
-    (g .prepared, (g .room, earlier-siblings (documentOf (a .d .now)) (a .ends .now) (g .prepared) (a .x) (c .before .parent-at .result) (g .row) (pos-of-ne-zero (c .before .before .if1 .left)) (c .before .parent-at .ensures) _ refl))
+    let a = c .before .before .before .before .before .before .before .before .args in
+    let g = c .before .before .before .before .before .before .before .before .pre in
+    let m = may-have-siblings (documentOf (a .d .now)) (a .ends .now) (g .prepared) (passes 0 0 0 (documentOf (a .d .now))) (a .x) (g .row) (sym (c .before .before .before .or .ensures ∙ rw (c .before .before .before .before .is-attribute .ensures)) ∙ c .before .before .if1 .left) in
+    (g .prepared, (g .room, earlier-siblings (documentOf (a .d .now)) (a .ends .now) (g .prepared) (a .x) (c .before .parent-at .result) (g .row) (m .0) (c .before .parent-at .ensures) _ refl))
 
 same-length : tie.Need-same-length
 same-length c = search needs
 
 returns-2 : tie.Need-returns-2
 returns-2 c =
-    let a = c .before .before .before .before .before .before .before .before .before .args in
-    let g = c .before .before .before .before .before .before .before .before .before .pre in
-    preceding-sibling-marked (documentOf (a .d .now)) (a .ends .now) (g .prepared) (passes (a .test) (a .name) (documentOf (a .d .now))) (a .x) (g .row) _ (pos-of-ne-zero (c .before .before .before .before .before .if1 .left)) (c .before .before .before .before .parent-at .ensures) _ refl (c .before .before .mark-children .ensures)
+    let a = c .before .before .before .before .before .before .before .before .before .before .before .args in
+    let g = c .before .before .before .before .before .before .before .before .before .before .before .pre in
+    let m = may-have-siblings (documentOf (a .d .now)) (a .ends .now) (g .prepared) (passes 0 0 0 (documentOf (a .d .now))) (a .x) (g .row) (sym (c .before .before .before .before .before .before .or .ensures ∙ rw (c .before .before .before .before .before .before .before .is-attribute .ensures)) ∙ c .before .before .before .before .before .if1 .left) in
+    preceding-sibling-marked (documentOf (a .d .now)) (a .ends .now) (g .prepared) (passes 8 (a .test) (a .name) (documentOf (a .d .now))) (a .x) (g .row) _ (m .0) (c .before .before .before .before .parent-at .ensures) (m .1) _ refl (c .before .before .mark-children .ensures)
 
 pub mark-preceding-siblings-spec : {M : Type 1} → statement M
 mark-preceding-siblings-spec =
     tie.close
     (tie.spec
+    is-attribute-requires
+    or-requires
     returns
     parent-at-requires
     add-mark-children

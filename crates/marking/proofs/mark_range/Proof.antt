@@ -7,24 +7,23 @@ use native.Mathlib.Omega.{arith}
 use borrow.Author.Needs.{needs}
 use lib.ListN.{length}
 use Rattle.xpath.specs.Document.{documentOf}
-use Rattle.xpath.specs.Axis.{passes}
-use Rattle.marking.specs.Added.{Added}
+use Rattle.marking.specs.Added.{Added, candidate}
 use Rattle.marking.proofs.Added.{between, up-start, up-marked, up-left, up-end}
 use Rattle.marking.proofs.mark_range.Statement.{statement}
 use Rattle.marking.proofs.mark_range.Tie as tie
 
 abbrev Inv-loop : tie.InvT-loop
-Inv-loop d test name lo hi out₀ y₀ out y =
-    (lo ≤ y) × (y ≤ hi) × Added (length (documentOf d)) out₀ out (between lo y (passes test name (documentOf d)))
+Inv-loop d axis test name lo hi out₀ y₀ out y =
+    (lo ≤ y) × (y ≤ hi) × Added (length (documentOf d)) out₀ out (between lo y (candidate axis test name (documentOf d)))
 
 abbrev μ-loop : tie.MeasureT-loop
-μ-loop d test name lo hi out₀ y₀ out y = hi - y
+μ-loop d axis test name lo hi out₀ y₀ out y = hi - y
 
 loop-holds : tie.Need-loop-holds Inv-loop μ-loop
 loop-holds c = (omega arith, omega arith, up-start _ _)
 
-passes-test-requires : tie.Need-passes-test-requires Inv-loop μ-loop
-passes-test-requires c κs = tt
+is-candidate-requires : tie.Need-is-candidate-requires Inv-loop μ-loop
+is-candidate-requires c κs = tt
 
 slice-write-out : tie.Need-slice-write-out Inv-loop μ-loop
 slice-write-out c = search needs
@@ -39,8 +38,8 @@ loop-again : tie.Need-loop-again Inv-loop μ-loop
 loop-again c =
     let a = c .before .before .before .before .before .before .args in
     let l = c .before .before .before .loop in
-    let f = passes (a .test) (a .name) (documentOf (a .d .now)) in
-    let p = sym (c .before .passes-test .ensures) in (
+    let f = candidate (a .axis) (a .test) (a .name) (documentOf (a .d .now)) in
+    let p = sym (c .before .is-candidate .ensures) in (
       omega arith,
       omega arith,
       ⊎-elim
@@ -56,7 +55,7 @@ returns : tie.Need-returns Inv-loop μ-loop
 returns c =
     let a = c .before .before .before .before .args in
     let l = c .before .loop in
-    up-end (passes (a .test) (a .name) (documentOf (a .d .now))) (a .lo) (a .hi) (l .y) (l .inv .2) (omega arith) (λ k m a b. absurd (omega arith))
+    up-end (candidate (a .axis) (a .test) (a .name) (documentOf (a .d .now))) (a .lo) (a .hi) (l .y) (l .inv .2) (omega arith) (λ k m a b. absurd (omega arith))
 
 pub mark-range-spec : {M : Type 1} → statement M
 mark-range-spec =
@@ -65,7 +64,7 @@ mark-range-spec =
     Inv-loop
     μ-loop
     loop-holds
-    passes-test-requires
+    is-candidate-requires
     slice-write-out
     add-y
     loop-less

@@ -1,12 +1,11 @@
 -- `marking::mark_step` meets its contract, axis by axis. Assumes nothing.
 use mathlib.Core.Path.{_≡_, refl, _∙_}
 use native.Mathlib.Omega.{arith}
-use borrow.Author.Needs.{needs}
-use lib.ListN.{length}
 use Rattle.xpath.specs.Document.{documentOf}
 use Rattle.xpath.specs.Axis.{passes}
 use Rattle.marking.proofs.Walks.{at-end}
-use Rattle.marking.proofs.Steps.{self-marked, child-marked, descendant-marked, ancestor-marked, descendant-or-self-marked, ancestor-or-self-marked, following-marked, preceding-marked, no-axis, past-axes, children-of}
+use Rattle.marking.proofs.Steps.{self-marked, child-marked, descendant-marked, ancestor-marked, descendant-or-self-passed, ancestor-or-self-passed, following-marked, preceding-marked, attribute-marked, no-axis, past-axes, children-of}
+use borrow.Author.Needs.{needs}
 use Rattle.marking.proofs.mark_step.Statement.{statement}
 use Rattle.marking.proofs.mark_step.Tie as tie
 
@@ -19,11 +18,8 @@ shared-slice-read-wide c = search needs
 wide-requires : tie.Need-wide-requires
 wide-requires c κs = search needs
 
-add-mark-range : tie.Need-add-mark-range
-add-mark-range c = search needs
-
-mark-range-requires : tie.Need-mark-range-requires
-mark-range-requires c κs = search needs
+mark-node-requires : tie.Need-mark-node-requires
+mark-node-requires c κs = search needs
 
 same-length : tie.Need-same-length
 same-length c = search needs
@@ -32,7 +28,7 @@ returns : tie.Need-returns
 returns c =
     let a = c .before .before .before .before .before .before .before .before .before .before .args in
     let g = c .before .before .before .before .before .before .before .before .before .before .pre in
-    rw (c .before .before .before .before .if1 .taken) (self-marked (documentOf (a .d .now)) (a .ends .now) (g .prepared) (passes (a .test) (a .name) (documentOf (a .d .now))) (a .x) (g .row) _ refl (c .before .before .mark-range .ensures))
+    rw (c .before .before .before .before .if1 .taken) (self-marked (documentOf (a .d .now)) (a .ends .now) (g .prepared) (passes 0 (a .test) (a .name) (documentOf (a .d .now))) (a .x) (g .row) (c .before .before .mark-node .ensures))
 
 add-mark-children : tie.Need-add-mark-children
 add-mark-children c = search needs
@@ -50,7 +46,7 @@ returns-2 : tie.Need-returns-2
 returns-2 c =
     let a = c .before .before .before .before .before .before .before .before .before .before .before .args in
     let g = c .before .before .before .before .before .before .before .before .before .before .before .pre in
-    rw (c .before .before .before .before .if2 .taken) (child-marked (documentOf (a .d .now)) (a .ends .now) (g .prepared) (passes (a .test) (a .name) (documentOf (a .d .now))) (a .x) (g .row) _ refl (rw (c .before .before .before .before .before .before .wide .ensures) at (c .before .before .mark-children .ensures)))
+    rw (c .before .before .before .before .if2 .taken) (child-marked (documentOf (a .d .now)) (a .ends .now) (g .prepared) (passes 1 (a .test) (a .name) (documentOf (a .d .now))) (a .x) (g .row) _ refl (rw (c .before .before .before .before .before .before .wide .ensures) at (c .before .before .mark-children .ensures)))
 
 mark-parent-requires : tie.Need-mark-parent-requires
 mark-parent-requires c κs = search needs
@@ -59,16 +55,13 @@ same-length-3 : tie.Need-same-length-3
 same-length-3 c = search needs
 
 returns-3 : tie.Need-returns-3
-returns-3 c =
-    let a = c .before .before .before .before .before .before .before .before .before .before .before .before .args in
-    let g = c .before .before .before .before .before .before .before .before .before .before .before .before .pre in
-    rw (c .before .before .before .before .if3 .taken) (c .before .before .mark-parent .ensures)
+returns-3 c = rw (c .before .before .before .before .if3 .taken) (c .before .before .mark-parent .ensures)
 
-add-mark-range-2 : tie.Need-add-mark-range-2
-add-mark-range-2 c = search needs
+add-mark-range : tie.Need-add-mark-range
+add-mark-range c = search needs
 
-mark-range-requires-2 : tie.Need-mark-range-requires-2
-mark-range-requires-2 c κs =
+mark-range-requires : tie.Need-mark-range-requires
+mark-range-requires c κs =
     let a = c .before .before .before .before .before .before .before .before .before .before .args in
     let g = c .before .before .before .before .before .before .before .before .before .before .pre in
     let e = at-end (documentOf (a .d .now)) (a .ends .now) (g .prepared) (a .x) (g .row) in
@@ -81,7 +74,7 @@ returns-4 : tie.Need-returns-4
 returns-4 c =
     let a = c .before .before .before .before .before .before .before .before .before .before .before .before .before .args in
     let g = c .before .before .before .before .before .before .before .before .before .before .before .before .before .pre in
-    rw (c .before .before .before .before .if4 .taken) (descendant-marked (documentOf (a .d .now)) (a .ends .now) (g .prepared) (passes (a .test) (a .name) (documentOf (a .d .now))) (a .x) (g .row) _ refl (rw (c .before .before .before .before .before .before .before .before .wide .ensures) at (c .before .before .mark-range2 .ensures)))
+    rw (c .before .before .before .before .if4 .taken) (descendant-marked (documentOf (a .d .now)) (a .ends .now) (g .prepared) (passes 3 (a .test) (a .name) (documentOf (a .d .now))) (a .x) (g .row) _ refl (rw (c .before .before .before .before .before .before .before .before .wide .ensures) at (c .before .before .mark-range .ensures)))
 
 mark-ancestors-requires : tie.Need-mark-ancestors-requires
 mark-ancestors-requires c κs = search needs
@@ -93,29 +86,32 @@ returns-5 : tie.Need-returns-5
 returns-5 c =
     let a = c .before .before .before .before .before .before .before .before .before .before .before .before .before .before .args in
     let g = c .before .before .before .before .before .before .before .before .before .before .before .before .before .before .pre in
-    rw (c .before .before .before .before .if5 .taken) (ancestor-marked (documentOf (a .d .now)) (a .ends .now) (g .prepared) (passes (a .test) (a .name) (documentOf (a .d .now))) (a .x) (g .row) (c .before .before .mark-ancestors .ensures))
+    rw (c .before .before .before .before .if5 .taken) (ancestor-marked (documentOf (a .d .now)) (a .ends .now) (g .prepared) (passes 4 (a .test) (a .name) (documentOf (a .d .now))) (a .x) (g .row) (c .before .before .mark-ancestors .ensures))
 
-mark-range-requires-3 : tie.Need-mark-range-requires-3
-mark-range-requires-3 c κs =
-    let a = c .before .before .before .before .before .before .before .before .before .before .before .before .args in
-    let g = c .before .before .before .before .before .before .before .before .before .before .before .before .pre in
+mark-node-requires-2 : tie.Need-mark-node-requires-2
+mark-node-requires-2 c κs = search needs
+
+add-mark-range-2 : tie.Need-add-mark-range-2
+add-mark-range-2 c = search needs
+
+mark-range-requires-2 : tie.Need-mark-range-requires-2
+mark-range-requires-2 c κs =
+    let a = c .before .before .before .before .before .before .before .before .before .before .before .before .before .before .before .before .args in
+    let g = c .before .before .before .before .before .before .before .before .before .before .before .before .before .before .before .before .pre in
     let e = at-end (documentOf (a .d .now)) (a .ends .now) (g .prepared) (a .x) (g .row) in
-    (omega (arith, e .after, e .within, c .before .before .before .before .before .before .before .wide .ensures), omega (arith, e .within, c .before .before .before .before .before .before .before .wide .ensures, g .prepared .few, g .room))
+    (omega (arith, e .after, e .within, c .before .before .before .before .before .before .before .before .before .before .before .wide .ensures, c .before .before .before .mark-node2 .ensures .size), omega (arith, e .within, c .before .before .before .before .before .before .before .before .before .before .before .wide .ensures, g .prepared .few, g .room, c .before .before .before .mark-node2 .ensures .size))
 
 same-length-6 : tie.Need-same-length-6
 same-length-6 c = search needs
 
 returns-6 : tie.Need-returns-6
 returns-6 c =
-    let a = c .before .before .before .before .before .before .before .before .before .before .before .before .before .before .before .args in
-    let g = c .before .before .before .before .before .before .before .before .before .before .before .before .before .before .before .pre in
-    rw (c .before .before .before .before .if6 .taken) (descendant-or-self-marked (documentOf (a .d .now)) (a .ends .now) (g .prepared) (passes (a .test) (a .name) (documentOf (a .d .now))) (a .x) (g .row) (rw (c .before .before .before .before .before .before .before .before .before .before .wide .ensures) at (c .before .before .mark-range3 .ensures)))
+    let a = c .before .before .before .before .before .before .before .before .before .before .before .before .before .before .before .before .before .before .before .args in
+    let g = c .before .before .before .before .before .before .before .before .before .before .before .before .before .before .before .before .before .before .before .pre in
+    rw (c .before .before .before .before .before .before .before .before .if6 .taken) (descendant-or-self-passed (documentOf (a .d .now)) (a .ends .now) (g .prepared) (a .test) (a .name) (a .x) (g .row) _ refl (c .before .before .before .before .before .before .mark-node2 .ensures) (rw (c .before .before .before .before .before .before .before .before .before .before .before .before .before .before .wide .ensures) at (c .before .before .mark-range2 .ensures)))
 
-add-mark-range-3 : tie.Need-add-mark-range-3
-add-mark-range-3 c = search needs
-
-mark-range-requires-4 : tie.Need-mark-range-requires-4
-mark-range-requires-4 c κs = search needs
+mark-node-requires-3 : tie.Need-mark-node-requires-3
+mark-node-requires-3 c κs = search needs
 
 mark-ancestors-requires-2 : tie.Need-mark-ancestors-requires-2
 mark-ancestors-requires-2 c κs = search needs
@@ -127,7 +123,7 @@ returns-7 : tie.Need-returns-7
 returns-7 c =
     let a = c .before .before .before .before .before .before .before .before .before .before .before .before .before .before .before .before .before .before .before .before .args in
     let g = c .before .before .before .before .before .before .before .before .before .before .before .before .before .before .before .before .before .before .before .before .pre in
-    rw (c .before .before .before .before .before .before .before .before .if7 .taken) (ancestor-or-self-marked (documentOf (a .d .now)) (a .ends .now) (g .prepared) (passes (a .test) (a .name) (documentOf (a .d .now))) (a .x) (g .row) _ refl (c .before .before .before .before .before .before .mark-range4 .ensures) (c .before .before .mark-ancestors2 .ensures))
+    rw (c .before .before .before .before .before .before .before .before .if7 .taken) (ancestor-or-self-passed (documentOf (a .d .now)) (a .ends .now) (g .prepared) (a .test) (a .name) (a .x) (g .row) (c .before .before .before .before .before .before .mark-node3 .ensures) (c .before .before .mark-ancestors2 .ensures))
 
 mark-following-siblings-requires : tie.Need-mark-following-siblings-requires
 mark-following-siblings-requires c κs = search needs
@@ -136,10 +132,7 @@ same-length-8 : tie.Need-same-length-8
 same-length-8 c = search needs
 
 returns-8 : tie.Need-returns-8
-returns-8 c =
-    let a = c .before .before .before .before .before .before .before .before .before .before .before .before .before .before .before .before .before .args in
-    let g = c .before .before .before .before .before .before .before .before .before .before .before .before .before .before .before .before .before .pre in
-    rw (c .before .before .before .before .if8 .taken) (c .before .before .mark-following-siblings .ensures)
+returns-8 c = rw (c .before .before .before .before .if8 .taken) (c .before .before .mark-following-siblings .ensures)
 
 mark-preceding-siblings-requires : tie.Need-mark-preceding-siblings-requires
 mark-preceding-siblings-requires c κs = search needs
@@ -148,16 +141,13 @@ same-length-9 : tie.Need-same-length-9
 same-length-9 c = search needs
 
 returns-9 : tie.Need-returns-9
-returns-9 c =
-    let a = c .before .before .before .before .before .before .before .before .before .before .before .before .before .before .before .before .before .before .args in
-    let g = c .before .before .before .before .before .before .before .before .before .before .before .before .before .before .before .before .before .before .pre in
-    rw (c .before .before .before .before .if9 .taken) (c .before .before .mark-preceding-siblings .ensures)
+returns-9 c = rw (c .before .before .before .before .if9 .taken) (c .before .before .mark-preceding-siblings .ensures)
 
 node-count-requires : tie.Need-node-count-requires
 node-count-requires c κs = search needs
 
-mark-range-requires-5 : tie.Need-mark-range-requires-5
-mark-range-requires-5 c κs =
+mark-range-requires-3 : tie.Need-mark-range-requires-3
+mark-range-requires-3 c κs =
     let a = c .before .before .before .before .before .before .before .before .before .before .before .before .before .before .before .before .before .args in
     let g = c .before .before .before .before .before .before .before .before .before .before .before .before .before .before .before .before .before .pre in
     let e = at-end (documentOf (a .d .now)) (a .ends .now) (g .prepared) (a .x) (g .row) in
@@ -170,7 +160,7 @@ returns-10 : tie.Need-returns-10
 returns-10 c =
     let a = c .before .before .before .before .before .before .before .before .before .before .before .before .before .before .before .before .before .before .before .before .args in
     let g = c .before .before .before .before .before .before .before .before .before .before .before .before .before .before .before .before .before .before .before .before .pre in
-    rw (c .before .before .before .before .before .if10 .taken) (following-marked (documentOf (a .d .now)) (a .ends .now) (g .prepared) (passes (a .test) (a .name) (documentOf (a .d .now))) (a .x) (g .row) _ (c .before .before .before .before .node-count .ensures) (rw (c .before .before .before .before .before .before .before .before .before .before .before .before .before .before .before .wide .ensures) at (c .before .before .mark-range5 .ensures)))
+    rw (c .before .before .before .before .before .if10 .taken) (following-marked (documentOf (a .d .now)) (a .ends .now) (g .prepared) (passes 9 (a .test) (a .name) (documentOf (a .d .now))) (a .x) (g .row) _ (c .before .before .before .before .node-count .ensures) (rw (c .before .before .before .before .before .before .before .before .before .before .before .before .before .before .before .wide .ensures) at (c .before .before .mark-range3 .ensures)))
 
 mark-preceding-requires : tie.Need-mark-preceding-requires
 mark-preceding-requires c κs = search needs
@@ -182,13 +172,32 @@ returns-11 : tie.Need-returns-11
 returns-11 c =
     let a = c .before .before .before .before .before .before .before .before .before .before .before .before .before .before .before .before .before .before .before .before .args in
     let g = c .before .before .before .before .before .before .before .before .before .before .before .before .before .before .before .before .before .before .before .before .pre in
-    rw (c .before .before .before .before .if11 .taken) (preceding-marked (documentOf (a .d .now)) (a .ends .now) (g .prepared) (passes (a .test) (a .name) (documentOf (a .d .now))) (a .x) (g .row) (c .before .before .mark-preceding .ensures))
+    rw (c .before .before .before .before .if11 .taken) (preceding-marked (documentOf (a .d .now)) (a .ends .now) (g .prepared) (passes 10 (a .test) (a .name) (documentOf (a .d .now))) (a .x) (g .row) (c .before .before .mark-preceding .ensures))
+
+add-mark-children-2 : tie.Need-add-mark-children-2
+add-mark-children-2 c = search needs
+
+mark-children-requires-2 : tie.Need-mark-children-requires-2
+mark-children-requires-2 c κs =
+    let a = c .before .before .before .before .before .before .before .before .before .before .before .before .before .before .before .before .before .before .args in
+    let g = c .before .before .before .before .before .before .before .before .before .before .before .before .before .before .before .before .before .before .pre in
+    (g .prepared, (g .room, rw (c .before .before .before .before .before .before .before .before .before .before .before .before .before .wide .ensures) (children-of (documentOf (a .d .now)) (a .ends .now) (g .prepared) (a .x) _ (g .row) refl)))
+
+same-length-12 : tie.Need-same-length-12
+same-length-12 c = search needs
 
 returns-12 : tie.Need-returns-12
 returns-12 c =
-    let a = c .before .before .before .before .before .before .before .before .before .before .before .before .before .before .before .before .args in
-    let g = c .before .before .before .before .before .before .before .before .before .before .before .before .before .before .before .before .pre in
-    no-axis (documentOf (a .d .now)) (a .ends .now) (g .prepared) (passes (a .test) (a .name) (documentOf (a .d .now))) (a .x) (g .row) (a .axis) (past-axes (a .axis) (c .before .before .before .before .before .before .before .before .before .before .if1 .left) (c .before .before .before .before .before .before .before .before .before .if2 .left) (c .before .before .before .before .before .before .before .before .if3 .left) (c .before .before .before .before .before .before .before .if4 .left) (c .before .before .before .before .before .before .if5 .left) (c .before .before .before .before .before .if6 .left) (c .before .before .before .before .if7 .left) (c .before .before .before .if8 .left) (c .before .before .if9 .left) (c .before .if10 .left) (c .if11 .left))
+    let a = c .before .before .before .before .before .before .before .before .before .before .before .before .before .before .before .before .before .before .before .before .before .args in
+    let g = c .before .before .before .before .before .before .before .before .before .before .before .before .before .before .before .before .before .before .before .before .before .pre in
+    rw (c .before .before .before .before .if12 .taken) (attribute-marked (documentOf (a .d .now)) (a .ends .now) (g .prepared) (passes 11 (a .test) (a .name) (documentOf (a .d .now))) (a .x) (g .row) _ refl (rw (c .before .before .before .before .before .before .before .before .before .before .before .before .before .before .before .before .wide .ensures) at (c .before .before .mark-children2 .ensures)))
+
+returns-13 : tie.Need-returns-13
+returns-13 c =
+    let a = c .before .before .before .before .before .before .before .before .before .before .before .before .before .before .before .before .before .args in
+    let g = c .before .before .before .before .before .before .before .before .before .before .before .before .before .before .before .before .before .pre in
+    no-axis (documentOf (a .d .now)) (a .ends .now) (g .prepared) (passes (a .axis) (a .test) (a .name) (documentOf (a .d .now))) (a .x) (g .row) (a .axis)
+    (past-axes (a .axis) (c .before .before .before .before .before .before .before .before .before .before .before .if1 .left) (c .before .before .before .before .before .before .before .before .before .before .if2 .left) (c .before .before .before .before .before .before .before .before .before .if3 .left) (c .before .before .before .before .before .before .before .before .if4 .left) (c .before .before .before .before .before .before .before .if5 .left) (c .before .before .before .before .before .before .if6 .left) (c .before .before .before .before .before .if7 .left) (c .before .before .before .before .if8 .left) (c .before .before .before .if9 .left) (c .before .before .if10 .left) (c .before .if11 .left) (c .if12 .left))
 
 pub mark-step-spec : {M : Type 1} → statement M
 mark-step-spec =
@@ -197,8 +206,7 @@ mark-step-spec =
     mul-wide
     shared-slice-read-wide
     wide-requires
-    add-mark-range
-    mark-range-requires
+    mark-node-requires
     same-length
     returns
     add-mark-children
@@ -208,18 +216,19 @@ mark-step-spec =
     mark-parent-requires
     same-length-3
     returns-3
-    add-mark-range-2
-    mark-range-requires-2
+    add-mark-range
+    mark-range-requires
     same-length-4
     returns-4
     mark-ancestors-requires
     same-length-5
     returns-5
-    mark-range-requires-3
+    mark-node-requires-2
+    add-mark-range-2
+    mark-range-requires-2
     same-length-6
     returns-6
-    add-mark-range-3
-    mark-range-requires-4
+    mark-node-requires-3
     mark-ancestors-requires-2
     same-length-7
     returns-7
@@ -230,10 +239,14 @@ mark-step-spec =
     same-length-9
     returns-9
     node-count-requires
-    mark-range-requires-5
+    mark-range-requires-3
     same-length-10
     returns-10
     mark-preceding-requires
     same-length-11
     returns-11
-    returns-12)
+    add-mark-children-2
+    mark-children-requires-2
+    same-length-12
+    returns-12
+    returns-13)

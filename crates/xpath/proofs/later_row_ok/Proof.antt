@@ -18,9 +18,6 @@ is-ancestor-or-self-requires c κs = search needs
 kind-at-requires : tie.Need-kind-at-requires
 kind-at-requires c κs = search needs
 
-and-requires : tie.Need-and-requires
-and-requires c κs = search needs
-
 kind-at-requires-2 : tie.Need-kind-at-requires-2
 kind-at-requires-2 c κs = search needs
 
@@ -30,12 +27,24 @@ name-at-requires c κs = search needs
 kind-and-name-ok-requires : tie.Need-kind-and-name-ok-requires
 kind-and-name-ok-requires c κs = search needs
 
+and-requires : tie.Need-and-requires
+and-requires c κs = search needs
+
 and-requires-2 : tie.Need-and-requires-2
 and-requires-2 c κs = search needs
 
+attribute-ok-requires : tie.Need-attribute-ok-requires
+attribute-ok-requires c κs = search needs
+
+and-requires-3 : tie.Need-and-requires-3
+and-requires-3 c κs = search needs
+
 returns : tie.Need-returns
 unfolding rowOk
-returns c = rw (← add-one (c .before .before .before .before .before .before .before .before .before .args .n)) (c .and2 .ensures ∙ cc)
+returns c =
+    let n = c .before .before .before .before .before .before .before .before .before .before .before .args .n in
+    let e = rw (← add-one n) at (c .before .attribute-ok .ensures) in
+    rw (← add-one n) (c .and3 .ensures ∙ cc)
 
 pub later-row-ok-spec : {M : Type 1} → statement M
 later-row-ok-spec =
@@ -45,9 +54,11 @@ later-row-ok-spec =
     parent-at-requires
     is-ancestor-or-self-requires
     kind-at-requires
-    and-requires
     kind-at-requires-2
     name-at-requires
     kind-and-name-ok-requires
+    and-requires
     and-requires-2
+    attribute-ok-requires
+    and-requires-3
     returns)
