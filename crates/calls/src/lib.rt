@@ -291,7 +291,8 @@ pub fn select_on(
 ) -> SelectAnswer
     ensures { λ r. ⌜ SelectMade (tableOf (now (rows .entry))) row (now (document .entry)) context limit (now (marks .entry)) r (now (marks .exit)) ⌝ }
 {
-    let check = xpath::check_document(document);
+    let checked = xpath::check_document(document);
+    let check = checked.answer;
     if let DocumentCheck::Refused(value) = check {
         return SelectAnswer::BadDocument(value);
     }
@@ -302,7 +303,7 @@ pub fn select_on(
     if !terms::is_held_path(rows, row) {
         return SelectAnswer::BadArgument(2);
     }
-    let ends = xpath::ends_of(document);
+    let ends = checked.ends;
     let done = selection::evaluate(rows, xpath::wide(row), document, &ends, x, limit, marks);
     select_answer(done)
 }

@@ -6,7 +6,7 @@ use mathlib.Core.List.{List, [], _∷_}
 use native.Mathlib.Omega.{arith}
 use lib.Dec.{ltb}
 use lib.ListN.{length, getD, List·getD-eq-default}
-use borrow.Author.Tests.{ltb-true, ltb-false}
+use borrow.Author.Tests.{ltb-true, ltb-false, lt-ltb}
 use Rattle.xpath.specs.Document.{Node, node, rootNode, kindAt, parentAt, nameAt, documentOf}
 
 -- a whole row is three numbers
@@ -59,3 +59,7 @@ module _ (xs : List ℕ) (n : ℕ) where
   pub name-lent : nameAt (documentOf xs) n ≡ cond (ltb n (length xs / 3)) (getD xs (3 * n + 2) 0) 0
   unfolding nameAt
   name-lent = field-of (λ r. r .name) refl
+
+  -- in a whole row it is the number itself
+  pub whole-lent : (v : ℕ) → n < length (documentOf xs) → cond (ltb n (length xs / 3)) v 0 ≡ v
+  whole-lent v l = let e = nodes-lent xs in let h : n < length xs / 3 = omega arith in rw (lt-ltb n (length xs / 3) h)

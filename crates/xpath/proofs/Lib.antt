@@ -7,6 +7,7 @@ pub mod Ends
 pub mod Search
 pub mod Lent
 pub mod Refusal
-pub mod Climb
+pub mod Climbing
+pub mod Rows
 pub mod Axes
 pub mod Cases

@@ -1,6 +1,6 @@
 -- What a passed test says, and the way back (`mir.Facts` has both for the tests of numbers, `and`, and `or` one way). Assumes nothing.
 use Prim.Native.Nat.{ℕ, zero, suc, _≤_, _<_}
-use mathlib.Core.Path.{_≡_, refl, sym, subst}
+use mathlib.Core.Path.{_≡_, refl, subst}
 use mathlib.Core.Bool.{Bool, true, false, not, _&&_, _||_}
 use mathlib.Core.Logic.{_↔_, _⊎_, inl, inr, ⊎-elim}
 use native.Mathlib.Nat.{not-suc-le-zero, eq-or-lt-of-le, le-of-suc-le-suc}
@@ -38,10 +38,17 @@ tests-equal true false e = absurd (e .0 tt)
 tests-equal false true e = absurd (e .1 tt)
 tests-equal false false e = refl
 
-pub eqb-sym : (m n : ℕ) → eqb m n ≡ eqb n m
-eqb-sym m n =
-    let back : (i j : ℕ) → T (eqb i j) → T (eqb j i) = λ i j t. (eq-iff j i) .1 (sym ((eq-iff i j) .0 t)) in
-    tests-equal (eqb m n) (eqb n m) (back m n, back n m)
+pub and-true : (b : Bool) → (b && true) ≡ b
+and-true true = refl
+and-true false = refl
+
+pub and-false : (b : Bool) → (b && false) ≡ false
+and-false true = refl
+and-false false = refl
+
+pub or-false : (b : Bool) → (b || false) ≡ b
+or-false true = refl
+or-false false = refl
 
 pub true-iff : (b : Bool) → T b ↔ (b ≡ true)
 true-iff true = (λ t. refl, λ e. tt)

@@ -27,18 +27,18 @@ neither-test true b e = let z : _≡_ {A = ℕ} 0 1 = cc in absurd (omega arith)
 neither-test false b e = (refl, not-false b e)
 
 module _ (xs : List ℕ) where
-  row-sound : (n : ℕ) → badRow xs n ≡ false → (3 * n + 3 ≤ length xs) × T (rowOk (documentOf xs) n)
-  unfolding badRow
+  pub row-sound : (n : ℕ) → badRow xs n ≡ false → (3 * n + 3 ≤ length xs) × T (rowOk (documentOf xs) n)
+  unfolding badRow rowOk
   row-sound n e =
       let r = neither-test (ltb (length xs) (3 * n + 3)) (rowOk (documentOf xs) n) e in
       (ltb-false (length xs) (3 * n + 3) (r .0), true-iff _ .1 (r .1))
 
   sound-row : (n : ℕ) → 3 * n + 3 ≤ length xs → T (rowOk (documentOf xs) n) → badRow xs n ≡ false
-  unfolding badRow
+  unfolding badRow rowOk
   sound-row n l t = rw (le-ltb (length xs) (3 * n + 3) l, true-iff (rowOk (documentOf xs) n) .0 t)
 
   accepted-is : documentRefusal xs ≡ none → (length xs ≡ 3 * length (documentOf xs)) × (length (documentOf xs) ≤ maxNodes) × T (wellFormed (documentOf xs))
-  unfolding documentRefusal wellFormed lentRows
+  unfolding documentRefusal badRow wellFormed lentRows
   accepted-is e =
       let r = no-refusal (eqb (lentRows xs) 0) (ltb maxNodes (lentRows xs)) 0 maxNodes (firstBelow (lentRows xs) (badRow xs)) e in
       let n = (length xs + 2) / 3 in
@@ -55,7 +55,7 @@ module _ (xs : List ℕ) where
       )
 
   is-accepted : (length xs ≡ 3 * length (documentOf xs)) × (length (documentOf xs) ≤ maxNodes) × T (wellFormed (documentOf xs)) → documentRefusal xs ≡ none
-  unfolding documentRefusal wellFormed lentRows
+  unfolding documentRefusal badRow wellFormed lentRows
   is-accepted (whole, few, w) =
       let n = length (documentOf xs) in
       let r = and-yes (leb 1 n) (allBelow n (rowOk (documentOf xs))) w in

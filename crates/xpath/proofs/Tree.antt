@@ -66,7 +66,7 @@ unfolding isAncestor
 ancestor-yes d x y t = climb-yes y d x y t
 
 -- each of the rows 1 to n - 1 comes after its parent
-abbrev ParentsSmaller : Document → ℕ → Type 0
+abbrev pub ParentsSmaller : Document → ℕ → Type 0
 ParentsSmaller d n = (k : ℕ) → k < n → 0 < k → parentAt d k < k
 
 ancestor-smaller-below : {d : Document} {n x y : ℕ} → ParentsSmaller d n → y < n → Ancestor d x y → x < y
@@ -86,24 +86,51 @@ yes-climb {d} {m} {x} {y} f l (suc n) h (above-parent p a) =
     let t : T (climbMeets n d x (parentAt d y)) = yes-climb {m = m} f (omega arith) n (omega arith) a in
     yes-or (isChild d x y) _ (inr (yes-and (not (eqb y 0)) _ (no-eqb {a = y} {b = 0} (λ e. omega arith)) t))
 
+-- what is asked of row n + 1: its parent is row n or an ancestor of it, and is the root or an element; it is no root
+abbrev RowAsked : Document → ℕ → Type 0
+RowAsked d n =
+    ((parentAt d (suc n) ≡ n) ⊎ Ancestor d (parentAt d (suc n)) n)
+    × (kindAt d (parentAt d (suc n)) ≤ 1)
+    × (0 < kindAt d (suc n))
+
+row-asked : (d : Document) (n : ℕ) → T (rowOk d (suc n)) → RowAsked d n
+unfolding rowOk kindAndNameOk
+row-asked d n t =
+    let r = simp (facts, rowOk, kindAndNameOk) at t in (
+      ⊎-elim (λ e. inl (eqb-yes e)) (λ a. inr (ancestor-yes d _ _ a)) (r .0 .0 .0),
+      r .0 .0 .1,
+      ⊎-elim
+          (λ t. let u = simp facts at t in
+          ⊎-elim
+          (λ e. let k : kindAt d (suc n) ≡ 1 = eqb-yes e in omega arith)
+          (λ e. let k : kindAt d (suc n) ≡ 5 = eqb-yes e in omega arith)
+          (u .0 .0))
+          (λ t. let u = simp facts at t in omega arith)
+          (r .0 .1),
+    )
+
+-- where the rows below n are as they must be, each comes after its parent
+pub parents-smaller : (d : Document) (n : ℕ) → ((k : ℕ) → k < n → T (rowOk d k)) → ParentsSmaller d n
+parents-smaller d zero ok k h p = omega arith
+parents-smaller d (suc zero) ok k h p = omega arith
+parents-smaller d (suc (suc n)) ok k h p =
+    let smaller = parents-smaller d (suc n) (λ j l. ok j (omega arith)) in
+    ⊎-elim
+    (λ e. rw e
+    (⊎-elim
+    (λ q. omega arith)
+    (λ a. let b = ancestor-smaller-below smaller (omega arith) a in omega arith)
+    (row-asked d n (ok (suc n) (omega arith)) .0)))
+    (λ less. smaller k less p)
+    (below-suc h)
+
 module _ (d : Document) (w : T (wellFormed d)) where
   row-ok : (n : ℕ) → n < length d → T (rowOk d n)
   unfolding wellFormed
   row-ok n l = all-yes (length d) (rowOk d) ((and-yes (leb 1 (length d)) (allBelow (length d) (rowOk d)) w) .1) n l
 
-  -- what is asked of row n + 1: its parent is row n or an ancestor of it, and is the root or an element; it is no root itself
-  pub row-facts : (n : ℕ) → suc n < length d →
-      ((parentAt d (suc n) ≡ n) ⊎ Ancestor d (parentAt d (suc n)) n) × (kindAt d (parentAt d (suc n)) ≤ 1) × (0 < kindAt d (suc n))
-  unfolding rowOk kindAndNameOk
-  row-facts n l =
-      let r = simp (facts, rowOk, kindAndNameOk) at (row-ok (suc n) l) in (
-        ⊎-elim (λ e. inl (eqb-yes e)) (λ a. inr (ancestor-yes d _ _ a)) (r .0 .0 .0),
-        r .0 .0 .1,
-        ⊎-elim
-            (λ t. let u = simp facts at t in ⊎-elim (λ e. let k : kindAt d (suc n) ≡ 1 = eqb-yes e in omega arith) (λ e. let k : kindAt d (suc n) ≡ 5 = eqb-yes e in omega arith) (u .0 .0))
-            (λ t. let u = simp facts at t in omega arith)
-            (r .0 .1),
-      )
+  pub row-facts : (n : ℕ) → suc n < length d → RowAsked d n
+  row-facts n l = row-asked d n (row-ok (suc n) l)
 
   -- what is asked of row n + 1, an attribute: its parent is an element, and is row n or has row n for an attribute
   pub attribute-facts : (n : ℕ) → suc n < length d → kindAt d (suc n) ≡ 5 →
@@ -116,19 +143,9 @@ module _ (d : Document) (w : T (wellFormed d)) where
       (λ t. let u = simp facts at t in (u .0, ⊎-elim (λ e. inl (eqb-yes e)) (λ s. inr (simp facts at s)) (u .1)))
       (r .1)
 
-  parents-smaller : (n : ℕ) → n ≤ length d → ParentsSmaller d n
-  parents-smaller zero l k h p = omega arith
-  parents-smaller (suc zero) l k h p = omega arith
-  parents-smaller (suc (suc n)) l k h p =
-      let smaller = parents-smaller (suc n) (omega arith) in
-      ⊎-elim
-      (λ e. rw e (⊎-elim (λ q. omega arith) (λ a. let b = ancestor-smaller-below smaller (omega arith) a in omega arith) (row-facts n l .0)))
-      (λ less. smaller k less p)
-      (below-suc h)
-
   -- a parent's row is smaller
-  pub parent-smaller : (y : ℕ) → y < length d → 0 < y → parentAt d y < y
-  parent-smaller = parents-smaller (length d) (omega arith)
+  pub parent-smaller : ParentsSmaller d (length d)
+  parent-smaller = parents-smaller d (length d) row-ok
 
   pub ancestor-smaller : {x y : ℕ} → y < length d → Ancestor d x y → x < y
   ancestor-smaller l a = ancestor-smaller-below parent-smaller l a

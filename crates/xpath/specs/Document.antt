@@ -68,15 +68,20 @@ attributePlaced d n =
     eqb (kindAt d (parentAt d (suc n))) 1
     && (eqb (parentAt d (suc n)) n || isAttribute d n && eqb (parentAt d n) (parentAt d (suc n)))
 
--- row n is as it must be: row 0 is `0 0 0`; the parent of a later row is the row before it or an ancestor of that one, and is the root or an element;
--- an attribute stands after its parent, with only attributes of that parent between
-unfoldable pub rowOk : Document → ℕ → Bool
-rowOk d zero = eqb (kindAt d 0) 0 && eqb (parentAt d 0) 0 && eqb (nameAt d 0) 0
-rowOk d (suc n) =
-    (eqb (parentAt d (suc n)) n || isAncestor d (parentAt d (suc n)) n)
+-- row n is as it must be, by a test for ancestors: row 0 is `0 0 0`; the parent of a later row is the row before it or
+-- an ancestor of that one, and is the root or an element; an attribute stands after its parent, with only attributes of
+-- that parent between
+abbrev pub rowOkBy : (ancestor : Document → ℕ → ℕ → Bool) → Document → ℕ → Bool
+rowOkBy ancestor d zero = eqb (kindAt d 0) 0 && eqb (parentAt d 0) 0 && eqb (nameAt d 0) 0
+rowOkBy ancestor d (suc n) =
+    (eqb (parentAt d (suc n)) n || ancestor d (parentAt d (suc n)) n)
     && leb (kindAt d (parentAt d (suc n))) 1
     && kindAndNameOk (kindAt d (suc n)) (nameAt d (suc n))
     && (not (isAttribute d (suc n)) || attributePlaced d n)
+
+-- the test is the climb to the root
+unfoldable pub rowOk : Document → ℕ → Bool
+rowOk = rowOkBy isAncestor
 
 -- a document of any size
 unfoldable pub wellFormed : Document → Bool
@@ -99,12 +104,18 @@ abbrev pub maxNodes : ℕ
 maxNodes = 512
 
 -- row n of the lent numbers is bad; an incomplete row is
+abbrev pub badRowBy : (ancestor : Document → ℕ → ℕ → Bool) → List ℕ → ℕ → Bool
+badRowBy ancestor xs n = ltb (length xs) (3 * n + 3) || not (rowOkBy ancestor (documentOf xs) n)
+
 unfoldable pub badRow : List ℕ → ℕ → Bool
-badRow xs n = ltb (length xs) (3 * n + 3) || not (rowOk (documentOf xs) n)
+badRow = badRowBy isAncestor
 
 -- the value of refusal 8, where it applies: no rows 0, too many 512, else the first bad row
-unfoldable pub documentRefusal : List ℕ → Option ℕ
-documentRefusal xs =
+abbrev pub documentRefusalBy : (ancestor : Document → ℕ → ℕ → Bool) → List ℕ → Option ℕ
+documentRefusalBy ancestor xs =
     cond (eqb (lentRows xs) 0) (some 0)
     (cond (ltb maxNodes (lentRows xs)) (some maxNodes)
-    (firstBelow (lentRows xs) (badRow xs)))
+    (firstBelow (lentRows xs) (badRowBy ancestor xs)))
+
+unfoldable pub documentRefusal : List ℕ → Option ℕ
+documentRefusal = documentRefusalBy isAncestor

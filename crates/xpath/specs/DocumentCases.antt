@@ -8,7 +8,7 @@ use Rattle.xpath.specs.Document.{Node, node, rootNode, kindAt, parentAt,
 use Rattle.xpath.specs.Expected.{_is_, AllRight}
 
 -- the numbers of rows that are lent
-abbrev lent : List Node → List ℕ
+abbrev pub lent : List Node → List ℕ
 lent [] = []
 lent (r ∷ rs) = r .kind ∷ r .parent ∷ r .name ∷ lent rs
 

@@ -1,5 +1,6 @@
 pub mod Bounded
 pub mod Document
+pub mod Climb
 pub mod Ends
 pub mod Axis
 pub mod Term
@@ -9,6 +10,7 @@ pub mod Check
 pub mod Expected
 pub mod LogCases
 pub mod DocumentCases
+pub mod ClimbCases
 pub mod MeaningCases
 pub mod AttributeCases
 pub mod VisitCases

@@ -1,17 +1,16 @@
-// Documents lent as 16-bit numbers, three a row: their check, where their subtrees end, and the node tests. A number that no whole
-// row has is read as 0.
+// Documents lent as 16-bit numbers, three a row: their check, with the ends of the rows' subtrees, and the node tests.
+// Every public function takes every input; a number that no whole row has is read as 0.
 ghost use mathlib.Core.Path.{_≡_};
 ghost use mathlib.Core.Bool.{_&&_, _||_, not, cond};
-ghost use mathlib.Core.Option.{none, some};
 ghost use Prim.Native.Nat.{suc, _+_, _*_, _/_, _<_, _≤_};
 ghost use lib.ListN.{length, getD};
-ghost use lib.Dec.{T, ltb, eqb};
-ghost use Rattle.xpath.specs.Bounded.{firstBelow};
-ghost use Rattle.xpath.specs.Document.{kindAt, parentAt, nameAt, isAttribute, attributePlaced, isAncestor};
-ghost use Rattle.xpath.specs.Document.{kindAndNameOk, rowOk, documentOf, badRow, documentRefusal, maxNodes, wellFormed};
-ghost use Rattle.xpath.specs.Ends.{Ends, Filled};
+ghost use lib.Dec.{ltb};
+ghost use Rattle.xpath.specs.Document.{kindAt, parentAt, nameAt, isAttribute, attributePlaced, kindAndNameOk};
+ghost use Rattle.xpath.specs.Document.{rowOkBy, documentOf, maxNodes};
+ghost use Rattle.xpath.specs.Climb.{climbMet};
+ghost use Rattle.xpath.specs.Ends.{Filled};
 ghost use Rattle.xpath.specs.Axis.{principal, passes};
-ghost use Rattle.xpath.specs.Check.{kindOfTest, refusalOf};
+ghost use Rattle.xpath.specs.Check.{kindOfTest, DocumentChecked, ClimbMade, Placed, FirstBad, closedBefore};
 
 // The largest document that a call takes.
 pub const MAX_NODES: usize = 512;
@@ -20,6 +19,18 @@ pub const MAX_NODES: usize = 512;
 pub enum DocumentCheck {
     Accepted,
     Refused(u16),
+}
+
+// What the check of lent numbers gives: its answer, and for a document the end of each row's subtree.
+pub struct Checked {
+    pub answer: DocumentCheck,
+    pub ends: [u16; MAX_NODES],
+}
+
+// What the climb toward a row gives: whether it met that row, and how many parents it took.
+pub struct Climb {
+    pub met: bool,
+    pub parents: usize,
 }
 
 pub fn wide(x: u16) -> usize
@@ -47,14 +58,23 @@ pub fn node_count(d: &[u16]) -> usize
     d.len() / 3
 }
 
+// Number j of a whole row.
+fn number_of(d: &[u16], y: usize, j: usize) -> usize
+    requires { ⌜ y < length (now d) / 3 ⌝ }
+    requires { ⌜ j < 3 ⌝ }
+    ensures { λ r. ⌜ r ≡ getD (now (d .entry)) (3 * y + j) 0 ⌝ }
+{
+    let i = 3 * y + j;
+    wide(d[i])
+}
+
 // Number j of row y, if that row is whole.
 fn number_at(d: &[u16], y: usize, j: usize) -> usize
     requires { ⌜ j < 3 ⌝ }
     ensures { λ r. ⌜ r ≡ cond (ltb y (length (now (d .entry)) / 3)) (getD (now (d .entry)) (3 * y + j) 0) 0 ⌝ }
 {
     if y < d.len() / 3 {
-        let i = 3 * y + j;
-        return wide(d[i]);
+        return number_of(d, y, j);
     }
     0
 }
@@ -71,6 +91,22 @@ pub fn parent_at(d: &[u16], y: usize) -> usize
     number_at(d, y, 1)
 }
 
+// The kind of a whole row.
+fn kind_of(d: &[u16], y: usize) -> usize
+    requires { ⌜ y < length (documentOf (now d)) ⌝ }
+    ensures { λ r. ⌜ r ≡ kindAt (documentOf (now (d .entry))) y ⌝ }
+{
+    number_of(d, y, 0)
+}
+
+// The parent of a whole row.
+fn parent_of(d: &[u16], y: usize) -> usize
+    requires { ⌜ y < length (documentOf (now d)) ⌝ }
+    ensures { λ r. ⌜ r ≡ parentAt (documentOf (now (d .entry))) y ⌝ }
+{
+    number_of(d, y, 1)
+}
+
 fn name_at(d: &[u16], y: usize) -> usize
     ensures { λ r. ⌜ r ≡ nameAt (documentOf (now (d .entry))) y ⌝ }
 {
@@ -83,30 +119,31 @@ pub fn is_attribute(d: &[u16], y: usize) -> bool
     kind_at(d, y) == 5
 }
 
-// Whether the climb from y to the root meets x.
-fn is_ancestor(d: &[u16], x: usize, y: usize) -> bool
-    ensures { λ r. ⌜ r ≡ isAncestor (documentOf (now (d .entry))) x y ⌝ }
+// The ancestor test: the climb from row y toward x. It ends once it is at or below x, and where a parent is not the
+// smaller row, which no document has. It closes at `end` the subtree of each row that it leaves.
+fn climb_toward(d: &[u16], x: usize, y: usize, end: u16, ends: &mut [u16]) -> Climb
+    requires { ⌜ y < length (documentOf (now d)) ⌝ }
+    requires { ⌜ y < length (now ends) ⌝ }
+    ensures { λ r. ⌜ ClimbMade (documentOf (now (d .entry))) x y end (now (ends .entry)) r (now (ends .exit)) ⌝ }
 {
     let mut at = y;
-    let mut left = y;
-    while 0 < left {
-        if at == 0 {
-            return false;
+    let mut parents: usize = 0;
+    while x < at {
+        let parent = parent_of(d, at);
+        if at <= parent {
+            return Climb {
+                met: false,
+                parents,
+            };
         }
-        at = parent_at(d, at);
-        if at == x {
-            return true;
-        }
-        left -= 1;
+        ends[at] = end;
+        at = parent;
+        parents += 1;
     }
-    false
-}
-
-// Whether x is y or an ancestor of y. It climbs only where the comparison leaves that open.
-fn is_ancestor_or_self(d: &[u16], x: usize, y: usize) -> bool
-    ensures { λ r. ⌜ r ≡ (eqb x y || isAncestor (documentOf (now (d .entry))) x y) ⌝ }
-{
-    if x == y { true } else { is_ancestor(d, x, y) }
+    Climb {
+        met: and(x < y, at == x),
+        parents,
+    }
 }
 
 // The kind of node that a name or `*` selects on an axis.
@@ -126,7 +163,7 @@ fn kind_of_test(axis: usize, test: usize) -> usize
     test - 1
 }
 
-// Comparisons instead of a `match`, since a step asks the same test of one node after the other.
+// Comparisons are quicker than a `match` where a step asks the same test of one node after the other.
 pub fn passes_test(d: &[u16], axis: usize, test: usize, name: usize, y: usize) -> bool
     ensures { λ r. ⌜ r ≡ passes axis test name (documentOf (now (d .entry))) y ⌝ }
 {
@@ -146,9 +183,11 @@ pub fn passes_test(d: &[u16], axis: usize, test: usize, name: usize, y: usize) -
 fn kind_and_name_ok(kind: usize, name: usize) -> bool
     ensures { λ r. ⌜ r ≡ kindAndNameOk kind name ⌝ }
 {
-    let named = and(and(or(kind == 1, kind == 5), 1 <= name), name <= 65535);
-    let other = and(and(2 <= kind, kind <= 4), name == 0);
-    or(named, other)
+    if name == 0 {
+        and(2 <= kind, kind <= 4)
+    } else {
+        and(or(kind == 1, kind == 5), name <= 65535)
+    }
 }
 
 // Whether an attribute in row n + 1 stands where it must.
@@ -173,70 +212,74 @@ fn attribute_ok(d: &[u16], n: usize) -> bool
     }
 }
 
-// Whether row n + 1 is as it must be.
-fn later_row_ok(d: &[u16], n: usize) -> bool
+// Whether row `parent` is row n or an ancestor of it, which the climb from row n tells. It closes the subtrees that end
+// there.
+fn is_placed(d: &[u16], parent: usize, n: usize, ends: &mut [u16]) -> bool
+    requires { ⌜ n < length (documentOf (now d)) ⌝ }
+    requires { ⌜ n < length (now ends) ⌝ }
     requires { ⌜ n < maxNodes ⌝ }
-    ensures { λ r. ⌜ r ≡ rowOk (documentOf (now (d .entry))) (suc n) ⌝ }
+    ensures { λ r. ⌜ Placed (documentOf (now (d .entry))) parent n (now (ends .entry)) r (now (ends .exit)) ⌝ }
+{
+    if parent == n {
+        return true;
+    }
+    let end = n + 1;
+    let climb = climb_toward(d, parent, n, end as u16, ends);
+    climb.met
+}
+
+// Whether row n + 1 is as it must be. It closes the subtrees that end before it.
+fn later_row_ok(d: &[u16], n: usize, ends: &mut [u16]) -> bool
+    requires { ⌜ suc n < length (documentOf (now d)) ⌝ }
+    requires { ⌜ n < length (now ends) ⌝ }
+    requires { ⌜ n < maxNodes ⌝ }
+    ensures { λ r. ⌜ r ≡ rowOkBy climbMet (documentOf (now (d .entry))) (suc n) ⌝ }
+    ensures { λ r. ⌜ now (ends .exit) ≡ closedBefore (documentOf (now (d .entry))) (suc n) (now (ends .entry)) ⌝ }
 {
     let i = n + 1;
     let parent = parent_at(d, i);
-    let placed = is_ancestor_or_self(d, parent, n);
-    let under = kind_at(d, parent) <= 1;
-    let sound = kind_and_name_ok(kind_at(d, i), name_at(d, i));
-    and(and(and(placed, under), sound), attribute_ok(d, n))
-}
-
-fn row_ok(d: &[u16], n: usize) -> bool
-    requires { ⌜ n < maxNodes ⌝ }
-    ensures { λ r. ⌜ r ≡ rowOk (documentOf (now (d .entry))) n ⌝ }
-{
-    if n == 0 {
-        return and(
-            and(kind_at(d, 0) == 0, parent_at(d, 0) == 0),
-            name_at(d, 0) == 0,
-        );
+    if !is_placed(d, parent, n, ends) {
+        return false;
     }
-    later_row_ok(d, n - 1)
+    if 1 < kind_of(d, parent) {
+        return false;
+    }
+    if !kind_and_name_ok(kind_at(d, i), name_at(d, i)) {
+        return false;
+    }
+    attribute_ok(d, n)
 }
 
-fn bad_row(d: &[u16], n: usize) -> bool
-    requires { ⌜ n < maxNodes ⌝ }
-    ensures { λ r. ⌜ r ≡ badRow (now (d .entry)) n ⌝ }
+// Whether row 0 is as it must be.
+fn root_ok(d: &[u16]) -> bool
+    ensures { λ r. ⌜ r ≡ rowOkBy climbMet (documentOf (now (d .entry))) 0 ⌝ }
 {
-    or(d.len() < 3 * n + 3, !row_ok(d, n))
+    let sound = and(kind_at(d, 0) == 0, parent_at(d, 0) == 0);
+    and(sound, name_at(d, 0) == 0)
 }
 
-// The first bad one of n rows, n if there is none.
-fn first_bad_row(d: &[u16], n: usize) -> usize
-    requires { ⌜ n ≤ maxNodes ⌝ }
-    ensures { λ r. ⌜ firstBelow n (badRow (now (d .entry))) ≡ cond (ltb r n) (some r) none ⌝ }
-    ensures { λ r. ⌜ r ≤ n ⌝ }
+// The first bad row. If each whole row is as it must be, that is their number, and every subtree that ends before the
+// last row is closed.
+fn first_bad_row(d: &[u16], ends: &mut [u16]) -> usize
+    requires { ⌜ length (documentOf (now d)) ≤ maxNodes ⌝ }
+    requires { ⌜ maxNodes ≤ length (now ends) ⌝ }
+    ensures { λ r. ⌜ FirstBad (now (d .entry)) (now (ends .entry)) r (now (ends .exit)) ⌝ }
 {
-    let mut i: usize = 0;
-    while i < n {
-        if bad_row(d, i) {
-            return i;
+    let n = node_count(d);
+    if n == 0 {
+        return 0;
+    }
+    if !root_ok(d) {
+        return 0;
+    }
+    let mut last: usize = 0;
+    while last + 1 < n {
+        if !later_row_ok(d, last, ends) {
+            return last + 1;
         }
-        i += 1;
+        last += 1;
     }
-    i
-}
-
-pub fn check_document(d: &[u16]) -> DocumentCheck
-    ensures { λ r. ⌜ refusalOf r ≡ documentRefusal (now (d .entry)) ⌝ }
-{
-    let n = (d.len() + 2) / 3;
-    if n == 0 {
-        return DocumentCheck::Refused(0);
-    }
-    if MAX_NODES < n {
-        return DocumentCheck::Refused(MAX_NODES as u16);
-    }
-    let bad = first_bad_row(d, n);
-    if bad < n {
-        return DocumentCheck::Refused(bad as u16);
-    }
-    DocumentCheck::Accepted
+    n
 }
 
 // Room for every row, and each number is v.
@@ -246,26 +289,34 @@ fn filled(v: u16) -> [u16; MAX_NODES]
     [v; MAX_NODES]
 }
 
-// Where the subtree of each row ends: the rows after it and before its end are its descendants.
-pub fn ends_of(d: &[u16]) -> [u16; MAX_NODES]
-    requires { ⌜ length (documentOf (now d)) ≤ maxNodes ⌝ }
-    requires { ⌜ T (wellFormed (documentOf (now d))) ⌝ }
-    ensures { λ r. ⌜ Ends (documentOf (now (d .entry))) r ⌝ }
+// The check, and where the subtree of each row ends, in one pass over the rows. The ends of what is refused are left
+// open.
+pub fn check_document(d: &[u16]) -> Checked
+    ensures { λ r. ⌜ DocumentChecked (now (d .entry)) r ⌝ }
 {
-    let n = node_count(d);
-    let mut ends = filled(n as u16);
-    let mut last: usize = 0;
-    let mut at: usize = 0;
-    while last + 1 < n {
-        let i = last + 1;
-        let parent = parent_at(d, i);
-        if parent < at {
-            ends[at] = i as u16;
-            at = parent_at(d, at);
-        } else {
-            last = i;
-            at = i;
-        }
+    let n = (d.len() + 2) / 3;
+    if n == 0 {
+        return Checked {
+            answer: DocumentCheck::Refused(0),
+            ends: filled(0),
+        };
     }
-    ends
+    if MAX_NODES < n {
+        return Checked {
+            answer: DocumentCheck::Refused(MAX_NODES as u16),
+            ends: filled(0),
+        };
+    }
+    let mut ends = filled(n as u16);
+    let bad = first_bad_row(d, &mut ends);
+    if bad < n {
+        return Checked {
+            answer: DocumentCheck::Refused(bad as u16),
+            ends,
+        };
+    }
+    Checked {
+        answer: DocumentCheck::Accepted,
+        ends,
+    }
 }

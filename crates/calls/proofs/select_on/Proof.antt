@@ -16,7 +16,10 @@ enum-known-check : tie.Need-enum-known-check
 enum-known-check c = search needs
 
 returns : tie.Need-returns
-returns c = bad-document _ _ _ _ _ _ _ (sym (ap refusalOf (c .before .check .given .1)) ∙ c .before .before .before .check-document .ensures)
+returns c =
+    let t = c .before in
+    let taken = sym (ap refusalOf (t .check .given .1)) ∙ t .before .before .check-document .ensures .refusal in
+    bad-document _ _ _ _ _ _ _ taken
 
 enum-told : tie.Need-enum-told
 enum-told c = search needs
@@ -28,17 +31,20 @@ node-count-requires : tie.Need-node-count-requires
 node-count-requires c κs = search needs
 
 returns-2 : tie.Need-returns-2
-returns-2 c = bad-context _ _ _ _ _ _ (sym (ap refusalOf (c .before .before .before .enum-told .given .1)) ∙ c .before .before .before .before .before .check-document .ensures) (omega arith)
+returns-2 c =
+    let t = c .before .before .before in
+    let taken = sym (ap refusalOf (t .enum-told .given .1)) ∙ t .before .before .check-document .ensures .refusal in
+    bad-context _ _ _ _ _ _ taken (omega arith)
 
 is-held-path-requires : tie.Need-is-held-path-requires
 is-held-path-requires c κs = search needs
 
 returns-3 : tie.Need-returns-3
-returns-3 c = bad-row _ _ _ _ _ _ (sym (ap refusalOf (c .before .before .before .before .before .enum-told .given .1)) ∙ c .before .before .before .before .before .before .before .check-document .ensures) (omega arith) (sym (c .before .is-held-path .ensures) ∙ not-true _ (c .if2 .taken))
-
-ends-of-requires : tie.Need-ends-of-requires
-ends-of-requires c κs =
-    let r = accepted-iff (c .before .before .before .before .before .before .before .before .before .before .before .args .document .now) .0 (sym (sym (ap refusalOf (c .before .before .before .before .before .enum-told .given .1)) ∙ c .before .before .before .before .before .before .before .check-document .ensures)) in (r .1, r .2)
+returns-3 c =
+    let p = c .before in
+    let t = p .before .before .before .before in
+    let taken = sym (ap refusalOf (t .enum-told .given .1)) ∙ t .before .before .check-document .ensures .refusal in
+    bad-row _ _ _ _ _ _ taken (omega arith) (sym (p .is-held-path .ensures) ∙ not-true _ (c .if2 .taken))
 
 wide-requires-2 : tie.Need-wide-requires-2
 wide-requires-2 c κs = search needs
@@ -48,8 +54,15 @@ slice-aggregate-evaluate c = search needs
 
 evaluate-requires : tie.Need-evaluate-requires
 evaluate-requires c κs =
-    let r = accepted-iff (c .before .before .before .before .before .before .before .before .before .before .before .before .before .before .before .args .document .now) .0 (sym (sym (ap refusalOf (c .before .before .before .before .before .before .before .before .before .enum-told .given .1)) ∙ c .before .before .before .before .before .before .before .before .before .before .before .check-document .ensures)) in
-    record { prepared = record { few = r .1; formed = r .2; ends = c .before .before .before .ends-of .ensures }; row = omega arith }
+    let p = c .before .before .before .before in
+    let t = p .before .before .before .before .before in
+    let taken = sym (ap refusalOf (t .enum-told .given .1)) ∙ t .before .before .check-document .ensures .refusal in
+    let (whole, few, formed) = accepted-iff _ .0 (sym taken) in
+    record {
+      prepared =
+          record { few = few; formed = formed; ends = t .before .before .check-document .ensures .ends (sym taken) };
+      row = omega arith;
+    }
 
 select-answer-requires : tie.Need-select-answer-requires
 select-answer-requires c κs = search needs
@@ -59,10 +72,15 @@ same-length c = search needs
 
 returns-4 : tie.Need-returns-4
 returns-4 c =
-    let taken = sym (ap refusalOf (c .before .before .before .before .before .before .before .before .before .before .before .before .before .enum-told .given .1)) ∙ c .before .before .before .before .before .before .before .before .before .before .before .before .before .before .before .check-document .ensures in
-    let path = sym (c .before .before .before .before .before .before .before .before .before .is-held-path .ensures) ∙ not-false _ (c .before .before .before .before .before .before .before .before .if2 .left) in
+    let e = c .before .before .before in
+    let w = e .before .before .before in
+    let p = w .before .before in
+    let n = p .before .before .before .before in
+    let t = n .before in
+    let taken = sym (ap refusalOf (t .enum-told .given .1)) ∙ t .before .before .check-document .ensures .refusal in
+    let path = sym (p .before .is-held-path .ensures) ∙ not-false _ (p .if2 .left) in
     select-evaluated _ _ _ _ _ _ taken (omega arith) path _ _ _ (c .select-answer .ensures)
-    (c .before .before .before .evaluate .ensures ∙ rw (c .before .before .before .before .before .before .wide2 .ensures, c .before .before .before .before .before .before .before .before .before .before .before .before .wide .ensures))
+    (e .evaluate .ensures ∙ rw (w .wide2 .ensures, n .wide .ensures))
 
 pub select-on-spec : {M : Type 1} → statement M
 select-on-spec =
@@ -77,7 +95,6 @@ select-on-spec =
     returns-2
     is-held-path-requires
     returns-3
-    ends-of-requires
     wide-requires-2
     slice-aggregate-evaluate
     evaluate-requires
