@@ -2,6 +2,8 @@ pub mod Accepted
 pub mod TermJudged
 pub mod StepJudged
 pub mod SelectJudged
+pub mod Marked
+pub mod SelectLaws
 pub mod Tables
 pub mod Refused
 pub mod Premises

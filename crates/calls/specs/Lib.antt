@@ -6,5 +6,7 @@ pub mod Calls
 pub mod Tables
 pub mod Answers
 pub mod Promises
+pub mod SelectLaws
 pub mod CallCases
 pub mod TableCases
+pub mod SelectLawCases

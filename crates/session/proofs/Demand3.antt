@@ -21,7 +21,7 @@ use Rattle.session.specs.Demand3.{DemandThree}
 use Rattle.calls.proofs.Reached.{BookLaws, reachable-laws}
 use Rattle.session.proofs.Views.{fresh-view}
 use Rattle.session.proofs.Simulation.{run-as-book, fresh-kept}
-use Rattle.session.proofs.Marked.{select-takes, select-leaves, select-well-formed, select-marks, select-stays}
+use Rattle.calls.proofs.Marked.{select-takes, select-leaves, select-well-formed, select-marks, select-stays}
 
 -- the paths of a step that says a containment are those of its rows
 containment-sides : (rs : List Row) (l r : ℕ) (p q : Path) → says rs l r ≡ Containment p q → (pathAt rs l ≡ p) × (pathAt rs r ≡ q)

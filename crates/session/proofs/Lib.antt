@@ -1,7 +1,6 @@
 pub mod TermMade
 pub mod Views
 pub mod Simulation
-pub mod Marked
 pub mod Demand3
 pub mod StepMade
 pub mod CallsExist

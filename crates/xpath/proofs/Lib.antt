@@ -11,3 +11,5 @@ pub mod Climbing
 pub mod Rows
 pub mod Axes
 pub mod Cases
+pub mod Chain
+pub mod OneName

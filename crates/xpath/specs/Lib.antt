@@ -6,6 +6,8 @@ pub mod Axis
 pub mod Term
 pub mod Meaning
 pub mod Visits
+pub mod Chain
+pub mod OneName
 pub mod Check
 pub mod Expected
 pub mod LogCases
@@ -14,3 +16,5 @@ pub mod ClimbCases
 pub mod MeaningCases
 pub mod AttributeCases
 pub mod VisitCases
+pub mod ChainCases
+pub mod NameCases

@@ -18,32 +18,36 @@ use Rattle.terms.specs.Row.{Row}
 use Rattle.terms.specs.Fields.{heldPath}
 use Rattle.terms.specs.Decode.{pathAt}
 use Rattle.selection.specs.Marks.{written}
 use Rattle.calls.specs.Book.{Answer, answer}
 use Rattle.calls.specs.SelectCall.{selectAnswer, selectBuffer}
 use Rattle.calls.specs.declared.SelectAnswer.{SelectAnswer}
 use Rattle.calls.specs.Answers.{selectAnswerOf}
 use Rattle.calls.specs.Promises.{SelectMade}
 use Rattle.calls.proofs.Accepted.{test-failed, if-accepted, if-refused}
 
 length-written : (n : ℕ) (f : ℕ → Bool) (buffer : List ℕ) → length (written n f buffer) ≡ length buffer
 unfolding written
 length-written zero f buffer = refl
 length-written (suc n) f buffer = length-set (written n f buffer) n (cond (f n) 1 0) ∙ length-written n f buffer
 
-written-at : (n : ℕ) (f : ℕ → Bool) (buffer : List ℕ) → n ≤ length buffer → (y : ℕ) → y < n → getD (written n f buffer) y 0 ≡ cond (f y) 1 0
+written-at : (n : ℕ) (f : ℕ → Bool) (buffer : List ℕ) → n ≤ length buffer → (y : ℕ) → y < n
+    → getD (written n f buffer) y 0 ≡ cond (f y) 1 0
 unfolding written
 written-at zero f buffer l y h = absurd (omega arith)
 written-at (suc n) f buffer l y h =
     ⊎-elim
     (λ e. rw e (getD-set-same (written n f buffer) n (cond (f n) 1 0) 0 (omega (arith, length-written n f buffer))))
-    (λ k. let o : y ≢ n = λ e. absurd (omega arith) in getD-set-other (written n f buffer) n y (cond (f n) 1 0) 0 o ∙ written-at n f buffer (omega arith) y k)
+    (λ k. let o : y ≢ n = λ e. absurd (omega arith) in
+    getD-set-other (written n f buffer) n y (cond (f n) 1 0) 0 o ∙ written-at n f buffer (omega arith) y k)
     (below-suc h)
 
-written-past : (n : ℕ) (f : ℕ → Bool) (buffer : List ℕ) (y : ℕ) → n ≤ y → getD (written n f buffer) y 0 ≡ getD buffer y 0
+written-past : (n : ℕ) (f : ℕ → Bool) (buffer : List ℕ) (y : ℕ) → n ≤ y
+    → getD (written n f buffer) y 0 ≡ getD buffer y 0
 unfolding written
 written-past zero f buffer y h = refl
 written-past (suc n) f buffer y h =
-    let o : y ≢ n = λ e. absurd (omega arith) in getD-set-other (written n f buffer) n y (cond (f n) 1 0) 0 o ∙ written-past n f buffer y (omega arith)
+    let o : y ≢ n = λ e. absurd (omega arith) in
+    getD-set-other (written n f buffer) n y (cond (f n) 1 0) 0 o ∙ written-past n f buffer y (omega arith)
 
 -- an accepted answer is no refusal 8
 no-refusal : (o : Option ℕ) (t : Answer) → Option·elim o t (λ v. answer 8 v) .number ≡ 0 → (o ≡ none) × (t .number ≡ 0)
@@ -82,7 +86,8 @@ module _ (rs : List Row) (row : ℕ) (xs : List ℕ) (x limit : ℕ) where
       pub select-well-formed : T (wellFormed (documentOf xs))
       select-well-formed = accepted-iff xs .0 (select-takes .document) .2
 
-      pub select-marks : (y : ℕ) → y < length (documentOf xs) → getD left y 0 ≡ cond (selects (documentOf xs) (pathAt rs row) x y) 1 0
+      pub select-marks : (y : ℕ) → y < length (documentOf xs)
+          → getD left y 0 ≡ cond (selects (documentOf xs) (pathAt rs row) x y) 1 0
       select-marks y l = rw written-left (written-at (length (documentOf xs)) _ buffer (select-takes .marks) y l)
 
       pub select-stays : (y : ℕ) → length (documentOf xs) ≤ y → getD left y 0 ≡ getD buffer y 0
