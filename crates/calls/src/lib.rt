@@ -4,7 +4,6 @@ use selection::Evaluated;
 use terms::Row;
 use xpath::DocumentCheck;
 ghost use mathlib.Core.Path.{_≡_};
-ghost use mathlib.Core.Bool.{not};
 ghost use Prim.Native.Nat.{_-_, _≤_, min};
 ghost use lib.ListN.{length, take};
 ghost use Rattle.terms.specs.Row.{rowAt, tableOf, maxRows};
@@ -96,19 +95,19 @@ fn term_answer(rows: &[u16], row: Row) -> TermAnswer
     requires { ⌜ length (tableOf (now rows)) ≤ maxRows ⌝ }
     ensures { λ r. ⌜ termAnswerOf r ≡ termAnswer (tableOf (now (rows .entry))) (rowOf row) ⌝ }
 {
-    let place = terms::bad_place(rows, row);
-    let nesting = terms::nesting_of(rows, row);
-    let found = terms::find_row(rows, row);
-    let count = terms::row_count(rows);
     if terms::MAX_KIND < row.kind {
         return TermAnswer::BadKind;
     }
+    let place = terms::bad_place(rows, row);
     if 0 < place {
         return TermAnswer::BadField(place);
     }
+    let nesting = terms::nesting_of(rows, row);
     if terms::MAX_NESTING < nesting {
         return TermAnswer::TooDeep;
     }
+    let found = terms::find_row(rows, row);
+    let count = terms::row_count(rows);
     if found < count {
         return TermAnswer::AlreadyHeld(found as u16);
     }
@@ -220,38 +219,32 @@ fn is_yielded(rows: &[u16], steps: &[u16], step: Step) -> bool
     rules::yields(rows, step.rule, step.left, step.right, first, second)
 }
 
-// Whether refusal 7 applies.
-fn rule_refuses(rows: &[u16], steps: &[u16], step: Step) -> bool
-    ensures { λ r. ⌜ r ≡ not (rowYielded (book (tableOf (now (rows .entry))) (stepsOf (now (steps .entry)))) (stepOf step)) ⌝ }
-{
-    !is_yielded(rows, steps, step)
-}
-
 // The answer of a step call on the rows and steps: the first refusal that applies, or the new step's number.
 fn step_answer(rows: &[u16], steps: &[u16], step: Step) -> StepAnswer
     requires { ⌜ length (stepsOf (now steps)) ≤ maxSteps ⌝ }
     ensures { λ r. ⌜ stepAnswerOf r ≡ rowStepAnswer (book (tableOf (now (rows .entry))) (stepsOf (now (steps .entry)))) (stepOf step) ⌝ }
 {
-    let held = step_count(steps);
-    let side = bad_side(rows, step);
-    let premise = bad_premise(held, step);
-    let not_yielded = rule_refuses(rows, steps, step);
     if xpath::or(step.rule == 0, rules::MAX_RULE < step.rule) {
         return StepAnswer::NoRule;
     }
+    let side = bad_side(rows, step);
     if 0 < side {
         return StepAnswer::BadSide(side);
     }
+    let held = step_count(steps);
+    let premise = bad_premise(held, step);
     if 0 < premise {
         return StepAnswer::BadPremise(premise);
     }
-    if not_yielded {
+    if !is_yielded(rows, steps, step) {
         return StepAnswer::NotYielded;
     }
     if MAX_STEPS <= held {
         return StepAnswer::StepsFull;
     }
-    StepAnswer::Held((held + 1) as u16)
+    let next = held + 1;
+    let number = next as u16;
+    StepAnswer::Held(number)
 }
 
 // The same on the first n rows of a table and the first m steps of another.

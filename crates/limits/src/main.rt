@@ -1,5 +1,5 @@
-// Each limit of a session, met and then passed by one. Prints what the calls answer, `NUMBER VALUE` a line, in pairs: the last call
-// within the limit, and the one beyond it.
+// Each limit of a session, met and then passed by one. Prints the limits that a session names, on a line, and then what the calls
+// answer, `NUMBER VALUE` a line, in pairs: the last call within the limit, and the one beyond it.
 use session::Session;
 ghost use mathlib.Core.Path.{_≡_};
 ghost use Prim.Native.Nat.{_≤_};
@@ -26,6 +26,20 @@ fn print(number: u16, value: u32) {
     io::print_decimal(1, number as u64);
     io::write_all(1, b" ");
     io::print_decimal(1, value as u64);
+    io::write_all(1, b"\n");
+}
+
+fn print_before_space(limit: usize) {
+    io::print_decimal(1, limit as u64);
+    io::write_all(1, b" ");
+}
+
+// Rows, steps, nesting, nodes.
+fn print_limits() {
+    print_before_space(Session::ROWS);
+    print_before_space(Session::STEPS);
+    print_before_space(Session::NESTING as usize);
+    io::print_decimal(1, Session::NODES as u64);
     io::write_all(1, b"\n");
 }
 
@@ -120,6 +134,7 @@ fn visits() {
 }
 
 fn main() {
+    print_limits();
     nesting();
     rows();
     steps();

@@ -9,6 +9,7 @@ pub mod Yields
 pub mod LettersRead
 pub mod Decision
 pub mod Accepted
+pub mod Written
 pub mod RuleTen
 pub mod NearMisses
 pub mod Values

@@ -2,6 +2,7 @@ pub mod TermMade
 pub mod Views
 pub mod Simulation
 pub mod Demand3
+pub mod Clauses
 pub mod StepMade
 pub mod CallsExist
 pub mod ReadByRows
@@ -10,6 +11,8 @@ pub mod LineCalls
 pub mod ReadMade
 pub mod Audited
 pub mod Contracts
+pub mod SourceRun
 pub mod StepsAdded
 pub mod ReadCalls
 pub mod Bundles
+pub mod ReadClauses

@@ -1,25 +1,39 @@
 -- From the reading of a bundle's parts to the call read. Assumes nothing.
-use Prim.Native.Nat.{ℕ, _≤_}
+use Prim.Native.Nat.{ℕ, _≤_, _<_}
 use mathlib.Core.Path.{_≡_, refl, sym, ap, subst, _∙_}
 use mathlib.Core.Bool.{true, false, false≢true}
 use mathlib.Core.List.{List, [], _∷_}
+use native.Mathlib.Omega.{arith}
 use lib.ListN.{length, drop}
+use borrow.Author.Tests.{ne-eqb}
 use Rattle.lines.specs.Ascii.{ascii}
 use Rattle.lines.specs.Line.{Line, lines, firstIs}
 use Rattle.lines.proofs.Start.{line-passed}
 use Rattle.session.specs.declared.ReadResult.{ReadResult}
 use Rattle.session.specs.declared.RowsEnd.{RowsEnd}
 use Rattle.session.specs.declared.StepsEnd.{StepsEnd}
+use Rattle.calls.specs.Book.{answer, accepted}
 use Rattle.session.specs.View.{freshSession}
 use Rattle.session.specs.Bundle.{rowNames}
 use Rattle.calls.specs.Promises.{rowStepAnswer}
 use Rattle.session.specs.Reading.{refusedAt, wrongForm, stepsRead, rowsRead, linesRead, reading}
-use Rattle.session.specs.ReadCall.{readingOf, ReadMet, holding, afterRows, RowsBounds, RowsReadMet, afterSteps, StepsBounds, StepsReadMet}
+use Rattle.session.specs.ReadCall.{readAnswerOf, isHeld, readingOf, ReadMet, holding}
+use Rattle.session.specs.ReadCall.{afterRows, RowsBounds, RowsReadMet, afterSteps, StepsBounds, StepsReadMet}
 use Rattle.session.proofs.LineCalls.{row-names-free}
 use Rattle.session.proofs.ReadByRows.{reading-by-rows}
 
-pub read-met : (bytes : List ℕ) (t : ReadResult) → readingOf t ≡ reading bytes → ReadMet bytes t
-read-met bytes t e = record { answer = ap (λ r. r .answer) e; session = ap (λ r. r .session) e }
+pub read-met : (bytes : List ℕ) (t : ReadResult) → isHeld (t .answer) ≡ accepted (readAnswerOf (t .answer))
+    → readingOf t ≡ reading bytes → ReadMet bytes t
+read-met bytes t v e =
+    record {
+      answer = ap (λ r. r .answer) e;
+      variant = v ∙ ap (λ r. accepted (r .answer)) e;
+      session = ap (λ r. r .session) e;
+    }
+
+-- the variant of a refusal
+pub refused-variant : (k n : ℕ) → 0 < k → false ≡ accepted (answer k n)
+refused-variant k n h = sym (ne-eqb k 0 (λ e. omega arith))
 
 no-names-read : (ls : List Line) → firstIs rowNames ls ≡ false → linesRead rowStepAnswer ls ≡ refusedAt wrongForm 1
 unfolding linesRead firstIs

@@ -1,8 +1,8 @@
--- What audit prints of bundles, by computation. Assumes nothing.
+-- What audit prints of bundles and what read makes of them, by computation. Assumes nothing.
 use Prim.Native.String.{String, _++_}
-use mathlib.Core.Path.{refl}
+use mathlib.Core.Path.{_≡_, refl}
 use mathlib.Core.Bool.{decide}
-use mathlib.Core.List.{[], _∷_}
+use mathlib.Core.List.{[], _∷_, map}
 use mathlib.Core.Option.{Option·elim}
 use Rattle.xpath.specs.Expected.{_is_, AllRight}
 use Rattle.terms.specs.Row.{tableOf, entriesFrom, sameRow, find}
@@ -18,6 +18,7 @@ use Rattle.lines.specs.Ascii.{ascii}
 use Rattle.lines.specs.Line.{inFirstLine, lines, inFirstPart, parts, sameBytes, isLine}
 use Rattle.lines.specs.Number.{isDigit, areDigits, isDecimal, appendDigits, numbersUpTo, numbersOf}
 use Rattle.session.specs.declared.Report.{Report}
+use Rattle.calls.specs.Book.{answer}
 use Rattle.calls.specs.TermCall.{termAnswer}
 use Rattle.calls.specs.StepCall.{sameSort, badSide, premiseOk, badPremise, claimOf, premisesOf, stepAnswerBy, isYielded, stepAnswer}
 use Rattle.calls.specs.Tables.{stepsOf}
@@ -113,5 +114,27 @@ reports :
     -- the rows are those of the last step
     ∷ audited (example ++ "2 1 1 0 0\n") is reportBy 0 0 2 1 1
     ∷ [])
-unfolding ascii report reading linesRead rowsRead stepsRead rowNames stepNames rowOfLine stepOfLine lines inFirstLine parts inFirstPart sameBytes isLine numbersOf numbersUpTo isDecimal areDigits isDigit appendDigits Option·elim view tableOf stepsOf freshSession withRow withStep termAnswer badPlace fieldsOf fieldOk heldPath heldQualifier isPath isQualifier nesting nestings entriesFrom nestingBy operandNesting find sameRow stepAnswer stepAnswerBy sameSort badSide premiseOk badPremise claimOf premisesOf isYielded says termAt terms termBy asPath asQualifier premiseCount firstCount formsOf formsIn rules decide yields-dec decision.someFormFits
+unfolding ascii report reading linesRead rowsRead stepsRead rowNames stepNames rowOfLine stepOfLine lines
+    inFirstLine parts inFirstPart sameBytes isLine numbersOf numbersUpTo isDecimal areDigits isDigit
+    appendDigits Option·elim view tableOf stepsOf freshSession withRow withStep termAnswer badPlace fieldsOf
+    fieldOk heldPath heldQualifier isPath isQualifier nesting nestings entriesFrom nestingBy operandNesting
+    find sameRow stepAnswer stepAnswerBy sameSort badSide premiseOk badPremise claimOf premisesOf isYielded
+    says termAt terms termBy asPath asQualifier premiseCount firstCount formsOf formsIn rules decide
+    yields-dec decision.someFormFits
 reports = refl
+
+-- what read answers is the number of steps, whatever the number of rows; a refused reading leaves a fresh session, also where rows or
+-- steps were held before
+readings :
+    (map (λ text. reading (ascii text) .answer) ((rows ++ stepLines) ∷ example ∷ (example ++ "2 1 1 0 0\n") ∷ [])
+    ≡ answer 0 0 ∷ answer 0 1 ∷ answer 0 2 ∷ [])
+    × (map (λ text. reading (ascii text) .session) ((rows ++ "12 0 0 0\n") ∷ (example ++ "8 1 0 0 0\n") ∷ [])
+    ≡ freshSession ∷ freshSession ∷ [])
+unfolding ascii reading linesRead rowsRead stepsRead rowNames stepNames rowOfLine stepOfLine lines inFirstLine
+    parts inFirstPart sameBytes isLine numbersOf numbersUpTo isDecimal areDigits isDigit appendDigits
+    Option·elim view tableOf stepsOf freshSession withRow withStep termAnswer badPlace fieldsOf fieldOk
+    heldPath heldQualifier isPath isQualifier nesting nestings entriesFrom nestingBy operandNesting find
+    sameRow stepAnswer stepAnswerBy sameSort badSide premiseOk badPremise claimOf premisesOf isYielded says
+    termAt terms termBy asPath asQualifier premiseCount firstCount formsOf formsIn rules decide yields-dec
+    decision.someFormFits
+readings = (refl, refl)

@@ -5,5 +5,6 @@ pub mod Reading
 pub mod ReadCall
 pub mod Audit
 pub mod BundleCases
+pub mod AuditCases
 pub mod Demand3
 pub mod ReadDemand

@@ -1,6 +1,7 @@
 -- What the call read promises, and the functions that it is made of. Assumes nothing.
-use Prim.Native.Nat.{ℕ, _≤_}
+use Prim.Native.Nat.{ℕ, _≤_, _<_}
 use mathlib.Core.Path.{_≡_}
+use mathlib.Core.Bool.{Bool, true, false}
 use mathlib.Core.List.{List}
 use lib.ListN.{length, drop}
 use Rattle.lines.specs.Line.{lines}
@@ -12,7 +13,7 @@ use Rattle.session.specs.declared.RowsEnd.{RowsEnd}
 use Rattle.session.specs.declared.RowsEnd.the-variants as RowsCases
 use Rattle.session.specs.declared.StepsEnd.{StepsEnd}
 use Rattle.session.specs.declared.StepsEnd.the-variants as StepsCases
-use Rattle.calls.specs.Book.{maxSteps, Answer, answer}
+use Rattle.calls.specs.Book.{maxSteps, Answer, answer, accepted}
 use Rattle.session.specs.View.{freshSession}
 use Rattle.calls.specs.Promises.{rowStepAnswer}
 use Rattle.session.specs.Reading.{Reading, refusedAt, stepsRead, rowsRead, reading}
@@ -21,12 +22,17 @@ abbrev pub readAnswerOf : ReadAnswer → Answer
 readAnswerOf (ReadCases.Held n) = answer 0 n
 readAnswerOf (ReadCases.Refused k n) = answer k n
 
+abbrev pub isHeld : ReadAnswer → Bool
+isHeld (ReadCases.Held n) = true
+isHeld (ReadCases.Refused k n) = false
+
 abbrev pub readingOf : ReadResult → Reading
 readingOf t = record { answer = readAnswerOf (t .answer); session = t .session }
 
--- `Session::read` on the bytes: the answer, and the whole session
+-- `Session::read` on the bytes: the answer, which is the variant Held just where its number is 0, and the whole session
 pub record ReadMet (bytes : List ℕ) (t : ReadResult) : Type 0 where
   pub answer : readAnswerOf (t .answer) ≡ reading bytes .answer
+  pub variant : isHeld (t .answer) ≡ accepted (reading bytes .answer)
   pub session : t .session ≡ reading bytes .session
 
 -- the session of n rows with the numbers xs, and m steps with the numbers ys
@@ -38,10 +44,10 @@ abbrev pub afterRows : List ℕ → (xs : List ℕ) → RowsEnd → Reading
 afterRows bytes xs (RowsCases.Held n line at) = stepsRead rowStepAnswer (holding xs n (freshSession .steps) 0) line (lines (drop at bytes))
 afterRows bytes xs (RowsCases.Refused k line) = refusedAt k line
 
--- the numbers that the code goes on with
+-- the numbers that the code goes on with; that of a refusal is not 0
 abbrev pub RowsBounds : List ℕ → RowsEnd → Type 0
 RowsBounds bytes (RowsCases.Held n line at) = (line ≤ at) × (at ≤ length bytes)
-RowsBounds bytes (RowsCases.Refused k line) = Unit {0}
+RowsBounds bytes (RowsCases.Refused k line) = 0 < k
 
 -- the term lines from line 2 on, which starts at `start`, on the numbers xs, which become ys
 pub record RowsReadMet (bytes : List ℕ) (start : ℕ) (xs ys : List ℕ) (t : RowsEnd) : Type 0 where
@@ -55,7 +61,7 @@ afterSteps xs n ys (StepsCases.Refused k line) = refusedAt k line
 
 abbrev pub StepsBounds : StepsEnd → Type 0
 StepsBounds (StepsCases.Held m) = m ≤ maxSteps
-StepsBounds (StepsCases.Refused k line) = Unit {0}
+StepsBounds (StepsCases.Refused k line) = 0 < k
 
 -- the step lines from line `first` on, which starts at `start`, on n rows with the numbers xs and the numbers ys, which become zs
 pub record StepsReadMet (bytes : List ℕ) (start first : ℕ) (xs : List ℕ) (n : ℕ) (ys zs : List ℕ) (t : StepsEnd) : Type 0 where

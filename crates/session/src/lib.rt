@@ -23,7 +23,7 @@ ghost use Rattle.session.specs.View.{view, freshSession, rowNumbers, ste
 ghost use Rattle.session.specs.Promises.{TermMet, TermPlaced, StepMet, SelectMet};
 ghost use Rattle.session.specs.Bundle.{rowNames, stepNames};
 ghost use Rattle.session.specs.Reading.{refusedAt, reading};
-ghost use Rattle.session.specs.ReadCall.{readAnswerOf, readingOf, ReadMet, RowsReadMet, StepsReadMet};
+ghost use Rattle.session.specs.ReadCall.{readAnswerOf, isHeld, readingOf, ReadMet, RowsReadMet, StepsReadMet};
 ghost use Rattle.session.specs.Audit.{report};
 
 // Refusal 10: a line of the wrong form.
@@ -258,8 +258,8 @@ fn no_steps() -> [u16; STEP_NUMBERS]
 
 // The result of a read call that is refused and leaves a fresh session.
 fn refused_read(number: u16, line: usize, fresh: Session) -> ReadResult
-    requires { ⌜ fresh ≡ freshSession ⌝ }
-    ensures { λ r. ⌜ readingOf r ≡ refusedAt number line ⌝ }
+    requires { ⌜ (fresh ≡ freshSession) × (0 < number) ⌝ }
+    ensures { λ r. ⌜ (readingOf r ≡ refusedAt number line) × (isHeld (r .answer) ≡ accepted (readAnswerOf (r .answer))) ⌝ }
 {
     ReadResult {
         answer: ReadAnswer::Refused { number, line },

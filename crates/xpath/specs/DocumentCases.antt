@@ -4,7 +4,8 @@ use mathlib.Core.Path.{refl}
 use mathlib.Core.List.{List, [], _∷_, _++_}
 use mathlib.Core.Option.{none, some, Option·elim}
 use Rattle.xpath.specs.Bounded.{firstBelow}
-use Rattle.xpath.specs.Document.{Node, node, rootNode, kindAt, parentAt, nameAt, isChild, climbMeets, isAncestor, kindAndNameOk, rowOk, documentOf, lentRows, badRow, documentRefusal}
+use Rattle.xpath.specs.Document.{Node, node, rootNode, kindAt, parentAt, nameAt, isChild, climbMeets, isAncestor}
+use Rattle.xpath.specs.Document.{kindAndNameOk, rowOk, documentOf, lentRows, badRow, documentRefusal}
 use Rattle.xpath.specs.Expected.{_is_, AllRight}
 
 -- the numbers of rows that are lent
@@ -13,7 +14,7 @@ lent [] = []
 lent (r ∷ rs) = r .kind ∷ r .parent ∷ r .name ∷ lent rs
 
 -- n texts under the root
-abbrev texts : ℕ → List Node
+abbrev pub texts : ℕ → List Node
 texts zero = []
 texts (suc n) = node 2 0 0 ∷ texts n
 

@@ -12,6 +12,7 @@ pub mod Check
 pub mod Expected
 pub mod LogCases
 pub mod DocumentCases
+pub mod DocumentSizes
 pub mod ClimbCases
 pub mod MeaningCases
 pub mod AttributeCases

@@ -59,7 +59,7 @@ returns-2 : tie.Need-returns-2 Inv-loop μ-loop
 returns-2 c = let a = c .before .before .before .before .before .before .before .before .before .args in let l = c .before .before .before .before .before .before .loop in
     record {
       reading = sym (l .inv .4 ∙ row-wrong-there (a .bytes .now) (l .rows) (l .n) (l .line) (l .at) (sym (c .before .before .before .before .is-step-names .ensures) ∙ c .before .before .before .if1 .left) _ _ _ (c .before .before .row-line .ensures) (not-true _ (c .if2 .taken)));
-      bounds = tt;
+      bounds = omega arith;
     }
 
 term-in-place-requires : tie.Need-term-in-place-requires Inv-loop μ-loop
@@ -77,7 +77,7 @@ returns-3 c = let a = c .before .before .before .before .before .before .before 
       reading = ap (λ k. refusedAt k (l .line)) (c .before .number .ensures) ∙ sym (l .inv .4
           ∙ row-refused-there (a .bytes .now) (l .rows) (l .n) (l .line) (l .at) (sym (c .before .before .before .before .before .before .before .before .before .before .is-step-names .ensures) ∙ c .before .before .before .before .before .before .before .before .before .if1 .left) _ _ _ (c .before .before .before .before .before .before .before .before .row-line .ensures) (not-false _ (c .before .before .before .before .before .before .if2 .left)) (l .inv .0) _ _ (c .before .before .before .before .term-in-place .ensures)
           (λ e. c .if3 .taken (c .before .number .ensures ∙ e)));
-      bounds = tt;
+      bounds = omega arith;
     }
 
 add-n : tie.Need-add-n Inv-loop μ-loop
@@ -108,7 +108,7 @@ same-length-4 c = omega arith
 
 returns-4 : tie.Need-returns-4 Inv-loop μ-loop
 returns-4 c = let a = c .before .before .before .before .args in let l = c .before .loop in
-    record { reading = sym (l .inv .4 ∙ row-end (a .bytes .now) (l .rows) (l .n) (l .line) (l .at) (c .loop-test .left)); bounds = tt }
+    record { reading = sym (l .inv .4 ∙ row-end (a .bytes .now) (l .rows) (l .n) (l .line) (l .at) (c .loop-test .left)); bounds = omega arith }
 
 pub read-rows-spec : {M : Type 1} → statement M
 read-rows-spec =

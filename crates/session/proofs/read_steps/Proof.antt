@@ -36,7 +36,7 @@ returns : tie.Need-returns Inv-loop μ-loop
 returns c = let a = c .before .before .before .before .before .before .before .before .args in let l = c .before .before .before .before .loop in
     record {
       reading = sym (l .inv .4 ∙ step-wrong-there (a .bytes .now) (a .rows .now) (a .n) (l .steps) (l .m) (l .line) (l .at) _ _ _ (c .before .before .step-line .ensures) (c .before .before .before .loop-test .taken) (not-true _ (c .if1 .taken)));
-      bounds = tt;
+      bounds = omega arith;
     }
 
 judge-step-requires : tie.Need-judge-step-requires Inv-loop μ-loop
@@ -54,7 +54,7 @@ returns-2 c = let a = c .before .before .before .before .before .before .before 
       reading = ap (λ k. refusedAt k (l .line)) (c .before .number .ensures) ∙ sym (l .inv .4
           ∙ step-refused-there (a .bytes .now) (a .rows .now) (a .n) (l .steps) (l .m) (l .line) (l .at) _ _ _ (c .before .before .before .before .before .before .step-line .ensures) (not-false _ (c .before .before .before .before .if1 .left)) (l .inv .0) (c .before .before .judge-step .result) (c .before .before .judge-step .ensures)
           (λ e. c .if2 .taken (c .before .number .ensures ∙ e)));
-      bounds = tt;
+      bounds = omega arith;
     }
 
 put-step-requires : tie.Need-put-step-requires Inv-loop μ-loop
