@@ -29,41 +29,51 @@ passes-test-requires c κs = tt
 
 slice-write-out : tie.Need-slice-write-out Inv-loop μ-loop
 slice-write-out c =
-    let a = c .before .before .before .before .before .before .before .args in
-    let g = c .before .before .before .before .before .before .before .pre in
-    let l = c .before .before .before .before .loop in
+    let at-loop = c .before .before .before .before in
+    let start = at-loop .before .before .before in
+    let a = start .args in
+    let g = start .pre in
+    let l = at-loop .loop in
     let p = c .before .before .parent-at in
     ancestors-inside (documentOf (a .d .now)) (g .0) (passes 4 (a .test) (a .name) (documentOf (a .d .now))) (a .x) (g .1) (a .out .now) (g .2) (l .at) (p .result) (l .out) (l .inv) (omega arith) (p .ensures)
 
 loop-less : tie.Need-loop-less Inv-loop μ-loop
 loop-less c =
-    let a = c .before .before .before .before .before .before .before .args in
-    let g = c .before .before .before .before .before .before .before .pre in
-    let l = c .before .before .before .before .loop in
+    let at-loop = c .before .before .before .before in
+    let start = at-loop .before .before .before in
+    let a = start .args in
+    let g = start .pre in
+    let l = at-loop .loop in
     let p = c .before .before .parent-at in
     ancestors-less (documentOf (a .d .now)) (g .0) (passes 4 (a .test) (a .name) (documentOf (a .d .now))) (a .x) (g .1) (a .out .now) (g .2) (l .at) (p .result) (l .out) (l .inv) (omega arith) (p .ensures)
 
 loop-again : tie.Need-loop-again Inv-loop μ-loop
 loop-again c =
-    let a = c .before .before .before .before .before .before .before .args in
-    let g = c .before .before .before .before .before .before .before .pre in
-    let l = c .before .before .before .before .loop in
+    let at-loop = c .before .before .before .before in
+    let start = at-loop .before .before .before in
+    let a = start .args in
+    let g = start .pre in
+    let l = at-loop .loop in
     let p = c .before .before .parent-at in
     ancestors-marked (documentOf (a .d .now)) (g .0) (passes 4 (a .test) (a .name) (documentOf (a .d .now))) (a .x) (g .1) (a .out .now) (g .2) (l .at) (p .result) (l .out) (l .inv) (omega arith) (p .ensures) (sym (c .before .passes-test .ensures) ∙ c .if1 .taken)
 
 loop-less-2 : tie.Need-loop-less-2 Inv-loop μ-loop
 loop-less-2 c =
-    let a = c .before .before .before .before .before .before .before .args in
-    let g = c .before .before .before .before .before .before .before .pre in
-    let l = c .before .before .before .before .loop in
+    let at-loop = c .before .before .before .before in
+    let start = at-loop .before .before .before in
+    let a = start .args in
+    let g = start .pre in
+    let l = at-loop .loop in
     let p = c .before .before .parent-at in
     ancestors-less (documentOf (a .d .now)) (g .0) (passes 4 (a .test) (a .name) (documentOf (a .d .now))) (a .x) (g .1) (a .out .now) (g .2) (l .at) (p .result) (l .out) (l .inv) (omega arith) (p .ensures)
 
 loop-again-2 : tie.Need-loop-again-2 Inv-loop μ-loop
 loop-again-2 c =
-    let a = c .before .before .before .before .before .before .before .args in
-    let g = c .before .before .before .before .before .before .before .pre in
-    let l = c .before .before .before .before .loop in
+    let at-loop = c .before .before .before .before in
+    let start = at-loop .before .before .before in
+    let a = start .args in
+    let g = start .pre in
+    let l = at-loop .loop in
     let p = c .before .before .parent-at in
     ancestors-left (documentOf (a .d .now)) (g .0) (passes 4 (a .test) (a .name) (documentOf (a .d .now))) (a .x) (g .1) (a .out .now) (g .2) (l .at) (p .result) (l .out) (l .inv) (omega arith) (p .ensures) (sym (c .before .passes-test .ensures) ∙ c .if1 .left)
 

@@ -38,8 +38,10 @@ loop-holds c =
 
 after-subtree-requires : tie.Need-after-subtree-requires Inv-loop μ-loop
 after-subtree-requires c κs =
+    let at-shared-slice-known = c .before .before .before .before in
+    let start = at-shared-slice-known .before in
     let l = c .before .loop in
-    let s = c .before .before .before .before .before in
+    let s = start in
     let a = s .args in
     here (a .d .now) (a .ends .now) (a .axis) (a .test) (a .name) (a .p) (a .lo) (a .hi) (a .out .now) (l .y) _ (l .out)
     (s .pre .0) (s .pre .1 .0) (s .pre .1 .1) (l .inv) (omega arith) refl .in-ends
@@ -102,8 +104,10 @@ same-length c = c .before .loop .inv .added .size
 
 returns : tie.Need-returns Inv-loop μ-loop
 returns c =
+    let at-shared-slice-known = c .before .before .before .before in
+    let start = at-shared-slice-known .before in
     let l = c .before .loop in
-    let g = c .before .before .before .before .before .pre in
+    let g = start .pre in
     children-end _ _ (g .0) _ _ _ _ (g .1 .1) _ (l .y) (l .out) (l .inv) (omega arith)
 
 pub mark-children-spec : {M : Type 1} → statement M

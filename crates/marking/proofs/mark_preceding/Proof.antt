@@ -49,8 +49,11 @@ loop-less c = search needs
 
 loop-again : tie.Need-loop-again Inv-loop μ-loop
 loop-again c =
-    let a = c .before .before .before .before .before .before .before .before .before .before .args in
-    let l = c .before .before .before .before .before .before .loop in
+    let at-shared-slice-known3 = c .before .before .before .before in
+    let at-loop = at-shared-slice-known3 .before .before in
+    let start = at-loop .before .before .before .before in
+    let a = start .args in
+    let l = at-loop .loop in
     let f : ℕ → Bool = λ k. leb (getD (a .ends .now) k 0) (a .x) && candidate 10 (a .test) (a .name) (documentOf (a .d .now)) k in
     let e : f (l .y) ≡ (c .before .and .result) = sym (c .before .and .ensures ∙ rw (c .before .before .before .wide .ensures, c .before .before .is-candidate .ensures)) in (
       omega arith,
@@ -65,7 +68,9 @@ same-length c = search needs
 
 returns : tie.Need-returns Inv-loop μ-loop
 returns c =
-    let a = c .before .before .before .before .before .args in
+    let at-shared-slice-known = c .before .before .before .before in
+    let start = at-shared-slice-known .before in
+    let a = start .args in
     let l = c .before .loop in
     up-end (λ k. leb (getD (a .ends .now) k 0) (a .x) && candidate 10 (a .test) (a .name) (documentOf (a .d .now)) k) 0 (a .x) (l .y) (l .inv .1) (omega arith)
     (λ k m a b. absurd (omega arith))

@@ -17,8 +17,10 @@ or-requires c κs = search needs
 
 returns : tie.Need-returns
 returns c =
-    let a = c .before .before .before .before .before .before .args in
-    let g = c .before .before .before .before .before .before .pre in
+    let at-shared-slice-known2 = c .before .before .before .before in
+    let start = at-shared-slice-known2 .before .before in
+    let a = start .args in
+    let g = start .pre in
     no-preceding-sibling (documentOf (a .d .now)) (a .ends .now) (g .prepared) (passes 8 (a .test) (a .name) (documentOf (a .d .now))) (a .x) (g .row) (sym (c .before .or .ensures ∙ rw (c .before .before .is-attribute .ensures)) ∙ c .if1 .taken)
 
 parent-at-requires : tie.Need-parent-at-requires
@@ -26,17 +28,21 @@ parent-at-requires c κs = search needs
 
 add-mark-children : tie.Need-add-mark-children
 add-mark-children c =
-    let a = c .before .before .before .before .before .before .before .args in
-    let g = c .before .before .before .before .before .before .before .pre in
+    let at-slice-known = c .before .before .before .before in
+    let start = at-slice-known .before .before .before in
+    let a = start .args in
+    let g = start .pre in
     let m = may-have-siblings (documentOf (a .d .now)) (a .ends .now) (g .prepared) (passes 0 0 0 (documentOf (a .d .now))) (a .x) (g .row) (sym (c .before .before .or .ensures ∙ rw (c .before .before .before .is-attribute .ensures)) ∙ c .before .if1 .left) in
     let s = parent-smaller _ (g .prepared .formed) (a .x) (g .row) (m .0) in
     omega (arith, c .parent-at .ensures, g .prepared .few, g .row)
 
 mark-children-requires : tie.Need-mark-children-requires
 mark-children-requires c κs =
-    let a = c .before .before .before .before .before .before .before .before .args in
-    let g = c .before .before .before .before .before .before .before .before .pre in
-    let m = may-have-siblings (documentOf (a .d .now)) (a .ends .now) (g .prepared) (passes 0 0 0 (documentOf (a .d .now))) (a .x) (g .row) (sym (c .before .before .before .or .ensures ∙ rw (c .before .before .before .before .is-attribute .ensures)) ∙ c .before .before .if1 .left) in
+    let at-is-attribute = c .before .before .before .before in
+    let start = at-is-attribute .before .before .before .before in
+    let a = start .args in
+    let g = start .pre in
+    let m = may-have-siblings (documentOf (a .d .now)) (a .ends .now) (g .prepared) (passes 0 0 0 (documentOf (a .d .now))) (a .x) (g .row) (sym (c .before .before .before .or .ensures ∙ rw (at-is-attribute .is-attribute .ensures)) ∙ c .before .before .if1 .left) in
     (g .prepared, (g .room, earlier-siblings (documentOf (a .d .now)) (a .ends .now) (g .prepared) (a .x) (c .before .parent-at .result) (g .row) (m .0) (c .before .parent-at .ensures) _ refl))
 
 same-length : tie.Need-same-length
@@ -44,10 +50,15 @@ same-length c = search needs
 
 returns-2 : tie.Need-returns-2
 returns-2 c =
-    let a = c .before .before .before .before .before .before .before .before .before .before .before .args in
-    let g = c .before .before .before .before .before .before .before .before .before .before .before .pre in
-    let m = may-have-siblings (documentOf (a .d .now)) (a .ends .now) (g .prepared) (passes 0 0 0 (documentOf (a .d .now))) (a .x) (g .row) (sym (c .before .before .before .before .before .before .or .ensures ∙ rw (c .before .before .before .before .before .before .before .is-attribute .ensures)) ∙ c .before .before .before .before .before .if1 .left) in
-    preceding-sibling-marked (documentOf (a .d .now)) (a .ends .now) (g .prepared) (passes 8 (a .test) (a .name) (documentOf (a .d .now))) (a .x) (g .row) _ (m .0) (c .before .before .before .before .parent-at .ensures) (m .1) _ refl (c .before .before .mark-children .ensures)
+    let at-parent-at = c .before .before .before .before in
+    let at-if1 = at-parent-at .before in
+    let at-or = at-if1 .before in
+    let at-is-attribute = at-or .before in
+    let start = at-is-attribute .before .before .before .before in
+    let a = start .args in
+    let g = start .pre in
+    let m = may-have-siblings (documentOf (a .d .now)) (a .ends .now) (g .prepared) (passes 0 0 0 (documentOf (a .d .now))) (a .x) (g .row) (sym (at-or .or .ensures ∙ rw (at-is-attribute .is-attribute .ensures)) ∙ at-if1 .if1 .left) in
+    preceding-sibling-marked (documentOf (a .d .now)) (a .ends .now) (g .prepared) (passes 8 (a .test) (a .name) (documentOf (a .d .now))) (a .x) (g .row) _ (m .0) (at-parent-at .parent-at .ensures) (m .1) _ refl (c .before .before .mark-children .ensures)
 
 pub mark-preceding-siblings-spec : {M : Type 1} → statement M
 mark-preceding-siblings-spec =

@@ -36,7 +36,9 @@ loop-less c = search needs
 
 loop-again : tie.Need-loop-again Inv-loop μ-loop
 loop-again c =
-    let a = c .before .before .before .before .before .before .args in
+    let at-slice-known = c .before .before .before .before in
+    let start = at-slice-known .before .before in
+    let a = start .args in
     let l = c .before .before .before .loop in
     let f = candidate (a .axis) (a .test) (a .name) (documentOf (a .d .now)) in
     let p = sym (c .before .is-candidate .ensures) in (

@@ -43,8 +43,11 @@ loop-less c = omega arith
 
 loop-again : tie.Need-loop-again Inv-loop μ-loop
 loop-again c =
-    let a = c .before .before .before .before .before .before .before .before .args in
-    let l = c .before .before .before .before .before .loop in
+    let at-loop-test = c .before .before .before .before in
+    let at-loop = at-loop-test .before in
+    let start = at-loop .before .before .before in
+    let a = start .args in
+    let l = at-loop .loop in
     (omega arith, c .and .ensures ∙ rw (l .inv .1, c .before .or .ensures) (sym (all-more (included (a .a .now) (a .b .now)) (l .y))))
 
 returns : tie.Need-returns Inv-loop μ-loop

@@ -24,7 +24,10 @@ same-length c = search needs
 
 returns : tie.Need-returns
 unfolding leafPath
-returns c = rw (c .before .before .before .before .before .before .before .if1 .taken) (step-added _ _ _ _ _ (c .before .before .mark-step .ensures))
+returns c =
+    let at-struct-known4 = c .before .before .before .before in
+    let at-if1 = at-struct-known4 .before .before .before in
+    rw (at-if1 .if1 .taken) (step-added _ _ _ _ _ (c .before .before .mark-step .ensures))
 
 slice-write-out : tie.Need-slice-write-out
 slice-write-out c = search needs
@@ -34,10 +37,16 @@ same-length-2 c = search needs
 
 returns-2 : tie.Need-returns-2
 unfolding leafPath
-returns-2 c = let g = c .before .before .before .before .before .before .before .pre in rw (c .if2 .taken) (root-added _ _ _ (omega (arith, g .row)) (omega (arith, g .room)))
+returns-2 c =
+    let at-slice-known = c .before .before .before .before in
+    let start = at-slice-known .before .before .before in
+    let g = start .pre in rw (c .if2 .taken) (root-added _ _ _ (omega (arith, g .row)) (omega (arith, g .room)))
 
 returns-3 : tie.Need-returns-3
-returns-3 c = void-added _ _ _ (rowOf (c .before .before .before .before .before .before .before .args .row)) (c .before .before .if1 .left) (c .if2 .left)
+returns-3 c =
+    let at-slice-known = c .before .before .before .before in
+    let start = at-slice-known .before .before .before in
+    void-added _ _ _ (rowOf (start .args .row)) (c .before .before .if1 .left) (c .if2 .left)
 
 pub mark-leaf-spec : {M : Type 1} → statement M
 mark-leaf-spec =

@@ -37,33 +37,67 @@ abbrev pub μ-loop : lts.MeasureT-loop
 
 module _ (t : ℕ) where
   loop-holds : lts.Need-loop-holds (composition-calls t) (composition-at t) reads.Post Inv-loop μ-loop
-  loop-holds c = let a = c .before .before .before .before .before .before .args in (none-visited _ _ _ _, none-joined (marked (a .first .now)) (selects (documentOf (a .d .now)) (pathIn (termsBelow (a .rows .now) (a .top)) (a .b))) _ _)
+  loop-holds c =
+      let at-shared-slice-known2 = c .before .before .before .before in
+      let start = at-shared-slice-known2 .before .before in
+      let a = start .args in (none-visited _ _ _ _, none-joined (marked (a .first .now)) (selects (documentOf (a .d .now)) (pathIn (termsBelow (a .rows .now) (a .top)) (a .b))) _ _)
 
   shared-slice-read-if1 : lts.Need-shared-slice-read-if1 (composition-calls t) (composition-at t) reads.Post Inv-loop μ-loop
-  shared-slice-read-if1 c = let g = c .before .before .before .before .before .before .before .before .before .pre .1 in omega (arith, g .set-room, g .prepared .few)
+  shared-slice-read-if1 c =
+      let at-slice-known = c .before .before .before .before in
+      let at-shared-slice-known = at-slice-known .before .before .before .before in
+      let start = at-shared-slice-known .before in
+      let g = start .pre .1 in omega (arith, g .set-room, g .prepared .few)
 
   sub-eval-path : lts.Need-sub-eval-path (composition-calls t) (composition-at t) reads.Post Inv-loop μ-loop
   sub-eval-path c = c .before .before .before .loop .inv .0 .fits
 
   eval-path-requires : lts.Need-eval-path-requires (composition-calls t) (composition-at t) reads.Post Inv-loop μ-loop
-  eval-path-requires c κs = let g = c .before .before .before .before .before .before .before .before .before .before .before .pre .1 in let l = c .before .before .before .before .loop in (omega arith, record { prepared = g .prepared; row = omega arith; room = l .inv .1 .size ∙ g .room })
+  eval-path-requires c κs =
+      let at-loop = c .before .before .before .before in
+      let at-shared-slice-known3 = at-loop .before .before .before .before in
+      let start = at-shared-slice-known3 .before .before .before in
+      let g = start .pre .1 in let l = at-loop .loop in (omega arith, record { prepared = g .prepared; row = omega arith; room = l .inv .1 .size ∙ g .room })
 
   same-length : lts.Need-same-length (composition-calls t) (composition-at t) reads.Post Inv-loop μ-loop
-  same-length c = c .before .before .before .before .out .given ∙ c .before .before .before .before .before .before .before .before .before .before .loop .inv .1 .size
+  same-length c =
+      let at-out = c .before .before .before .before in
+      let at-shared-slice-known5 = at-out .before .before .before .before in
+      let at-loop = at-shared-slice-known5 .before .before in
+      at-out .out .given ∙ at-loop .loop .inv .1 .size
 
   returns : lts.Need-returns (composition-calls t) (composition-at t) reads.Post Inv-loop μ-loop
-  returns c = let e = c .before .before .before .before .before .eval-path in let l = c .before .before .before .before .before .before .before .before .before .before .loop in
-      stopped-at _ _ _ _ (l .inv .0) (omega arith) (eq-eqb _ 1 (c .before .before .before .before .before .before .before .if1 .taken)) (e .ensures) (not-true (e .result .finished) (c .before .if2 .taken)) (c .path-stopped .ensures)
+  returns c =
+      let at-out = c .before .before .before .before in
+      let at-eval-path = at-out .before in
+      let at-if1 = at-eval-path .before .before in
+      let at-loop = at-if1 .before .before .before in
+      let e = at-eval-path .eval-path in let l = at-loop .loop in
+      stopped-at _ _ _ _ (l .inv .0) (omega arith) (eq-eqb _ 1 (at-if1 .if1 .taken)) (e .ensures) (not-true (e .result .finished) (c .before .if2 .taken)) (c .path-stopped .ensures)
 
   add-used : lts.Need-add-used (composition-calls t) (composition-at t) reads.Post Inv-loop μ-loop
-  add-used c = omega (arith, c .before .before .before .before .before .before .before .before .before .before .loop .inv .0 .fits, c .before .before .before .before .before .eval-path .ensures .made-fits, c .before .before .before .before .before .before .before .before .before .before .before .before .before .before .before .before .before .fits .limit)
+  add-used c =
+      let at-out = c .before .before .before .before in
+      let at-eval-path = at-out .before in
+      let at-loop-test = at-eval-path .before .before .before .before in
+      let at-loop = at-loop-test .before in
+      let at-shared-slice-known3 = at-loop .before .before .before .before in
+      let start = at-shared-slice-known3 .before .before .before in
+      omega (arith, at-loop .loop .inv .0 .fits, at-eval-path .eval-path .ensures .made-fits, start .fits .limit)
 
   add-z : lts.Need-add-z (composition-calls t) (composition-at t) reads.Post Inv-loop μ-loop
-  add-z c = omega (arith, c .before .before .before .before .before .before .before .before .before .before .pre .1 .prepared .few)
+  add-z c =
+      let at-node-count = c .before .before .before .before in
+      let at-shared-slice-known2 = at-node-count .before .before .before .before in
+      let start = at-shared-slice-known2 .before .before in
+      omega (arith, start .pre .1 .prepared .few)
 
   loop-again : lts.Need-loop-again (composition-calls t) (composition-at t) reads.Post Inv-loop μ-loop
   loop-again c =
-      let a = c .before .before .before .before .before .before .before .before .before .before .args in
+      let at-node-count = c .before .before .before .before in
+      let at-shared-slice-known2 = at-node-count .before .before .before .before in
+      let start = at-shared-slice-known2 .before .before in
+      let a = start .args in
       let l = c .before .before .before .loop in
       ⊎-elim
       (λ w.
@@ -85,7 +119,10 @@ module _ (t : ℕ) where
   same-length-2 c = c .before .loop .inv .1 .size
 
   returns-2 : lts.Need-returns-2 (composition-calls t) (composition-at t) reads.Post Inv-loop μ-loop
-  returns-2 c = let a = c .before .before .before .before .before .before .before .before .args in let l = c .before .loop in
+  returns-2 c =
+      let at-shared-slice-known4 = c .before .before .before .before in
+      let start = at-shared-slice-known4 .before .before .before .before in
+      let a = start .args in let l = c .before .loop in
       all-visited _ _ _ _ (l .inv .0) (omega arith) (all-joined (marked (a .first .now)) (selects (documentOf (a .d .now)) (pathIn (termsBelow (a .rows .now) (a .top)) (a .b))) _ (l .z) (l .inv .1) (omega (arith, l .inv .0 .in-range)))
 
   pub spec : {M : Type 1} → lts.Closed (composition-calls t) (composition-at t) reads.Post M

@@ -40,34 +40,65 @@ module _ (t : ℕ) where
   loop-holds c = (none-visited _ _ _ _, up-start _ 0)
 
   shared-slice-read-if1 : lts.Need-shared-slice-read-if1 (filter-calls t) (filter-at t) reads.Post Inv-loop μ-loop
-  shared-slice-read-if1 c = let g = c .before .before .before .before .before .before .before .before .before .pre .1 in omega (arith, g .set-room, g .prepared .few)
+  shared-slice-read-if1 c =
+      let at-slice-known = c .before .before .before .before in
+      let at-shared-slice-known = at-slice-known .before .before .before .before in
+      let start = at-shared-slice-known .before in
+      let g = start .pre .1 in omega (arith, g .set-room, g .prepared .few)
 
   sub-eval-qualifier : lts.Need-sub-eval-qualifier (filter-calls t) (filter-at t) reads.Post Inv-loop μ-loop
   sub-eval-qualifier c = c .before .before .before .loop .inv .0 .fits
 
   eval-qualifier-requires : lts.Need-eval-qualifier-requires (filter-calls t) (filter-at t) reads.Post Inv-loop μ-loop
-  eval-qualifier-requires c κs = let g = c .before .before .before .before .before .before .before .before .before .before .pre .1 in (omega arith, record { prepared = g .prepared; row = omega arith })
+  eval-qualifier-requires c κs =
+      let at-node-count = c .before .before .before .before in
+      let at-shared-slice-known2 = at-node-count .before .before .before .before in
+      let start = at-shared-slice-known2 .before .before in
+      let g = start .pre .1 in (omega arith, record { prepared = g .prepared; row = omega arith })
 
   same-length : lts.Need-same-length (filter-calls t) (filter-at t) reads.Post Inv-loop μ-loop
-  same-length c = c .before .before .before .before .before .before .before .loop .inv .1 .size
+  same-length c =
+      let at-if1 = c .before .before .before .before in
+      let at-loop = at-if1 .before .before .before in
+      at-loop .loop .inv .1 .size
 
   returns : lts.Need-returns (filter-calls t) (filter-at t) reads.Post Inv-loop μ-loop
-  returns c = let e = c .before .before .before .eval-qualifier in let l = c .before .before .before .before .before .before .before .loop in
-      stopped-at _ _ _ _ (l .inv .0) (omega arith) (eq-eqb _ 1 (c .before .before .before .before .if1 .taken)) (e .ensures) (not-true (e .result .finished) (c .before .if2 .taken)) (c .path-stopped .ensures)
+  returns c =
+      let at-if1 = c .before .before .before .before in
+      let at-loop = at-if1 .before .before .before in
+      let e = c .before .before .before .eval-qualifier in let l = at-loop .loop in
+      stopped-at _ _ _ _ (l .inv .0) (omega arith) (eq-eqb _ 1 (at-if1 .if1 .taken)) (e .ensures) (not-true (e .result .finished) (c .before .if2 .taken)) (c .path-stopped .ensures)
 
   add-used : lts.Need-add-used (filter-calls t) (filter-at t) reads.Post Inv-loop μ-loop
-  add-used c = omega (arith, c .before .before .before .before .before .before .before .loop .inv .0 .fits, c .before .before .before .eval-qualifier .ensures .made-fits, c .before .before .before .before .before .before .before .before .before .before .before .before .before .before .fits .limit)
+  add-used c =
+      let at-if1 = c .before .before .before .before in
+      let at-loop = at-if1 .before .before .before in
+      let at-shared-slice-known3 = at-loop .before .before .before .before in
+      let start = at-shared-slice-known3 .before .before .before in
+      omega (arith, at-loop .loop .inv .0 .fits, c .before .before .before .eval-qualifier .ensures .made-fits, start .fits .limit)
 
   slice-write-out : lts.Need-slice-write-out (filter-calls t) (filter-at t) reads.Post Inv-loop μ-loop
-  slice-write-out c = let g = c .before .before .before .before .before .before .before .before .before .before .before .before .before .before .before .pre .1 in let l = c .before .before .before .before .before .before .before .before .loop in omega (arith, g .room, g .prepared .few, l .inv .1 .size)
+  slice-write-out c =
+      let at-eval-qualifier = c .before .before .before .before in
+      let at-loop = at-eval-qualifier .before .before .before .before in
+      let at-shared-slice-known3 = at-loop .before .before .before .before in
+      let start = at-shared-slice-known3 .before .before .before in
+      let g = start .pre .1 in let l = at-loop .loop in omega (arith, g .room, g .prepared .few, l .inv .1 .size)
 
   add-z : lts.Need-add-z (filter-calls t) (filter-at t) reads.Post Inv-loop μ-loop
-  add-z c = omega (arith, c .before .before .before .before .before .before .before .before .before .before .pre .1 .prepared .few)
+  add-z c =
+      let at-node-count = c .before .before .before .before in
+      let at-shared-slice-known2 = at-node-count .before .before .before .before in
+      let start = at-shared-slice-known2 .before .before in
+      omega (arith, start .pre .1 .prepared .few)
 
   loop-again : lts.Need-loop-again (filter-calls t) (filter-at t) reads.Post Inv-loop μ-loop
   loop-again c =
-      let a = c .before .before .before .before .before .before .before .before .before .before .args in
-      let g = c .before .before .before .before .before .before .before .before .before .before .pre .1 in
+      let at-node-count = c .before .before .before .before in
+      let at-shared-slice-known2 = at-node-count .before .before .before .before in
+      let start = at-shared-slice-known2 .before .before in
+      let a = start .args in
+      let g = start .pre .1 in
       let l = c .before .before .before .loop in
       ⊎-elim
       (λ w.

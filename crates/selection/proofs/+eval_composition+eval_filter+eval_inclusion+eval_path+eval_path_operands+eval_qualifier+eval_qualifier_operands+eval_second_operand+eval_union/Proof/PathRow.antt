@@ -28,7 +28,10 @@ use Rattle.selection.proofs.+eval_composition+eval_filter+eval_inclusio
 
 module _ (t : ℕ) where
   returns : lts.Need-returns (path-calls t) (path-at t) reads.Post
-  returns c = let a = c .before .before .before .before .before .before .args in
+  returns c =
+      let at-shared-slice-known2 = c .before .before .before .before in
+      let start = at-shared-slice-known2 .before .before in
+      let a = start .args in
       over-limit (c .path-stopped .ensures)
       (omega (arith, visits-positive (documentOf (a .d .now)) (a .x) (pathIn (termsBelow (a .rows .now) (a .top)) (a .r))))
 
@@ -37,24 +40,43 @@ module _ (t : ℕ) where
 
   returns-3 : lts.Need-returns-3 (path-calls t) (path-at t) reads.Post
   returns-3 c =
-      let h = c .before .before .before .before .before .path-has-operands in
-      let r = c .before .before .before .before .before .before .row-at in
-      leaf-found _ _ _ _ _ _ (pos-of-ne-zero (c .before .before .before .before .before .before .before .before .if1 .left)) (c .before .before .before .before .before .before .before .if2 .left) (rowOf (r .result))
-      (r .ensures) (sym (h .ensures) ∙ not-true (h .result) (c .before .before .before .before .if3 .taken)) _ _ (c .before .before .mark-leaf .ensures)
+      let at-if3 = c .before .before .before .before in
+      let at-path-has-operands = at-if3 .before in
+      let at-row-at = at-path-has-operands .before in
+      let at-if2 = at-row-at .before in
+      let at-if1 = at-if2 .before in
+      let h = at-path-has-operands .path-has-operands in
+      let r = at-row-at .row-at in
+      leaf-found _ _ _ _ _ _ (pos-of-ne-zero (at-if1 .if1 .left)) (at-if2 .if2 .left) (rowOf (r .result))
+      (r .ensures) (sym (h .ensures) ∙ not-true (h .result) (at-if3 .if3 .taken)) _ _ (c .before .before .mark-leaf .ensures)
 
   sub-eval-path-operands : lts.Need-sub-eval-path-operands (path-calls t) (path-at t) reads.Post
   sub-eval-path-operands c = omega (arith, pos-of-ne-zero (c .before .before .before .before .if1 .left))
 
   eval-path-operands-requires : lts.Need-eval-path-operands-requires (path-calls t) (path-at t) reads.Post
-  eval-path-operands-requires c κs = let h = c .before .before .path-has-operands in (omega arith, (c .before .before .before .before .before .before .before .before .before .before .pre .1, sym (h .ensures) ∙ not-false (h .result) (c .before .if3 .left)))
+  eval-path-operands-requires c κs =
+      let at-if2 = c .before .before .before .before in
+      let at-shared-slice-known2 = at-if2 .before .before .before .before in
+      let start = at-shared-slice-known2 .before .before in
+      let h = c .before .before .path-has-operands in (omega arith, (start .pre .1, sym (h .ensures) ∙ not-false (h .result) (c .before .if3 .left)))
 
   add-visits : lts.Need-add-visits (path-calls t) (path-at t) reads.Post
-  add-visits c = omega (arith, c .before .before .before .eval-path-operands .ensures .made-fits, pos-of-ne-zero (c .before .before .before .before .before .before .before .before .before .if1 .left), c .before .before .before .before .before .before .before .before .before .before .before .before .before .before .fits .limit)
+  add-visits c =
+      let at-eval-path-operands-arg = c .before .before .before .before in
+      let at-if2 = at-eval-path-operands-arg .before .before .before .before in
+      let at-if1 = at-if2 .before in
+      let at-shared-slice-known = at-if1 .before .before .before .before in
+      let start = at-shared-slice-known .before in
+      omega (arith, c .before .before .before .eval-path-operands .ensures .made-fits, pos-of-ne-zero (at-if1 .if1 .left), start .fits .limit)
 
   returns-4 : lts.Need-returns-4 (path-calls t) (path-at t) reads.Post
   returns-4 c =
-      let r = c .before .before .before .before .before .before .before .row-at in
-      path-found _ _ _ _ _ _ (pos-of-ne-zero (c .before .before .before .before .before .before .before .before .before .if1 .left)) (c .before .before .before .before .before .before .before .before .if2 .left) (rowOf (r .result))
+      let at-eval-path-operands-arg = c .before .before .before .before in
+      let at-row-at = at-eval-path-operands-arg .before .before .before in
+      let at-if2 = at-row-at .before in
+      let at-if1 = at-if2 .before in
+      let r = at-row-at .row-at in
+      path-found _ _ _ _ _ _ (pos-of-ne-zero (at-if1 .if1 .left)) (at-if2 .if2 .left) (rowOf (r .result))
       (r .ensures) _ _ (c .before .before .before .eval-path-operands .ensures)
 
   pub spec : {M : Type 1} → lts.Closed (path-calls t) (path-at t) reads.Post M

@@ -28,7 +28,9 @@ module _ (t : ℕ) where
 
   returns-3 : lts.Need-returns-3 (qualifier-operands-calls t) (qualifier-operands-at t) reads.Post
   returns-3 c =
-      let f = c .before .before .before .before .before in
+      let at-struct-known4 = c .before .before .before .before in
+      let at-eval-qualifier = at-struct-known4 .before in
+      let f = at-eval-qualifier in
       let s = f .before .before .before .before .before .before .before .before in
       let a = s .args in
       let e =
@@ -42,7 +44,9 @@ module _ (t : ℕ) where
 
   add-visits : lts.Need-add-visits (qualifier-operands-calls t) (qualifier-operands-at t) reads.Post
   add-visits c =
-      let f = c .before .before .before .before .before .before in
+      let at-if2 = c .before .before .before .before in
+      let at-eval-qualifier = at-if2 .before .before in
+      let f = at-eval-qualifier in
       omega (arith, f .eval-qualifier .ensures .made-fits, c .before .eval-qualifier2 .ensures .made-fits, f .before .before .before .before .before .before .before .before .fits .limit)
 
   returns-4 : lts.Need-returns-4 (qualifier-operands-calls t) (qualifier-operands-at t) reads.Post

@@ -18,7 +18,9 @@ use Rattle.selection.proofs.+eval_composition+eval_filter+eval_inclusio
 module _ (t : ℕ) where
   returns : lts.Need-returns (qualifier-calls t) (qualifier-at t) reads.Post
   returns c =
-      let a = c .before .before .before .before .before .args in
+      let at-shared-slice-known = c .before .before .before .before in
+      let start = at-shared-slice-known .before in
+      let a = start .args in
       over-limit (c .qualifier-stopped .ensures)
       (omega (arith, qualifier-visits-positive (documentOf (a .d .now)) (a .x) (qualifierIn (termsBelow (a .rows .now) (a .top)) (a .r))))
 

@@ -29,24 +29,42 @@ use Rattle.selection.proofs.+eval_composition+eval_filter+eval_inclusio
 module _ (t : ℕ) where
   returns : lts.Need-returns (union-calls t) (union-at t) reads.Post
   unfolding visits
-  returns c = let e = c .before .before .before .before .before .eval-path in
+  returns c =
+      let at-out = c .before .before .before .before in
+      let at-eval-path = at-out .before in
+      let e = at-eval-path .eval-path in
       first-stopped (e .ensures) (not-true (e .result .finished) (c .before .if1 .taken)) (omega arith) (c .path-stopped .ensures)
 
   sub-eval-path : lts.Need-sub-eval-path (union-calls t) (union-at t) reads.Post
   sub-eval-path c = c .before .before .before .before .eval-path .ensures .made-fits
 
   eval-path-requires-2 : lts.Need-eval-path-requires-2 (union-calls t) (union-at t) reads.Post
-  eval-path-requires-2 c κs = let g = c .before .before .before .before .before .before .before .before .before .before .before .pre .1 in
-      let e = c .before .before .before .before .before .eval-path in
+  eval-path-requires-2 c κs =
+      let at-out = c .before .before .before .before in
+      let at-eval-path = at-out .before in
+      let at-shared-slice-known2 = at-eval-path .before .before .before .before in
+      let start = at-shared-slice-known2 .before .before in
+      let g = start .pre .1 in
+      let e = at-eval-path .eval-path in
       (omega arith, record { prepared = g .prepared; row = g .row; room = e .ensures .result-is (not-false (e .result .finished) (c .before .if1 .left)) .size ∙ g .room })
 
   add-visits : lts.Need-add-visits (union-calls t) (union-at t) reads.Post
-  add-visits c = omega (arith, c .before .before .before .before .before .before .before .before .before .eval-path .ensures .made-fits, c .before .before .before .eval-path2 .ensures .made-fits, c .before .before .before .before .before .before .before .before .before .before .before .before .before .before .before .fits .limit)
+  add-visits c =
+      let at-eval-path-arg2 = c .before .before .before .before in
+      let at-out = at-eval-path-arg2 .before .before .before .before in
+      let at-eval-path = at-out .before in
+      let at-shared-slice-known2 = at-eval-path .before .before .before .before in
+      let start = at-shared-slice-known2 .before .before in
+      omega (arith, at-eval-path .eval-path .ensures .made-fits, c .before .before .before .eval-path2 .ensures .made-fits, start .fits .limit)
 
   returns-2 : lts.Need-returns-2 (union-calls t) (union-at t) reads.Post
   unfolding selects visits
-  returns-2 c = let e = c .before .before .before .before .before .before .before .before .before .eval-path in
-      both-found (e .ensures) (not-false (e .result .finished) (c .before .before .before .before .before .if1 .left)) (c .before .before .before .eval-path2 .ensures) refl (λ p q. added-twice _ _ _ p q (λ y h. refl))
+  returns-2 c =
+      let at-eval-path-arg2 = c .before .before .before .before in
+      let at-if1 = at-eval-path-arg2 .before in
+      let at-eval-path = at-if1 .before .before .before .before in
+      let e = at-eval-path .eval-path in
+      both-found (e .ensures) (not-false (e .result .finished) (at-if1 .if1 .left)) (c .before .before .before .eval-path2 .ensures) refl (λ p q. added-twice _ _ _ p q (λ y h. refl))
 
   pub spec : {M : Type 1} → lts.Closed (union-calls t) (union-at t) reads.Post M
   spec =
