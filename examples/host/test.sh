@@ -87,7 +87,7 @@ text 0 'one step twice, and as both premises' "$T${R}3 0 0 0\n${S}8 0 1 0 0\n8 0
 text 0 'implications' "${T}7 0 0 0\n6 0 0 0\n${S}14 0 1 0 0\n15 0 1 0 0\n2 1 1 0 0\n"
 text 0 'an equation from either side' "${T}2 1 2 0\n6 0 0 0\n5 0 1 0\n${S}27 0 2 0 0\n27 2 0 0 0\n"
 text 0 'rule 25' "${T}0 0 0 0\n6 0 0 0\n8 1 0 0\n7 0 0 0\n9 3 1 0\n2 1 2 0\n5 5 4 0\n${S}15 3 2 0 0\n25 6 0 1 0\n"
-text 0 'rule 54' "${T}2 9 2 0\n2 6 2 0\n2 7 2 0\n4 1 2 0\n2 5 2 0\n4 3 4 0\n${S}54 0 5 0 0\n54 5 0 0 0\n"
+text 0 'rule 54' "${T}2 9 2 0\n2 6 2 0\n2 7 2 0\n4 1 2 0\n2 5 2 0\n4 3 4 0\n${S}54 5 0 0 0\n"
 { terms; rows 1 1024; steps; } >$bundle
 answers 0 '1,024 rows'
 { terms; nested 31; steps; } >$bundle
@@ -99,7 +99,8 @@ answers 0 '2,048 steps'
 text 1 'kind 12' "${T}12 0 0 0\n$S"
 text 1 'kind 65535 with bad fields' "${T}65535 1 1 1\n$S"
 # 2: operand, axis, test, name, unused field
-text 2 'axis 11' "${T}2 11 0 2\n$S"
+text 0 'axis 11' "${T}2 11 0 2\n$S"
+text 2 'axis 12' "${T}2 12 0 2\n$S"
 text 2 'test 6' "${T}2 1 6 0\n$S"
 text 2 'name 0' "${T}2 1 0 0\n$S"
 text 2 'a name beside *' "${T}2 1 1 2\n$S"
@@ -140,7 +141,8 @@ text 7 'rule 8 backwards' "$T$R${S}8 1 0 0 0\n"
 text 7 'rule 2 on two rows' "$T$R${S}2 0 1 0 0\n"
 text 7 'premises in another order' "$T${R}2 5 2 0\n${S}8 0 1 0 0\n8 1 2 0 0\n3 0 2 2 1\n"
 text 7 'not f => g in rule 25' "${T}0 0 0 0\n6 0 0 0\n8 1 0 0\n9 1 1 0\n2 1 2 0\n5 4 3 0\n${S}14 2 1 0 0\n25 5 0 1 0\n"
-text 7 '* for node() in rule 54' "${T}2 9 2 0\n2 6 1 0\n2 7 1 0\n4 1 2 0\n2 5 2 0\n4 3 4 0\n${S}54 0 5 0 0\n"
+text 7 'rule 54 the other way' "${T}2 9 2 0\n2 6 2 0\n2 7 2 0\n4 1 2 0\n2 5 2 0\n4 3 4 0\n${S}54 0 5 0 0\n"
+text 7 '* for node() in rule 54' "${T}2 9 2 0\n2 6 1 0\n2 7 1 0\n4 1 2 0\n2 5 2 0\n4 3 4 0\n${S}54 5 0 0 0\n"
 # 7 comes before 13
 { terms; rows 1 2; steps; lines 2049 '2 0 0 0 0'; } >$bundle
 answers 13 '2,049 steps'
