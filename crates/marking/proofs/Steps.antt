@@ -52,9 +52,9 @@ and-assoc true b c = refl
 and-assoc false b c = refl
 
 -- what is mayHold of an axis but 11 is no attribute, and of axis 11 an attribute
-kept-iff : (a : ℕ) (d : Document) (y : ℕ) → ¬ (a ≡ 11) → T (mayHold a d y) ↔ NoAttribute d y
+may-hold-iff : (a : ℕ) (d : Document) (y : ℕ) → ¬ (a ≡ 11) → T (mayHold a d y) ↔ NoAttribute d y
 unfolding mayHold
-kept-iff a d y f = rw (ne-eqb a 11 f) (not-via (isAttribute d y) (eq-iff (kindAt d y) 5))
+may-hold-iff a d y f = rw (ne-eqb a 11 f) (not-via (isAttribute d y) (eq-iff (kindAt d y) 5))
 
 kept-attribute : (d : Document) (y : ℕ) → T (mayHold 11 d y) ↔ (kindAt d y ≡ 5)
 unfolding mayHold
@@ -83,9 +83,9 @@ module _ (d : Document) (es : List ℕ) (r : Prepared d es) (t : ℕ → Bool) (
       rw b (and-assoc (leb lo y && ltb y hi) (f y) (t y)))
 
   -- the same of those that pass f and are mayHold
-  by-kept : {old new : List ℕ} (a lo hi : ℕ) (f : ℕ → Bool) → ((y : ℕ) → y < length d → (((lo ≤ y) × (y < hi)) × T (f y) × T (mayHold a d y)) ↔ OnAxis a d x y) →
+  by-candidates : {old new : List ℕ} (a lo hi : ℕ) (f : ℕ → Bool) → ((y : ℕ) → y < length d → (((lo ≤ y) × (y < hi)) × T (f y) × T (mayHold a d y)) ↔ OnAxis a d x y) →
       Added (length d) old new (between lo hi (λ y. f y && keptOf a y)) → Added (length d) old new (stepped a)
-  by-kept a lo hi f e u =
+  by-candidates a lo hi f e u =
       by-tests a lo hi (λ y. f y && mayHold a d y)
       (λ y l. let i = and-iff (f y) (mayHold a d y) in (λ (h, s). e y l .0 (h, i .0 s .0, i .0 s .1), λ o. let (h, m, n) = e y l .1 o in (h, i .1 (m, n))))
       (added-cong (between lo hi (λ y. (f y && mayHold a d y) && t y)) u (λ y l. rw (and-assoc (f y) (mayHold a d y) (t y))))
@@ -101,7 +101,7 @@ module _ (d : Document) (es : List ℕ) (r : Prepared d es) (t : ℕ → Bool) (
   pub descendant-marked : {old new : List ℕ} (lo : ℕ) → lo ≡ x + 1 → Added (length d) old new (between lo (end x) (keptOf 3)) → Added (length d) old new (stepped 3)
   unfolding OnAxis
   descendant-marked lo q =
-      by-tests 3 lo (end x) (mayHold 3 d) (λ y l. let v = kept-iff 3 d y (λ e. omega arith) in (
+      by-tests 3 lo (end x) (mayHold 3 d) (λ y l. let v = may-hold-iff 3 d y (λ e. omega arith) in (
         λ (h, s). (below-end d es r x y (omega arith) l (h .1) k, v .0 s),
         λ (a, n). let s = ancestor-smaller d (r .formed) l a in ((omega arith, descendant-before x y k l a), v .1 n),
       ))
@@ -117,7 +117,7 @@ module _ (d : Document) (es : List ℕ) (r : Prepared d es) (t : ℕ → Bool) (
   unfolding OnAxis
   following-marked n q =
       let s = at-end d es r x k .after in
-      by-tests 9 (end x) n (mayHold 9 d) (λ y l. let v = kept-iff 9 d y (λ e. omega arith) in (
+      by-tests 9 (end x) n (mayHold 9 d) (λ y l. let v = may-hold-iff 9 d y (λ e. omega arith) in (
         λ (h, m). ((omega arith, λ a. past-end d es r x y (h .0) l k a), v .0 m),
         λ (f, m). ((⊎-elim (λ h. h) (λ h. absurd (f .1 (below-end d es r x y (f .0) l h k))) (le-or-lt (end x) y), omega arith), v .1 m),
       ))
@@ -125,7 +125,7 @@ module _ (d : Document) (es : List ℕ) (r : Prepared d es) (t : ℕ → Bool) (
   pub preceding-marked : {old new : List ℕ} → Added (length d) old new (between 0 x (λ y. leb (end y) x && keptOf 10 y)) → Added (length d) old new (stepped 10)
   unfolding OnAxis
   preceding-marked =
-      by-kept 10 0 x (λ y. leb (end y) x) (λ y l. let v = kept-iff 10 d y (λ e. omega arith) in (
+      by-candidates 10 0 x (λ y. leb (end y) x) (λ y l. let v = may-hold-iff 10 d y (λ e. omega arith) in (
         λ (h, m, n). ((h .1, λ a. past-end d es r y x (le-iff (end y) x .0 m) k l a), v .0 n),
         λ (f, n). ((omega arith, f .0), le-iff (end y) x .1 (⊎-elim (λ h. h) (λ h. absurd (f .1 (below-end d es r y x (f .0) k h l))) (le-or-lt (end y) x)), v .1 n),
       ))
@@ -135,7 +135,7 @@ module _ (d : Document) (es : List ℕ) (r : Prepared d es) (t : ℕ → Bool) (
       ((y : ℕ) → (Child d x y × A y) ↔ OnAxis a d x y) →
       Added (length d) old new (between lo (end x) (λ y. isChild d x y && keptOf a y)) → Added (length d) old new (stepped a)
   under-marked a lo A q v e =
-      by-kept a lo (end x) (isChild d x) (λ y l. (
+      by-candidates a lo (end x) (isChild d x) (λ y l. (
         λ (h, m, n). e y .0 (child-yes d x y m, v y .0 n),
         λ o. let (c, n) = e y .1 o in
             let s = parent-smaller d (r .formed) y l (c .0) in
@@ -144,7 +144,7 @@ module _ (d : Document) (es : List ℕ) (r : Prepared d es) (t : ℕ → Bool) (
 
   pub child-marked : {old new : List ℕ} (lo : ℕ) → lo ≡ x + 1 → Added (length d) old new (between lo (end x) (λ y. isChild d x y && keptOf 1 y)) → Added (length d) old new (stepped 1)
   unfolding OnAxis
-  child-marked lo q = under-marked 1 lo (NoAttribute d) q (λ y. kept-iff 1 d y (λ e. omega arith)) (λ y. (λ c. c, λ c. c))
+  child-marked lo q = under-marked 1 lo (NoAttribute d) q (λ y. may-hold-iff 1 d y (λ e. omega arith)) (λ y. (λ c. c, λ c. c))
 
   pub attribute-marked : {old new : List ℕ} (lo : ℕ) → lo ≡ x + 1 → Added (length d) old new (between lo (end x) (λ y. isChild d x y && keptOf 11 y)) → Added (length d) old new (stepped 11)
   unfolding OnAxis
@@ -170,7 +170,7 @@ module _ (d : Document) (es : List ℕ) (r : Prepared d es) (t : ℕ → Bool) (
       following-sibling-marked =
           let b = before in
           let s = at-end d es r x k .after in
-          by-kept 7 (end x) (end p) (isChild d p) (λ y l. let v = kept-iff 7 d y (λ e. omega arith) in (
+          by-candidates 7 (end x) (end p) (isChild d p) (λ y l. let v = may-hold-iff 7 d y (λ e. omega arith) in (
             λ (h, m, n). let c = child-yes d p y m in ((g, c .1 ∙ q, let z = h .0 in omega arith), o, v .0 n),
             λ (f, _, n). let c : Child d p y = (let z = f .2 in omega arith, f .1 ∙ sym q) in (
               (
@@ -185,7 +185,7 @@ module _ (d : Document) (es : List ℕ) (r : Prepared d es) (t : ℕ → Bool) (
       pub preceding-sibling-marked : {old new : List ℕ} (lo : ℕ) → lo ≡ p + 1 → Added (length d) old new (between lo x (λ y. isChild d p y && keptOf 8 y)) → Added (length d) old new (stepped 8)
       unfolding OnAxis
       preceding-sibling-marked lo e =
-          by-kept 8 lo x (isChild d p) (λ y l. let v = kept-iff 8 d y (λ e. omega arith) in (
+          by-candidates 8 lo x (isChild d p) (λ y l. let v = may-hold-iff 8 d y (λ e. omega arith) in (
             λ (h, m, n). let c = child-yes d p y m in ((c .0, sym q ∙ sym (c .1), h .1), o, v .0 n),
             λ (f, _, n). let c : Child d p y = (f .0, sym (f .1) ∙ sym q) in
                 let s = parent-smaller d (r .formed) y l (f .0) in

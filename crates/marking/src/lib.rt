@@ -179,7 +179,8 @@ fn mark_preceding_siblings(
     mark_children(d, ends, 8, test, name, p, p + 1, x, out);
 }
 
-// What a step selects from x.
+// What a step selects from x. It asks for a document that was checked, its ends and a node of it, which the caller has shown; no user
+// calls it.
 pub fn mark_step(
     d: &[u16],
     ends: &[u16],

@@ -466,7 +466,8 @@ fn eval_inclusion(
 }
 
 // Writes 1 or 0 for each node of the document into `marks`, as the path in row `row` selects it from x. Where it does not answer
-// Selected, `marks` is as it was.
+// Selected, `marks` is as it was. It asks for a document that was checked, its ends and a node of it, since the caller answers for all
+// other input; no user calls it.
 pub fn evaluate(
     rows: &[u16],
     row: usize,
