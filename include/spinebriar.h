@@ -5,11 +5,57 @@
 #include <stddef.h>
 #include <stdint.h>
 
+#define SPINEBRIAR_VERSION "0.1.0"
+
 #ifdef __cplusplus
 extern "C" {
 #endif
 
-/* Reads a bundle: 0 if every line is accepted, else the number of the first refusal, 1 to 7 or 10 to 13.
+/* The number of an answer: 0 is acceptance, any other number a refusal. README.md has the same list with each refusal's value. */
+enum spinebriar_answer {
+    SPINEBRIAR_ACCEPTED = 0,
+    SPINEBRIAR_BAD_KIND = 1,
+    SPINEBRIAR_BAD_FIELD = 2,
+    SPINEBRIAR_TOO_DEEP = 3,
+    SPINEBRIAR_NO_RULE = 4,
+    SPINEBRIAR_BAD_SIDE = 5,
+    SPINEBRIAR_BAD_PREMISE = 6,
+    SPINEBRIAR_NOT_YIELDED = 7,
+    SPINEBRIAR_BAD_DOCUMENT = 8,
+    SPINEBRIAR_BAD_ARGUMENT = 9,
+    SPINEBRIAR_WRONG_FORM = 10,
+    SPINEBRIAR_TERMS_FULL = 11,
+    SPINEBRIAR_ALREADY_HELD = 12,
+    SPINEBRIAR_STEPS_FULL = 13,
+    SPINEBRIAR_SHORT_MARKS = 14,
+    SPINEBRIAR_LIMIT_PASSED = 15
+};
+
+/* What an answer says, in English; null for a number that no answer has. */
+static inline const char *spinebriar_answer_text(uint16_t answer)
+{
+    switch (answer) {
+    case SPINEBRIAR_ACCEPTED: return "accepted";
+    case SPINEBRIAR_BAD_KIND: return "the kind of the row is above 11";
+    case SPINEBRIAR_BAD_FIELD: return "a bad operand, axis, test, name or unused field";
+    case SPINEBRIAR_TOO_DEEP: return "the term is nested deeper than 32";
+    case SPINEBRIAR_NO_RULE: return "there is no rule of this number";
+    case SPINEBRIAR_BAD_SIDE: return "the left or the right row is not held, or the two are of different sorts";
+    case SPINEBRIAR_BAD_PREMISE: return "a premise is not a held step, or the rule takes none there";
+    case SPINEBRIAR_NOT_YIELDED: return "the rule does not yield the step";
+    case SPINEBRIAR_BAD_DOCUMENT: return "the document is empty, too long or has a bad row";
+    case SPINEBRIAR_BAD_ARGUMENT: return "the context node is outside the document, or the row is not a held path";
+    case SPINEBRIAR_WRONG_FORM: return "a line of the wrong form";
+    case SPINEBRIAR_TERMS_FULL: return "the session holds 1,024 rows already";
+    case SPINEBRIAR_ALREADY_HELD: return "the row is held already";
+    case SPINEBRIAR_STEPS_FULL: return "the session holds 2,048 steps already";
+    case SPINEBRIAR_SHORT_MARKS: return "the marks are shorter than the document";
+    case SPINEBRIAR_LIMIT_PASSED: return "more visits are needed than the limit";
+    default: return NULL;
+    }
+}
+
+/* Reads a bundle: SPINEBRIAR_ACCEPTED if every line is accepted, else the number of the first refusal, 1 to 7 or 10 to 13.
 
    `bytes` points to `length` bytes that nothing writes meanwhile. It may not be null, also where `length` is 0. Nothing is kept
    between calls, so threads may call it at the same time. A call takes about 40 KiB of stack. */

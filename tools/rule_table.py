@@ -2,11 +2,14 @@
 """Holds the rule table of crate `rules` against the text of documents 01 and 02. Run it at the repository's root:
 
     tools/rule_table.py ../shared/01-scope.md ../shared/02-change-requests.md
+    tools/rule_table.py --constants > crates/rules/src/tables.rt
 
-It reads three things apart from each other, each with a grammar of its own, and compares them form by form, in order:
+The second writes the code's constants from the specification, in the order in which specs/code/Encode.antt computes them.
+The first reads three things apart from each other, each with a grammar of its own, and compares them form by form, in
+order:
   1. the sentences of 01 under "Rules", with 01's binding: a filter, `/`, `|`; `not`, `and`, `or`; a rule that a request of 02 changes is
      read from CHANGES instead, a list of requests, each with the words of 02 that say so, which must stand in its text;
-  2. crates/rules/specs/Table.antt, with the fixities that specs/Form.antt and specs/Notation.antt declare;
+  2. crates/rules/specs/RuleTable.antt, with the fixities that specs/Form.antt and specs/Notation.antt declare;
   3. the numbers of crates/rules/src/tables.rt.
 It compares the axis order in the same way: 01's sentence, specs/Order.antt, AXIS_PAIRS.
 
@@ -23,9 +26,9 @@ AXES = ['self', 'child', 'parent', 'descendant', 'ancestor', 'descendant-or-self
 TESTS = {'*': 1, 'node()': 2, 'star-test': 1, 'node-test': 2}
 KINDS = ['void', 'root', 'step', 'union', 'composition', 'filter', 'true', 'false', 'not', 'and', 'or', 'in']
 LETTERS = ['p', 'q', 'r', 's', 'f', 'g', 'h', 'a', 'b', 'N', 'name of N', 'M', 'name of M']
-# the conditions that a digit of a form's entry stands for
-CONDITIONS = [[], ['a-below-b'], ['N-below-M'], ['b-from-3-to-10'], ['N-a-name-or-star'], ['N-not-node'], ['a-not-attribute'],
-              ['N-not-node', 'a-not-attribute']]
+# the condition that a digit of a form's entry stands for
+CONDITIONS = [None, 'a-below-b', 'N-below-M', 'b-from-3-to-10', 'N-a-name-or-star', 'N-not-node', 'a-not-attribute']
+FIRST_LETTER, FIRST_ROW = 32, 64  # the first pattern that is a letter, and that is a row
 
 
 def some(path):
@@ -240,7 +243,7 @@ def document_axes(path):
     return pairs
 
 
-# 2. specs/Table.antt.
+# 2. specs/RuleTable.antt.
 
 LIBRARY = {'∷': (67, 'r'), '++': (65, 'l')}
 
@@ -258,7 +261,7 @@ def fixities(*paths):
 
 
 class Antt:
-    """A term of Table.antt, read by the operators' precedences."""
+    """A term of RuleTable.antt, read by the operators' precedences."""
 
     def __init__(self, text, operators):
         self.words, self.at, self.operators = re.findall(r'[()]|[^\s()]+', text), 0, operators
@@ -333,7 +336,7 @@ def as_forms(rule, tree):
 
 def specification(folder):
     operators = fixities(folder + '/Form.antt', folder + '/Notation.antt')
-    text = re.sub(r'--.*', '', open(folder + '/Table.antt', encoding='utf-8').read().split('rules =')[1])
+    text = re.sub(r'--.*', '', open(folder + '/RuleTable.antt', encoding='utf-8').read().split('rules =')[1])
     forms = []
     for tree in as_list(Antt(text, operators).term(0)):
         forms += as_forms(int(tree[1][0]), tree[2])
@@ -366,27 +369,26 @@ def number_of(path, name):
 
 
 def constants(path):
-    patterns, forms, premises = [fours_of(path, name) for name in ('PATTERNS', 'FORMS', 'PREMISES')]
-    letter, row = number_of(path, 'FIRST_LETTER'), number_of(path, 'FIRST_ROW')
+    table, patterns = fours_of(path, 'TABLE'), number_of(path, 'FIRST_PATTERN')
 
     def number(code, names):
-        if code < letter:
+        if code < FIRST_LETTER:
             return code
-        if not letter <= code < row or LETTERS[code - letter] not in names:
+        if not FIRST_LETTER <= code < FIRST_ROW or LETTERS[code - FIRST_LETTER] not in names:
             raise SystemExit('tables.rt: %d where %s can stand' % (code, names))
-        return LETTERS[code - letter]
+        return LETTERS[code - FIRST_LETTER]
 
     def term(code):
-        if letter <= code < row:
+        if FIRST_LETTER <= code < FIRST_ROW:
             return ('letter', number(code, LETTERS[:7]))
-        kind, a, b, c = patterns[code - row]
+        kind, a, b, c = table[patterns + code - FIRST_ROW]
         name = KINDS[kind]
         if name == 'step':
             axis, test, called = number(a, LETTERS[7:9]), number(b, ['N', 'M']), number(c, ['name of N', 'name of M'])
             if called != ('name of ' + test if isinstance(test, str) else 0):
                 raise SystemExit('tables.rt: a test with another name in pattern %d' % code)
             return (name, axis, test)
-        arity = {'void': 0, 'root': 0, 'true': 0, 'false': 0, 'not': 1}.get(name, 2)
+        arity = ARITIES.get(name, 2)
         if any([a, b, c][arity:]):
             raise SystemExit('tables.rt: a field too many in pattern %d' % code)
         return (name,) + tuple(term(x) for x in [a, b, c][:arity])
@@ -397,17 +399,123 @@ def constants(path):
             raise SystemExit('tables.rt: two sorts in one claim')
         return ('<=' if is_path(left) else '=>', left, right)
 
-    def form(numbers, premise):
-        rule, left, right, digits = numbers
-        count = digits % 10
-        if any(premise[2 * count:]):
-            raise SystemExit('tables.rt: a premise too many for rule %d' % rule)
+    def form(rule, count, at):
+        (number, left, right, digits), premise = table[at], table[at + 1]
+        if number != rule or any(premise[2 * count:]):
+            raise SystemExit('tables.rt: rule %d has another form at %d' % (rule, at))
         return (rule, sides(left, right), [sides(*premise[2 * i:2 * i + 2]) for i in range(count)],
-                CONDITIONS[digits // 100] + CONDITIONS[digits // 10 % 10])
+                [CONDITIONS[int(x)] for x in reversed(str(digits)) if int(x)])
 
-    if len(forms) != len(premises):
-        raise SystemExit('tables.rt: as many premises as forms are due')
-    return [form(x, y) for x, y in zip(forms, premises)]
+    forms, at = [], next(first for first, n, _, _ in table[1:] if n)
+    for rule in range(1, at):
+        first, n, count, _ = table[rule]
+        if first != at:
+            raise SystemExit('tables.rt: the forms of rule %d are not at %d' % (rule, first))
+        forms += [form(rule, count, first + 2 * i) for i in range(n)]
+        at += 2 * n
+    if at != patterns:
+        raise SystemExit('tables.rt: the patterns are not at %d' % patterns)
+    return forms
+
+
+# 4. The constants, from the specification.
+
+ARITIES = {'void': 0, 'root': 0, 'true': 0, 'false': 0, 'not': 1}
+SIGNS = {'void': 'V', 'root': 'R', 'true': 'true', 'false': 'false', 'union': '|', 'composition': '/', 'and': ' and ',
+         'or': ' or ', 'in': ' in '}
+
+
+def shown(term):
+    """A term in 01's signs."""
+    name, parts = term[0], term[1:]
+    if name == 'letter':
+        return parts[0]
+    if name == 'step':
+        axis, test = parts
+        named = {number: sign for sign, number in list(TESTS.items())[:2]}
+        return '%s::%s' % (axis if isinstance(axis, str) else AXES[axis], named.get(test, test))
+    if not parts:
+        return SIGNS[name]
+    alone = lambda part: part[0] in ('letter', 'step') or len(part) == 1
+    inner = [shown(part) if alone(part) else '(%s)' % shown(part) for part in parts]
+    if name == 'not':
+        return 'not ' + inner[0]
+    return '%s[%s]' % (inner[0], shown(parts[1])) if name == 'filter' else SIGNS[name].join(inner)
+
+
+def shown_claim(claim):
+    return '%s %s %s' % (shown(claim[1]), claim[0], shown(claim[2]))
+
+
+def encoded(forms, last):
+    """The entries of the rules, of the forms and of the patterns, each with its words."""
+    patterns, words = [], []
+
+    def code(term):
+        if term[0] == 'letter':
+            return FIRST_LETTER + LETTERS.index(term[1])
+        if term[0] == 'step':
+            axis, test = term[1:]
+            fields = [x if isinstance(x, int) else FIRST_LETTER + LETTERS.index(x) for x in (axis, test)]
+            fields.append(0 if isinstance(test, int) else fields[1] + 1)
+        else:
+            fields = [code(x) for x in term[1:]]
+        row = [KINDS.index(term[0])] + fields + [0] * (3 - len(fields))
+        if row not in patterns:
+            patterns.append(row)
+            words.append('%d: %s' % (FIRST_ROW + len(patterns) - 1, shown(term)))
+        return FIRST_ROW + patterns.index(row)
+
+    rules, coded, at = [([0, 0, 0, 0], 'none')], [], last + 1
+    for rule in range(1, last + 1):
+        own = [form for form in forms if form[0] == rule]
+        rules.append(([at, len(own), len(own[0][2]) if own else 0, 0], '%d' % rule))
+        for _, conclusion, premises, conditions in own:
+            digits = int('0' + ''.join(str(CONDITIONS.index(x)) for x in reversed(conditions)))
+            left, right = [code(x) for x in conclusion[1:]]
+            coded.append(([rule, left, right, digits], '%d: %s' % (rule, shown_claim(conclusion))))
+            sides = [code(x) for premise in premises for x in premise[1:]]
+            said = ', '.join(map(shown_claim, premises)) or 'nothing'
+            coded.append((sides + [0] * (4 - len(sides)), '%d: from %s' % (rule, said)))
+            at += 2
+    return rules, coded, list(zip(patterns, words))
+
+
+CONSTANTS = """// The axis order and the rule table as numbers, as tools/rule_table.py writes them from the specification.
+
+// The pairs of axes whose first one is below the second.
+pub const AXIS_PAIRS: [[u16; 2]; %d] = [
+%s];
+
+// A pattern is a number: below FIRST_LETTER it is that number; below FIRST_ROW a letter (p q r s, f g h, a b, N and its
+// name, M and its name); from there on an entry of TABLE, the first of them at FIRST_PATTERN.
+pub const FIRST_LETTER: u16 = %d;
+
+pub const FIRST_ROW: u16 = %d;
+
+pub const FIRST_PATTERN: usize = %d;
+
+// How deep the patterns are.
+pub const PATTERN_DEPTH: usize = 6;
+
+// An entry is four numbers of three digits each.
+//
+// The rules, by their numbers: the place of the first form, how many forms there are, how many premises. The forms, two
+// entries each: the rule, the two sides of the conclusion, and the conditions, a digit each, the last digit first; then
+// the two sides of the first premise, and of the second. The patterns that are rows: a kind, and a pattern of each field.
+pub const TABLE: [u64; %d] = [
+%s];
+"""
+
+
+def print_constants(specs):
+    word = lambda row: '_'.join('%03d' % x for x in row).lstrip('0_') or '0'
+    forms, pairs = specification(specs), specification_axes(specs)
+    rules, coded, patterns = encoded(forms, 58)
+    table = rules + coded + patterns
+    axes = ''.join('    [%d, %d], // %s, %s\n' % (a, b, AXES[a], AXES[b]) for a, b in pairs)
+    lines = ''.join('    %s, // %s\n' % (word(row), words) for row, words in table)
+    print(CONSTANTS % (len(pairs), axes, FIRST_LETTER, FIRST_ROW, len(rules + coded), len(table), lines), end='')
 
 
 def compare(what, left, right, found):
@@ -424,15 +532,17 @@ def compare(what, left, right, found):
 
 
 def main():
+    specs, code = 'crates/rules/specs', 'crates/rules/src/tables.rt'
+    if sys.argv[1:] == ['--constants']:
+        return print_constants(specs)
     if len(sys.argv) != 3:
         raise SystemExit(__doc__)
-    specs, tables = 'crates/rules/specs', 'crates/rules/src/tables.rt'
     changed = changed_rules(sys.argv[2])
     forms, pairs = document(sys.argv[1], changed), document_axes(sys.argv[1])
-    checks = [compare('forms of the papers and of Table.antt', forms, specification(specs), forms),
-              compare('forms of the papers and of tables.rt', forms, constants(tables), forms),
+    checks = [compare('forms of the papers and of RuleTable.antt', forms, specification(specs), forms),
+              compare('forms of the papers and of tables.rt', forms, constants(code), forms),
               compare('axis pairs of the papers and of Order.antt', pairs, specification_axes(specs), pairs),
-              compare('axis pairs of the papers and of tables.rt', pairs, pairs_of(tables, 'AXIS_PAIRS'), pairs)]
+              compare('axis pairs of the papers and of tables.rt', pairs, pairs_of(code, 'AXIS_PAIRS'), pairs)]
     print('rules %d to %d; written out by hand: 3 for =>, 22, 23, 53, 55, and the phrases of the side conditions' % (forms[0][0], forms[-1][0]))
     for request, _, rules, axes in CHANGES:
         print('%s changes rules %s%s' % (request, ', '.join(map(str, sorted(rules))), ''.join('; it adds axis ' + axis for axis in axes)))

@@ -1,4 +1,5 @@
-/* Reads the bundle in the file that the command line names, and prints the number of the answer: 0, or the first refusal.
+/* Reads the bundle in the file that the command line names, and prints the number of the answer: 0, or the first refusal,
+   of which it says on standard error what it is.
 
    At the root of the repository:
 
@@ -53,7 +54,11 @@ int main(int argc, char **argv)
         perror(argv[1]);
         return 2;
     }
-    printf("%u\n", (unsigned)spinebriar_read(bytes, length));
+    uint16_t answer = spinebriar_read(bytes, length);
     free(bytes);
+    printf("%u\n", (unsigned)answer);
+    if (answer != SPINEBRIAR_ACCEPTED) {
+        fprintf(stderr, "%s: %s\n", argv[1], spinebriar_answer_text(answer));
+    }
     return 0;
 }

@@ -8,19 +8,19 @@ use lib.ListN.{length, getD}
 use mathlib.Core.Logic.{inl, inr}
 use borrow.Author.Tests.{ltb-false, leb-false}
 use mir.Facts.{yes-and, yes-ltb, yes-leb}
-use Rattle.xpath.proofs.Reflect.{yes-or, true-iff, tests-equal}
+use Rattle.common.proofs.Reflect.{yes-or, true-iff, tests-equal}
 use Rattle.terms.specs.Row.{Row, rowAt}
 use Rattle.terms.specs.Fields.{maxKind, isPath, isQualifier, heldPath, heldQualifier}
-use Rattle.terms.specs.Table.{Built}
+use Rattle.terms.specs.AcceptedRows.{Built}
 use Rattle.terms.proofs.Built.{built-row}
-use Rattle.rules.specs.Lists.{Every}
-use Rattle.rules.specs.RowYields.{oneSort, saysOf}
+use Rattle.common.specs.Lists.{Every}
+use Rattle.rules.specs.code.RowYields.{oneSort, saysOf}
 use Rattle.rules.specs.Yields.{maxRule, Yields}
 use Rattle.rules.specs.Decision.{yields-dec}
 use Rattle.rules.proofs.RowYields.{row-yields-iff}
 use Rattle.calls.specs.Book.{Step, noStep, maxSteps, Book, Answer, answer}
 use Rattle.calls.specs.StepCall.{sameSort, badSide, badPremise, claimOf, premisesOf, stepAnswerBy, isYielded, stepAnswer}
-use Rattle.calls.specs.Calls.{Reachable}
+use Rattle.calls.specs.Calls.{Call, term, step, bookAnswer, rowAnswer, Reachable}
 use Rattle.calls.specs.Promises.{sidesOf, rowYielded, rowStepAnswer}
 use Rattle.calls.proofs.Premises.{SidesHeld, sides-held, HeldIn, premises-held}
 use Rattle.calls.proofs.Reached.{reachable-laws}
@@ -92,3 +92,8 @@ row-answer-by-terms b p h = answer-by (rowYielded b p) (isYielded b p) b p λ si
       λ t. true-iff (isYielded b p) .1 (by-terms .1 (subst (Yields (p .rule) (claimOf (b .rows) p)) premise-claims (by-rows .0 t))),
       λ t. by-rows .1 (subst (Yields (p .rule) (claimOf (b .rows) p)) (sym premise-claims) (by-terms .0 (true-iff (isYielded b p) .0 t))),
     )
+
+-- so every call's answer is the book's
+pub answer-by-terms : (b : Book) (c : Call) → Reachable b → rowAnswer b c ≡ bookAnswer b c
+answer-by-terms b (term r) h = refl
+answer-by-terms b (step p) h = row-answer-by-terms b p h

@@ -5,8 +5,9 @@ pub mod SelectJudged
 pub mod Marked
 pub mod SelectLaws
 pub mod Tables
-pub mod Refused
 pub mod Premises
+pub mod Runs
+pub mod Cases
 pub mod Reached
 pub mod Yielded
 pub mod ByTerms

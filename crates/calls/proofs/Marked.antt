@@ -12,16 +12,17 @@ use lib.Seq.{getD-set-same, getD-set-other}
 use borrow.Author.Tests.{leb-false, ltb-false}
 use Rattle.xpath.specs.Document.{documentOf, documentRefusal, wellFormed}
 use Rattle.xpath.specs.Meaning.{selects}
-use Rattle.xpath.proofs.Reflect.{below-suc}
+use Rattle.common.proofs.Reflect.{below-suc}
 use Rattle.xpath.proofs.Refusal.{accepted-iff}
 use Rattle.terms.specs.Row.{Row}
 use Rattle.terms.specs.Fields.{heldPath}
-use Rattle.terms.specs.Decode.{pathAt}
+use Rattle.terms.specs.Terms.{pathAt}
 use Rattle.selection.specs.Marks.{written}
 use Rattle.calls.specs.Book.{Answer, answer}
+use Rattle.calls.specs.Refusals as refusals
 use Rattle.calls.specs.SelectCall.{selectAnswer, selectBuffer}
 use Rattle.calls.specs.declared.SelectAnswer.{SelectAnswer}
-use Rattle.calls.specs.Answers.{selectAnswerOf}
+use Rattle.calls.specs.code.Answers.{selectAnswerOf}
 use Rattle.calls.specs.Promises.{SelectMade}
 use Rattle.calls.proofs.Accepted.{test-failed, if-accepted, if-refused}
 
@@ -50,7 +51,7 @@ written-past (suc n) f buffer y h =
     getD-set-other (written n f buffer) n y (cond (f n) 1 0) 0 o ∙ written-past n f buffer y (omega arith)
 
 -- an accepted answer is no refusal 8
-no-refusal : (o : Option ℕ) (t : Answer) → Option·elim o t (λ v. answer 8 v) .number ≡ 0 → (o ≡ none) × (t .number ≡ 0)
+no-refusal : (o : Option ℕ) (t : Answer) → Option·elim o t (λ v. answer refusals.bad-document v) .number ≡ 0 → (o ≡ none) × (t .number ≡ 0)
 unfolding Option·elim
 no-refusal none t e = (refl, e)
 no-refusal (some v) t e = absurd (omega arith)

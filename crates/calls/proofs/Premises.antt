@@ -8,7 +8,7 @@ use lib.Dec.{leb}
 use lib.ListN.{length, getD, take}
 use borrow.Author.Tests.{leb-true, leb-false, le-leb, not-false}
 use Rattle.terms.specs.Row.{Row}
-use Rattle.rules.specs.Lists.{Every}
+use Rattle.common.specs.Lists.{Every}
 use Rattle.rules.specs.Yields.{premiseCount}
 use Rattle.calls.specs.Book.{Step, noStep}
 use Rattle.calls.specs.StepCall.{sameSort, badSide, premiseOk, badPremise, stepNumbered, premisesOf}

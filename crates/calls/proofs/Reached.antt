@@ -1,7 +1,7 @@
 -- Laws of every book that calls lead to. Assumes nothing.
 use Prim.Native.Nat.{ℕ, suc, _+_, _<_}
-use mathlib.Core.Path.{_≡_, refl, sym}
-use mathlib.Core.Bool.{Bool, true, false, cond, _&&_, decide-iff}
+use mathlib.Core.Path.{_≡_, sym}
+use mathlib.Core.Bool.{_&&_, decide-iff}
 use mathlib.Core.List.{List, [], _∷_, _++_, map}
 use mathlib.Core.Logic.{⊎-elim}
 use native.Mathlib.Omega.{arith}
@@ -9,34 +9,26 @@ use lib.Dec.{leb, eqb}
 use lib.ListN.{length, getD, length-append, List·getD-append}
 use lib.Seq.{getD-at}
 use mir.Facts.{yes-and, yes-leb, yes-eqb}
-use borrow.Author.Tests.{eqb-true}
-use Rattle.xpath.proofs.Reflect.{below-suc}
+use Rattle.common.proofs.Reflect.{below-suc}
 use Rattle.terms.specs.Row.{Row, rowAt, noRow, find}
 use Rattle.terms.specs.Fields.{maxKind, badPlace}
 use Rattle.terms.specs.Nesting.{maxNesting, nesting}
-use Rattle.terms.specs.Table.{isWellFormed, isNew, Built, empty, more}
+use Rattle.terms.specs.AcceptedRows.{isWellFormed, isNew, Built, empty, more}
 use Rattle.terms.proofs.Find.{find-le}
-use Rattle.terms.proofs.Decode.{term-stays}
-use Rattle.rules.specs.Lists.{Every}
+use Rattle.terms.proofs.Terms.{term-stays}
+use Rattle.common.specs.Lists.{Every}
 use Rattle.rules.specs.Claim.{says, IsTrue}
 use Rattle.rules.specs.Yields.{Yields}
 use Rattle.rules.specs.Decision.{yields-dec}
 use Rattle.rules.proofs.Sound.{yields-sound}
-use Rattle.calls.specs.Book.{Step, noStep, Book, book, Answer, accepted}
-use Rattle.calls.specs.TermCall.{termAnswer, termBook}
-use Rattle.calls.specs.StepCall.{sameSort, claimOf, premisesOf, isYielded, stepAnswer, stepBook}
-use Rattle.calls.specs.Calls.{term, step, bookNext, Reachable, fresh, after}
+use Rattle.calls.specs.Book.{Step, noStep, Book, book}
+use Rattle.calls.specs.TermCall.{termAnswer}
+use Rattle.calls.specs.StepCall.{sameSort, claimOf, premisesOf, isYielded, stepAnswer}
+use Rattle.calls.specs.Calls.{Call, term, step, bookAnswer, bookWith, plainBook, Reachable}
+use Rattle.calls.proofs.Runs.{reached-law}
 use Rattle.calls.proofs.TermJudged.{term-accepted}
 use Rattle.calls.proofs.StepJudged.{step-accepted}
 use Rattle.calls.proofs.Premises.{SidesHeld, sides-held, HeldIn, premises-held}
-
--- what is left after a call, by whether it was accepted
-by-accepted : {A : Type 0} (P : A → Type 0) (t : Answer) (x y : A) → (t .number ≡ 0 → P x) → P y → P (cond (accepted t) x y)
-by-accepted P t x y f g = by-test (accepted t) refl
-  where
-    by-test : (b : Bool) → accepted t ≡ b → P (cond b x y)
-    by-test true e = f (eqb-true (t .number) 0 e)
-    by-test false e = g
 
 -- a held row stays as it is when a row is added
 module _ (rs : List Row) (r : Row) (i : ℕ) (h : i < length rs) where
@@ -108,12 +100,10 @@ step-added b p w e =
       claims = each-and-last (λ q. IsTrue (claimOf (b .rows) q)) (b .steps) p (w .claims) (yields-sound (p .rule) _ _ yields premises);
     }
 
+-- what an accepted call adds keeps the laws
+laws-with : (b : Book) (c : Call) → BookLaws b → bookAnswer b c .number ≡ 0 → BookLaws (bookWith b c)
+laws-with b (term r) w e = row-added (b .rows) (b .steps) r w e
+laws-with b (step p) w e = step-added b p w e
+
 pub reachable-laws : {b : Book} → Reachable b → BookLaws b
-unfolding bookNext termBook stepBook
-reachable-laws fresh = record { built = empty; sides = λ i h. absurd (omega arith); claims = λ i h. absurd (omega arith) }
-reachable-laws (after {b} (term r) h) =
-    let w = reachable-laws h in
-    by-accepted (λ rs. BookLaws (book rs (b .steps))) (termAnswer (b .rows) r) _ _ (row-added (b .rows) (b .steps) r w) w
-reachable-laws (after {b} (step p) h) =
-    let w = reachable-laws h in
-    by-accepted (λ ps. BookLaws (book (b .rows) ps)) (stepAnswer b p) _ _ (step-added b p w) w
+reachable-laws = reached-law plainBook BookLaws (record { built = empty; sides = λ i h. absurd (omega arith); claims = λ i h. absurd (omega arith) }) laws-with

@@ -13,21 +13,21 @@ use Rattle.xpath.specs.Visits.{visits}
 use Rattle.xpath.proofs.Refusal.{accepted-iff}
 use Rattle.terms.specs.Row.{Row}
 use Rattle.terms.specs.Fields.{heldPath}
-use Rattle.terms.specs.Decode.{pathAt}
-use Rattle.selection.specs.Evaluation.{Outcome, outcome, selected, no-room, limit-passed, pathEvaluated, evaluated}
+use Rattle.terms.specs.Terms.{pathAt}
+use Rattle.selection.specs.Evaluation.{Outcome, outcome, selected, no-room, too-many-visits, pathEvaluated, evaluated}
 use Rattle.selection.specs.Evaluation as evaluation
 use Rattle.calls.specs.declared.SelectAnswer.{SelectAnswer}
 use Rattle.calls.specs.declared.SelectAnswer.the-variants.{BadDocument, BadArgument}
 use Rattle.calls.specs.Book.{answer, accepted}
 use Rattle.calls.specs.SelectCall.{selectAnswer, selectBuffer}
-use Rattle.calls.specs.Answers.{selectAnswerOf, evaluationAnswer}
+use Rattle.calls.specs.code.Answers.{selectAnswerOf, evaluationAnswer}
 use Rattle.calls.specs.Promises.{SelectMade}
 use Rattle.calls.proofs.Accepted.{if-refused}
 
 -- an evaluation by its two tests: the buffer is too short; v visits are within the limit, and leave the marks w
 abbrev byTests : (v : ℕ) (w buffer : List ℕ) (short within : Bool) → Outcome
 byTests v w buffer short within =
-    cond (false || short) (outcome no-room buffer) (cond within (outcome (selected v) w) (outcome limit-passed buffer))
+    cond (false || short) (outcome no-room buffer) (cond within (outcome (selected v) w) (outcome too-many-visits buffer))
 
 answer-by-tests : (v limit : ℕ) (w buffer : List ℕ) (short within : Bool) → leb v limit ≡ within
     → evaluationAnswer (byTests v w buffer short within .answer) ≡ cond short (answer 14 0) (cond (ltb limit v) (answer 15 0) (answer 0 v))
@@ -79,7 +79,7 @@ module _ (rs : List Row) (row : ℕ) (xs : List ℕ) (x limit : ℕ) (buffer : L
             rw (← evaluation-answers, size)
             (buffer-by-tests (visits (documentOf xs) (pathAt rs row) x) _ buffer (ltb (length buffer) (length (documentOf xs))) (leb (visits (documentOf xs) (pathAt rs row) x) limit))
 
-        pub select-evaluated : (t : SelectAnswer) (e : evaluation.Answer) (left : List ℕ) → selectAnswerOf t ≡ evaluationAnswer e
+        pub select-evaluated : (t : SelectAnswer) (e : evaluation.EvaluationAnswer) (left : List ℕ) → selectAnswerOf t ≡ evaluationAnswer e
             → outcome e left ≡ evaluated rs row (documentOf xs) x limit buffer → SelectMade rs row xs x limit buffer t left
         select-evaluated t e left s o =
             record { answer = s ∙ ap (λ u. evaluationAnswer (u .answer)) o ∙ evaluation-answers; bytes = ap (λ u. u .buffer) o ∙ evaluation-leaves }

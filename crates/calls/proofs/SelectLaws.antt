@@ -9,15 +9,16 @@ use lib.Dec.{leb, ltb}
 use lib.ListN.{length}
 use borrow.Author.Tests.{le-ltb}
 use Rattle.xpath.specs.Document.{documentOf, documentRefusal}
-use Rattle.xpath.specs.Term.{Step}
+use Rattle.xpath.specs.Term.{AxisStep}
 use Rattle.xpath.specs.Visits.{visits}
 use Rattle.xpath.proofs.Chain.{chain-visits}
 use Rattle.xpath.proofs.OneName.{lent-documents, step-same-elsewhere}
 use Rattle.terms.specs.Row.{Row, rowAt}
 use Rattle.terms.specs.Fields.{heldPath}
-use Rattle.terms.specs.Decode.{asPath, termBy, pathAt}
-use Rattle.terms.proofs.Decode.{term-at}
+use Rattle.terms.specs.Terms.{asPath, termBy, pathAt}
+use Rattle.terms.proofs.Terms.{term-at}
 use Rattle.calls.specs.Book.{answer}
+use Rattle.calls.specs.Refusals as refusals
 use Rattle.calls.specs.SelectCall.{selectAnswer}
 use Rattle.calls.specs.SelectLaws.{LimitSuffices, MarksSameElsewhere}
 use Rattle.calls.proofs.Marked.{select-marks}
@@ -25,12 +26,12 @@ use Rattle.calls.proofs.Marked.{select-marks}
 -- where the limit is not passed, no test has 15 for its answer
 not-15 : (o : Option ℕ) (context row room passed : Bool) (v : ℕ) → passed ≡ false
     → ¬ (Option·elim o
-    (cond context (answer 9 1)
-    (cond row (answer 9 2)
-    (cond room (answer 14 0)
-    (cond passed (answer 15 0)
+    (cond context (answer refusals.bad-argument 1)
+    (cond row (answer refusals.bad-argument 2)
+    (cond room (answer refusals.short-marks 0)
+    (cond passed (answer refusals.limit-passed 0)
     (answer 0 v)))))
-    (λ w. answer 8 w) .number ≡ 15)
+    (λ w. answer refusals.bad-document w) .number ≡ refusals.limit-passed)
 unfolding Option·elim
 not-15 (some w) context row room passed v f e = omega arith
 not-15 none true row room passed v f e = omega arith
@@ -51,7 +52,7 @@ limit-suffices rs row xs x limit buffer left t m k c h e =
 
 -- the path of a row of kind 2
 step-path : (rs : List Row) (row : ℕ) → rowAt rs row .kind ≡ 2
-    → pathAt rs row ≡ Step (rowAt rs row .a) (rowAt rs row .b) (rowAt rs row .c)
+    → pathAt rs row ≡ AxisStep (rowAt rs row .a) (rowAt rs row .b) (rowAt rs row .c)
 unfolding asPath termBy
 step-path rs row e = ap asPath (term-at rs row) ∙ rw e
 

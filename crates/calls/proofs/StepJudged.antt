@@ -8,30 +8,31 @@ use lib.ListN.{length}
 use borrow.Author.Tests.{lt-ltb, le-ltb, le-leb, lt-leb, ltb-false, leb-false, not-false}
 use Rattle.rules.specs.Yields.{maxRule}
 use Rattle.calls.specs.Book.{Step, maxSteps, Book, answer}
+use Rattle.calls.specs.Refusals as refusals
 use Rattle.calls.specs.StepCall.{badSide, badPremise, stepAnswerBy}
 use Rattle.calls.proofs.Accepted.{test-failed}
 
 module _ (y : Bool) (b : Book) (p : Step) where
-  pub no-rule : (eqb (p .rule) 0 || ltb maxRule (p .rule)) ≡ true → answer 4 0 ≡ stepAnswerBy y b p
+  pub no-rule : (eqb (p .rule) 0 || ltb maxRule (p .rule)) ≡ true → answer refusals.no-rule 0 ≡ stepAnswerBy y b p
   unfolding stepAnswerBy
   no-rule h = rw h
 
   module _ (rule : (eqb (p .rule) 0 || ltb maxRule (p .rule)) ≡ false) (i : ℕ) (is-i : i ≡ badSide (b .rows) p) where
-    pub bad-side : 0 < i → answer 5 i ≡ stepAnswerBy y b p
+    pub bad-side : 0 < i → answer refusals.bad-side i ≡ stepAnswerBy y b p
     unfolding stepAnswerBy
     bad-side h = rw (rule, ← is-i, lt-ltb 0 i h)
 
     module _ (sides : i ≤ 0) (n : ℕ) (is-n : n ≡ length (b .steps)) (j : ℕ) (is-j : j ≡ badPremise n p) where
-      pub bad-premise : 0 < j → answer 6 j ≡ stepAnswerBy y b p
+      pub bad-premise : 0 < j → answer refusals.bad-premise j ≡ stepAnswerBy y b p
       unfolding stepAnswerBy
       bad-premise h = rw (rule, ← is-i, le-ltb 0 i sides, ← is-n, ← is-j, lt-ltb 0 j h)
 
       module _ (premises : j ≤ 0) where
-        pub not-yielded : y ≡ false → answer 7 0 ≡ stepAnswerBy y b p
+        pub not-yielded : y ≡ false → answer refusals.not-yielded 0 ≡ stepAnswerBy y b p
         unfolding stepAnswerBy
         not-yielded h = rw (rule, ← is-i, le-ltb 0 i sides, ← is-n, ← is-j, le-ltb 0 j premises, h)
 
-        pub steps-full : y ≡ true → maxSteps ≤ n → answer 13 0 ≡ stepAnswerBy y b p
+        pub steps-full : y ≡ true → maxSteps ≤ n → answer refusals.steps-full 0 ≡ stepAnswerBy y b p
         unfolding stepAnswerBy
         steps-full h l = rw (rule, ← is-i, le-ltb 0 i sides, ← is-n, ← is-j, le-ltb 0 j premises, h, le-leb maxSteps n l)
 

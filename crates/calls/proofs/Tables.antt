@@ -6,9 +6,9 @@ use native.Mathlib.Omega.{arith}
 use lib.ListN.{length, getD, take, length-take, List·getD-eq-default}
 use lib.Seq.{length-take-le}
 use Rattle.terms.specs.Row.{tableOf, maxRows}
-use Rattle.terms.proofs.Lent.{rows-lent}
+use Rattle.terms.proofs.LentRows.{rows-lent}
 use Rattle.calls.specs.Book.{Step, step, noStep, maxSteps}
-use Rattle.calls.specs.Tables.{rowWidth, stepWidth, stepsOf, firstRowNumbers, firstStepNumbers}
+use Rattle.calls.specs.code.Tables.{rowWidth, stepWidth, stepsOf, firstRowNumbers, firstStepNumbers}
 
 -- the first numbers, as many as asked for, or all
 pub take-clamped : (n k : ℕ) (xs : List ℕ) → n ≡ min k (length xs) → take n xs ≡ take k xs

@@ -11,6 +11,7 @@ use Rattle.terms.specs.Row.{Row, maxRows, find}
 use Rattle.terms.specs.Fields.{maxKind, badPlace}
 use Rattle.terms.specs.Nesting.{maxNesting, nesting}
 use Rattle.calls.specs.Book.{answer}
+use Rattle.calls.specs.Refusals as refusals
 use Rattle.calls.specs.TermCall.{termAnswer}
 use Rattle.calls.proofs.Accepted.{test-failed}
 
@@ -19,27 +20,27 @@ module _ (rs : List Row) (r : Row) where
   pub nesting-told : (d : ℕ) → length rs ≤ maxRows → d ≡ cond (leb (length rs) maxRows) (nesting rs r) 0 → d ≡ nesting rs r
   nesting-told d few e = e ∙ rw (le-leb (length rs) maxRows few)
 
-  pub bad-kind : maxKind < r .kind → answer 1 0 ≡ termAnswer rs r
+  pub bad-kind : maxKind < r .kind → answer refusals.bad-kind 0 ≡ termAnswer rs r
   unfolding termAnswer
   bad-kind h = rw (lt-ltb _ _ h)
 
   module _ (k : r .kind ≤ maxKind) (p : ℕ) (is-p : p ≡ badPlace rs r) where
-    pub bad-field : 0 < p → answer 2 p ≡ termAnswer rs r
+    pub bad-field : 0 < p → answer refusals.bad-field p ≡ termAnswer rs r
     unfolding termAnswer
     bad-field h = rw (le-ltb _ _ k, ← is-p, lt-ltb 0 p h)
 
     module _ (fields : p ≤ 0) (d : ℕ) (is-d : d ≡ nesting rs r) where
-      pub too-deep : maxNesting < d → answer 3 0 ≡ termAnswer rs r
+      pub too-deep : maxNesting < d → answer refusals.too-deep 0 ≡ termAnswer rs r
       unfolding termAnswer
       too-deep h = rw (le-ltb _ _ k, ← is-p, le-ltb 0 p fields, ← is-d, lt-ltb maxNesting d h)
 
       module _ (shallow : d ≤ maxNesting) (i : ℕ) (is-i : i ≡ find rs r) (n : ℕ) (is-n : n ≡ length rs) where
-        pub already-held : i < n → answer 12 i ≡ termAnswer rs r
+        pub already-held : i < n → answer refusals.already-held i ≡ termAnswer rs r
         unfolding termAnswer
         already-held h = rw (le-ltb _ _ k, ← is-p, le-ltb 0 p fields, ← is-d, le-ltb maxNesting d shallow, ← is-i, ← is-n, lt-ltb i n h)
 
         module _ (new : n ≤ i) where
-          pub terms-full : maxRows ≤ n → answer 11 0 ≡ termAnswer rs r
+          pub terms-full : maxRows ≤ n → answer refusals.terms-full 0 ≡ termAnswer rs r
           unfolding termAnswer
           terms-full h = rw (le-ltb _ _ k, ← is-p, le-ltb 0 p fields, ← is-d, le-ltb maxNesting d shallow, ← is-i, ← is-n, le-ltb i n new, le-leb maxRows n h)
 

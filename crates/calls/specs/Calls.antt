@@ -1,40 +1,46 @@
--- Lists of calls, and what a plain book shows of them. Assumes nothing.
-use mathlib.Core.List.{List, [], _∷_}
+-- The calls of a list, and the plain book that is fed them. Assumes nothing.
+use mathlib.Core.List.{List}
 use Rattle.terms.specs.Row.{Row}
 use Rattle.calls.specs.Book.{Step, Book, emptyBook, Answer}
 use Rattle.calls.specs.TermCall.{termAnswer, termBook}
 use Rattle.calls.specs.StepCall.{stepAnswer, stepBook}
+use Rattle.calls.specs.Promises.{rowStepAnswer}
+use Rattle.calls.specs.Runs.{Machine, Seen, shown, final, Reached}
 
 -- the kinds of calls
 pub data Call : Type 0 where
   term : Row → Call
   step : Step → Call
 
--- what is seen of a call: its answer, and the rows and steps held after it
-pub record Seen : Type 0 where
-  pub answer : Answer
-  pub book : Book
-
-unfoldable pub bookAnswer : Book → Call → Answer
+-- the first refusal that applies, else the acceptance
+abbrev pub bookAnswer : Book → Call → Answer
 bookAnswer b (term r) = termAnswer (b .rows) r
 bookAnswer b (step p) = stepAnswer b p
 
--- the book after a call
-unfoldable pub bookNext : Book → Call → Book
-bookNext b (term r) = termBook b r
-bookNext b (step p) = stepBook b p
+-- the book with an accepted call
+abbrev pub bookWith : Book → Call → Book
+bookWith b (term r) = termBook b r
+bookWith b (step p) = stepBook b p
 
--- what is seen of calls made in order on the book b
-unfoldable pub bookSeen : Book → List Call → List Seen
-bookSeen b [] = []
-bookSeen b (c ∷ cs) = record { answer = bookAnswer b c; book = bookNext b c } ∷ bookSeen (bookNext b c) cs
+abbrev pub plainBook : Machine Book Call
+plainBook = record { answer = bookAnswer; with = bookWith }
 
--- the book after calls made in order
-unfoldable pub bookAfter : Book → List Call → Book
-bookAfter b [] = b
-bookAfter b (c ∷ cs) = bookAfter (bookNext b c) cs
+-- what is seen of a call: its answer, and the rows and steps held after it
+abbrev pub CallSeen : Type 0
+CallSeen = Seen Book
+
+-- what is seen of calls made in order on a fresh book, and the book after them
+abbrev pub bookSeen : List Call → List CallSeen
+bookSeen cs = shown plainBook emptyBook cs
+
+abbrev pub bookAfter : List Call → Book
+bookAfter cs = final plainBook emptyBook cs
 
 -- the books that lists of calls lead to
-pub data Reachable : Book → Type 0 where
-  fresh : Reachable emptyBook
-  after : {b : Book} (c : Call) → Reachable b → Reachable (bookNext b c)
+abbrev pub Reachable : Book → Type 0
+Reachable = Reached plainBook emptyBook
+
+-- the answers again, with steps judged by row numbers instead of terms
+abbrev pub rowAnswer : Book → Call → Answer
+rowAnswer b (term r) = termAnswer (b .rows) r
+rowAnswer b (step p) = rowStepAnswer b p

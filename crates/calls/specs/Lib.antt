@@ -1,12 +1,11 @@
+pub mod Refusals
 pub mod Book
 pub mod TermCall
 pub mod StepCall
 pub mod SelectCall
-pub mod Calls
-pub mod Tables
-pub mod Answers
 pub mod Promises
 pub mod SelectLaws
-pub mod CallCases
-pub mod TableCases
-pub mod SelectLawCases
+pub mod Runs
+pub mod Calls
+pub mod code
+pub mod values

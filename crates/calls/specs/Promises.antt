@@ -5,12 +5,12 @@ use mathlib.Core.Bool.{Bool}
 use mathlib.Core.List.{List, map}
 use lib.ListN.{length}
 use Rattle.terms.specs.Row.{Row}
-use Rattle.rules.specs.RowYields.{Sides, rowYields}
+use Rattle.rules.specs.code.RowYields.{Sides, rowYields}
 use Rattle.calls.specs.declared.SelectAnswer.{SelectAnswer}
 use Rattle.calls.specs.Book.{Step, Book, Answer}
 use Rattle.calls.specs.StepCall.{premisesOf, stepAnswerBy}
 use Rattle.calls.specs.SelectCall.{selectAnswer, selectBuffer}
-use Rattle.calls.specs.Answers.{selectAnswerOf}
+use Rattle.calls.specs.code.Answers.{selectAnswerOf}
 
 -- the rows of a step
 unfoldable pub sidesOf : Step → Sides

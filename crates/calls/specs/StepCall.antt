@@ -9,7 +9,8 @@ use Rattle.terms.specs.Fields.{isPath}
 use Rattle.rules.specs.Claim.{Claim, says}
 use Rattle.rules.specs.Yields.{maxRule, premiseCount}
 use Rattle.rules.specs.Decision.{yields-dec}
-use Rattle.calls.specs.Book.{Step, noStep, maxSteps, Book, book, Answer, answer, accepted}
+use Rattle.calls.specs.Book.{Step, noStep, maxSteps, Book, book, Answer, answer}
+use Rattle.calls.specs.Refusals.{no-rule, bad-side, bad-premise, not-yielded, steps-full}
 
 -- rows i and j are both paths, or neither is
 unfoldable pub sameSort : List Row → ℕ → ℕ → Bool
@@ -43,14 +44,15 @@ claimOf rs p = says rs (p .left) (p .right)
 unfoldable pub premisesOf : List Step → Step → List Step
 premisesOf ps p = map (stepNumbered ps) (take (premiseCount (p .rule)) (p .first ∷ p .second ∷ []))
 
--- the first refusal that applies, in the order 4, 5, 6, 7, 13, where `yielded` says whether the rule yields the step; else 0 with the step's number
+-- the first refusal that applies, in the order 4, 5, 6, 7, 13, where `yielded` says whether the rule yields the step;
+-- else 0 with the step's number
 unfoldable pub stepAnswerBy : (yielded : Bool) → Book → Step → Answer
 stepAnswerBy yielded b p =
-    cond (eqb (p .rule) 0 || ltb maxRule (p .rule)) (answer 4 0)
-    (cond (ltb 0 (badSide (b .rows) p)) (answer 5 (badSide (b .rows) p))
-    (cond (ltb 0 (badPremise (length (b .steps)) p)) (answer 6 (badPremise (length (b .steps)) p))
-    (cond (not yielded) (answer 7 0)
-    (cond (leb maxSteps (length (b .steps))) (answer 13 0)
+    cond (eqb (p .rule) 0 || ltb maxRule (p .rule)) (answer no-rule 0)
+    (cond (ltb 0 (badSide (b .rows) p)) (answer bad-side (badSide (b .rows) p))
+    (cond (ltb 0 (badPremise (length (b .steps)) p)) (answer bad-premise (badPremise (length (b .steps)) p))
+    (cond (not yielded) (answer not-yielded 0)
+    (cond (leb maxSteps (length (b .steps))) (answer steps-full 0)
     (answer 0 (length (b .steps) + 1))))))
 
 -- the rule yields what the step says from what its premises say, all as terms
@@ -60,6 +62,6 @@ isYielded b p = decide (yields-dec (p .rule) (claimOf (b .rows) p) (map (claimOf
 unfoldable pub stepAnswer : Book → Step → Answer
 stepAnswer b p = stepAnswerBy (isYielded b p) b p
 
--- the step goes to the end of its list where no refusal applies
-unfoldable pub stepBook : Book → Step → Book
-stepBook b p = book (b .rows) (cond (accepted (stepAnswer b p)) (b .steps ++ (p ∷ [])) (b .steps))
+-- where no refusal applies, the step goes to the end of its list
+abbrev pub stepBook : Book → Step → Book
+stepBook b p = book (b .rows) (b .steps ++ (p ∷ []))

@@ -8,15 +8,46 @@ ghost use Prim.Native.Nat.{_-_, _≤_, min};
 ghost use lib.ListN.{length, take};
 ghost use Rattle.terms.specs.Row.{rowAt, tableOf, maxRows};
 ghost use Rattle.terms.specs.Fields.{isPath};
-ghost use Rattle.terms.specs.Lent.{rowOf};
-ghost use Rattle.selection.specs.Answer.{answerOf};
-ghost use Rattle.rules.specs.Lent.{sidesIn};
+ghost use Rattle.terms.specs.code.RowTypes.{rowOf};
+ghost use Rattle.selection.specs.code.EvaluatedTypes.{answerOf};
+ghost use Rattle.rules.specs.code.MatchTypes.{sidesIn};
 ghost use Rattle.calls.specs.Book.{maxSteps, book};
 ghost use Rattle.calls.specs.TermCall.{termAnswer};
 ghost use Rattle.calls.specs.StepCall.{sameSort, badSide, premiseOk, badPremise, stepNumbered};
-ghost use Rattle.calls.specs.Tables.{stepsOf, firstRowNumbers, firstStepNumbers, firstRows, firstSteps};
-ghost use Rattle.calls.specs.Answers.{termAnswerOf, stepAnswerOf, selectAnswerOf, evaluationAnswer, stepOf};
+ghost use Rattle.calls.specs.code.Tables.{stepsOf, firstRowNumbers, firstStepNumbers, firstRows, firstSteps};
+ghost use Rattle.calls.specs.code.Answers.{termAnswerOf, stepAnswerOf, selectAnswerOf, evaluationAnswer, stepOf};
 ghost use Rattle.calls.specs.Promises.{sidesOf, rowYielded, rowStepAnswer, SelectMade};
+
+// The refusals of document 01.
+pub const BAD_KIND: u16 = 1;
+
+pub const BAD_FIELD: u16 = 2;
+
+pub const TOO_DEEP: u16 = 3;
+
+pub const NO_RULE: u16 = 4;
+
+pub const BAD_SIDE: u16 = 5;
+
+pub const BAD_PREMISE: u16 = 6;
+
+pub const NOT_YIELDED: u16 = 7;
+
+pub const BAD_DOCUMENT: u16 = 8;
+
+pub const BAD_ARGUMENT: u16 = 9;
+
+pub const WRONG_FORM: u16 = 10;
+
+pub const TERMS_FULL: u16 = 11;
+
+pub const ALREADY_HELD: u16 = 12;
+
+pub const STEPS_FULL: u16 = 13;
+
+pub const SHORT_MARKS: u16 = 14;
+
+pub const LIMIT_PASSED: u16 = 15;
 
 // A step has five numbers.
 pub const STEP_WIDTH: usize = 5;
@@ -138,7 +169,7 @@ fn place_of(i: u16) -> usize
     if i == 0 {
         return 0;
     }
-    xpath::wide(i) - 1
+    common::wide(i) - 1
 }
 
 // The rows of step i, counted from 1, and of 0 those of step 1; zeros where there is no such step.
@@ -175,12 +206,12 @@ fn bad_side(rows: &[u16], step: Step) -> u16
     ensures { λ r. ⌜ r ≡ badSide (tableOf (now (rows .entry))) (stepOf step) ⌝ }
 {
     let n = terms::row_count(rows);
-    let left = xpath::wide(step.left);
+    let left = common::wide(step.left);
     if n <= left {
         return 1;
     }
-    let right = xpath::wide(step.right);
-    if xpath::or(n <= right, !same_sort(rows, left, right)) {
+    let right = common::wide(step.right);
+    if common::or(n <= right, !same_sort(rows, left, right)) {
         return 2;
     }
     0
@@ -191,7 +222,7 @@ fn premise_ok(needed: bool, held: usize, i: u16) -> bool
     ensures { λ r. ⌜ r ≡ premiseOk needed held i ⌝ }
 {
     if needed {
-        return xpath::and(1 <= i, xpath::wide(i) <= held);
+        return common::and(1 <= i, common::wide(i) <= held);
     }
     i == 0
 }
@@ -224,7 +255,7 @@ fn step_answer(rows: &[u16], steps: &[u16], step: Step) -> StepAnswer
     requires { ⌜ length (stepsOf (now steps)) ≤ maxSteps ⌝ }
     ensures { λ r. ⌜ stepAnswerOf r ≡ rowStepAnswer (book (tableOf (now (rows .entry))) (stepsOf (now (steps .entry)))) (stepOf step) ⌝ }
 {
-    if xpath::or(step.rule == 0, rules::MAX_RULE < step.rule) {
+    if common::or(step.rule == 0, rules::MAX_RULE < step.rule) {
         return StepAnswer::NoRule;
     }
     let side = bad_side(rows, step);
@@ -289,7 +320,7 @@ pub fn select_on(
     if let DocumentCheck::Refused(value) = check {
         return SelectAnswer::BadDocument(value);
     }
-    let x = xpath::wide(context);
+    let x = common::wide(context);
     if xpath::node_count(document) <= x {
         return SelectAnswer::BadArgument(1);
     }
@@ -297,7 +328,7 @@ pub fn select_on(
         return SelectAnswer::BadArgument(2);
     }
     let ends = checked.ends;
-    let done = selection::evaluate(rows, xpath::wide(row), document, &ends, x, limit, marks);
+    let done = selection::evaluate(rows, common::wide(row), document, &ends, x, limit, marks);
     select_answer(done)
 }
 
@@ -307,11 +338,11 @@ impl TermAnswer {
     {
         match self {
             TermAnswer::Held(_) => 0,
-            TermAnswer::BadKind => 1,
-            TermAnswer::BadField(_) => 2,
-            TermAnswer::TooDeep => 3,
-            TermAnswer::AlreadyHeld(_) => 12,
-            TermAnswer::TermsFull => 11,
+            TermAnswer::BadKind => BAD_KIND,
+            TermAnswer::BadField(_) => BAD_FIELD,
+            TermAnswer::TooDeep => TOO_DEEP,
+            TermAnswer::AlreadyHeld(_) => ALREADY_HELD,
+            TermAnswer::TermsFull => TERMS_FULL,
         }
     }
 
@@ -335,11 +366,11 @@ impl StepAnswer {
     {
         match self {
             StepAnswer::Held(_) => 0,
-            StepAnswer::NoRule => 4,
-            StepAnswer::BadSide(_) => 5,
-            StepAnswer::BadPremise(_) => 6,
-            StepAnswer::NotYielded => 7,
-            StepAnswer::StepsFull => 13,
+            StepAnswer::NoRule => NO_RULE,
+            StepAnswer::BadSide(_) => BAD_SIDE,
+            StepAnswer::BadPremise(_) => BAD_PREMISE,
+            StepAnswer::NotYielded => NOT_YIELDED,
+            StepAnswer::StepsFull => STEPS_FULL,
         }
     }
 
@@ -363,10 +394,10 @@ impl SelectAnswer {
     {
         match self {
             SelectAnswer::Selected(_) => 0,
-            SelectAnswer::BadDocument(_) => 8,
-            SelectAnswer::BadArgument(_) => 9,
-            SelectAnswer::ShortMarks => 14,
-            SelectAnswer::LimitPassed => 15,
+            SelectAnswer::BadDocument(_) => BAD_DOCUMENT,
+            SelectAnswer::BadArgument(_) => BAD_ARGUMENT,
+            SelectAnswer::ShortMarks => SHORT_MARKS,
+            SelectAnswer::LimitPassed => LIMIT_PASSED,
         }
     }
 

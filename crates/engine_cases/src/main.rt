@@ -1,23 +1,7 @@
-// Selections that another XPath engine has answered: makes the calls of a script from standard input and prints the nodes that each
-// select marks. A line of another form ends it, and is printed as refused; so is input that is too long, with line 0.
-use transcript::Style;
-
-fn print_refused(line: usize) {
-    io::write_all(1, b"refused 10 ");
-    io::print_decimal(1, line as u64);
-    io::write_all(1, b"\n");
-}
+// Selections that another XPath engine has answered: makes the calls of a script from standard input and prints the nodes
+// that each select marks. A line of another form ends it, and is printed as refused; so is input that is too long, with
+// line 0.
 
 fn main() {
-    // One byte more than is taken, so that longer input shows.
-    let mut input = [0u8; transcript::MAX_INPUT + 1];
-    let length = io::read_full(0, &mut input);
-    if transcript::MAX_INPUT < length {
-        print_refused(0);
-        return;
-    }
-    let line = transcript::run(&input[..length], Style::Nodes);
-    if line != 0 {
-        print_refused(line);
-    }
+    transcript::print_nodes();
 }

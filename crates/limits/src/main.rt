@@ -1,23 +1,16 @@
 // Each limit of a session, met and then passed by one. Prints the limits that a session names, on a line, and then what the calls
 // answer, `NUMBER VALUE` a line, in pairs: the last call within the limit, and the one beyond it.
+use common::axis;
+use common::node_kind;
+use common::node_test;
+use common::row_kind;
 use session::Session;
 ghost use mathlib.Core.Path.{_≡_};
 ghost use Prim.Native.Nat.{_≤_};
 ghost use lib.ListN.{length};
+ghost use Rattle.script.specs.Command.{maxNumbers};
 
-const ROOT: u16 = 1;
-
-const STEP: u16 = 2;
-
-const COMPOSITION: u16 = 4;
-
-const TRUE: u16 = 6;
-
-const NOT: u16 = 8;
-
-const DESCENDANT: u16 = 3;
-
-const NODE: u16 = 2;
+const TEXT: u16 = node_kind::TEXT as u16;
 
 // p <= p
 const REFLEXIVE: u16 = 2;
@@ -45,11 +38,11 @@ fn print_limits() {
 
 // Nesting 32 and 33: true, and each row `not` of the one before.
 fn nesting() {
-    let first = Session::new().term(TRUE, 0, 0, 0);
+    let first = Session::new().term(row_kind::TRUE, 0, 0, 0);
     let mut s = first.session;
     let mut i: u16 = 0;
     while i < 32 {
-        let next = s.term(NOT, i, 0, 0);
+        let next = s.term(row_kind::NOT, i, 0, 0);
         let answer = next.answer;
         if 30 <= i {
             print(answer.number(), answer.value());
@@ -65,7 +58,7 @@ fn rows() {
     let mut s = Session::new();
     let mut i: u16 = 0;
     while i < 1025 {
-        let next = s.term(STEP, 1, 0, i + 1);
+        let next = s.term(row_kind::STEP, axis::CHILD, node_test::NAME, i + 1);
         let answer = next.answer;
         if 1023 <= i {
             print(answer.number(), answer.value());
@@ -78,7 +71,7 @@ fn rows() {
 
 // 2,048 steps and one more, of the same rule on the same row.
 fn steps() {
-    let first = Session::new().term(ROOT, 0, 0, 0);
+    let first = Session::new().term(row_kind::ROOT, 0, 0, 0);
     let mut s = first.session;
     let mut i: u16 = 0;
     while i < 2049 {
@@ -94,13 +87,13 @@ fn steps() {
 }
 
 // The root, and texts under it: the first n rows of it are a document of n nodes.
-fn texts() -> [u16; 1539]
-    ensures { λ r. ⌜ 1539 ≡ length r ⌝ }
+fn texts() -> [u16; script::MAX_NUMBERS]
+    ensures { λ r. ⌜ maxNumbers ≡ length r ⌝ }
 {
-    let mut d = [0u16; 1539];
+    let mut d = [0u16; script::MAX_NUMBERS];
     let mut i: usize = 3;
-    while i < 1539 {
-        d[i] = 2;
+    while i < script::MAX_NUMBERS {
+        d[i] = TEXT;
         i += 3;
     }
     d
@@ -108,7 +101,7 @@ fn texts() -> [u16; 1539]
 
 // Selects from the root of the document that the first numbers of `texts` are, as many as `size` says.
 fn print_select(s: Session, row: u16, size: usize, limit: u32)
-    requires { ⌜ size ≤ 1539 ⌝ }
+    requires { ⌜ size ≤ maxNumbers ⌝ }
 {
     let d = texts();
     let mut marks = [7u8; 600];
@@ -118,19 +111,19 @@ fn print_select(s: Session, row: u16, size: usize, limit: u32)
 
 // 512 nodes and 513.
 fn nodes() {
-    let made = Session::new().term(ROOT, 0, 0, 0);
+    let made = Session::new().term(row_kind::ROOT, 0, 0, 0);
     let s = made.session;
-    print_select(s, 0, 1536, 1);
-    print_select(s, 0, 1539, 1);
+    print_select(s, 0, 3 * Session::NODES, 1);
+    print_select(s, 0, script::MAX_NUMBERS, 1);
 }
 
 // descendant::node()/descendant::node() from the root of a document of 511 texts makes 513 visits: the limit met, and one too few.
 fn visits() {
-    let path = Session::new().term(STEP, DESCENDANT, NODE, 0);
-    let made = path.session.term(COMPOSITION, 0, 0, 0);
+    let path = Session::new().term(row_kind::STEP, axis::DESCENDANT, node_test::NODE, 0);
+    let made = path.session.term(row_kind::COMPOSITION, 0, 0, 0);
     let s = made.session;
-    print_select(s, 1, 1536, 513);
-    print_select(s, 1, 1536, 512);
+    print_select(s, 1, 3 * Session::NODES, 513);
+    print_select(s, 1, 3 * Session::NODES, 512);
 }
 
 fn main() {

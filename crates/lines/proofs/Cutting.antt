@@ -10,7 +10,7 @@ use lib.ListN.{length, getD, drop, drop-of-length-le}
 use lib.Seq.{drop-cons}
 use borrow.Author.Tests.{eqb-true, eq-eqb}
 use Rattle.lines.specs.Line.{newline, space, Line, line, inFirstLine, lines, inFirstPart, parts}
-use Rattle.lines.specs.Read.{bytesBefore, cut, firstParts}
+use Rattle.lines.specs.code.NumbersRead.{bytesBefore, cut, firstParts}
 
 -- the byte e stands nowhere in the bytes
 abbrev pub Free : ℕ → List ℕ → Type 0

@@ -12,7 +12,7 @@ use lib.Seq.{drop-length}
 use borrow.Author.Tests.{ne-eqb}
 use Rattle.lines.specs.Line.{newline, space, Line, lines, parts}
 use Rattle.lines.specs.Number.{digit0, isDigit, areDigits, isDecimal, appendDigits, numberUpTo}
-use Rattle.lines.specs.Read.{numberBefore, numberCut, NumberMet, firstParts}
+use Rattle.lines.specs.code.NumbersRead.{numberBefore, numberCut, NumberMet, firstParts}
 use Rattle.lines.proofs.Cutting.{Free, free-append, free-left, cut-at, Cutting, whole, in-two, cutting, parts-whole, parts-at, lines-at, no-whole-line, no-next-line}
 
 -- a text without a whole line, with a line of one part, or with a part before others

@@ -11,7 +11,7 @@ use lib.ListN.{length, getD, drop, drop-of-length-le}
 use lib.Seq.{drop-cons}
 use borrow.Author.Tests.{eqb-true, eqb-false, ne-eqb, eq-eqb, le-leb, lt-leb, leb-true, leb-false, lt-ltb, le-ltb, ltb-true}
 use Rattle.lines.specs.Number.{digit0, digit9, isDigit, areDigits, isDecimal, appendDigit, appendDigits, numberUpTo}
-use Rattle.lines.specs.Read.{upTo, firstDigit, oneMore, Cut, bytesBefore, cut, NumberCut, numberBefore, numberCut, NumberMet}
+use Rattle.lines.specs.code.NumbersRead.{upTo, firstDigit, oneMore, Cut, bytesBefore, cut, NumberCut, numberBefore, numberCut, NumberMet}
 
 -- the number that the byte `end` ends, where n is read already
 unfoldable pub scan : (most end n : ℕ) → List ℕ → Option NumberCut

@@ -10,7 +10,7 @@ use lib.ListN.{length, getD, drop, length-append, length-drop, drop-of-length-le
 use lib.Seq.{drop-cons, drop-drop, getD-drop}
 use borrow.Author.Tests.{eqb-true, eq-eqb, ne-eqb}
 use Rattle.lines.specs.Line.{newline, Line, line, inFirstLine, lines, sameBytes, isLine, firstIs}
-use Rattle.lines.specs.Read.{startsWith}
+use Rattle.lines.specs.code.NumbersRead.{startsWith}
 use Rattle.lines.proofs.Cutting.{Free, lines-at}
 
 -- the first line after one byte more

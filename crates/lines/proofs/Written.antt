@@ -11,7 +11,7 @@ use borrow.Author.Tests.{le-leb, ltb-true, ltb-false, ne-eqb}
 use Rattle.lines.specs.Line.{newline, space, lines}
 use Rattle.lines.specs.Number.{digit0, digit9, maxNumber, isDigit, areDigits, isDecimal, appendDigit, appendDigits, numberUpTo}
 use Rattle.lines.specs.Written.{digitsOf, decimal, AllFit, lineText}
-use Rattle.lines.specs.Read.{firstNumbers}
+use Rattle.lines.specs.code.NumbersRead.{firstNumbers}
 use Rattle.lines.proofs.LineRead.{number-and-space, number-and-newline}
 
 digit-is : (x : ℕ) → digit0 ≤ x → x ≤ digit9 → isDigit x ≡ true

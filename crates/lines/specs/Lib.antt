@@ -2,5 +2,5 @@ pub mod Ascii
 pub mod Line
 pub mod Number
 pub mod Written
-pub mod Read
-pub mod Values
+pub mod code
+pub mod values

@@ -1,5 +1,6 @@
-// Numbers and lines of numbers in a text: base ten, no leading zeros, at most 65535 in a line of numbers, one space between two numbers,
-// a newline after every line. Every function takes every input. A text is read from a position on, and no line is searched for its end first.
+// Numbers and lines of numbers in a text: base ten, no leading zeros, at most 65535 in a line of numbers, one space
+// between two numbers, a newline after every line. Every function takes every input. A text is read from a position on,
+// and no line is searched for its end first.
 ghost use mathlib.Core.Path.{_≡_};
 ghost use mathlib.Core.Bool.{true, false};
 ghost use mathlib.Core.List.{[], _∷_, _++_};
@@ -7,7 +8,8 @@ ghost use Prim.Native.Nat.{_-_, _<_};
 ghost use lib.ListN.{length, drop};
 ghost use Rattle.lines.specs.Line.{newline};
 ghost use Rattle.lines.specs.Number.{digit0, maxNumber, isDigit};
-ghost use Rattle.lines.specs.Read.{upTo, firstDigit, oneMore, writtenNumber, NumberMet, LineMet, startsWith};
+ghost use Rattle.lines.specs.code.NumbersRead.{upTo, firstDigit, oneMore, writtenNumber};
+ghost use Rattle.lines.specs.code.NumbersRead.{NumberMet, noLine, LineMet, startsWith};
 
 pub const NEWLINE: u8 = 10;
 
@@ -18,6 +20,9 @@ const DIGIT_0: u8 = 48;
 const DIGIT_9: u8 = 57;
 
 pub const MAX_NUMBER: u32 = 65535;
+
+// The most numbers of a line that is read.
+pub const MAX_COUNT: usize = 5;
 
 // The number that some digits write, if they write one.
 enum Digits {
@@ -39,24 +44,10 @@ struct LineNumber {
     next: usize,
 }
 
-// A line of four numbers, and the position of the next line; where there is none, zeros and the text's length.
-pub struct RowLine {
+// A line of numbers, zeros after them, and the position of the next line; where there is none, zeros and the text's length.
+pub struct NumbersLine {
     pub ok: bool,
-    pub kind: u16,
-    pub a: u16,
-    pub b: u16,
-    pub c: u16,
-    pub next: usize,
-}
-
-// A line of five numbers.
-pub struct StepLine {
-    pub ok: bool,
-    pub rule: u16,
-    pub left: u16,
-    pub right: u16,
-    pub first: u16,
-    pub second: u16,
+    pub numbers: [u16; MAX_COUNT],
     pub next: usize,
 }
 
@@ -163,59 +154,44 @@ fn line_number_at(bytes: &[u8], at: usize, end: u8) -> LineNumber
     }
 }
 
-// The line at `at`, if it has four numbers.
-pub fn row_line(bytes: &[u8], at: usize) -> RowLine
-    ensures { λ r. ⌜ LineMet 4 (now (bytes .entry)) at (r .ok) (r .kind ∷ r .a ∷ r .b ∷ r .c ∷ []) (r .next) ⌝ }
+fn no_line(bytes: &[u8]) -> NumbersLine
+    ensures { λ r. ⌜ r ≡ noLine (length (now (bytes .entry))) ⌝ }
 {
-    let kind = line_number_at(bytes, at, SPACE);
-    let a = line_number_at(bytes, kind.next, SPACE);
-    let b = line_number_at(bytes, a.next, SPACE);
-    let c = line_number_at(bytes, b.next, NEWLINE);
-    if !c.ok {
-        return RowLine {
-            ok: false,
-            kind: 0,
-            a: 0,
-            b: 0,
-            c: 0,
-            next: bytes.len(),
-        };
-    }
-    RowLine {
-        ok: true,
-        kind: kind.value,
-        a: a.value,
-        b: b.value,
-        c: c.value,
-        next: c.next,
+    NumbersLine {
+        ok: false,
+        numbers: [0; MAX_COUNT],
+        next: bytes.len(),
     }
 }
 
-// The line at `at`, if it has five numbers.
-pub fn step_line(bytes: &[u8], at: usize) -> StepLine
-    ensures { λ r. ⌜ LineMet 5 (now (bytes .entry)) at (r .ok) (r .rule ∷ r .left ∷ r .right ∷ r .first ∷ r .second ∷ []) (r .next) ⌝ }
+// The line at `at`, if it has `count` numbers: at least one, at most `MAX_COUNT`.
+pub fn numbers_line(bytes: &[u8], at: usize, count: usize) -> NumbersLine
+    ensures { λ r. ⌜ LineMet count (now (bytes .entry)) at r ⌝ }
 {
-    let rule = line_number_at(bytes, at, SPACE);
-    let others = row_line(bytes, rule.next);
-    if !others.ok {
-        return StepLine {
-            ok: false,
-            rule: 0,
-            left: 0,
-            right: 0,
-            first: 0,
-            second: 0,
-            next: bytes.len(),
-        };
+    if count == 0 {
+        return no_line(bytes);
     }
-    StepLine {
+    if MAX_COUNT < count {
+        return no_line(bytes);
+    }
+    let mut numbers = [0; MAX_COUNT];
+    let mut from = at;
+    let mut i = 0;
+    while i < count - 1 {
+        let number = line_number_at(bytes, from, SPACE);
+        numbers[i] = number.value;
+        from = number.next;
+        i += 1;
+    }
+    let last = line_number_at(bytes, from, NEWLINE);
+    if !last.ok {
+        return no_line(bytes);
+    }
+    numbers[i] = last.value;
+    NumbersLine {
         ok: true,
-        rule: rule.value,
-        left: others.kind,
-        right: others.a,
-        first: others.b,
-        second: others.c,
-        next: others.next,
+        numbers,
+        next: last.next,
     }
 }
 

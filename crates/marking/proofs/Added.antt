@@ -9,8 +9,8 @@ use lib.Dec.{ltb, leb, eqb}
 use lib.ListN.{length, getD, set, length-set}
 use lib.Seq.{getD-set-same, getD-set-other}
 use borrow.Author.Tests.{lt-ltb, le-ltb, le-leb, lt-leb, eq-eqb, ne-eqb}
-use Rattle.xpath.proofs.Reflect.{eq-or-ne, le-or-lt}
-use Rattle.marking.specs.Added.{marked, Added}
+use Rattle.common.proofs.Reflect.{eq-or-ne, le-or-lt}
+use Rattle.marking.specs.code.Added.{marked, Added}
 
 or-true : (b : Bool) → (b || true) ≡ true
 or-true true = refl
@@ -20,13 +20,15 @@ module _ {n : ℕ} {old new : List ℕ} {s : ℕ → Bool} where
   pub added-cong : (t : ℕ → Bool) → Added n old new s → ((y : ℕ) → y < n → t y ≡ s y) → Added n old new t
   added-cong t u e = record { size = u .size; marks = λ y h. u .marks y h ∙ rw (e y h) }
 
-  pub added-set : (t : ℕ → Bool) (k : ℕ) → Added n old new s → k < length new → t k ≡ true → ((y : ℕ) → y < n → y ≢ k → t y ≡ s y) →
+  pub added-set : (t : ℕ → Bool) (k : ℕ) → Added n old new s → k < length new → t k ≡ true →
+      ((y : ℕ) → y < n → y ≢ k → t y ≡ s y) →
       Added n old (set new k 1) t
   added-set t k u l e f =
       record {
         size = length-set new k 1 ∙ u .size;
         marks = λ y h. ⊎-elim
-            (λ q. let v : getD (set new k 1) y 0 ≡ 1 = ap (λ (z : ℕ). getD (set new k 1) z 0) q ∙ getD-set-same new k 1 0 l in
+            (λ q. let v : getD (set new k 1) y 0 ≡ 1 =
+            ap (λ (z : ℕ). getD (set new k 1) z 0) q ∙ getD-set-same new k 1 0 l in
             let w : t y ≡ true = ap t q ∙ e in
             rw (v, w, or-true))
             (λ ne. rw (getD-set-other new k y 1 0 ne, f y h ne) (u .marks y h))
@@ -40,12 +42,14 @@ nothing-added s e = record { size = refl; marks = λ y h. sym (rw (e y h, or-fal
 module _ {n : ℕ} {old : List ℕ} (t : ℕ → Bool) (k : ℕ) where
   pub node-marked : k < length old → t k ≡ true → Added n old (set old k 1) (λ y. eqb k y && t y)
   node-marked l e =
-      added-set (λ y. eqb k y && t y) k (nothing-added (λ y. false) (λ y h. refl)) l (rw (eq-eqb k k refl, e)) (λ y h ne. rw (ne-eqb k y (λ q. ne (sym q))))
+      added-set (λ y. eqb k y && t y) k (nothing-added (λ y. false) (λ y h. refl)) l (rw (eq-eqb k k refl, e))
+      (λ y h ne. rw (ne-eqb k y (λ q. ne (sym q))))
 
   pub node-left : t k ≡ false → Added n old old (λ y. eqb k y && t y)
   node-left e =
       nothing-added (λ y. eqb k y && t y)
-      (λ y h. ⊎-elim (λ q. let z : t y ≡ false = ap t q ∙ e in rw (z, and-false)) (λ ne. rw (ne-eqb k y (λ q. ne (sym q)))) (eq-or-ne y k))
+      (λ y h. ⊎-elim (λ q. let z : t y ≡ false = ap t q ∙ e in rw (z, and-false))
+      (λ ne. rw (ne-eqb k y (λ q. ne (sym q)))) (eq-or-ne y k))
 
 -- the nodes of f from lo on and before hi
 abbrev pub between : ℕ → ℕ → (ℕ → Bool) → ℕ → Bool
@@ -58,7 +62,8 @@ module _ {n : ℕ} {old : List ℕ} (f : ℕ → Bool) (lo : ℕ) where
       nothing-added (between lo lo f)
       (λ y h. ⊎-elim (λ l. rw (le-ltb y lo l, and-false)) (λ l. rw (lt-leb lo y l)) (le-or-lt lo y))
 
-  module _ {new : List ℕ} (k e : ℕ) (u : Added n old new (between lo k f)) (h : lo ≤ k) (l : k < e) (g : (y : ℕ) → y < n → k < y → y < e → f y ≡ false) where
+  module _ {new : List ℕ} (k e : ℕ) (u : Added n old new (between lo k f)) (h : lo ≤ k) (l : k < e)
+      (g : (y : ℕ) → y < n → k < y → y < e → f y ≡ false) where
     same-elsewhere : (y : ℕ) → y < n → y ≢ k → between lo e f y ≡ between lo k f y
     same-elsewhere y m ne = go (le-or-lt k y) (le-or-lt e y)
       where
@@ -76,14 +81,16 @@ module _ {n : ℕ} {old : List ℕ} (f : ℕ → Bool) (lo : ℕ) where
     pub up-left : f k ≡ false → Added n old new (between lo e f)
     up-left t =
         added-cong (between lo e f) u
-        (λ y m. ⊎-elim (λ q. let z : f y ≡ false = ap f q ∙ t in rw (z, and-false, and-false)) (λ ne. same-elsewhere y m ne) (eq-or-ne y k))
+        (λ y m. ⊎-elim (λ q. let z : f y ≡ false = ap f q ∙ t in rw (z, and-false, and-false))
+        (λ ne. same-elsewhere y m ne) (eq-or-ne y k))
 
 -- the nodes of f from `at` on
 abbrev pub fromOn : ℕ → (ℕ → Bool) → ℕ → Bool
 fromOn at f y = leb at y && f y
 
 -- a loop that goes down: the next node of f below k is e, or isn't in f
-module _ {n : ℕ} {old new : List ℕ} (f : ℕ → Bool) (k e : ℕ) (u : Added n old new (fromOn k f)) (l : e < k) (g : (y : ℕ) → y < n → e < y → y < k → f y ≡ false) where
+module _ {n : ℕ} {old new : List ℕ} (f : ℕ → Bool) (k e : ℕ) (u : Added n old new (fromOn k f)) (l : e < k)
+    (g : (y : ℕ) → y < n → e < y → y < k → f y ≡ false) where
   same-above : (y : ℕ) → y < n → y ≢ e → fromOn e f y ≡ fromOn k f y
   same-above y m ne = go (le-or-lt k y) (le-or-lt e y)
     where
@@ -98,7 +105,8 @@ module _ {n : ℕ} {old new : List ℕ} (f : ℕ → Bool) (k e : ℕ) (u : Adde
 
   pub down-left : f e ≡ false → Added n old new (fromOn e f)
   down-left t =
-      added-cong (fromOn e f) u (λ y m. ⊎-elim (λ q. let z : f y ≡ false = ap f q ∙ t in rw (z, and-false, and-false)) (λ ne. same-above y m ne) (eq-or-ne y e))
+      added-cong (fromOn e f) u (λ y m. ⊎-elim (λ q. let z : f y ≡ false = ap f q ∙ t in rw (z, and-false, and-false))
+      (λ ne. same-above y m ne) (eq-or-ne y e))
 
 -- the loop has passed hi, and no node of f from there on
 pub up-end : {n : ℕ} {old new : List ℕ} (f : ℕ → Bool) (lo hi k : ℕ) → Added n old new (between lo k f) → hi ≤ k →
@@ -112,10 +120,12 @@ up-end {n} f lo hi k u h g = added-cong (between lo hi f) u (λ y m. go y m (le-
     go y m (inr p) (inr q) = rw (lt-ltb y hi p, lt-ltb y k q)
 
 -- a loop that goes down starts where there is nothing of f, and ends at 0
-pub down-start : {n : ℕ} {old : List ℕ} (f : ℕ → Bool) (k : ℕ) → ((y : ℕ) → y < n → k ≤ y → f y ≡ false) → Added n old old (fromOn k f)
+pub down-start : {n : ℕ} {old : List ℕ} (f : ℕ → Bool) (k : ℕ) → ((y : ℕ) → y < n → k ≤ y → f y ≡ false) →
+    Added n old old (fromOn k f)
 down-start f k g =
     nothing-added (fromOn k f)
     (λ y m. ⊎-elim (λ p. let z : f y ≡ false = g y m p in rw (z, and-false)) (λ p. rw (lt-leb k y p)) (le-or-lt k y))
 
-pub down-end : {n : ℕ} {old new : List ℕ} (f : ℕ → Bool) (k : ℕ) → k ≤ 0 → Added n old new (fromOn k f) → Added n old new f
+pub down-end : {n : ℕ} {old new : List ℕ} (f : ℕ → Bool) (k : ℕ) → k ≤ 0 → Added n old new (fromOn k f) →
+    Added n old new f
 down-end f k h u = added-cong f u (λ y m. rw (le-leb k y (omega arith)))

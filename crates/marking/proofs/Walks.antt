@@ -9,17 +9,20 @@ use lib.Dec.{T, ltb}
 use lib.ListN.{length, getD, set}
 use borrow.Author.Tests.{lt-ltb, le-ltb}
 use Rattle.xpath.specs.Document.{Document, parentAt, isChild, isAncestor, wellFormed}
-use Rattle.xpath.specs.Ends.{EndsAt, Ends, Prepared}
-use Rattle.marking.specs.Added.{Added, ChildrenFrom}
-use Rattle.marking.proofs.Added.{between, fromOn, up-start, up-marked, up-left, up-end, down-start, down-marked, down-left, down-end}
-use Rattle.xpath.proofs.Reflect.{tests-equal, true-iff, le-or-lt, eq-or-ne}
-use Rattle.xpath.proofs.Tree.{Ancestor, parent-is, ancestor-trans, ancestor-cases, child-yes, yes-child, ancestor-yes, yes-ancestor, parent-smaller, ancestor-smaller, no-later-ancestor, subtree-contiguous}
+use Rattle.xpath.specs.code.Ends.{EndsAt, Ends, Prepared}
+use Rattle.marking.specs.code.Added.{Added, ChildrenFrom}
+use Rattle.marking.proofs.Added.{between, fromOn, up-start, up-marked, up-left, up-end, down-start}
+use Rattle.marking.proofs.Added.{down-marked, down-left, down-end}
+use Rattle.common.proofs.Reflect.{tests-equal, true-iff, le-or-lt, eq-or-ne}
+use Rattle.xpath.proofs.Tree.{Ancestor, parent-is, ancestor-trans, ancestor-cases, child-yes, yes-child, ancestor-yes}
+use Rattle.xpath.proofs.Tree.{yes-ancestor, parent-smaller, ancestor-smaller, no-later-ancestor, subtree-contiguous}
 use Rattle.xpath.proofs.Facts.{AncestorOrSelf}
 use Rattle.xpath.proofs.Order.{ancestor-of-or-self}
 
 module _ (d : Document) (w : T (wellFormed d)) where
   is-not-child : (p k : ℕ) → (0 < k → parentAt d k ≡ p → ⊥) → isChild d p k ≡ false
-  is-not-child p k f = tests-equal (isChild d p k) false (λ t. let r = child-yes d p k t in absurd (f (r .0) (r .1)), λ t. absurd t)
+  is-not-child p k f = tests-equal (isChild d p k) false
+      (λ t. let r = child-yes d p k t in absurd (f (r .0) (r .1)), λ t. absurd t)
 
   is-not-ancestor : (x y : ℕ) → (Ancestor d x y → ⊥) → isAncestor d x y ≡ false
   is-not-ancestor x y f = tests-equal (isAncestor d x y) false (λ t. absurd (f (ancestor-yes d x y t)), λ t. absurd t)
@@ -47,7 +50,8 @@ module _ (d : Document) (w : T (wellFormed d)) where
         let g = at-in in
         let b : Ancestor d k at = ⊎-elim (λ e. rw e a) (λ _. subtree-contiguous d w k at x q (omega arith) l a) o in
         let s = climb-less in
-        ⊎-elim (λ e. omega arith) (λ c. let z = ancestor-smaller d w {y = parentAt d at} (omega arith) c in omega arith) (ancestor-cases b))
+        ⊎-elim (λ e. omega arith) (λ c. let z = ancestor-smaller d w {y = parentAt d at} (omega arith) c in
+        omega arith) (ancestor-cases b))
 
   pub climb-start : (x k : ℕ) → x < length d → x ≤ k → isAncestor d k x ≡ false
   climb-start x k l h = no-later-ancestor d w k x l h
@@ -61,12 +65,12 @@ module _ (d : Document) (es : List ℕ) (r : Prepared d es) where
 
   pub below-end : (x y : ℕ) → x < y → y < length d → y < end x → x < length d → Ancestor d x y
   below-end x y h l m k =
-      ancestor-yes d x y (true-iff _ .1 (at-end x k .descendants y l ∙ rw (lt-ltb x y h, lt-ltb y (end x) m)))
+      ancestor-yes d x y (true-iff _ .1 (at-end x k .below y l ∙ rw (lt-ltb x y h, lt-ltb y (end x) m)))
 
   pub past-end : (x y : ℕ) → end x ≤ y → y < length d → x < length d → Ancestor d x y → ⊥
   past-end x y h l k a =
       let t : isAncestor d x y ≡ true = true-iff _ .0 (yes-ancestor d (r .formed) x y l a) in
-      let f : isAncestor d x y ≡ false = at-end x k .descendants y l ∙ rw (le-ltb y (end x) h, and-false) in
+      let f : isAncestor d x y ≡ false = at-end x k .below y l ∙ rw (le-ltb y (end x) h, and-false) in
       let z : true ≡ false = sym t ∙ f in
       let y : T false = true-iff false .1 (sym z) in
       y
@@ -121,12 +125,16 @@ module _ (d : Document) (es : List ℕ) (r : Prepared d es) where
         (λ t. let v : Ancestor d q y = subtree-contiguous d (r .formed) q y (end y) t (omega arith) m up in
         ⊎-elim
         (λ e. omega (arith, child .1))
-        (λ a. let z = ancestor-smaller d (r .formed) {y = parentAt d y} (omega (arith, child .1)) a in omega (arith, child .1))
+        (λ a. let z = ancestor-smaller d (r .formed) {y = parentAt d y} (omega (arith, child .1)) a in
+        omega (arith, child .1))
         (ancestor-cases v))
         (le-or-lt y q))
         (eq-or-ne q y) in
         true-iff _ .0
-        (yes-child d p (end y) (omega arith, ⊎-elim (λ e. e) (λ a. absurd (between a)) (ancestor-cases (below-end p (end y) (omega arith) m h k))))
+        (yes-child d p (end y) (
+          omega arith,
+          ⊎-elim (λ e. e) (λ a. absurd (between a)) (ancestor-cases (below-end p (end y) (omega arith) m h k)),
+        ))
 
 -- the loops: the state of each, and its steps
 
@@ -146,7 +154,8 @@ pub record AtChild (d : Document) (es : List ℕ) (t : ℕ → Bool) (p lo hi y 
   pub marked : t y ≡ true → ChildrenBelow d es t p lo hi e old (set new y 1)
   pub left : t y ≡ false → ChildrenBelow d es t p lo hi e old new
 
-module _ (d : Document) (es : List ℕ) (r : Prepared d es) (t : ℕ → Bool) (p lo hi : ℕ) (c : ChildrenFrom d es p lo hi) (old : List ℕ) where
+module _ (d : Document) (es : List ℕ) (r : Prepared d es) (t : ℕ → Bool) (p lo hi : ℕ) (c : ChildrenFrom d es p lo hi)
+    (old : List ℕ) where
   pub children-start : ChildrenBelow d es t p lo hi lo old old
   children-start =
       record {
@@ -157,7 +166,8 @@ module _ (d : Document) (es : List ℕ) (r : Prepared d es) (t : ℕ → Bool) (
         added = up-start (λ k. isChild d p k && t k) lo;
       }
 
-  module _ (y e : ℕ) (new : List ℕ) (u : ChildrenBelow d es t p lo hi y old new) (h : y < hi) (q : e ≡ getD es y 0) (few : length d ≤ length old) where
+  module _ (y e : ℕ) (new : List ℕ) (u : ChildrenBelow d es t p lo hi y old new) (h : y < hi) (q : e ≡ getD es y 0)
+      (few : length d ≤ length old) where
     in-document : y < length d
     in-document = let a = c .inside in let b = r .ends .row p (c .parent) .within in omega arith
 
@@ -170,7 +180,8 @@ module _ (d : Document) (es : List ℕ) (r : Prepared d es) (t : ℕ → Bool) (
     in-marks : y < length new
     in-marks = let a = in-document in omega (arith, u .added .size)
 
-    next : (new' : List ℕ) → Added (length d) old new' (between lo e (λ k. isChild d p k && t k)) → ChildrenBelow d es t p lo hi e old new'
+    next : (new' : List ℕ) → Added (length d) old new' (between lo e (λ k. isChild d p k && t k)) →
+        ChildrenBelow d es t p lo hi e old new'
     next new' v =
         let a = less in
         let b = c .inside in
@@ -190,14 +201,17 @@ module _ (d : Document) (es : List ℕ) (r : Prepared d es) (t : ℕ → Bool) (
           less = less;
           marked =
               λ z. next (set new y 1)
-              (up-marked (λ k. isChild d p k && t k) lo y e (u .added) (u .from) less (λ k m a b. rw (gap k m a b)) in-marks
+              (up-marked (λ k. isChild d p k && t k) lo y e (u .added) (u .from) less
+              (λ k m a b. rw (gap k m a b)) in-marks
               (rw (u .child h, z)));
           left =
               λ z. next new
-              (up-left (λ k. isChild d p k && t k) lo y e (u .added) (u .from) less (λ k m a b. rw (gap k m a b)) (rw (z, and-false)));
+              (up-left (λ k. isChild d p k && t k) lo y e (u .added) (u .from) less (λ k m a b. rw (gap k m a b))
+              (rw (z, and-false)));
         }
 
-  pub children-end : (y : ℕ) (new : List ℕ) → ChildrenBelow d es t p lo hi y old new → hi ≤ y → Added (length d) old new (between lo hi (λ k. isChild d p k && t k))
+  pub children-end : (y : ℕ) (new : List ℕ) → ChildrenBelow d es t p lo hi y old new → hi ≤ y →
+      Added (length d) old new (between lo hi (λ k. isChild d p k && t k))
   children-end y new u h = up-end (λ k. isChild d p k && t k) lo hi y (u .added) h (λ k m a b. rw (u .past k m a b))
 
 -- ancestors of x, of which those from `at` on are marked
@@ -205,7 +219,8 @@ pub record AncestorsFrom (d : Document) (t : ℕ → Bool) (x at : ℕ) (old new
   pub current : AncestorOrSelf d at x
   pub added : Added (length d) old new (fromOn at (λ k. isAncestor d k x && t k))
 
-module _ (d : Document) (w : T (wellFormed d)) (t : ℕ → Bool) (x : ℕ) (l : x < length d) (old : List ℕ) (few : length d ≤ length old) where
+module _ (d : Document) (w : T (wellFormed d)) (t : ℕ → Bool) (x : ℕ) (l : x < length d) (old : List ℕ)
+    (few : length d ≤ length old) where
   pub ancestors-start : AncestorsFrom d t x x old old
   ancestors-start =
       record {
@@ -218,7 +233,8 @@ module _ (d : Document) (w : T (wellFormed d)) (t : ℕ → Bool) (x : ℕ) (l :
     ancestors-less = let a = climb-less d w x at l (u .current) h in omega arith
 
     pub ancestors-inside : p < length new
-    ancestors-inside = let a = ancestors-less in let b = at-in d w x at l (u .current) h in omega (arith, u .added .size)
+    ancestors-inside = let a = ancestors-less in let b = at-in d w x at l (u .current) h in
+        omega (arith, u .added .size)
 
     skips : (y : ℕ) → y < length d → p < y → y < at → (isAncestor d y x && t y) ≡ false
     skips y m a b = rw (climb-skips d w x at l (u .current) h y (omega arith) b)
@@ -230,7 +246,8 @@ module _ (d : Document) (w : T (wellFormed d)) (t : ℕ → Bool) (x : ℕ) (l :
     ancestors-marked z =
         record {
           current = rw q (climb-current d w x at l (u .current) h);
-          added = down-marked (λ k. isAncestor d k x && t k) at p (u .added) ancestors-less skips ancestors-inside (rw (is-one, z));
+          added = down-marked (λ k. isAncestor d k x && t k) at p (u .added) ancestors-less skips ancestors-inside
+              (rw (is-one, z));
         }
 
     pub ancestors-left : t p ≡ false → AncestorsFrom d t x p old new
@@ -240,5 +257,6 @@ module _ (d : Document) (w : T (wellFormed d)) (t : ℕ → Bool) (x : ℕ) (l :
           added = down-left (λ k. isAncestor d k x && t k) at p (u .added) ancestors-less skips (rw (z, and-false));
         }
 
-  pub ancestors-end : (at : ℕ) (new : List ℕ) → AncestorsFrom d t x at old new → at ≤ 0 → Added (length d) old new (λ k. isAncestor d k x && t k)
+  pub ancestors-end : (at : ℕ) (new : List ℕ) → AncestorsFrom d t x at old new → at ≤ 0 →
+      Added (length d) old new (λ k. isAncestor d k x && t k)
   ancestors-end at new u h = down-end (λ k. isAncestor d k x && t k) at h (u .added)

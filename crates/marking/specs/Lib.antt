@@ -1,1 +1,1 @@
-pub mod Added
+pub mod code

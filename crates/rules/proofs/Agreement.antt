@@ -9,10 +9,10 @@ use lib.Dec.{T, T-not, not-T, eqb}
 use lib.ListN.{length, getD, set, length-set}
 use lib.Seq.{getD-set-same, getD-set-other}
 use mir.Facts.{and-yes, yes-and, yes-eqb, eqb-yes}
-use Rattle.xpath.proofs.Reflect.{facts, eq-or-ne, T-dec}
+use Rattle.common.proofs.Reflect.{facts, eq-or-ne, T-dec}
 use Rattle.terms.specs.Row.{Row, rowAt}
-use Rattle.rules.specs.Pattern.{Pattern, number, letter, row-of, letterCount, ClaimPattern}
-use Rattle.rules.specs.RowYields.{Sides, Match, check, bind, suits, isRow, match, matchClaim, matchClaims}
+use Rattle.rules.specs.code.Pattern.{Pattern, number, letter, row-of, letterCount, ClaimPattern}
+use Rattle.rules.specs.code.RowYields.{Sides, Match, check, bind, suits, isRow, match, matchClaim, matchClaims}
 
 -- v is an instance of the pattern, where R says for which numbers a letter stands
 abbrev pub IsInstance : List Row → (ℕ → ℕ → Type 0) → Pattern → ℕ → Type 0

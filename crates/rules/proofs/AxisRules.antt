@@ -7,15 +7,16 @@ use native.Mathlib.Omega.{arith}
 use lib.Dec.{T}
 use mir.Facts.{eqb-no}
 use Rattle.xpath.specs.Document.{Document, kindAt, parentAt, wellFormed}
-use Rattle.xpath.specs.Axis.{self, child, parent, descendant, ancestor, passes}
-use Rattle.xpath.proofs.Reflect.{facts, eq-or-ne}
+use Rattle.common.specs.Axes.{self, child, parent, descendant, ancestor}
+use Rattle.xpath.specs.Axis.{passes}
+use Rattle.common.proofs.Reflect.{facts, eq-or-ne}
 use Rattle.xpath.proofs.Tree.{parent-is, ancestor-trans, ancestor-cases, descendant-positive, child-toward, parent-smaller, root-above, root-kind, ancestor-is-element}
 use Rattle.xpath.proofs.Facts.{Selects, OnAxis, some-iff}
 use Rattle.xpath.proofs.Order.{below-of, or-self-of-ancestor, or-self-in-document, none-above, following-by-siblings, preceding-by-siblings, axis-transitive}
 use Rattle.rules.specs.Form.{AxisLetter, TestLetter, TestForm, _::_, _⟦_⟧, a-below-b, N-below-M, b-from-3-to-10, N-a-name-or-star, N-not-node, a-not-attribute}
 use Rattle.rules.specs.Notation
 use Rattle.rules.specs.Instance.{axisFor, testFor, pathFor, claimFor, meets}
-use Rattle.rules.specs.RuleTen.{rule10Form}
+use Rattle.rules.specs.values.RuleTen.{rule10Form}
 use Rattle.rules.proofs.RuleSound.{FormSound, RuleSound, each-way-if, each-way}
 use Rattle.rules.proofs.Orders.{axis-below, element-axis, same-test, test-below, element-test, yes-star, plain-kind}
 

@@ -7,17 +7,17 @@ use native.Mathlib.Omega.{arith}
 use lib.Dec.{T}
 use lib.ListN.{length, getD, List·getD-eq-default}
 use Rattle.xpath.specs.Term.{Path, Qualifier}
-use Rattle.xpath.proofs.Reflect.{facts, le-or-lt}
+use Rattle.common.proofs.Reflect.{facts, le-or-lt}
 use Rattle.terms.specs.Row.{Row, rowAt}
 use Rattle.terms.specs.Fields.{maxKind, isPath, isQualifier, heldPath, heldQualifier}
-use Rattle.terms.specs.Decode.{ofPath, ofQualifier, pathAt, qualifierAt}
-use Rattle.terms.specs.Table.{Built}
-use Rattle.terms.proofs.Decode.{path-term, qualifier-term}
+use Rattle.terms.specs.Terms.{ofPath, ofQualifier, pathAt, qualifierAt}
+use Rattle.terms.specs.AcceptedRows.{Built}
+use Rattle.terms.proofs.Terms.{path-term, qualifier-term}
 use Rattle.terms.proofs.Built.{built-terms-differ}
 use Rattle.rules.specs.Form.{PathLetter, QualifierLetter, AxisLetter, TestLetter}
 use Rattle.rules.specs.Instance.{Letters}
-use Rattle.rules.specs.Pattern.{letterCount, pathLetter, qualifierLetter, axisLetter, testLetter, nameLetter}
-use Rattle.rules.specs.RowYields.{suits}
+use Rattle.rules.specs.code.Pattern.{letterCount, pathLetter, qualifierLetter, axisLetter, testLetter, nameLetter}
+use Rattle.rules.specs.code.RowYields.{suits}
 
 -- what a letter stands for
 pub data Meant : Type 0 where

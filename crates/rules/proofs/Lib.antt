@@ -1,10 +1,8 @@
-pub mod Entries
 pub mod RuleSound
 pub mod Orders
 pub mod Rules
 pub mod AxisRules
 pub mod Sound
-mod Table
 mod AxisOrder
 mod Decoded
 mod FormSearch
@@ -12,5 +10,5 @@ mod Agreement
 mod Letters
 mod RowForms
 pub mod RowYields
-mod Matcher
+mod Matching
 mod Conditions

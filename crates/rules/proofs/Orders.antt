@@ -10,15 +10,18 @@ use lib.ListN.{length}
 use mir.Facts.{and-yes, or-yes, eqb-yes, yes-eqb}
 use borrow.Author.Tests.{ne-eqb}
 use Rattle.xpath.specs.Document.{Document, kindAt, nameAt, wellFormed}
-use Rattle.xpath.specs.Axis.{self, child, parent, descendant, ancestor, descendant-or-self, ancestor-or-self, following-sibling, preceding-sibling, following, preceding, attribute, principal, name-test, star-test, node-test, passes}
-use Rattle.xpath.proofs.Reflect.{facts}
+use Rattle.common.specs.Axes.{self, child, parent, descendant, ancestor, descendant-or-self, ancestor-or-self}
+use Rattle.common.specs.Axes.{following-sibling, preceding-sibling, following, preceding, attribute}
+use Rattle.common.specs.NodeTests.{name-test, star-test, node-test}
+use Rattle.xpath.specs.Axis.{principal, passes}
+use Rattle.common.proofs.Reflect.{facts}
 use Rattle.xpath.proofs.Tree.{parent-is}
 use Rattle.xpath.proofs.Facts.{OnAxis, NoAttribute}
 use Rattle.xpath.proofs.Order.{following-sibling-follows}
-use Rattle.rules.specs.Lists.{Every}
+use Rattle.common.specs.Lists.{Every}
 use Rattle.rules.specs.Instance.{Test}
 use Rattle.rules.specs.Order.{axisPairs, isPair, axisBelow, testBelow}
-use Rattle.rules.proofs.Entries.{_&_}
+use Rattle.common.proofs.Entries.{_&_}
 
 -- what is true of every pair of a list is true of each
 pair-at : (P : ℕ → ℕ → Type 0) (es : List (ℕ × ℕ)) → Every (λ (e : ℕ × ℕ). P (e .0) (e .1)) es → (a b : ℕ) → T (isPair es a b) → P a b

@@ -8,19 +8,19 @@ use native.Mathlib.Omega.{arith}
 use lib.Dec.{T, ltb, leb}
 use lib.ListN.{length}
 use mir.Facts.{yes-and, yes-ltb, leb-yes}
-use Rattle.xpath.specs.Term.{Path, Qualifier, Step, Union, Composition, Filter}
-use Rattle.xpath.proofs.Reflect.{facts}
+use Rattle.xpath.specs.Term.{Path, Qualifier, AxisStep, Union, Composition, Filter}
+use Rattle.common.proofs.Reflect.{facts}
 use Rattle.terms.specs.Row.{Row, row, rowAt}
 use Rattle.terms.specs.Fields.{Field, unused, axis, test, name, path, qualifier, fieldsOf, maxKind, isPath, isQualifier, heldPath, heldQualifier}
-use Rattle.terms.specs.Decode.{Term, ofPath, ofQualifier, termBy, terms, termAt, pathAt, qualifierAt}
-use Rattle.terms.specs.Table.{Built}
+use Rattle.terms.specs.Terms.{Term, ofPath, ofQualifier, termBy, terms, termAt, pathAt, qualifierAt}
+use Rattle.terms.specs.AcceptedRows.{Built}
 use Rattle.terms.proofs.ByKind.{kindOf, kind-of, term-kind}
-use Rattle.terms.proofs.Decode.{path-term, qualifier-term}
+use Rattle.terms.proofs.Terms.{path-term, qualifier-term}
 use Rattle.terms.proofs.Built.{FieldLaw, built-row, built-term}
 use Rattle.rules.specs.Form.{PathLetter, QualifierLetter, AxisLetter, TestLetter, AxisForm, axis-letter, TestForm, test-letter, PathForm, path-letter, _::_, _¦_, _∕_, _⟦_⟧, QualifierForm, qualifier-letter, Not_, _And_, _Or_, _In_}
 use Rattle.rules.specs.Instance.{Letters, axisFor, testFor, pathFor, qualifierFor}
-use Rattle.rules.specs.Pattern.{Pattern, number, letter, row-of, pathLetter, qualifierLetter, axisLetter, testLetter, nameLetter, axisPattern, testPattern, namePattern, pathPattern, qualifierPattern}
-use Rattle.rules.specs.RowYields.{suits, isRow}
+use Rattle.rules.specs.code.Pattern.{Pattern, number, letter, row-of, pathLetter, qualifierLetter, axisLetter, testLetter, nameLetter, axisPattern, testPattern, namePattern, pathPattern, qualifierPattern}
+use Rattle.rules.specs.code.RowYields.{suits, isRow}
 use Rattle.rules.proofs.Agreement.{IsInstance}
 use Rattle.rules.proofs.Letters.{meant, Means, held-path, held-qualifier}
 
@@ -205,7 +205,7 @@ module _ {rs : List Row} (built : Built rs) (e : Letters) where
     path-is (path-letter x) = path-letter-is x
     path-is PathForm.Void = row-is 0 (path-sort rs) tt (λ t u w. Path.Void) (λ a b c. refl) (λ t u w. refl) (λ t t₁ u u₁ w w₁ q. (refl, refl, refl)) unused-is unused-is unused-is
     path-is PathForm.Root = row-is 1 (path-sort rs) tt (λ t u w. Path.Root) (λ a b c. refl) (λ t u w. refl) (λ t t₁ u u₁ w w₁ q. (refl, refl, refl)) unused-is unused-is unused-is
-    path-is (u :: n) = row-is 2 (path-sort rs) tt Step (λ a b c. refl) (λ t u w. refl) (λ t t₁ u u₁ w w₁ q. (cc, cc, cc)) (axis-is u) (test-is n) (name-is n)
+    path-is (u :: n) = row-is 2 (path-sort rs) tt AxisStep (λ a b c. refl) (λ t u w. refl) (λ t t₁ u u₁ w w₁ q. (cc, cc, cc)) (axis-is u) (test-is n) (name-is n)
     path-is (u ¦ v) = row-is 3 (path-sort rs) tt (λ t u w. Union t u) (λ a b c. refl) (λ t u w. refl) (λ t t₁ u u₁ w w₁ q. (cc, cc, refl)) (path-is u) (path-is v) unused-is
     path-is (u ∕ v) = row-is 4 (path-sort rs) tt (λ t u w. Composition t u) (λ a b c. refl) (λ t u w. refl) (λ t t₁ u u₁ w w₁ q. (cc, cc, refl)) (path-is u) (path-is v) unused-is
     path-is (u ⟦ v ⟧) = row-is 5 (path-sort rs) tt (λ t u w. Filter t u) (λ a b c. refl) (λ t u w. refl) (λ t t₁ u u₁ w w₁ q. (cc, cc, refl)) (path-is u) (qualifier-is v) unused-is

@@ -9,20 +9,20 @@ use lib.Dec.{T, ltb}
 use lib.ListN.{length, getD, replicate, List·getD-eq-default}
 use mir.Facts.{and-yes, yes-and}
 use borrow.Author.Tests.{lt-leb}
-use Rattle.xpath.proofs.Reflect.{facts, true-iff, and-iff, or-via, le-or-lt}
+use Rattle.common.proofs.Reflect.{facts, true-iff, and-iff, or-via, le-or-lt}
 use Rattle.terms.specs.Row.{Row, rowAt}
 use Rattle.terms.specs.Fields.{isPath, isQualifier, heldPath, heldQualifier}
-use Rattle.terms.specs.Decode.{pathAt, qualifierAt}
-use Rattle.terms.specs.Table.{Built}
-use Rattle.rules.specs.Lists.{allOf, anyOf, Every}
+use Rattle.terms.specs.Terms.{pathAt, qualifierAt}
+use Rattle.terms.specs.AcceptedRows.{Built}
+use Rattle.common.specs.Lists.{allOf, anyOf, Every}
 use Rattle.rules.specs.Form.{ClaimForm, _<=_, _=>_, Condition, a-below-b, N-below-M, b-from-3-to-10, N-a-name-or-star, N-not-node, a-not-attribute, Form}
 use Rattle.rules.specs.Claim.{Containment, Implication, says}
 use Rattle.rules.specs.Instance.{Letters, claimFor, meets}
 use Rattle.rules.specs.Yields.{formsOf, Yields}
 use Rattle.rules.specs.LettersRead.{claimForms}
 use Rattle.rules.specs.Decision.{settled, any-of-yes, yes-any-of}
-use Rattle.rules.specs.Pattern.{letterCount, claimPattern, formPattern}
-use Rattle.rules.specs.RowYields.{Sides, oneSort, saysOf, Match, suits, matchClaims, emptyMatch, numbersIn, matchForm, formYields, rowYields}
+use Rattle.rules.specs.code.Pattern.{letterCount, claimPattern, formPattern}
+use Rattle.rules.specs.code.RowYields.{Sides, oneSort, saysOf, Match, suits, matchClaims, emptyMatch, numbersIn, matchForm, formYields, rowYields}
 use Rattle.rules.proofs.Agreement.{IsClaim, AreClaims, claims-map, Sized, claims-sized, Agrees, match-claims-iff}
 use Rattle.rules.proofs.Letters.{Means, means-small, means-one, lettersOf, value-means}
 use Rattle.rules.proofs.RowForms.{path-instance, qualifier-instance}
@@ -93,7 +93,7 @@ all-of-same f g q [] = refl
 all-of-same f g q (x ∷ xs) = ap₂ _&&_ (q x) (all-of-same f g q xs)
 
 -- conditions look at axes and tests alone
-numbers-meet : (rs : List Row) (m : Match) (c : Condition) → meets (numbersIn m) c ≡ meets (lettersOf rs (m .value)) c
+numbers-meet : (rs : List Row) (m : Match) (c : Condition) → meets (numbersIn (m .value)) c ≡ meets (lettersOf rs (m .value)) c
 unfolding meets numbersIn lettersOf
 numbers-meet rs m a-below-b = refl
 numbers-meet rs m N-below-M = refl
@@ -148,14 +148,14 @@ module _ {rs : List Row} (built : Built rs) (ws : List ClaimForm) (ss : List Sid
 
 module _ {rs : List Row} (built : Built rs) (n : ℕ) (s : Sides) (ss : List Sides) (sort : T (oneSort rs s)) (sorts : Every (λ s. T (oneSort rs s)) ss) where
   -- the letters' values meet the conditions as the axes and tests do
-  conditions-same : (cs : List Condition) (m : Match) → allOf (meets (numbersIn m)) cs ≡ allOf (meets (lettersOf rs (m .value))) cs
-  conditions-same cs m = all-of-same (meets (numbersIn m)) (meets (lettersOf rs (m .value))) (numbers-meet rs m) cs
+  conditions-same : (cs : List Condition) (m : Match) → allOf (meets (numbersIn (m .value))) cs ≡ allOf (meets (lettersOf rs (m .value))) cs
+  conditions-same cs m = all-of-same (meets (numbersIn (m .value))) (meets (lettersOf rs (m .value))) (numbers-meet rs m) cs
 
   form-yields : {w : Form} → List·Memᴰ w (formsOf n) → T (formYields rs s ss (formPattern n w)) → Yields n (saysOf rs s) (map (saysOf rs) ss)
   unfolding formYields matchForm formPattern matchClaims
   form-yields {w} i t =
       let m : Match = matched rs (claimForms w) (s ∷ ss) in
-      let u = and-yes (m .fits) (allOf (meets (numbersIn m)) (w .conditions)) t in
+      let u = and-yes (m .fits) (allOf (meets (numbersIn (m .value))) (w .conditions)) t in
       let q = matched-says built (claimForms w) (s ∷ ss) (sort, sorts) (u .0) in
       record {
         form = w;
@@ -174,7 +174,7 @@ module _ {rs : List Row} (built : Built rs) (n : ℕ) (s : Sides) (ss : List Sid
       let q : map (claimFor (y .letters)) (claimForms w) ≡ map (saysOf rs) (s ∷ ss) = ap₂ _∷_ (y .conclusion) (y .premises) in
       let f = said-matches built (claimForms w) (s ∷ ss) (sort, sorts) (y .letters) q in
       let p = settled n (y .of-rule) (y .letters) (lettersOf rs (m .value)) (q ∙ sym (matched-says built (claimForms w) (s ∷ ss) (sort, sorts) f)) in
-      yes-and (m .fits) (allOf (meets (numbersIn m)) (w .conditions)) f (subst T (p ∙ sym (conditions-same (w .conditions) m)) (y .conditions))
+      yes-and (m .fits) (allOf (meets (numbersIn (m .value))) (w .conditions)) f (subst T (p ∙ sym (conditions-same (w .conditions) m)) (y .conditions))
 
 any-of-map : {A B : Type 0} (f : B → Bool) (g : A → B) (xs : List A) → anyOf f (map g xs) ≡ anyOf (λ x. f (g x)) xs
 unfolding anyOf

@@ -7,9 +7,9 @@ use lib.Dec.{T}
 use lib.ListN.{length}
 use Rattle.xpath.specs.Document.{Document}
 use Rattle.xpath.proofs.Facts.{Selects, Holds}
-use Rattle.rules.specs.Lists.{Every}
+use Rattle.common.specs.Lists.{Every}
 use Rattle.rules.specs.Form.{Condition, Condition-discrete, Form}
-use Rattle.rules.specs.Table.{rules}
+use Rattle.rules.specs.RuleTable.{rules}
 use Rattle.rules.specs.Claim.{Claim, Containment, Implication}
 use Rattle.rules.specs.Instance.{Letters, axisFor, testFor, pathFor, claimFor, meets}
 use Rattle.rules.specs.Yields.{formsIn, formsOf}

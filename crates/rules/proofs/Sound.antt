@@ -8,13 +8,13 @@ use lib.Dec.{T, eqb}
 use mir.Facts.{and-yes}
 use Rattle.xpath.specs.Document.{Document, wellFormed}
 use Rattle.xpath.proofs.Facts.{selects-in-document, selects-iff, holds-iff}
-use Rattle.rules.specs.Lists.{allOf, Every}
+use Rattle.common.specs.Lists.{allOf, Every}
 use Rattle.rules.specs.Form.{Condition, Condition-discrete, Form, Rule}
-use Rattle.rules.specs.Table.{rules}
+use Rattle.rules.specs.RuleTable.{rules}
 use Rattle.rules.specs.Claim.{Claim, Containment, Implication, TrueOn, IsTrue}
 use Rattle.rules.specs.Instance.{Letters, meets}
 use Rattle.rules.specs.Yields.{formsIn, formsOf, Yields}
-use Rattle.rules.proofs.Entries.{_&_, every-at, every-map}
+use Rattle.common.proofs.Entries.{_&_, every-at, every-map}
 use Rattle.rules.proofs.RuleSound.{isAmong, MeetsAll, Means, FormSound, RuleSound}
 use Rattle.rules.proofs.Rules.{rule1, rule2, rule3, rule4, rule5, rule6, rule7, rule9, rule11, rule12, rule13, rule14, rule15, rule16, rule17, rule18, rule19, rule20, rule21, rule24, rule25, rule27, rule30, rule31, rule32, rule33, rule34, rule35, rule36, rule37, rule38, rule39, rule40, rule41, rule42, rule43, rule44, rule45, rule46, rule47, rule56}
 use Rattle.rules.proofs.AxisRules.{rule8, rule10, rule22, rule23, rule26, rule28, rule29, rule48, rule49, rule50, rule51, rule52, rule53, rule54, rule55, rule57, rule58}

@@ -9,7 +9,7 @@ use Rattle.xpath.specs.Term.{Path, Qualifier}
 use Rattle.xpath.specs.Meaning.{selects, holds}
 use Rattle.terms.specs.Row.{Row, rowAt}
 use Rattle.terms.specs.Fields.{isPath}
-use Rattle.terms.specs.Decode.{pathAt, qualifierAt}
+use Rattle.terms.specs.Terms.{pathAt, qualifierAt}
 
 -- the first path is contained in the second; the first qualifier implies the second
 pub data Claim : Type 0 where

@@ -8,11 +8,11 @@ use native.Mathlib.Decide.{ℕ-discrete}
 use lib.Dec.{T, eqb}
 use mir.Facts.{and-yes, yes-and, or-yes}
 use Rattle.xpath.specs.Term.{Path-discrete, Qualifier-discrete}
-use Rattle.xpath.proofs.Reflect.{yes-or}
-use Rattle.rules.specs.Lists.{allOf, anyOf}
+use Rattle.common.proofs.Reflect.{yes-or}
+use Rattle.common.specs.Lists.{allOf, anyOf}
 use Rattle.rules.specs.Order.{axisPairs, isPair, axisBelow, testBelow}
 use Rattle.rules.specs.Form.{Form, Rule}
-use Rattle.rules.specs.Table.{rules}
+use Rattle.rules.specs.RuleTable.{rules}
 use Rattle.rules.specs.Claim.{Claim, Claim-discrete}
 use Rattle.rules.specs.Instance.{Letters, axisFor, testFor, pathFor, claimFor, meets}
 use Rattle.rules.specs.Yields.{formsIn, formsOf, Yields}

@@ -2,8 +2,9 @@
 use Prim.Native.Nat.{ℕ}
 use mathlib.Core.Bool.{Bool, not, _&&_, _||_}
 use lib.Dec.{leb, eqb}
-use Rattle.xpath.specs.Axis.{descendant, preceding, attribute, name-test, star-test, node-test}
-use Rattle.xpath.specs.Term.{Path, Qualifier, Step, Union, Composition, Filter}
+use Rattle.common.specs.Axes.{descendant, preceding, attribute}
+use Rattle.common.specs.NodeTests.{name-test, star-test, node-test}
+use Rattle.xpath.specs.Term.{Path, Qualifier, AxisStep, Union, Composition, Filter}
 use Rattle.rules.specs.Order.{axisBelow, testBelow}
 use Rattle.rules.specs.Form.{PathLetter, QualifierLetter, AxisLetter, TestLetter, AxisForm, axis, axis-letter, TestForm, test, test-letter, PathForm, path-letter, _::_, _¦_, _∕_, _⟦_⟧, QualifierForm, qualifier-letter, Not_, _And_, _Or_, _In_, ClaimForm, _<=_, _=>_, Condition, a-below-b, N-below-M, b-from-3-to-10, N-a-name-or-star, N-not-node, a-not-attribute}
 use Rattle.rules.specs.Claim.{Claim, Containment, Implication}
@@ -31,7 +32,7 @@ unfoldable mutual
   pathFor e (path-letter x) = e .path x
   pathFor e PathForm.Void = Path.Void
   pathFor e PathForm.Root = Path.Root
-  pathFor e (u :: n) = Step (axisFor e u) (testFor e n .test) (testFor e n .name)
+  pathFor e (u :: n) = AxisStep (axisFor e u) (testFor e n .test) (testFor e n .name)
   pathFor e (u ¦ v) = Union (pathFor e u) (pathFor e v)
   pathFor e (u ∕ v) = Composition (pathFor e u) (pathFor e v)
   pathFor e (u ⟦ v ⟧) = Filter (pathFor e u) (qualifierFor e v)

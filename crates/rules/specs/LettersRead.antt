@@ -2,7 +2,7 @@
 use Prim.Native.Nat.{ℕ}
 use mathlib.Core.List.{List, [], _∷_}
 use mathlib.Core.Logic.{ite}
-use Rattle.xpath.specs.Term.{Path, Qualifier, Step, Union, Composition, Filter}
+use Rattle.xpath.specs.Term.{Path, Qualifier, AxisStep, Union, Composition, Filter}
 use Rattle.rules.specs.Form.{PathLetter, PathLetter-discrete, QualifierLetter, QualifierLetter-discrete, AxisLetter-discrete, TestLetter-discrete, AxisForm, axis, axis-letter, TestForm, test, test-letter, PathForm, path-letter, _::_, _¦_, _∕_, _⟦_⟧, QualifierForm, qualifier-letter, Not_, _And_, _Or_, _In_, ClaimForm, _<=_, _=>_, Form}
 use Rattle.rules.specs.Claim.{Claim, Containment, Implication}
 use Rattle.rules.specs.Instance.{Test, Letters}
@@ -24,7 +24,7 @@ operands p q f = record { left = p; right = q; filter = f; axis = 0; test = noTe
 abbrev pub pathParts : Path → PathParts
 pathParts Path.Void = operands Path.Void Path.Void Qualifier.False
 pathParts Path.Root = operands Path.Void Path.Void Qualifier.False
-pathParts (Step a t c) = record { left = Path.Void; right = Path.Void; filter = Qualifier.False; axis = a; test = record { test = t; name = c } }
+pathParts (AxisStep a t c) = record { left = Path.Void; right = Path.Void; filter = Qualifier.False; axis = a; test = record { test = t; name = c } }
 pathParts (Union p q) = operands p q Qualifier.False
 pathParts (Composition p q) = operands p q Qualifier.False
 pathParts (Filter p f) = operands p Path.Void f

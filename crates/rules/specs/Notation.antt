@@ -1,7 +1,8 @@
 -- The words and signs of the rule table. Assumes nothing.
 use Prim.Native.Nat.{ℕ}
 use mathlib.Core.List.{List, [], _∷_, _++_}
-use Rattle.xpath.specs.Axis
+use Rattle.common.specs.Axes
+use Rattle.common.specs.NodeTests
 use Rattle.rules.specs.Form.{PathLetter, QualifierLetter, AxisLetter, TestLetter, AxisForm, axis, axis-letter, TestForm, test, test-letter, PathForm, path-letter, Void, QualifierForm, qualifier-letter, Not_, _In_, ClaimForm, _<=_, _=>_, Condition, Form, Rule}
 
 infix 79 _≐_ _⇔_
@@ -43,43 +44,43 @@ M = test-letter TestLetter.M
 
 -- the axes, and the tests `*` and node()
 abbrev pub self : AxisForm
-self = axis Axis.self
+self = axis Axes.self
 
 abbrev pub child : AxisForm
-child = axis Axis.child
+child = axis Axes.child
 
 abbrev pub parent : AxisForm
-parent = axis Axis.parent
+parent = axis Axes.parent
 
 abbrev pub descendant : AxisForm
-descendant = axis Axis.descendant
+descendant = axis Axes.descendant
 
 abbrev pub ancestor : AxisForm
-ancestor = axis Axis.ancestor
+ancestor = axis Axes.ancestor
 
 abbrev pub descendant-or-self : AxisForm
-descendant-or-self = axis Axis.descendant-or-self
+descendant-or-self = axis Axes.descendant-or-self
 
 abbrev pub ancestor-or-self : AxisForm
-ancestor-or-self = axis Axis.ancestor-or-self
+ancestor-or-self = axis Axes.ancestor-or-self
 
 abbrev pub following-sibling : AxisForm
-following-sibling = axis Axis.following-sibling
+following-sibling = axis Axes.following-sibling
 
 abbrev pub preceding-sibling : AxisForm
-preceding-sibling = axis Axis.preceding-sibling
+preceding-sibling = axis Axes.preceding-sibling
 
 abbrev pub following : AxisForm
-following = axis Axis.following
+following = axis Axes.following
 
 abbrev pub preceding : AxisForm
-preceding = axis Axis.preceding
+preceding = axis Axes.preceding
 
 abbrev pub star-test : TestForm
-star-test = test Axis.star-test
+star-test = test NodeTests.star-test
 
 abbrev pub node-test : TestForm
-node-test = test Axis.node-test
+node-test = test NodeTests.node-test
 
 -- "some p"
 abbrev pub some-of : PathForm → QualifierForm

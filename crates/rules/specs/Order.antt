@@ -3,7 +3,9 @@ use Prim.Native.Nat.{ℕ}
 use mathlib.Core.Bool.{Bool, false, _&&_, _||_}
 use mathlib.Core.List.{List, [], _∷_}
 use lib.Dec.{eqb}
-use Rattle.xpath.specs.Axis.{self, child, parent, descendant, ancestor, descendant-or-self, ancestor-or-self, following-sibling, preceding-sibling, following, preceding, attribute, name-test, star-test, node-test}
+use Rattle.common.specs.Axes.{self, child, parent, descendant, ancestor, descendant-or-self, ancestor-or-self}
+use Rattle.common.specs.Axes.{following-sibling, preceding-sibling, following, preceding, attribute}
+use Rattle.common.specs.NodeTests.{name-test, star-test, node-test}
 
 -- the pairs of axes whose first one is below the second
 unfoldable pub axisPairs : List (ℕ × ℕ)

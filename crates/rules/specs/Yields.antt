@@ -5,9 +5,9 @@ use mathlib.Core.Bool.{Bool, cond}
 use mathlib.Core.List.{List, [], _∷_, map, List·Memᴰ}
 use lib.Dec.{T, eqb}
 use lib.ListN.{length}
-use Rattle.rules.specs.Lists.{allOf}
+use Rattle.common.specs.Lists.{allOf}
 use Rattle.rules.specs.Form.{Form, Rule}
-use Rattle.rules.specs.Table.{rules}
+use Rattle.rules.specs.RuleTable.{rules}
 use Rattle.rules.specs.Claim.{Claim}
 use Rattle.rules.specs.Instance.{Letters, claimFor, meets}
 

@@ -9,13 +9,13 @@ use lib.ListN.{length, take, drop, length-replicate}
 use lib.Seq.{drop-length, length-take-le}
 use borrow.Author.Tests.{le-leb}
 use Rattle.lines.specs.Line.{lines}
-use Rattle.lines.specs.Read.{firstParts}
+use Rattle.lines.specs.code.NumbersRead.{firstParts}
 use Rattle.lines.proofs.Parts.{first-mapped, PartsMet}
 use Rattle.script.specs.declared.Call.{Call}
 use Rattle.script.specs.declared.Call.the-variants as CallCases
 use Rattle.script.specs.declared.CallLine.{CallLine}
 use Rattle.script.specs.Command.{Word, Command, command, document, maxMarks, maxNumbers, allNumbers, atMost, named}
-use Rattle.script.specs.Read.{noNumbers, callLine, countOf, marksOf, commandIn, CallMet}
+use Rattle.script.specs.code.CommandRead.{noNumbers, callLine, countOf, marksOf, commandIn, CallMet}
 
 pub no-numbers-size : length noNumbers ≡ maxNumbers
 unfolding noNumbers

@@ -10,12 +10,12 @@ use lib.ListN.{length, take, drop, set, length-set}
 use lib.Seq.{length-take-le, take-suc-set, drop-set-lt, drop-drop}
 use Rattle.lines.specs.Line.{newline, space}
 use Rattle.lines.specs.Number.{maxNumber}
-use Rattle.lines.specs.Read.{NumberMet}
+use Rattle.lines.specs.code.NumbersRead.{NumberMet}
 use Rattle.lines.proofs.Parts.{PartsMet}
 use Rattle.script.specs.declared.Call.the-variants as CallCases
 use Rattle.script.specs.declared.CallLine.{CallLine}
 use Rattle.script.specs.Command.{document, maxNumbers, atMost, named, allNumbers}
-use Rattle.script.specs.Read.{noNumbers, callLine, CallMet}
+use Rattle.script.specs.code.CommandRead.{noNumbers, callLine, CallMet}
 use Rattle.script.proofs.Numbers.{SoFar, one-more-number, last-of-all, no-number-more, numbers-full}
 use Rattle.script.proofs.Calls.{no-document, document-call}
 

@@ -10,7 +10,7 @@ use lib.ListN.{length, drop, length-append}
 use borrow.Author.Tests.{lt-leb}
 use Rattle.lines.specs.Line.{newline, space, lines}
 use Rattle.lines.specs.Number.{maxNumber, numberUpTo, numbersUpTo}
-use Rattle.lines.specs.Read.{NumberMet, firstParts}
+use Rattle.lines.specs.code.NumbersRead.{NumberMet, firstParts}
 use Rattle.lines.proofs.Cutting.{lines-at}
 use Rattle.lines.proofs.Parts.{prepended, Reads, first-none, first-mapped, no-newline-in, next-behind, number-before-space, number-before-newline, number-found, nothing-read, PartsMet}
 use Rattle.script.specs.Command.{maxNumbers, allNumbers, atMost}

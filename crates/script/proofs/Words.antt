@@ -8,7 +8,7 @@ use native.Mathlib.Omega.{arith}
 use lib.ListN.{length, drop, length-append}
 use Rattle.lines.specs.Ascii.{ascii}
 use Rattle.lines.specs.Line.{newline, space, lines, sameBytes}
-use Rattle.lines.specs.Read.{firstParts, startsWith}
+use Rattle.lines.specs.code.NumbersRead.{firstParts, startsWith}
 use Rattle.lines.proofs.Cutting.{lacks, lacks-free, lines-at, no-whole-line}
 use Rattle.lines.proofs.Start.{starts}
 use Rattle.lines.proofs.Parts.{FirstPart, no-line, only-part, part-before, first-part, before-newline, before-space, next-behind, first-none, first-mapped}
@@ -18,7 +18,7 @@ use Rattle.script.specs.declared.CallLine.{CallLine}
 use Rattle.lines.proofs.SameBytes.{same-bytes}
 use Rattle.lines.specs.Number.{numbersUpTo}
 use Rattle.script.specs.Command.{Command, termBytes, stepBytes, selectBytes, documentBytes, freshBytes, named, commandOf}
-use Rattle.script.specs.Read.{noNumbers, callLine, countOf, marksOf, commandIn, CallMet}
+use Rattle.script.specs.code.CommandRead.{noNumbers, callLine, countOf, marksOf, commandIn, CallMet}
 use Rattle.script.proofs.Calls.{no-numbers-size, no-call, is-call}
 
 -- a word without a space or a newline in it

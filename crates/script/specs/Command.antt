@@ -1,13 +1,15 @@
 -- The command that a line of a script is: a word, and numbers. Assumes nothing.
-use Prim.Native.Nat.{ℕ}
+use Prim.Native.Nat.{ℕ, _+_, _*_}
 use mathlib.Core.Bool.{cond}
 use mathlib.Core.List.{List, [], _∷_}
 use mathlib.Core.Option.{Option, none, some, Option·elim}
 use lib.Dec.{leb}
 use lib.ListN.{length}
+use Rattle.xpath.specs.Document.{maxNodes}
 use Rattle.lines.specs.Ascii.{ascii}
 use Rattle.lines.specs.Line.{sameBytes}
 use Rattle.lines.specs.Number.{maxNumber, numbersUpTo, lineNumbers}
+use Rattle.calls.specs.code.Tables.{rowWidth, stepWidth}
 
 pub data Word : Type 0 where
   term : Word
@@ -38,15 +40,16 @@ documentBytes = ascii "document"
 abbrev pub freshBytes : List ℕ
 freshBytes = ascii "fresh"
 
--- the largest limit of visits, the longest marks buffer, and the most numbers of a document
+-- the largest limit of visits, and the longest marks buffer
 abbrev pub maxLimit : ℕ
 maxLimit = 4294967295
 
 abbrev pub maxMarks : ℕ
 maxMarks = 1024
 
+-- one node more than a select takes, three numbers a node
 abbrev pub maxNumbers : ℕ
-maxNumbers = 1539
+maxNumbers = 3 * (maxNodes + 1)
 
 -- as many numbers as there are parts
 abbrev pub allNumbers : List (List ℕ) → Option (List ℕ)
@@ -67,8 +70,8 @@ named w o = Option·elim o none (λ ns. some (command w ns))
 unfoldable pub commandOf : List (List ℕ) → Option Command
 commandOf [] = none
 commandOf (w ∷ ws) =
-    cond (sameBytes w termBytes) (named term (lineNumbers 4 ws))
-    (cond (sameBytes w stepBytes) (named step (lineNumbers 5 ws))
+    cond (sameBytes w termBytes) (named term (lineNumbers rowWidth ws))
+    (cond (sameBytes w stepBytes) (named step (lineNumbers stepWidth ws))
     (cond (sameBytes w selectBytes) (named select (numbersUpTo selectBounds ws))
     (cond (sameBytes w documentBytes) (named document (atMost maxNumbers (allNumbers ws)))
     (cond (sameBytes w freshBytes) (named fresh (numbersUpTo [] ws)) none))))

@@ -1,3 +1,3 @@
 pub mod Command
-pub mod Read
-pub mod Values
+pub mod code
+pub mod values

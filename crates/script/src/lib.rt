@@ -1,32 +1,21 @@
 // A line of a script as a call on a session: a word, and numbers after it, one space before each.
+use calls::Step;
+use terms::Row;
 ghost use mathlib.Core.Path.{_≡_};
 ghost use lib.ListN.{length};
 ghost use Rattle.lines.specs.Number.{numbersUpTo, lineNumbers};
-ghost use Rattle.script.specs.Command.{term, step, select, document, maxNumbers, allNumbers, atMost, selectBounds, named, commandOf};
-ghost use Rattle.script.specs.Read.{noNumbers, callLine, CallMet};
+ghost use Rattle.calls.specs.code.Tables.{rowWidth, stepWidth};
+ghost use Rattle.script.specs.Command.{term, step, select, document};
+ghost use Rattle.script.specs.Command.{maxNumbers, allNumbers, atMost, selectBounds, named, commandOf};
+ghost use Rattle.script.specs.code.CommandRead.{noNumbers, callLine, CallMet};
 
 const MAX_LIMIT: u32 = 4294967295;
 
 // The length of the longest marks buffer.
 pub const MAX_MARKS: usize = 1024;
 
-// The numbers of the longest document: one row more than a select takes.
-pub const MAX_NUMBERS: usize = 1539;
-
-pub struct TermCall {
-    pub kind: u16,
-    pub a: u16,
-    pub b: u16,
-    pub c: u16,
-}
-
-pub struct StepCall {
-    pub rule: u16,
-    pub left: u16,
-    pub right: u16,
-    pub first: u16,
-    pub second: u16,
-}
+// The numbers of the longest document, three a node: one node more than a select takes.
+pub const MAX_NUMBERS: usize = 3 * (xpath::MAX_NODES + 1);
 
 // A select, and the length of the marks buffer that it is lent.
 pub struct SelectCall {
@@ -38,8 +27,8 @@ pub struct SelectCall {
 
 // The call of a line; `Document` says how many numbers it has, and `Other` that the line is no call.
 pub enum Call {
-    Term(TermCall),
-    Step(StepCall),
+    Term(Row),
+    Step(Step),
     Document(usize),
     Select(SelectCall),
     Fresh,
@@ -78,36 +67,38 @@ fn other(bytes: &[u8]) -> CallLine
 
 // The numbers of a term at `at`, to the line's end.
 fn term_call(bytes: &[u8], at: usize) -> CallLine
-    ensures { λ r. ⌜ CallMet (λ ws. named term (lineNumbers 4 ws)) (now (bytes .entry)) at r ⌝ }
+    ensures { λ r. ⌜ CallMet (λ ws. named term (lineNumbers rowWidth ws)) (now (bytes .entry)) at r ⌝ }
 {
-    let row = lines::row_line(bytes, at);
-    if !row.ok {
+    let line = lines::numbers_line(bytes, at, terms::ROW_WIDTH);
+    if !line.ok {
         return other(bytes);
     }
-    let call = TermCall {
-        kind: row.kind,
-        a: row.a,
-        b: row.b,
-        c: row.c,
+    let numbers = line.numbers;
+    let row = Row {
+        kind: numbers[0],
+        a: numbers[1],
+        b: numbers[2],
+        c: numbers[3],
     };
-    call_line(Call::Term(call), row.next)
+    call_line(Call::Term(row), line.next)
 }
 
 fn step_call(bytes: &[u8], at: usize) -> CallLine
-    ensures { λ r. ⌜ CallMet (λ ws. named step (lineNumbers 5 ws)) (now (bytes .entry)) at r ⌝ }
+    ensures { λ r. ⌜ CallMet (λ ws. named step (lineNumbers stepWidth ws)) (now (bytes .entry)) at r ⌝ }
 {
-    let step = lines::step_line(bytes, at);
-    if !step.ok {
+    let line = lines::numbers_line(bytes, at, calls::STEP_WIDTH);
+    if !line.ok {
         return other(bytes);
     }
-    let call = StepCall {
-        rule: step.rule,
-        left: step.left,
-        right: step.right,
-        first: step.first,
-        second: step.second,
+    let numbers = line.numbers;
+    let step = Step {
+        rule: numbers[0],
+        left: numbers[1],
+        right: numbers[2],
+        first: numbers[3],
+        second: numbers[4],
     };
-    call_line(Call::Step(call), step.next)
+    call_line(Call::Step(step), line.next)
 }
 
 fn select_call(bytes: &[u8], at: usize) -> CallLine

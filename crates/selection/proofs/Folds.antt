@@ -5,8 +5,8 @@ use mathlib.Core.Bool.{Bool, false, _&&_, _||_, and-false}
 use mathlib.Core.Logic.{⊎-elim}
 use native.Mathlib.Omega.{arith}
 use native.Mathlib.Numerals.{add-one}
-use Rattle.xpath.specs.Bounded.{anyBelow, allBelow, sumBelow}
-use Rattle.xpath.proofs.Reflect.{below-suc}
+use Rattle.common.specs.Bounded.{anyBelow, allBelow, sumBelow}
+use Rattle.common.proofs.Reflect.{below-suc}
 
 module _ (f : ℕ → Bool) where
   pub any-more : (n : ℕ) → anyBelow (n + 1) f ≡ (anyBelow n f || f n)
@@ -31,7 +31,8 @@ module _ (f : ℕ → ℕ) where
   unfolding sumBelow
   sum-grows zero n l = omega arith
   sum-grows (suc k) zero l = absurd (omega arith)
-  sum-grows (suc k) (suc n) l = ⊎-elim (λ q. rw q (omega arith)) (λ h. omega (arith, sum-grows (suc k) n h)) (below-suc l)
+  sum-grows (suc k) (suc n) l =
+      ⊎-elim (λ q. rw q (omega arith)) (λ h. omega (arith, sum-grows (suc k) n h)) (below-suc l)
 
 -- equal tests and terms, equal folds
 module _ (f g : ℕ → Bool) where

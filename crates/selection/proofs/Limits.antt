@@ -5,8 +5,8 @@ use mathlib.Core.Bool.{Bool, true, false, cond, false≢true}
 use native.Mathlib.Omega.{arith}
 use lib.Dec.{leb}
 use borrow.Author.Tests.{leb-true, leb-false, le-leb, lt-leb}
-use Rattle.xpath.specs.Bounded.{sumBelow}
-use Rattle.selection.specs.Limit.{UnderLimit, Stopped}
+use Rattle.common.specs.Bounded.{sumBelow}
+use Rattle.selection.specs.code.Limit.{UnderLimit, Stopped}
 use Rattle.selection.proofs.Folds.{sum-more, sum-grows}
 
 module _ {correct : Type 0} {cost before limit : ℕ} {finished : Bool} {made : ℕ} where
@@ -19,7 +19,8 @@ module _ {correct : Type 0} {cost before limit : ℕ} {finished : Bool} {made : 
         result-is = λ t. absurd (false≢true (sym (s .unfinished) ∙ t));
       }
 
-  pub under-limit : finished ≡ true → before + made ≡ cost → made ≤ limit → correct → UnderLimit correct cost before limit finished made
+  pub under-limit : finished ≡ true → before + made ≡ cost → made ≤ limit → correct →
+      UnderLimit correct cost before limit finished made
   under-limit t e h g =
       record {
         finished-is = t ∙ sym (le-leb cost (before + limit) (omega arith));
@@ -59,7 +60,8 @@ resumed {cost = cost} k l e w =
     }
 
 -- a first operand, and a second one under what the first left of the limit
-module _ {first : Type 0} {cost₁ limit : ℕ} {finished₁ : Bool} {made₁ : ℕ} (w : UnderLimit first cost₁ 0 limit finished₁ made₁) where
+module _ {first : Type 0} {cost₁ limit : ℕ} {finished₁ : Bool} {made₁ : ℕ}
+    (w : UnderLimit first cost₁ 0 limit finished₁ made₁) where
   pub first-stopped : {correct : Type 0} {cost before : ℕ} {finished : Bool} {made : ℕ} → finished₁ ≡ false →
       before + cost₁ ≤ cost → Stopped finished made → UnderLimit correct cost before limit finished made
   first-stopped t l s = over-limit s (omega (arith, cost-passes w t))
@@ -94,9 +96,15 @@ module _ (S : ℕ → Bool) (v : ℕ → ℕ) (n limit : ℕ) where
 
     module _ (l : z < n) where
       pub skipped : S z ≡ false → Visited S v n limit (z + 1) used
-      skipped e = record { in-range = omega arith; used-is = p .used-is ∙ sym (sum-more cost-at z ∙ rw e (omega arith)); fits = p .fits }
+      skipped e = record {
+        in-range = omega arith;
+        used-is =
+            p .used-is ∙ sym (sum-more cost-at z ∙ rw e (omega arith));
+        fits = p .fits;
+      }
 
-      module _ (e : S z ≡ true) {inner : Type 0} {finished : Bool} {made : ℕ} (w : UnderLimit inner (v z) 0 (limit - used) finished made) where
+      module _ (e : S z ≡ true) {inner : Type 0} {finished : Bool} {made : ℕ}
+          (w : UnderLimit inner (v z) 0 (limit - used) finished made) where
         next-sum : sumBelow (z + 1) cost-at ≡ sumBelow z cost-at + v z
         next-sum = sum-more cost-at z ∙ rw e
 
@@ -108,7 +116,8 @@ module _ (S : ℕ → Bool) (v : ℕ → ℕ) (n limit : ℕ) where
               fits = omega (arith, p .fits, w .made-fits);
             }
 
-        pub stopped-at : {correct : Type 0} {finished′ : Bool} {made′ : ℕ} → finished ≡ false → Stopped finished′ made′ →
+        pub stopped-at : {correct : Type 0} {finished′ : Bool} {made′ : ℕ} → finished ≡ false →
+            Stopped finished′ made′ →
             UnderLimit correct (sumBelow n cost-at) 0 limit finished′ made′
         stopped-at t s =
             over-limit s

@@ -9,10 +9,10 @@ use native.Mathlib.Numerals.{add-one}
 use lib.ListN.{length, getD, set, replicate, length-replicate, length-set}
 use lib.Seq.{getD-set-same, getD-set-other}
 use borrow.Author.Count.{below-more}
-use Rattle.xpath.specs.Bounded.{anyBelow}
+use Rattle.common.specs.Bounded.{anyBelow}
 use Rattle.xpath.specs.Document.{maxNodes}
 use Rattle.selection.specs.Marks.{Clear, written}
-use Rattle.marking.specs.Added.{Added}
+use Rattle.marking.specs.code.Added.{Added}
 use Rattle.marking.proofs.Added.{nothing-added, added-cong}
 use Rattle.marking.proofs.Steps.{added-twice}
 use Rattle.selection.proofs.Folds.{any-more}
@@ -49,7 +49,8 @@ pub written-more : (k : ℕ) (s : ℕ → Bool) (old new : List ℕ) (v : ℕ) �
 unfolding written
 written-more k s old new v e f = rw (add-one, e, f)
 
-pub written-cong : (n : ℕ) (s t : ℕ → Bool) (buffer : List ℕ) → ((y : ℕ) → y < n → s y ≡ t y) → written n s buffer ≡ written n t buffer
+pub written-cong : (n : ℕ) (s t : ℕ → Bool) (buffer : List ℕ) → ((y : ℕ) → y < n → s y ≡ t y) →
+    written n s buffer ≡ written n t buffer
 unfolding written
 written-cong zero s t buffer h = refl
 written-cong (suc n) s t buffer h = rw (written-cong n s t buffer (λ y l. h y (omega arith)), h n (omega arith))

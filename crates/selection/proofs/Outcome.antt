@@ -12,11 +12,11 @@ use Rattle.xpath.specs.Term.{Path}
 use Rattle.xpath.specs.Meaning.{selects}
 use Rattle.xpath.specs.Visits.{visits}
 use Rattle.terms.specs.Row.{Row}
-use Rattle.terms.specs.Decode.{terms, termAt, pathIn, pathAt}
+use Rattle.terms.specs.Terms.{terms, termAt, pathIn, pathAt}
 use Rattle.selection.specs.Marks.{Clear, written}
-use Rattle.marking.specs.Added.{marked}
-use Rattle.selection.specs.Parts.{PathAdded}
-use Rattle.selection.specs.Evaluation.{selected, no-room, limit-passed, outcome, pathEvaluated}
+use Rattle.marking.specs.code.Added.{marked}
+use Rattle.selection.specs.code.Parts.{PathAdded}
+use Rattle.selection.specs.Evaluation.{selected, no-room, too-many-visits, outcome, pathEvaluated}
 use Rattle.selection.proofs.Limits.{cost-passes}
 use Rattle.selection.proofs.Parts.{fresh-marks}
 use Rattle.selection.proofs.Marks.{written-cong}
@@ -34,11 +34,16 @@ module _ (p : Path) (d : Document) (x limit : ℕ) (buffer : List ℕ) where
     unfolding pathEvaluated
     too-short h = rw (le-ltb maxNodes (length d) l, lt-ltb (length buffer) (length d) h)
 
-    module _ (b : length d ≤ length buffer) {finished : Bool} {made : ℕ} (old m : List ℕ) (z : Clear old) (w : PathAdded d p x 0 limit finished made old m) where
-      pub passed : finished ≡ false → outcome limit-passed buffer ≡ pathEvaluated p d x limit buffer
+    module _ (b : length d ≤ length buffer) {finished : Bool} {made : ℕ} (old m : List ℕ) (z : Clear old)
+        (w : PathAdded d p x 0 limit finished made old m) where
+      pub passed : finished ≡ false → outcome too-many-visits buffer ≡ pathEvaluated p d x limit buffer
       unfolding pathEvaluated
       passed t =
-          rw (le-ltb maxNodes (length d) l, le-ltb (length buffer) (length d) b, lt-leb (visits d p x) limit (omega (arith, cost-passes w t)))
+          rw (
+            le-ltb maxNodes (length d) l,
+            le-ltb (length buffer) (length d) b,
+            lt-leb (visits d p x) limit (omega (arith, cost-passes w t)),
+          )
 
       pub copied : (n : ℕ) (new : List ℕ) → finished ≡ true → n ≡ length d → new ≡ written n (marked m) buffer →
           outcome (selected made) new ≡ pathEvaluated p d x limit buffer

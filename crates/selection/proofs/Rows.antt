@@ -9,19 +9,21 @@ use lib.Dec.{leb, eqb}
 use lib.ListN.{length, getD, set, take, length-take, List·getD-eq-default}
 use borrow.Author.Tests.{leb-true, ne-eqb, lt-ltb}
 use Rattle.xpath.specs.Document.{Document}
-use Rattle.xpath.specs.Term.{Path, Qualifier, Void, Root, Step, Union, Composition, Filter, True, False, Not, And, Or, In}
+use Rattle.xpath.specs.Term.{Path, Qualifier, Void, Root, AxisStep, Union, Composition, Filter, True, False, Not, And, Or}
+use Rattle.xpath.specs.Term.{In}
 use Rattle.xpath.specs.Axis.{onAxis, passes}
 use Rattle.xpath.specs.Meaning.{selects, holds}
 use Rattle.xpath.specs.Visits.{visits, qualifierVisits}
-use Rattle.xpath.proofs.Reflect.{le-or-lt, eq-or-ne}
+use Rattle.common.proofs.Reflect.{le-or-lt, eq-or-ne}
 use Rattle.terms.specs.Row.{Row, row, rowAt}
 use Rattle.terms.specs.Fields.{maxKind}
-use Rattle.terms.specs.Decode.{Term, noTerm, termBy, terms, termAt, asPath, asQualifier, pathIn, qualifierIn}
-use Rattle.terms.proofs.Decode.{term-past, term-at, term-take}
-use Rattle.terms.proofs.ByKind.{Kind, void-kind, root-kind, step-kind, union-kind, composition-kind, filter-kind, true-kind, false-kind, not-kind, and-kind, or-kind, in-kind, kind-of}
-use Rattle.marking.specs.Added.{Added}
+use Rattle.terms.specs.Terms.{Term, noTerm, termBy, terms, termAt, asPath, asQualifier, pathIn, qualifierIn}
+use Rattle.terms.proofs.Terms.{term-past, term-at, term-take}
+use Rattle.terms.proofs.ByKind.{Kind, void-kind, root-kind, step-kind, union-kind, composition-kind, filter-kind}
+use Rattle.terms.proofs.ByKind.{true-kind, false-kind, not-kind, and-kind, or-kind, in-kind, kind-of}
+use Rattle.marking.specs.code.Added.{Added}
 use Rattle.marking.proofs.Added.{nothing-added, added-cong, added-set}
-use Rattle.selection.specs.Parts.{pathHasOperands, qualifierHasOperands, leafPath}
+use Rattle.selection.specs.code.Parts.{pathHasOperands, qualifierHasOperands, leafPath}
 
 -- row r of the first `top` rows
 module _ (rs : List Row) (top r : ℕ) where
@@ -63,7 +65,8 @@ abbrev pub leafQualifier : ℕ → Qualifier
 leafQualifier kind = cond (eqb kind 6) True False
 
 module _ (ts : List Term) (a b c : ℕ) where
-  leaf-path-by : {k : ℕ} → Kind k → pathHasOperands k ≡ false → asPath (termBy ts (row k a b c)) ≡ leafPath (row k a b c)
+  leaf-path-by : {k : ℕ} → Kind k → pathHasOperands k ≡ false →
+      asPath (termBy ts (row k a b c)) ≡ leafPath (row k a b c)
   unfolding termBy asPath leafPath
   leaf-path-by void-kind h = refl
   leaf-path-by root-kind h = refl
@@ -78,7 +81,8 @@ module _ (ts : List Term) (a b c : ℕ) where
   leaf-path-by or-kind h = refl
   leaf-path-by in-kind h = refl
 
-  leaf-qualifier-by : {k : ℕ} → Kind k → qualifierHasOperands k ≡ false → asQualifier (termBy ts (row k a b c)) ≡ leafQualifier k
+  leaf-qualifier-by : {k : ℕ} → Kind k → qualifierHasOperands k ≡ false →
+      asQualifier (termBy ts (row k a b c)) ≡ leafQualifier k
   unfolding termBy asQualifier
   leaf-qualifier-by void-kind h = refl
   leaf-qualifier-by root-kind h = refl
@@ -119,11 +123,14 @@ module _ (d : Document) (x : ℕ) where
       (rw (lt-ltb 0 (length d) k))
       (λ y h ne. rw (ne-eqb y 0 ne, and-false))
 
-  pub step-added : (a t c : ℕ) {old new : List ℕ} → Added (length d) old new (λ y. onAxis a d x y && passes a t c d y) → Added (length d) old new (selects d (Step a t c) x)
+  pub step-added : (a t c : ℕ) {old new : List ℕ} →
+      Added (length d) old new (λ y. onAxis a d x y && passes a t c d y) →
+      Added (length d) old new (selects d (AxisStep a t c) x)
   unfolding selects
   step-added a t c u = added-cong _ u (λ y h. rw (lt-ltb y (length d) h))
 
-  pub void-added : (m : List ℕ) (r : Row) → ¬ (r .kind ≡ 2) → ¬ (r .kind ≡ 1) → Added (length d) m m (selects d (leafPath r) x)
+  pub void-added : (m : List ℕ) (r : Row) → ¬ (r .kind ≡ 2) → ¬ (r .kind ≡ 1) →
+      Added (length d) m m (selects d (leafPath r) x)
   unfolding selects
   void-added m r n o = nothing-added _ (λ y h. rw (void-leaf r n o))
 
@@ -158,7 +165,7 @@ module _ (d : Document) (x : ℕ) where
   unfolding visits
   visits-positive Void = omega arith
   visits-positive Root = omega arith
-  visits-positive (Step a t c) = omega arith
+  visits-positive (AxisStep a t c) = omega arith
   visits-positive (Union p q) = omega arith
   visits-positive (Composition p q) = omega arith
   visits-positive (Filter p f) = omega arith
@@ -173,19 +180,26 @@ module _ (d : Document) (x : ℕ) where
   qualifier-visits-positive (In p q) = omega arith
 
   module _ (ts : List Term) (r : Row) where
-    pub first-path-visits : pathHasOperands (r .kind) ≡ true → 1 + visits d (pathIn ts (r .a)) x ≤ visits d (asPath (termBy ts r)) x
+    pub first-path-visits : pathHasOperands (r .kind) ≡ true →
+        1 + visits d (pathIn ts (r .a)) x ≤ visits d (asPath (termBy ts r)) x
     unfolding visits termBy asPath
     first-path-visits h =
         ⊎-elim (λ e. rw e (omega arith))
-        (λ n. ⊎-elim (λ e. rw e (omega arith)) (λ m. rw (kind-is-filter (r .kind) h n m) (omega arith)) (eq-or-ne (r .kind) 4))
+        (λ n. ⊎-elim (λ e. rw e (omega arith)) (λ m. rw (kind-is-filter (r .kind) h n m) (omega arith))
+        (eq-or-ne (r .kind) 4))
         (eq-or-ne (r .kind) 3)
 
     -- the kinds that are left after inclusion and not: and, or
     module _ (h : qualifierHasOperands (r .kind) ≡ true) (n : ¬ (r .kind ≡ 11)) (m : ¬ (r .kind ≡ 8)) where
-      pub and-or-visits : qualifierVisits d (asQualifier (termBy ts r)) x ≡ 1 + (qualifierVisits d (qualifierIn ts (r .a)) x + qualifierVisits d (qualifierIn ts (r .b)) x)
+      pub and-or-visits : qualifierVisits d
+          (asQualifier (termBy ts r)) x ≡ 1 + (qualifierVisits d (qualifierIn ts (r .a)) x + qualifierVisits d
+          (qualifierIn ts (r .b)) x)
       unfolding qualifierVisits termBy asQualifier
       and-or-visits = ⊎-elim (λ e. rw e) (λ o. rw (kind-is-or (r .kind) h n m o)) (eq-or-ne (r .kind) 9)
 
-      pub and-or-holds : cond (eqb (r .kind) 9) (holds d (qualifierIn ts (r .a)) x && holds d (qualifierIn ts (r .b)) x) (holds d (qualifierIn ts (r .a)) x || holds d (qualifierIn ts (r .b)) x) ≡ holds d (asQualifier (termBy ts r)) x
+      pub and-or-holds : cond (eqb (r .kind) 9)
+          (holds d (qualifierIn ts (r .a)) x && holds d (qualifierIn ts (r .b)) x)
+          (holds d (qualifierIn ts (r .a)) x || holds d (qualifierIn ts (r .b)) x) ≡ holds d
+          (asQualifier (termBy ts r)) x
       unfolding holds termBy asQualifier
       and-or-holds = ⊎-elim (λ e. rw e) (λ o. rw (kind-is-or (r .kind) h n m o)) (eq-or-ne (r .kind) 9)

@@ -9,26 +9,26 @@ use Rattle.xpath.specs.Term.{Path}
 use Rattle.xpath.specs.Meaning.{selects}
 use Rattle.xpath.specs.Visits.{visits}
 use Rattle.terms.specs.Row.{Row}
-use Rattle.terms.specs.Decode.{pathAt}
+use Rattle.terms.specs.Terms.{pathAt}
 use Rattle.selection.specs.Marks.{written}
 
-pub data Answer : Type 0 where
-  selected : (made : ℕ) → Answer
-  no-room limit-passed : Answer
+pub data EvaluationAnswer : Type 0 where
+  selected : (made : ℕ) → EvaluationAnswer
+  no-room too-many-visits : EvaluationAnswer
 
 pub record Outcome : Type 0 where
-  pub answer : Answer
+  pub answer : EvaluationAnswer
   pub buffer : List ℕ
 
-abbrev pub outcome : Answer → List ℕ → Outcome
+abbrev pub outcome : EvaluationAnswer → List ℕ → Outcome
 outcome a buffer = record { answer = a; buffer = buffer }
 
--- the path p on d from x: the marks of an evaluation have room for 512 nodes, the buffer for as many as it has bytes
+-- the path p on d from x: the marks of an evaluation have room for maxNodes, the buffer for as many as it has bytes
 unfoldable pub pathEvaluated : Path → Document → ℕ → ℕ → List ℕ → Outcome
 pathEvaluated p d x limit buffer =
     cond (ltb maxNodes (length d) || ltb (length buffer) (length d)) (outcome no-room buffer)
     (cond (leb (visits d p x) limit) (outcome (selected (visits d p x)) (written (length d) (selects d p x) buffer))
-    (outcome limit-passed buffer))
+    (outcome too-many-visits buffer))
 
 -- the path in row `row` of the table
 abbrev pub evaluated : List Row → ℕ → Document → ℕ → ℕ → List ℕ → Outcome

@@ -1,6 +1,4 @@
 pub mod Marks
-pub mod Limit
-pub mod Parts
 pub mod Evaluation
-pub mod Answer
-pub mod EvaluationCases
+pub mod code
+pub mod values

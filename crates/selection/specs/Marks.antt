@@ -5,7 +5,7 @@ use mathlib.Core.Bool.{Bool, cond}
 use mathlib.Core.List.{List}
 use lib.ListN.{length, getD, set}
 use Rattle.xpath.specs.Document.{maxNodes}
-use Rattle.marking.specs.Added.{marked}
+use Rattle.marking.specs.code.Added.{marked}
 
 -- of the first n nodes, m marks those of the set s
 abbrev pub Marks : ℕ → List ℕ → (ℕ → Bool) → Type 0

@@ -5,18 +5,19 @@ use mathlib.Core.Bool.{cond}
 use mathlib.Core.List.{List}
 use lib.ListN.{length}
 use borrow.Author.Tests.{lt-ltb, le-ltb}
-use Rattle.rules.specs.RowYields.{Sides}
-use Rattle.session.specs.declared.ReadResult.{ReadResult}
+use Rattle.rules.specs.code.RowYields.{Sides}
+use Rattle.session.specs.declared.read.ReadResult.{ReadResult}
 use Rattle.calls.specs.Book.{answer, accepted}
 use Rattle.calls.specs.StepCall.{stepNumbered}
 use Rattle.session.specs.View.{view}
 use Rattle.calls.specs.Promises.{sidesOf}
-use Rattle.session.specs.Reading.{wrongForm, reading}
+use Rattle.calls.specs.Refusals.{wrong-form}
+use Rattle.session.specs.Reading.{reading}
 use Rattle.session.specs.ReadCall.{readAnswerOf, readingOf, ReadMet}
 use Rattle.session.specs.Audit.{auditLimit, reportBy, readReport, report}
 
 module _ (bytes : List ℕ) where
-  pub too-long : auditLimit < length bytes → reportBy wrongForm 0 0 0 0 ≡ report bytes
+  pub too-long : auditLimit < length bytes → reportBy wrong-form 0 0 0 0 ≡ report bytes
   unfolding report
   too-long h = rw (lt-ltb auditLimit (length bytes) h)
 

@@ -7,23 +7,28 @@ use mathlib.Core.Option.{none, some, Option·elim, Option·none-ne-some}
 use native.Mathlib.Omega.{arith}
 use lib.ListN.{length}
 use Rattle.terms.specs.Row.{Row}
-use Rattle.rules.specs.Lists.{Every}
+use Rattle.common.specs.Lists.{Every}
 use Rattle.lines.specs.Ascii.{ascii}
 use Rattle.lines.specs.Line.{newline, Line, line, inFirstPart, lines, parts, sameBytes, isLine, firstIs}
 use Rattle.lines.specs.Number.{isDigit, isDecimal, appendDigits, numbersUpTo, numbersOf}
-use Rattle.lines.specs.Read.{firstParts, firstNumbers}
+use Rattle.lines.specs.code.NumbersRead.{firstParts, firstNumbers}
 use Rattle.lines.proofs.Cutting.{lines-at}
 use Rattle.lines.proofs.Written.{line-reads-back}
-use Rattle.session.specs.declared.Session.{Session}
+use Rattle.session.specs.declared.session.Session.{Session}
+use Rattle.session.specs.declared.read.ReadResult.{ReadResult}
 use Rattle.calls.specs.Book.{Step, answer}
-use Rattle.calls.specs.Calls.{step, Seen}
-use Rattle.calls.specs.Tables.{rowWidth}
+use Rattle.calls.specs.Runs.{done, then}
+use Rattle.calls.specs.Calls.{step, CallSeen}
+use Rattle.calls.specs.code.Tables.{rowWidth}
 use Rattle.session.specs.View.{view, freshSession, rowNumbers, stepNumbers}
 use Rattle.session.specs.Bundle.{rowNames, stepNames, rowText, rowsText, stepsText, bundleText}
 use Rattle.calls.specs.Promises.{rowStepAnswer}
 use Rattle.session.specs.Reading.{Reading, stepsRead, rowsRead, linesRead, reading}
-use Rattle.session.specs.Demand3.{term-made, step-made, Run, done, then}
+use Rattle.session.specs.Promises.{CallRelation, SelectRelation, Met, CallsMade, SelectMet}
+use Rattle.session.specs.ReadCall.{ReadMet}
 use Rattle.session.specs.ReadDemand.{IsAccepted, callsOf, RowFits, StepFits, ReadDemand}
+use Rattle.calls.proofs.Runs.{run-map}
+use Rattle.session.proofs.Demand3.{CallsKept, SelectsKept}
 use Rattle.session.proofs.LineCalls.{row-names-free, step-names-free}
 use Rattle.session.proofs.LinesRead.{names-read, row-held, step-held}
 use Rattle.session.proofs.ReadByRows.{reading-by-rows}
@@ -58,30 +63,30 @@ first-names-are = refl
 abbrev allRead : Session → Reading
 allRead u = record { answer = answer 0 (length (view u .steps)); session = u }
 
-steps-written : (s : Session) (n : ℕ) (ps : List Step) (os : List Seen) (u : Session) → Every StepFits ps → Run s (map step ps) os u → Every IsAccepted os
+steps-written : (s : Session) (n : ℕ) (ps : List Step) (os : List CallSeen) (u : Session) → Every StepFits ps → CallsMade s (map step ps) os u → Every IsAccepted os
     → stepsRead rowStepAnswer s n (lines (stepsText ps)) ≡ allRead u
 unfolding stepsText stepsRead lines
 steps-written s n [] os u fits done taken = refl
-steps-written s n (p ∷ ps) os u fits (then {os = rest} (step-made {m = m} w e) run) taken =
+steps-written s n (p ∷ ps) os u fits (then {os = rest} m run) taken =
     let text = line-reads-back (p .rule) _ (fits .0) (stepsText ps) in
-    step-held s n _ (stepNumbers p) (sym (text .numbers)) m w (taken .0)
-    ∙ rw (text .next, ← e) (steps-written _ (n + 1) ps rest u (fits .1) run (taken .1))
+    step-held s n _ (stepNumbers p) (sym (text .numbers)) _ _ m (taken .0)
+    ∙ rw (text .next) (steps-written _ (n + 1) ps rest u (fits .1) run (taken .1))
 
-rows-written : (s : Session) (n : ℕ) (rs : List Row) (ps : List Step) (os : List Seen) (u : Session) → Every RowFits rs → Every StepFits ps
-    → Run s (callsOf rs ps) os u → Every IsAccepted os → rowsRead rowStepAnswer s n (lines (rowsText rs ++ (stepNames ++ newline ∷ stepsText ps))) ≡ allRead u
+rows-written : (s : Session) (n : ℕ) (rs : List Row) (ps : List Step) (os : List CallSeen) (u : Session) → Every RowFits rs → Every StepFits ps
+    → CallsMade s (callsOf rs ps) os u → Every IsAccepted os → rowsRead rowStepAnswer s n (lines (rowsText rs ++ (stepNames ++ newline ∷ stepsText ps))) ≡ allRead u
 unfolding rowsText firstIs
 rows-written s n [] ps os u rows steps run taken =
     let text = lines-at stepNames (stepsText ps) step-names-free in
     rw text (names-read s n _ names-are-names ∙ steps-written s (n + 1) ps os u steps run taken)
-rows-written s n (r ∷ rs) ps os u rows steps (then {os = rest} (term-made {m = m} w e) run) taken =
+rows-written s n (r ∷ rs) ps os u rows steps (then {os = rest} m run) taken =
     let after = rowsText rs ++ (stepNames ++ newline ∷ stepsText ps) in
     let text = line-reads-back (r .kind) _ (rows .0) after in
     rw (append-assoc (rowText r) (rowsText rs) (stepNames ++ newline ∷ stepsText ps))
-    (row-held s n _ (not-names _ (rowNumbers r) (text .numbers)) (rowNumbers r) (sym (text .numbers)) m w (taken .0)
-    ∙ rw (text .next, ← e) (rows-written _ (n + 1) rs ps rest u (rows .1) steps run (taken .1)))
+    (row-held s n _ (not-names _ (rowNumbers r) (text .numbers)) (rowNumbers r) (sym (text .numbers)) _ _ m (taken .0)
+    ∙ rw (text .next) (rows-written _ (n + 1) rs ps rest u (rows .1) steps run (taken .1)))
 
-well-written : (rs : List Row) (ps : List Step) (os : List Seen) (u : Session) → Every RowFits rs → Every StepFits ps
-    → Run freshSession (callsOf rs ps) os u → Every IsAccepted os → reading (bundleText rs ps) ≡ record { answer = answer 0 (length ps); session = u }
+well-written : (rs : List Row) (ps : List Step) (os : List CallSeen) (u : Session) → Every RowFits rs → Every StepFits ps
+    → CallsMade freshSession (callsOf rs ps) os u → Every IsAccepted os → reading (bundleText rs ps) ≡ record { answer = answer 0 (length ps); session = u }
 unfolding bundleText linesRead
 well-written rs ps os u rows steps run taken =
     let text = lines-at rowNames (rowsText rs ++ (stepNames ++ newline ∷ stepsText ps)) row-names-free in
@@ -90,12 +95,16 @@ well-written rs ps os u rows steps run taken =
     let held : length (view u .steps) ≡ length ps = omega arith in
     reading-by-rows (bundleText rs ps) ∙ rw (text, first-names-are) (rows-written freshSession 2 rs ps os u rows steps run taken ∙ ap (λ n. record { answer = answer 0 n; session = u }) held)
 
-pub read-demand : ReadDemand
-read-demand =
+-- where read and the calls meet their promises, and calls that meet them can be made
+pub read-demand-by : (Selected : SelectRelation) (Called : CallRelation) (Read : List ℕ → ReadResult → Type 0)
+    → SelectsKept Selected SelectMet → CallsKept Called Met → CallsKept Met Called
+    → ((bytes : List ℕ) (t : ReadResult) → Read bytes t → ReadMet bytes t) → ReadDemand Selected Called Read
+read-demand-by Selected Called Read select-tied call-tied met-called read-tied =
     record {
-      accepted = read-accepted;
-      refused = read-refused;
+      accepted = λ bytes t m. read-accepted Selected Called select-tied met-called bytes t (read-tied bytes t m);
+      refused = λ bytes t m. read-refused bytes t (read-tied bytes t m);
       reads-back = λ rs ps os s rows steps run taken t m.
-          let same = well-written rs ps os s rows steps run taken in
-          (m .answer ∙ ap (λ r. r .answer) same, m .session ∙ ap (λ r. r .session) same);
+          let same = well-written rs ps os s rows steps (run-map call-tied run) taken in
+          let met = read-tied _ t m in
+          (met .answer ∙ ap (λ r. r .answer) same, met .session ∙ ap (λ r. r .session) same);
     }

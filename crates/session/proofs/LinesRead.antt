@@ -7,19 +7,18 @@ use mathlib.Core.Option.{none, some, Option·elim, Option·some-ne-none}
 use lib.ListN.{drop}
 use Rattle.lines.specs.Line.{Line, firstIs}
 use Rattle.lines.specs.Number.{numbersOf}
-use Rattle.lines.specs.Read.{firstParts, firstNumbers}
-use Rattle.session.specs.declared.Session.{Session}
-use Rattle.session.specs.declared.TermResult.{TermResult}
-use Rattle.session.specs.declared.StepResult.{StepResult}
-use Rattle.calls.specs.Book.{accepted}
+use Rattle.lines.specs.code.NumbersRead.{firstParts, firstNumbers}
+use Rattle.session.specs.declared.session.Session.{Session}
+use Rattle.calls.specs.Book.{Answer, accepted}
 use Rattle.calls.specs.TermCall.{termAnswer}
-use Rattle.calls.specs.Tables.{rowWidth, stepWidth}
+use Rattle.calls.specs.code.Tables.{rowWidth, stepWidth}
 use Rattle.session.specs.View.{view, withRow, withStep}
-use Rattle.calls.specs.Answers.{termAnswerOf, stepAnswerOf}
+use Rattle.calls.specs.Calls.{term, step}
 use Rattle.calls.specs.Promises.{rowStepAnswer}
-use Rattle.session.specs.Promises.{TermMet, StepMet}
+use Rattle.session.specs.Promises.{Met}
 use Rattle.session.specs.Bundle.{stepNames, rowOfNumbers, stepOfNumbers, rowOfLine, stepOfLine}
-use Rattle.session.specs.Reading.{refusedAt, wrongForm, stepsRead, rowsRead}
+use Rattle.calls.specs.Refusals.{wrong-form}
+use Rattle.session.specs.Reading.{refusedAt, stepsRead, rowsRead}
 use Rattle.calls.proofs.Accepted.{if-accepted, if-refused}
 
 module _ (s : Session) (n : ℕ) where
@@ -29,7 +28,7 @@ module _ (s : Session) (n : ℕ) where
   names-read [] e = absurd (false≢true e)
   names-read (l ∷ ls) e = rw e
 
-  pub row-wrong : (ls : List Line) → firstIs stepNames ls ≡ false → none ≡ firstNumbers rowWidth ls → rowsRead rowStepAnswer s n ls ≡ refusedAt wrongForm n
+  pub row-wrong : (ls : List Line) → firstIs stepNames ls ≡ false → none ≡ firstNumbers rowWidth ls → rowsRead rowStepAnswer s n ls ≡ refusedAt wrong-form n
   unfolding rowsRead firstIs firstParts numbersOf rowOfLine Option·elim
   row-wrong [] e f = refl
   row-wrong (l ∷ ls) e f = rw (e, ← f)
@@ -44,17 +43,17 @@ module _ (s : Session) (n : ℕ) where
 
   -- a term line makes its call
   module _ (ls : List Line) (other : firstIs stepNames ls ≡ false) (ns : List ℕ) (first : some ns ≡ firstNumbers rowWidth ls)
-      (t : TermResult) (m : TermMet s (rowOfNumbers ns) t)
+      (a : Answer) (t : Session) (m : Met s (term (rowOfNumbers ns)) a t)
     where
-      pub row-held : termAnswerOf (t .answer) .number ≡ 0 → rowsRead rowStepAnswer s n ls ≡ rowsRead rowStepAnswer (t .session) (n + 1) (drop 1 ls)
+      pub row-held : a .number ≡ 0 → rowsRead rowStepAnswer s n ls ≡ rowsRead rowStepAnswer t (n + 1) (drop 1 ls)
       row-held e =
           row-called ls other ns first ∙ sym (if-accepted _ _ (m .answer) _ _ e)
-          ∙ ap (λ u. rowsRead rowStepAnswer u (n + 1) (drop 1 ls)) (if-accepted _ _ (m .answer) (withRow s (rowOfNumbers ns)) s e ∙ sym (m .session))
+          ∙ ap (λ u. rowsRead rowStepAnswer u (n + 1) (drop 1 ls)) (if-accepted _ _ (m .answer) (withRow s (rowOfNumbers ns)) s e ∙ sym (m .left))
 
-      pub row-refused : ¬ (termAnswerOf (t .answer) .number ≡ 0) → rowsRead rowStepAnswer s n ls ≡ refusedAt (termAnswerOf (t .answer) .number) n
-      row-refused f = row-called ls other ns first ∙ sym (if-refused _ _ (m .answer) _ _ f) ∙ ap (λ a. refusedAt (a .number) n) (sym (m .answer))
+      pub row-refused : ¬ (a .number ≡ 0) → rowsRead rowStepAnswer s n ls ≡ refusedAt (a .number) n
+      row-refused f = row-called ls other ns first ∙ sym (if-refused _ _ (m .answer) _ _ f) ∙ ap (λ o. refusedAt (o .number) n) (sym (m .answer))
 
-  pub step-wrong : (ls : List Line) → ¬ (ls ≡ []) → none ≡ firstNumbers stepWidth ls → stepsRead rowStepAnswer s n ls ≡ refusedAt wrongForm n
+  pub step-wrong : (ls : List Line) → ¬ (ls ≡ []) → none ≡ firstNumbers stepWidth ls → stepsRead rowStepAnswer s n ls ≡ refusedAt wrong-form n
   unfolding stepsRead firstParts numbersOf stepOfLine Option·elim
   step-wrong [] full f = absurd (full refl)
   step-wrong (l ∷ ls) full f = rw (← f)
@@ -68,11 +67,11 @@ module _ (s : Session) (n : ℕ) where
   step-called (l ∷ ls) ns f = rw (← f)
 
   -- a step line makes its call
-  module _ (ls : List Line) (ns : List ℕ) (first : some ns ≡ firstNumbers stepWidth ls) (t : StepResult) (m : StepMet s (stepOfNumbers ns) t) where
-    pub step-held : stepAnswerOf (t .answer) .number ≡ 0 → stepsRead rowStepAnswer s n ls ≡ stepsRead rowStepAnswer (t .session) (n + 1) (drop 1 ls)
+  module _ (ls : List Line) (ns : List ℕ) (first : some ns ≡ firstNumbers stepWidth ls) (a : Answer) (t : Session) (m : Met s (step (stepOfNumbers ns)) a t) where
+    pub step-held : a .number ≡ 0 → stepsRead rowStepAnswer s n ls ≡ stepsRead rowStepAnswer t (n + 1) (drop 1 ls)
     step-held e =
         step-called ls ns first ∙ sym (if-accepted _ _ (m .answer) _ _ e)
-        ∙ ap (λ u. stepsRead rowStepAnswer u (n + 1) (drop 1 ls)) (if-accepted _ _ (m .answer) (withStep s (stepOfNumbers ns)) s e ∙ sym (m .session))
+        ∙ ap (λ u. stepsRead rowStepAnswer u (n + 1) (drop 1 ls)) (if-accepted _ _ (m .answer) (withStep s (stepOfNumbers ns)) s e ∙ sym (m .left))
 
-    pub step-refused : ¬ (stepAnswerOf (t .answer) .number ≡ 0) → stepsRead rowStepAnswer s n ls ≡ refusedAt (stepAnswerOf (t .answer) .number) n
-    step-refused f = step-called ls ns first ∙ sym (if-refused _ _ (m .answer) _ _ f) ∙ ap (λ a. refusedAt (a .number) n) (sym (m .answer))
+    pub step-refused : ¬ (a .number ≡ 0) → stepsRead rowStepAnswer s n ls ≡ refusedAt (a .number) n
+    step-refused f = step-called ls ns first ∙ sym (if-refused _ _ (m .answer) _ _ f) ∙ ap (λ o. refusedAt (o .number) n) (sym (m .answer))

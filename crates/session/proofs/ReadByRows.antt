@@ -7,23 +7,23 @@ use mathlib.Core.Option.{Option, none, some, Option·elim}
 use borrow.Author.Tests.{eqb-true}
 use Rattle.terms.specs.Row.{Row}
 use Rattle.lines.specs.Line.{Line, lines, isLine}
-use Rattle.session.specs.declared.Session.{Session}
+use Rattle.session.specs.declared.session.Session.{Session}
 use Rattle.calls.specs.Book.{Step, Book, Answer, accepted}
 use Rattle.calls.specs.TermCall.{termAnswer}
 use Rattle.calls.specs.StepCall.{stepAnswer}
+use Rattle.calls.specs.Calls.{Call, term, step}
 use Rattle.session.specs.View.{view, freshSession, withRow, withStep}
 use Rattle.calls.specs.Promises.{rowStepAnswer}
+use Rattle.session.specs.Promises.{sessionAnswer, sessionWith, session}
 use Rattle.session.specs.Bundle.{rowNames, stepNames, rowOfLine, stepOfLine}
-use Rattle.session.specs.Reading.{Reading, refusedAt, wrongForm, stepsRead, rowsRead, linesRead, reading}
+use Rattle.calls.specs.Refusals.{wrong-form}
+use Rattle.session.specs.Reading.{Reading, refusedAt, stepsRead, rowsRead, linesRead, reading}
+use Rattle.calls.proofs.Runs.{accepted-made}
 use Rattle.calls.proofs.ByTerms.{row-answer-by-terms}
-use Rattle.session.proofs.CallsExist.{row-call, step-call}
 use Rattle.session.proofs.Simulation.{Kept, kept-on, fresh-kept}
 
-kept-row : (s : Session) → Kept s → (r : Row) → accepted (termAnswer (view s .rows) r) ≡ true → Kept (withRow s r)
-kept-row s k r e = let (o, made, taken) = row-call s r (eqb-true _ 0 e) in kept-on k made
-
-kept-step : (s : Session) → Kept s → (p : Step) → accepted (rowStepAnswer (view s) p) ≡ true → Kept (withStep s p)
-kept-step s k p e = let (o, made, taken) = step-call s p (eqb-true _ 0 e) in kept-on k made
+kept-with : (s : Session) → Kept s → (c : Call) → accepted (sessionAnswer s c) ≡ true → Kept (sessionWith s c)
+kept-with s k c e = kept-on k (accepted-made session s c (eqb-true _ 0 e))
 
 -- readings that are the same where the call is accepted
 same-if-accepted : (b : Bool) (t u v : Reading) → (b ≡ true → t ≡ u) → cond b t v ≡ cond b u v
@@ -33,7 +33,7 @@ same-if-accepted false t u v same = refl
 steps-by-rows : (s : Session) → Kept s → (n : ℕ) (ls : List Line) → stepsRead stepAnswer s n ls ≡ stepsRead rowStepAnswer s n ls
 unfolding stepsRead Option·elim
 steps-by-rows s k n [] = refl
-steps-by-rows s k n (l ∷ ls) = by-form (stepOfLine l) (λ p e. steps-by-rows (withStep s p) (kept-step s k p e) (n + 1) ls)
+steps-by-rows s k n (l ∷ ls) = by-form (stepOfLine l) (λ p e. steps-by-rows (withStep s p) (kept-with s k (step p) e) (n + 1) ls)
   where
     after : (Book → Step → Answer) → Step → Reading
     after judge p = cond (accepted (judge (view s) p)) (stepsRead judge (withStep s p) (n + 1) ls) (refusedAt (judge (view s) p .number) n)
@@ -41,7 +41,7 @@ steps-by-rows s k n (l ∷ ls) = by-form (stepOfLine l) (λ p e. steps-by-rows (
     by-form : (o : Option Step)
         → ((p : Step) → accepted (rowStepAnswer (view s) p) ≡ true
         → stepsRead stepAnswer (withStep s p) (n + 1) ls ≡ stepsRead rowStepAnswer (withStep s p) (n + 1) ls)
-        → Option·elim o (refusedAt wrongForm n) (after stepAnswer) ≡ Option·elim o (refusedAt wrongForm n) (after rowStepAnswer)
+        → Option·elim o (refusedAt wrong-form n) (after stepAnswer) ≡ Option·elim o (refusedAt wrong-form n) (after rowStepAnswer)
     by-form none later = refl
     by-form (some p) later =
         rw (← row-answer-by-terms (view s) p (k .reachable)) (same-if-accepted (accepted (rowStepAnswer (view s) p)) _ _ _ (later p))
@@ -50,7 +50,7 @@ rows-by-rows : (s : Session) → Kept s → (n : ℕ) (ls : List Line) → rowsR
 unfolding rowsRead Option·elim
 rows-by-rows s k n [] = refl
 rows-by-rows s k n (l ∷ ls) =
-    by-names (isLine stepNames l) (by-form (rowOfLine l) (λ r e. rows-by-rows (withRow s r) (kept-row s k r e) (n + 1) ls))
+    by-names (isLine stepNames l) (by-form (rowOfLine l) (λ r e. rows-by-rows (withRow s r) (kept-with s k (term r) e) (n + 1) ls))
   where
     after : (Book → Step → Answer) → Row → Reading
     after judge r =
@@ -59,7 +59,7 @@ rows-by-rows s k n (l ∷ ls) =
     by-form : (o : Option Row)
         → ((r : Row) → accepted (termAnswer (view s .rows) r) ≡ true
         → rowsRead stepAnswer (withRow s r) (n + 1) ls ≡ rowsRead rowStepAnswer (withRow s r) (n + 1) ls)
-        → Option·elim o (refusedAt wrongForm n) (after stepAnswer) ≡ Option·elim o (refusedAt wrongForm n) (after rowStepAnswer)
+        → Option·elim o (refusedAt wrong-form n) (after stepAnswer) ≡ Option·elim o (refusedAt wrong-form n) (after rowStepAnswer)
     by-form none later = refl
     by-form (some r) later = same-if-accepted (accepted (termAnswer (view s .rows) r)) _ _ _ (later r)
 
@@ -70,7 +70,7 @@ rows-by-rows s k n (l ∷ ls) =
 lines-by-rows : (ls : List Line) → linesRead stepAnswer ls ≡ linesRead rowStepAnswer ls
 unfolding linesRead
 lines-by-rows [] = refl
-lines-by-rows (l ∷ ls) = ap (λ t. cond (isLine rowNames l) t (refusedAt wrongForm 1)) (rows-by-rows freshSession fresh-kept 2 ls)
+lines-by-rows (l ∷ ls) = ap (λ t. cond (isLine rowNames l) t (refusedAt wrong-form 1)) (rows-by-rows freshSession fresh-kept 2 ls)
 
 pub reading-by-rows : (bytes : List ℕ) → reading bytes ≡ linesRead rowStepAnswer (lines bytes)
 unfolding reading

@@ -8,24 +8,26 @@ use native.Mathlib.Omega.{arith}
 use lib.ListN.{length}
 use borrow.Author.Tests.{eqb-true, eqb-false}
 use Rattle.terms.specs.Row.{Row}
-use Rattle.rules.specs.Lists.{Every}
+use Rattle.common.specs.Lists.{Every}
 use Rattle.lines.specs.Line.{Line, line, lines, sameBytes, isLine}
 use Rattle.lines.proofs.SameBytes.{same-bytes}
-use Rattle.session.specs.declared.Session.{Session}
-use Rattle.session.specs.declared.ReadResult.{ReadResult}
+use Rattle.session.specs.declared.session.Session.{Session}
+use Rattle.session.specs.declared.read.ReadResult.{ReadResult}
 use Rattle.calls.specs.Book.{Step, Answer, answer, accepted}
 use Rattle.calls.specs.TermCall.{termAnswer}
-use Rattle.calls.specs.Calls.{step, Seen}
+use Rattle.calls.specs.Runs.{seen, done, then}
+use Rattle.calls.specs.Calls.{term, step, CallSeen}
 use Rattle.session.specs.View.{view, freshSession, withRow, withStep}
 use Rattle.calls.specs.Promises.{rowStepAnswer}
+use Rattle.session.specs.Promises.{CallRelation, SelectRelation, session, Met, CallsMade, SelectMet}
 use Rattle.session.specs.Bundle.{rowNames, stepNames, rowOfLine, stepOfLine}
-use Rattle.session.specs.Reading.{Reading, refusedAt, wrongForm, stepsRead, rowsRead, linesRead}
+use Rattle.calls.specs.Refusals.{wrong-form}
+use Rattle.session.specs.Reading.{Reading, refusedAt, stepsRead, rowsRead, linesRead}
 use Rattle.session.specs.ReadCall.{readAnswerOf, ReadMet}
-use Rattle.session.specs.Demand3.{Run, done, then}
 use Rattle.session.specs.ReadDemand.{IsAccepted, callsOf, IsBundle, ReadAccepted}
-use Rattle.session.proofs.CallsExist.{row-call, step-call}
+use Rattle.calls.proofs.Runs.{accepted-made, run-map}
 use Rattle.session.proofs.ReadByRows.{reading-by-rows}
-use Rattle.session.proofs.Demand3.{demand3}
+use Rattle.session.proofs.Demand3.{CallsKept, SelectsKept, demanded}
 use Rattle.session.proofs.Simulation.{fresh-kept}
 use Rattle.session.proofs.StepsAdded.{calls-added}
 use Rattle.session.proofs.Views.{fresh-view}
@@ -43,20 +45,19 @@ is-line ys l e = by-end (l .ended) refl e
 record StepsMade (s : Session) (ls : List Line) (u : Session) : Type 0 where
   pub steps : List Step
   pub are-steps : map stepOfLine ls ≡ map some steps
-  pub seen : List Seen
-  pub made : Run s (map step steps) seen u
+  pub seen : List CallSeen
+  pub made : CallsMade s (map step steps) seen u
   pub accepted : Every IsAccepted seen
 
 one-step : (s : Session) (p : Step) (l : Line) (ls : List Line) (u : Session) → stepOfLine l ≡ some p → rowStepAnswer (view s) p .number ≡ 0
     → StepsMade (withStep s p) ls u → StepsMade s (l ∷ ls) u
 one-step s p l ls u is e later =
-    let (o, made, taken) = step-call s p e in
     record {
       steps = p ∷ later .steps;
       are-steps = λ i. is i ∷ later .are-steps i;
-      seen = o ∷ later .seen;
-      made = then made (later .made);
-      accepted = (taken, later .accepted);
+      seen = seen (rowStepAnswer (view s) p) (view (withStep s p)) ∷ later .seen;
+      made = then (accepted-made session s (step p) e) (later .made);
+      accepted = (e, later .accepted);
     }
 
 -- the reading from line n on, where that line is the step p
@@ -80,9 +81,9 @@ unfolding stepsRead Option·elim
 steps-made s n [] e = record { steps = []; are-steps = refl; seen = []; made = done; accepted = tt }
 steps-made s n (l ∷ ls) e = by-form (stepOfLine l) refl e (λ p. steps-made (withStep s p) (n + 1) ls)
   where
-    by-form : (o : Option Step) → stepOfLine l ≡ o → Option·elim o (refusedAt wrongForm n) (afterStep s n ls) .answer .number ≡ 0
+    by-form : (o : Option Step) → stepOfLine l ≡ o → Option·elim o (refusedAt wrong-form n) (afterStep s n ls) .answer .number ≡ 0
         → ((p : Step) → stepsRead rowStepAnswer (withStep s p) (n + 1) ls .answer .number ≡ 0 → StepsMade (withStep s p) ls (stepsRead rowStepAnswer (withStep s p) (n + 1) ls .session))
-        → StepsMade s (l ∷ ls) (Option·elim o (refusedAt wrongForm n) (afterStep s n ls) .session)
+        → StepsMade s (l ∷ ls) (Option·elim o (refusedAt wrong-form n) (afterStep s n ls) .session)
     by-form none is e later = absurd (omega arith)
     by-form (some p) is e later = step-line-made s n l ls p is e (later p)
 
@@ -95,8 +96,8 @@ record RowsMade (s : Session) (ls : List Line) (u : Session) : Type 0 where
   pub are-rows : map rowOfLine row-lines ≡ map some rows
   pub steps : List Step
   pub are-steps : map stepOfLine step-lines ≡ map some steps
-  pub seen : List Seen
-  pub made : Run s (callsOf rows steps) seen u
+  pub seen : List CallSeen
+  pub made : CallsMade s (callsOf rows steps) seen u
   pub accepted : Every IsAccepted seen
 
 names-made : (s : Session) (l : Line) (ls : List Line) (u : Session) → isLine stepNames l ≡ true → StepsMade s ls u → RowsMade s (l ∷ ls) u
@@ -117,7 +118,6 @@ names-made s l ls u is later =
 one-row : (s : Session) (r : Row) (l : Line) (ls : List Line) (u : Session) → rowOfLine l ≡ some r → termAnswer (view s .rows) r .number ≡ 0
     → RowsMade (withRow s r) ls u → RowsMade s (l ∷ ls) u
 one-row s r l ls u is e later =
-    let (o, made, taken) = row-call s r e in
     record {
       row-lines = l ∷ later .row-lines;
       step-lines = later .step-lines;
@@ -126,9 +126,9 @@ one-row s r l ls u is e later =
       are-rows = λ i. is i ∷ later .are-rows i;
       steps = later .steps;
       are-steps = later .are-steps;
-      seen = o ∷ later .seen;
-      made = then made (later .made);
-      accepted = (taken, later .accepted);
+      seen = seen (termAnswer (view s .rows) r) (view (withRow s r)) ∷ later .seen;
+      made = then (accepted-made session s (term r) e) (later .made);
+      accepted = (e, later .accepted);
     }
 
 -- the reading from line n on, where that line is the row r
@@ -152,16 +152,16 @@ unfolding rowsRead Option·elim
 rows-made s n [] e = absurd (omega arith)
 rows-made s n (l ∷ ls) e = by-names (isLine stepNames l) refl e (λ r. rows-made (withRow s r) (n + 1) ls)
   where
-    by-form : (o : Option Row) → rowOfLine l ≡ o → Option·elim o (refusedAt wrongForm n) (afterRow s n ls) .answer .number ≡ 0
+    by-form : (o : Option Row) → rowOfLine l ≡ o → Option·elim o (refusedAt wrong-form n) (afterRow s n ls) .answer .number ≡ 0
         → ((r : Row) → rowsRead rowStepAnswer (withRow s r) (n + 1) ls .answer .number ≡ 0 → RowsMade (withRow s r) ls (rowsRead rowStepAnswer (withRow s r) (n + 1) ls .session))
-        → RowsMade s (l ∷ ls) (Option·elim o (refusedAt wrongForm n) (afterRow s n ls) .session)
+        → RowsMade s (l ∷ ls) (Option·elim o (refusedAt wrong-form n) (afterRow s n ls) .session)
     by-form none is e later = absurd (omega arith)
     by-form (some r) is e later = row-line-made s n l ls r is e (later r)
 
     by-names : (b : Bool) → isLine stepNames l ≡ b
-        → cond b (stepsRead rowStepAnswer s (n + 1) ls) (Option·elim (rowOfLine l) (refusedAt wrongForm n) (afterRow s n ls)) .answer .number ≡ 0
+        → cond b (stepsRead rowStepAnswer s (n + 1) ls) (Option·elim (rowOfLine l) (refusedAt wrong-form n) (afterRow s n ls)) .answer .number ≡ 0
         → ((r : Row) → rowsRead rowStepAnswer (withRow s r) (n + 1) ls .answer .number ≡ 0 → RowsMade (withRow s r) ls (rowsRead rowStepAnswer (withRow s r) (n + 1) ls .session))
-        → RowsMade s (l ∷ ls) (cond b (stepsRead rowStepAnswer s (n + 1) ls) (Option·elim (rowOfLine l) (refusedAt wrongForm n) (afterRow s n ls)) .session)
+        → RowsMade s (l ∷ ls) (cond b (stepsRead rowStepAnswer s (n + 1) ls) (Option·elim (rowOfLine l) (refusedAt wrong-form n) (afterRow s n ls)) .session)
     by-names true is e later = names-made s l ls _ is (steps-made s (n + 1) ls e)
     by-names false is e later = by-form (rowOfLine l) refl e later
 
@@ -170,8 +170,8 @@ record BundleMade (ls : List Line) (u : Session) : Type 0 where
   pub rows : List Row
   pub steps : List Step
   pub bundle : IsBundle ls rows steps
-  pub seen : List Seen
-  pub made : Run freshSession (callsOf rows steps) seen u
+  pub seen : List CallSeen
+  pub made : CallsMade freshSession (callsOf rows steps) seen u
   pub accepted : Every IsAccepted seen
 
 first-names-made : (l : Line) (ls : List Line) (u : Session) → isLine rowNames l ≡ true → RowsMade freshSession ls u → BundleMade (l ∷ ls) u
@@ -196,8 +196,8 @@ unfolding linesRead
 lines-made [] e = absurd (omega arith)
 lines-made (l ∷ ls) e = by-names (isLine rowNames l) refl e
   where
-    by-names : (b : Bool) → isLine rowNames l ≡ b → cond b (rowsRead rowStepAnswer freshSession 2 ls) (refusedAt wrongForm 1) .answer .number ≡ 0
-        → BundleMade (l ∷ ls) (cond b (rowsRead rowStepAnswer freshSession 2 ls) (refusedAt wrongForm 1) .session)
+    by-names : (b : Bool) → isLine rowNames l ≡ b → cond b (rowsRead rowStepAnswer freshSession 2 ls) (refusedAt wrong-form 1) .answer .number ≡ 0
+        → BundleMade (l ∷ ls) (cond b (rowsRead rowStepAnswer freshSession 2 ls) (refusedAt wrong-form 1) .session)
     by-names true is e = first-names-made l ls _ is (rows-made freshSession 2 ls e)
     by-names false is e = absurd (omega arith)
 
@@ -220,9 +220,9 @@ either-settled : (b : Bool) (r t : Reading) → Settled r → Settled t → Sett
 either-settled true r t w v = w
 either-settled false r t w v = v
 
-form-settled : {A : Type 0} (o : Option A) (n : ℕ) (after : A → Reading) → ((x : A) → Settled (after x)) → Settled (Option·elim o (refusedAt wrongForm n) after)
+form-settled : {A : Type 0} (o : Option A) (n : ℕ) (after : A → Reading) → ((x : A) → Settled (after x)) → Settled (Option·elim o (refusedAt wrong-form n) after)
 unfolding Option·elim
-form-settled none n after later = refused-settled wrongForm n (λ e. absurd (omega arith))
+form-settled none n after later = refused-settled wrong-form n (λ e. absurd (omega arith))
 form-settled (some x) n after later = later x
 
 steps-settled : (s : Session) (n : ℕ) (ls : List Line) → Settled (stepsRead rowStepAnswer s n ls)
@@ -232,40 +232,48 @@ steps-settled s n (l ∷ ls) = form-settled (stepOfLine l) n _ (λ p. judged-set
 
 rows-settled : (s : Session) (n : ℕ) (ls : List Line) → Settled (rowsRead rowStepAnswer s n ls)
 unfolding rowsRead
-rows-settled s n [] = refused-settled wrongForm n (λ e. absurd (omega arith))
+rows-settled s n [] = refused-settled wrong-form n (λ e. absurd (omega arith))
 rows-settled s n (l ∷ ls) =
     either-settled (isLine stepNames l) _ _ (steps-settled s (n + 1) ls)
     (form-settled (rowOfLine l) n _ (λ r. judged-settled (termAnswer (view s .rows) r) n _ (rows-settled (withRow s r) (n + 1) ls)))
 
 lines-settled : (ls : List Line) → Settled (linesRead rowStepAnswer ls)
 unfolding linesRead
-lines-settled [] = refused-settled wrongForm 1 (λ e. absurd (omega arith))
+lines-settled [] = refused-settled wrong-form 1 (λ e. absurd (omega arith))
 lines-settled (l ∷ ls) =
-    either-settled (isLine rowNames l) _ _ (rows-settled freshSession 2 ls) (refused-settled wrongForm 1 (λ e. absurd (omega arith)))
+    either-settled (isLine rowNames l) _ _ (rows-settled freshSession 2 ls) (refused-settled wrong-form 1 (λ e. absurd (omega arith)))
 
-pub read-accepted : (bytes : List ℕ) (t : ReadResult) → ReadMet bytes t → readAnswerOf (t .answer) .number ≡ 0 → ReadAccepted bytes t
-read-accepted bytes t m e =
-    let by-rows = reading-by-rows bytes in
-    let answered = m .answer ∙ ap (λ r. r .answer) by-rows in
-    let left = m .session ∙ ap (λ r. r .session) by-rows in
-    let zero-told = sym (ap (λ a. a .number) answered) ∙ e in
-    let made = lines-made (lines bytes) zero-told in
-    let run = subst (Run freshSession (callsOf (made .rows) (made .steps)) (made .seen)) (sym left) (made .made) in
-    let added = calls-added freshSession (made .rows) (made .steps) (made .seen) (t .session) fresh-kept run (made .accepted) in
-    let none-first : length (view freshSession .steps) ≡ 0 = rw fresh-view in
-    let held : length (view (t .session) .steps) ≡ length (made .steps) = omega arith in
-    record {
-      rows = made .rows;
-      steps = made .steps;
-      bundle = made .bundle;
-      seen = made .seen;
-      made = run;
-      all-accepted = made .accepted;
-      count = answered ∙ lines-settled (lines bytes) .held zero-told ∙ ap (λ s. answer 0 (length (view s .steps))) (sym left) ∙ ap (answer 0) held;
-      demand = demand3 (callsOf (made .rows) (made .steps)) (made .seen) (t .session) run;
-    }
+-- where select meets its promise, and calls that meet theirs can be made
+module _ (Selected : SelectRelation) (Called : CallRelation)
+    (select-tied : SelectsKept Selected SelectMet) (met-called : CallsKept Met Called)
+  where
+    pub read-accepted : (bytes : List ℕ) (t : ReadResult) → ReadMet bytes t
+        → readAnswerOf (t .answer) .number ≡ 0 → ReadAccepted Selected Called bytes t
+    read-accepted bytes t m e =
+        let by-rows = reading-by-rows bytes in
+        let answered = m .answer ∙ ap (λ r. r .answer) by-rows in
+        let left = m .session ∙ ap (λ r. r .session) by-rows in
+        let zero-told = sym (ap (λ a. a .number) answered) ∙ e in
+        let made = lines-made (lines bytes) zero-told in
+        let calls = callsOf (made .rows) (made .steps) in
+        let run = subst (CallsMade freshSession calls (made .seen)) (sym left) (made .made) in
+        let added = calls-added freshSession (made .rows) (made .steps) (made .seen) (t .session) fresh-kept run (made .accepted) in
+        let none-first : length (view freshSession .steps) ≡ 0 = rw fresh-view in
+        let held : length (view (t .session) .steps) ≡ length (made .steps) = omega arith in
+        let told = answered ∙ lines-settled (lines bytes) .held zero-told in
+        record {
+          rows = made .rows;
+          steps = made .steps;
+          bundle = made .bundle;
+          seen = made .seen;
+          made = run-map met-called run;
+          all-accepted = made .accepted;
+          count = told ∙ ap (λ s. answer 0 (length (view s .steps))) (sym left) ∙ ap (answer 0) held;
+          demand = demanded Selected select-tied calls (made .seen) (t .session) run;
+        }
 
-pub read-refused : (bytes : List ℕ) (t : ReadResult) → ReadMet bytes t → ¬ (readAnswerOf (t .answer) .number ≡ 0) → t .session ≡ freshSession
+pub read-refused : (bytes : List ℕ) (t : ReadResult) → ReadMet bytes t
+    → ¬ (readAnswerOf (t .answer) .number ≡ 0) → t .session ≡ freshSession
 read-refused bytes t m f =
     let by-rows = reading-by-rows bytes in
     m .session ∙ ap (λ r. r .session) by-rows

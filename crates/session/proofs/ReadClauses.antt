@@ -6,54 +6,61 @@ use mathlib.Core.List.{List, _∷_, _++_, map}
 use mathlib.Core.Option.{some}
 use lib.ListN.{length}
 use Rattle.terms.specs.Row.{Row}
-use Rattle.rules.specs.Lists.{Every}
+use Rattle.common.specs.Lists.{Every}
 use Rattle.lines.specs.Line.{line, lines}
 use Rattle.lines.specs.Written.{AllFit}
-use Rattle.calls.specs.Book.{Step, answer, emptyBook}
-use Rattle.calls.specs.Calls.{Call, term, step, Seen, bookAfter}
-use Rattle.session.specs.declared.Session.{Session}
-use Rattle.session.specs.declared.ReadResult.{ReadResult}
-use Rattle.session.specs.View.{freshSession, rowNumbers, stepNumbers}
+use Rattle.calls.specs.Book.{Step, answer}
+use Rattle.calls.specs.Runs.{Run}
+use Rattle.calls.specs.Calls.{Call, term, step, CallSeen}
+use Rattle.session.specs.declared.session.Session.{Session}
+use Rattle.session.specs.declared.read.ReadResult.{ReadResult}
+use Rattle.session.specs.View.{view, freshSession, rowNumbers, stepNumbers}
+use Rattle.session.specs.Promises.{CallRelation, SelectRelation}
 use Rattle.session.specs.Bundle.{rowNames, stepNames, rowOfLine, stepOfLine, bundleText}
-use Rattle.session.specs.ReadCall.{readAnswerOf, ReadMet}
-use Rattle.session.specs.Demand3.{Run, Demand3}
+use Rattle.session.specs.ReadCall.{readAnswerOf}
+use Rattle.session.specs.Demand3.{Demand3}
 use Rattle.session.specs.ReadDemand.{ReadAccepted, ReadDemand}
 
 abbrev bundleCalls : List Row → List Step → List Call
 bundleCalls rs ps = map term rs ++ map step ps
 
-abbrev AllAccepted : List Seen → Type 0
+abbrev AllAccepted : List CallSeen → Type 0
 AllAccepted os = Every (λ o. o .answer .number ≡ 0) os
 
-module _ (demand : ReadDemand) (bytes : List ℕ) (t : ReadResult) (met : ReadMet bytes t) where
-  pub leaves-fresh : ¬ (readAnswerOf (t .answer) .number ≡ 0) → t .session ≡ freshSession
-  leaves-fresh = demand .refused bytes t met
+module _ (Selected : SelectRelation) (Called : CallRelation) (Read : List ℕ → ReadResult → Type 0)
+    (demand : ReadDemand Selected Called Read)
+  where
+    module _ (bytes : List ℕ) (t : ReadResult) (is-read : Read bytes t) where
+      pub leaves-fresh : ¬ (readAnswerOf (t .answer) .number ≡ 0) → t .session ≡ freshSession
+      leaves-fresh = demand .refused bytes t is-read
 
-  module _ (accepts : readAnswerOf (t .answer) .number ≡ 0) where
-    abbrev read : ReadAccepted bytes t
-    read = demand .accepted bytes t met accepts
+      module _ (accepts : readAnswerOf (t .answer) .number ≡ 0) where
+        abbrev read : ReadAccepted Selected Called bytes t
+        read = demand .accepted bytes t is-read accepts
 
-    pub lines-read : lines bytes
-        ≡ line rowNames true ∷ (read .bundle .row-lines ++ line stepNames true ∷ read .bundle .step-lines)
-    lines-read = read .bundle .text
+        abbrev calls : List Call
+        calls = bundleCalls (read .rows) (read .steps)
 
-    pub rows-and-steps : (map rowOfLine (read .bundle .row-lines) ≡ map some (read .rows))
-        × (map stepOfLine (read .bundle .step-lines) ≡ map some (read .steps))
-    rows-and-steps = (read .bundle .are-rows, read .bundle .are-steps)
+        pub lines-read : lines bytes
+            ≡ line rowNames true ∷ (read .bundle .row-lines ++ line stepNames true ∷ read .bundle .step-lines)
+        lines-read = read .bundle .text
 
-    pub calls-made : Run freshSession (bundleCalls (read .rows) (read .steps)) (read .seen) (t .session)
-    calls-made = read .made
+        pub rows-and-steps : (map rowOfLine (read .bundle .row-lines) ≡ map some (read .rows))
+            × (map stepOfLine (read .bundle .step-lines) ≡ map some (read .steps))
+        rows-and-steps = (read .bundle .are-rows, read .bundle .are-steps)
 
-    pub answers-seen : AllAccepted (read .seen) × (readAnswerOf (t .answer) ≡ answer 0 (length (read .steps)))
-    answers-seen = (read .all-accepted, read .count)
+        pub calls-made : Run view Called freshSession calls (read .seen) (t .session)
+        calls-made = read .made
 
-    pub demand-met : Demand3 (bundleCalls (read .rows) (read .steps)) (read .seen) (t .session)
-        (bookAfter emptyBook (bundleCalls (read .rows) (read .steps)))
-    demand-met = read .demand
+        pub answers-seen : AllAccepted (read .seen) × (readAnswerOf (t .answer) ≡ answer 0 (length (read .steps)))
+        answers-seen = (read .all-accepted, read .count)
 
-pub text-read : ReadDemand → (rs : List Row) (ps : List Step) (os : List Seen) (s : Session)
-    → Every (λ r. AllFit (rowNumbers r)) rs → Every (λ p. AllFit (stepNumbers p)) ps
-    → Run freshSession (bundleCalls rs ps) os s → AllAccepted os
-    → (t : ReadResult) → ReadMet (bundleText rs ps) t
-    → (readAnswerOf (t .answer) ≡ answer 0 (length ps)) × (t .session ≡ s)
-text-read demand = demand .reads-back
+        pub demand-met : Demand3 Selected calls (read .seen) (t .session)
+        demand-met = read .demand
+
+    pub text-read : (rs : List Row) (ps : List Step) (os : List CallSeen) (s : Session)
+        → Every (λ r. AllFit (rowNumbers r)) rs → Every (λ p. AllFit (stepNumbers p)) ps
+        → Run view Called freshSession (bundleCalls rs ps) os s → AllAccepted os
+        → (t : ReadResult) → Read (bundleText rs ps) t
+        → (readAnswerOf (t .answer) ≡ answer 0 (length ps)) × (t .session ≡ s)
+    text-read = demand .reads-back

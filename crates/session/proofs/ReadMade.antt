@@ -9,14 +9,15 @@ use borrow.Author.Tests.{ne-eqb}
 use Rattle.lines.specs.Ascii.{ascii}
 use Rattle.lines.specs.Line.{Line, lines, firstIs}
 use Rattle.lines.proofs.Start.{line-passed}
-use Rattle.session.specs.declared.ReadResult.{ReadResult}
-use Rattle.session.specs.declared.RowsEnd.{RowsEnd}
-use Rattle.session.specs.declared.StepsEnd.{StepsEnd}
+use Rattle.session.specs.declared.read.ReadResult.{ReadResult}
+use Rattle.session.specs.declared.read.RowsEnd.{RowsEnd}
+use Rattle.session.specs.declared.read.StepsEnd.{StepsEnd}
 use Rattle.calls.specs.Book.{answer, accepted}
 use Rattle.session.specs.View.{freshSession}
 use Rattle.session.specs.Bundle.{rowNames}
 use Rattle.calls.specs.Promises.{rowStepAnswer}
-use Rattle.session.specs.Reading.{refusedAt, wrongForm, stepsRead, rowsRead, linesRead, reading}
+use Rattle.calls.specs.Refusals.{wrong-form}
+use Rattle.session.specs.Reading.{refusedAt, stepsRead, rowsRead, linesRead, reading}
 use Rattle.session.specs.ReadCall.{readAnswerOf, isHeld, readingOf, ReadMet, holding}
 use Rattle.session.specs.ReadCall.{afterRows, RowsBounds, RowsReadMet, afterSteps, StepsBounds, StepsReadMet}
 use Rattle.session.proofs.LineCalls.{row-names-free}
@@ -35,7 +36,7 @@ read-met bytes t v e =
 pub refused-variant : (k n : ℕ) → 0 < k → false ≡ accepted (answer k n)
 refused-variant k n h = sym (ne-eqb k 0 (λ e. omega arith))
 
-no-names-read : (ls : List Line) → firstIs rowNames ls ≡ false → linesRead rowStepAnswer ls ≡ refusedAt wrongForm 1
+no-names-read : (ls : List Line) → firstIs rowNames ls ≡ false → linesRead rowStepAnswer ls ≡ refusedAt wrong-form 1
 unfolding linesRead firstIs
 no-names-read [] e = refl
 no-names-read (l ∷ ls) e = rw e
@@ -46,7 +47,7 @@ first-names-read [] e = absurd (false≢true e)
 first-names-read (l ∷ ls) e = rw e
 
 -- the first names line is missing
-pub no-names : (bytes : List ℕ) → firstIs rowNames (lines bytes) ≡ false → refusedAt wrongForm 1 ≡ reading bytes
+pub no-names : (bytes : List ℕ) → firstIs rowNames (lines bytes) ≡ false → refusedAt wrong-form 1 ≡ reading bytes
 no-names bytes e = sym (reading-by-rows bytes ∙ no-names-read (lines bytes) e)
 
 fresh-tables : freshSession ≡ holding (freshSession .rows) 0 (freshSession .steps) 0

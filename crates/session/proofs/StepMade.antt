@@ -3,16 +3,16 @@ use Prim.Native.Nat.{ℕ, _+_, _*_}
 use mathlib.Core.Path.{_≡_, _∙_}
 use mathlib.Core.List.{List}
 use lib.Seq.{sets}
-use Rattle.session.specs.declared.Session.{Session}
+use Rattle.session.specs.declared.session.Session.{Session}
 use Rattle.calls.specs.declared.StepAnswer.{StepAnswer}
 use Rattle.calls.specs.Book.{Step, book}
-use Rattle.calls.specs.Tables.{stepWidth, firstRows, firstSteps}
+use Rattle.calls.specs.code.Tables.{stepWidth, firstRows, firstSteps}
 use Rattle.session.specs.View.{stepsHeld, view, stepNumbers, withStep}
-use Rattle.calls.specs.Answers.{stepAnswerOf}
+use Rattle.calls.specs.code.Answers.{stepAnswerOf}
 use Rattle.calls.specs.Promises.{rowStepAnswer}
-use Rattle.session.specs.Promises.{StepMet}
+use Rattle.calls.specs.Calls.{step}
+use Rattle.session.specs.Promises.{Met}
 use Rattle.calls.proofs.Accepted.{if-accepted, if-refused}
-use Rattle.calls.proofs.ByTerms.{row-answer-by-terms}
 
 module _ (s : Session) (p : Step) (t : StepAnswer) (answered : stepAnswerOf t ≡ rowStepAnswer (book (firstRows (s .«row_count») (s .rows)) (firstSteps (s .«step_count») (s .steps))) p)
   where
@@ -21,15 +21,11 @@ module _ (s : Session) (p : Step) (t : StepAnswer) (answered : stepAnswerOf t �
     judged = answered
 
     pub step-made-held : stepAnswerOf t .number ≡ 0 → (m : ℕ) → m ≡ stepsHeld s → (ys : List ℕ) → ys ≡ sets (s .steps) (stepWidth * m) (stepNumbers p)
-        → StepMet s p (record { answer = t; session = record { rows = s .rows; «row_count» = s .«row_count»; steps = ys; «step_count» = m + 1 } })
+        → Met s (step p) (stepAnswerOf t) (record { rows = s .rows; «row_count» = s .«row_count»; steps = ys; «step_count» = m + 1 })
     unfolding withStep
     step-made-held e m steps ys written =
         let here : ys ≡ sets (s .steps) (stepWidth * stepsHeld s) (stepNumbers p) = written ∙ rw steps in
-        record {
-          answer = judged;
-          by-terms = λ h. judged ∙ row-answer-by-terms (view s) p h;
-          session = (λ i. record { rows = s .rows; «row_count» = s .«row_count»; steps = here i; «step_count» = steps i + 1 }) ∙ if-accepted _ _ judged (withStep s p) s e;
-        }
+        record { answer = judged; left = (λ i. record { rows = s .rows; «row_count» = s .«row_count»; steps = here i; «step_count» = steps i + 1 }) ∙ if-accepted _ _ judged (withStep s p) s e }
 
-    pub step-made-refused : ¬ (stepAnswerOf t .number ≡ 0) → StepMet s p (record { answer = t; session = s })
-    step-made-refused f = record { answer = judged; by-terms = λ h. judged ∙ row-answer-by-terms (view s) p h; session = if-refused _ _ judged (withStep s p) s f }
+    pub step-made-refused : ¬ (stepAnswerOf t .number ≡ 0) → Met s (step p) (stepAnswerOf t) s
+    step-made-refused f = record { answer = judged; left = if-refused _ _ judged (withStep s p) s f }

@@ -6,10 +6,10 @@ use native.Mathlib.Omega.{arith}
 use lib.ListN.{length, take, drop, length-append, length-replicate}
 use lib.Seq.{sets, sets-eq, length-sets, length-take-le, take-at}
 use Rattle.terms.specs.Row.{Row, tableOf, maxRows}
-use Rattle.terms.proofs.Lent.{table-append}
-use Rattle.session.specs.declared.Session.{Session}
+use Rattle.terms.proofs.LentRows.{table-append}
+use Rattle.session.specs.declared.session.Session.{Session}
 use Rattle.calls.specs.Book.{Step, maxSteps, book, emptyBook}
-use Rattle.calls.specs.Tables.{rowWidth, stepWidth, stepsOf}
+use Rattle.calls.specs.code.Tables.{rowWidth, stepWidth, stepsOf}
 use Rattle.session.specs.View.{rowsHeld, stepsHeld, view, freshSession, rowNumbers, stepNumbers, withRow, withStep}
 use Rattle.calls.proofs.Tables.{steps-append, rows-held, steps-held}
 

@@ -4,11 +4,12 @@ use mathlib.Core.Bool.{cond}
 use mathlib.Core.List.{List}
 use lib.Dec.{ltb}
 use lib.ListN.{length}
-use Rattle.session.specs.declared.Report.{Report}
+use Rattle.session.specs.declared.report.Report.{Report}
 use Rattle.calls.specs.Book.{accepted}
 use Rattle.calls.specs.StepCall.{stepNumbered}
 use Rattle.session.specs.View.{view}
-use Rattle.session.specs.Reading.{Reading, wrongForm, reading}
+use Rattle.calls.specs.Refusals.{wrong-form}
+use Rattle.session.specs.Reading.{Reading, reading}
 
 -- the most bytes that audit takes
 abbrev pub auditLimit : ℕ
@@ -25,4 +26,4 @@ readReport r =
     reportBy (r .answer .number) (cond (accepted (r .answer)) 0 (r .answer .value)) (length held) (last .left) (last .right)
 
 unfoldable pub report : List ℕ → Report
-report bytes = cond (ltb auditLimit (length bytes)) (reportBy wrongForm 0 0 0 0) (readReport (reading bytes))
+report bytes = cond (ltb auditLimit (length bytes)) (reportBy wrong-form 0 0 0 0) (readReport (reading bytes))

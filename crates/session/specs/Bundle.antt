@@ -9,7 +9,7 @@ use Rattle.lines.specs.Line.{newline, Line}
 use Rattle.lines.specs.Number.{numbersOf}
 use Rattle.lines.specs.Written.{lineText}
 use Rattle.calls.specs.Book.{Step, step}
-use Rattle.calls.specs.Tables.{rowWidth, stepWidth}
+use Rattle.calls.specs.code.Tables.{rowWidth, stepWidth}
 use Rattle.session.specs.View.{rowNumbers, stepNumbers}
 
 -- the names lines of document 01: the first stands before the term lines, the second before the step lines

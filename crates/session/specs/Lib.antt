@@ -4,7 +4,6 @@ pub mod Bundle
 pub mod Reading
 pub mod ReadCall
 pub mod Audit
-pub mod BundleCases
-pub mod AuditCases
 pub mod Demand3
 pub mod ReadDemand
+pub mod values

@@ -5,14 +5,14 @@ use mathlib.Core.Bool.{Bool, true, false}
 use mathlib.Core.List.{List}
 use lib.ListN.{length, drop}
 use Rattle.lines.specs.Line.{lines}
-use Rattle.session.specs.declared.Session.{Session}
-use Rattle.session.specs.declared.ReadAnswer.{ReadAnswer}
-use Rattle.session.specs.declared.ReadAnswer.the-variants as ReadCases
-use Rattle.session.specs.declared.ReadResult.{ReadResult}
-use Rattle.session.specs.declared.RowsEnd.{RowsEnd}
-use Rattle.session.specs.declared.RowsEnd.the-variants as RowsCases
-use Rattle.session.specs.declared.StepsEnd.{StepsEnd}
-use Rattle.session.specs.declared.StepsEnd.the-variants as StepsCases
+use Rattle.session.specs.declared.session.Session.{Session}
+use Rattle.session.specs.declared.read.ReadAnswer.{ReadAnswer}
+use Rattle.session.specs.declared.read.ReadAnswer.the-variants as ReadCases
+use Rattle.session.specs.declared.read.ReadResult.{ReadResult}
+use Rattle.session.specs.declared.read.RowsEnd.{RowsEnd}
+use Rattle.session.specs.declared.read.RowsEnd.the-variants as RowsCases
+use Rattle.session.specs.declared.read.StepsEnd.{StepsEnd}
+use Rattle.session.specs.declared.read.StepsEnd.the-variants as StepsCases
 use Rattle.calls.specs.Book.{maxSteps, Answer, answer, accepted}
 use Rattle.session.specs.View.{freshSession}
 use Rattle.calls.specs.Promises.{rowStepAnswer}

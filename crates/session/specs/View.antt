@@ -4,9 +4,9 @@ use mathlib.Core.List.{List, [], _∷_}
 use lib.ListN.{replicate}
 use lib.Seq.{sets}
 use Rattle.terms.specs.Row.{Row, maxRows}
-use Rattle.session.specs.declared.Session.{Session}
+use Rattle.session.specs.declared.session.Session.{Session}
 use Rattle.calls.specs.Book.{Step, maxSteps, Book, book}
-use Rattle.calls.specs.Tables.{rowWidth, stepWidth, rowsCounted, stepsCounted, firstRows, firstSteps}
+use Rattle.calls.specs.code.Tables.{rowWidth, stepWidth, rowsCounted, stepsCounted, firstRows, firstSteps}
 
 -- how many rows and steps are held
 abbrev pub rowsHeld : Session → ℕ

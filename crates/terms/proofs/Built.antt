@@ -1,4 +1,5 @@
--- The tables that accepted rows build: what holds of each row, and that two rows with the same term are the same row. Assumes nothing.
+-- The tables that accepted rows build: what holds of each row, and that two rows with the same term are the same row.
+-- Assumes nothing.
 use Prim.Native.Nat.{ℕ, zero, suc, _<_, _≤_}
 use mathlib.Core.Path.{_≡_, refl, sym, _∙_, ap}
 use mathlib.Core.Bool.{Bool, true, false, not, cond}
@@ -10,18 +11,22 @@ use lib.ListN.{length, getD, take, length-append, length-take, List·getD-append
 use lib.Seq.{take-append-le, take-at, getD-at, getD-take}
 use mir.Facts.{eqb-yes, leb-yes}
 use borrow.Author.Tests.{ne-eqb}
-use Rattle.xpath.proofs.Reflect.{facts, le-or-lt}
+use Rattle.common.proofs.Reflect.{facts, le-or-lt}
 use Rattle.terms.specs.Row.{Row, row, noRow, rowAt}
-use Rattle.terms.specs.Fields.{Field, unused, axis, test, name, path, qualifier, Fields, fieldsOf, maxKind, isPath, isQualifier, heldPath, heldQualifier, fieldOk, badPlace}
+use Rattle.terms.specs.Fields.{Field, unused, axis, test, name, path, qualifier, Fields, fieldsOf, maxKind}
+use Rattle.terms.specs.Fields.{isPath, isQualifier, heldPath, heldQualifier, fieldOk, badPlace}
 use Rattle.terms.specs.Nesting.{maxNesting, nestings, nesting}
-use Rattle.terms.specs.Decode.{Term, ofPath, ofQualifier, noTerm, termBy, terms, termAt, pathAt, qualifierAt}
-use Rattle.terms.specs.Table.{isWellFormed, isNew, Built, empty, more}
-use Rattle.terms.proofs.ByKind.{Kind, void-kind, root-kind, step-kind, union-kind, composition-kind, filter-kind, true-kind, false-kind, not-kind, and-kind, or-kind, in-kind, kind-of, kindOf, term-kind}
-use Rattle.terms.proofs.Decode.{term-at, term-take, path-term, qualifier-term}
+use Rattle.terms.specs.Terms.{Term, ofPath, ofQualifier, noTerm, termBy, terms, termAt, pathAt, qualifierAt}
+use Rattle.terms.specs.AcceptedRows.{isWellFormed, isNew, Built, empty, more}
+use Rattle.terms.proofs.ByKind.{Kind, void-kind, root-kind, step-kind, union-kind, composition-kind}
+use Rattle.terms.proofs.ByKind.{filter-kind, true-kind, false-kind, not-kind, and-kind, or-kind, in-kind}
+use Rattle.terms.proofs.ByKind.{kind-of, kindOf, term-kind}
+use Rattle.terms.proofs.Terms.{term-at, term-take, path-term, qualifier-term}
 use Rattle.terms.proofs.Find.{row-equal, new-row}
 use Rattle.terms.proofs.Nesting.{nesting-at}
 
--- what x is in row i of rs, where its place asks for f and the row's test is t; an operand is an earlier row of its sort
+-- what x is in row i of rs, where its place asks for f and the row's test is t; an operand is an earlier row of its
+-- sort
 abbrev pub FieldLaw : List Row → ℕ → Field → ℕ → ℕ → Type 0
 FieldLaw rs i unused x t = x ≡ 0
 FieldLaw rs i axis x t = x ≤ 11
@@ -45,12 +50,14 @@ Accepted rs r = T (isWellFormed rs r) × T (isNew rs r)
 pub built-at : {rs : List Row} → Built rs → (i : ℕ) → i < length rs → Accepted (take i rs) (rowAt rs i)
 built-at empty i h = absurd (omega arith)
 built-at (more {rs = rs} r b ok new) i h =
-    ⊎-elim (λ l. last (omega (arith, length-append rs (r ∷ [])))) (λ l. earlier l (built-at b i l)) (le-or-lt (length rs) i)
+    ⊎-elim (λ l. last (omega (arith, length-append rs (r ∷ [])))) (λ l. earlier l (built-at b i l))
+    (le-or-lt (length rs) i)
   where
     last : length rs ≡ i → Accepted (take i (rs ++ (r ∷ []))) (rowAt (rs ++ (r ∷ [])) i)
     last e = rw (take-at rs (r ∷ []) i e, getD-at rs r [] noRow i e) (ok, new)
 
-    earlier : i < length rs → Accepted (take i rs) (rowAt rs i) → Accepted (take i (rs ++ (r ∷ []))) (rowAt (rs ++ (r ∷ [])) i)
+    earlier : i < length rs → Accepted (take i rs) (rowAt rs i) →
+        Accepted (take i (rs ++ (r ∷ []))) (rowAt (rs ++ (r ∷ [])) i)
     earlier l u = rw (take-append-le i rs (r ∷ []) (omega arith), List·getD-append rs (r ∷ []) noRow i l) u
 
 no-bad-place : (u v w : Bool) → _≡_ {A = ℕ} (cond (not u) 1 (cond (not v) 2 (cond (not w) 3 0))) 0 → T u × T v × T w
@@ -92,7 +99,8 @@ built-row {rs} b i h =
     }
 
 -- the term of a row depends on the terms of its operands alone
-module _ (ts us : List Term) (rs : List Row) (i : ℕ) (same : (j : ℕ) → j < i → getD ts j noTerm ≡ getD us j noTerm) (x y z : ℕ) where
+module _ (ts us : List Term) (rs : List Row) (i : ℕ) (same : (j : ℕ) → j < i → getD ts j noTerm ≡ getD us j noTerm)
+    (x y z : ℕ) where
   term-same : {k : ℕ} → Kind k → FieldLaw rs i (fieldsOf k .a) x y → FieldLaw rs i (fieldsOf k .b) y y →
       termBy ts (row k x y z) ≡ termBy us (row k x y z)
   unfolding fieldsOf termBy
@@ -115,7 +123,8 @@ unfolding termAt
 built-term {rs} b i h =
     let l = built-row b i h in
     term-at rs i
-    ∙ term-same (terms (take i rs)) (terms rs) rs i (term-take i rs) _ _ _ (kind-of (rowAt rs i .kind) (l .kind)) (l .a) (l .b)
+    ∙ term-same (terms (take i rs)) (terms rs) rs i (term-take i rs) _ _ _ (kind-of (rowAt rs i .kind) (l .kind))
+    (l .a) (l .b)
 
 pub built-kind : {rs : List Row} → Built rs → (i : ℕ) → i < length rs → kindOf (termAt rs i) ≡ rowAt rs i .kind
 built-kind {rs} b i h =
@@ -127,7 +136,8 @@ module _ (rs : List Row) (i j : ℕ) (distinct : (m n : ℕ) → m < i → n < j
   same-path x y p q e =
       distinct x y (p .0) (q .0) (path-term rs x (p .1) ∙ ap ofPath e ∙ sym (path-term rs y (q .1)))
 
-  same-qualifier : (x y : ℕ) → FieldLaw rs i qualifier x 0 → FieldLaw rs j qualifier y 0 → qualifierAt rs x ≡ qualifierAt rs y → x ≡ y
+  same-qualifier : (x y : ℕ) → FieldLaw rs i qualifier x 0 → FieldLaw rs j qualifier y 0 →
+      qualifierAt rs x ≡ qualifierAt rs y → x ≡ y
   same-qualifier x y p q e =
       distinct x y (p .0) (q .0)
       (qualifier-term rs x (p .1) (p .2) ∙ ap ofQualifier e ∙ sym (qualifier-term rs y (q .1) (q .2)))
@@ -135,7 +145,8 @@ module _ (rs : List Row) (i j : ℕ) (distinct : (m n : ℕ) → m < i → n < j
   module _ (x y z x′ y′ z′ : ℕ) where
     same-fields : {k : ℕ} → Kind k
         → FieldLaw rs i (fieldsOf k .a) x y → FieldLaw rs i (fieldsOf k .b) y y → FieldLaw rs i (fieldsOf k .c) z y
-        → FieldLaw rs j (fieldsOf k .a) x′ y′ → FieldLaw rs j (fieldsOf k .b) y′ y′ → FieldLaw rs j (fieldsOf k .c) z′ y′
+        → FieldLaw rs j (fieldsOf k .a) x′ y′ → FieldLaw rs j (fieldsOf k .b) y′ y′ →
+        FieldLaw rs j (fieldsOf k .c) z′ y′
         → termBy (terms rs) (row k x y z) ≡ termBy (terms rs) (row k x′ y′ z′) → (x ≡ x′) × (y ≡ y′) × (z ≡ z′)
     unfolding fieldsOf termBy termAt
     same-fields void-kind a b c a′ b′ c′ e = omega arith
@@ -154,7 +165,8 @@ module _ (rs : List Row) (i j : ℕ) (distinct : (m n : ℕ) → m < i → n < j
 module _ {rs : List Row} (built : Built rs) where
   earlier-differs : (i j : ℕ) → i < length rs → j < i → ¬ (rowAt rs j ≡ rowAt rs i)
   earlier-differs i j h l e =
-      new-row (take i rs) (rowAt rs i) (built-at built i h .1) j (omega (arith, length-take i rs)) (getD-take i rs j noRow l ∙ e)
+      new-row (take i rs) (rowAt rs i) (built-at built i h .1) j (omega (arith, length-take i rs))
+      (getD-take i rs j noRow l ∙ e)
 
   -- no two rows are the same
   pub built-rows-differ : (i j : ℕ) → i < length rs → j < length rs → rowAt rs i ≡ rowAt rs j → i ≡ j
@@ -164,7 +176,8 @@ module _ {rs : List Row} (built : Built rs) where
       (λ m. absurd (earlier-differs i j h m (sym e)))
       (le-or-lt i j)
 
-  same-row : (i j : ℕ) → i < length rs → j < length rs → ((m n : ℕ) → m < i → n < j → termAt rs m ≡ termAt rs n → m ≡ n) →
+  same-row : (i j : ℕ) → i < length rs → j < length rs →
+      ((m n : ℕ) → m < i → n < j → termAt rs m ≡ termAt rs n → m ≡ n) →
       termAt rs i ≡ termAt rs j → rowAt rs i ≡ rowAt rs j
   same-row i j h l distinct e =
       let p = built-row built i h in
@@ -183,7 +196,8 @@ module _ {rs : List Row} (built : Built rs) where
   same-term-below (suc n) i j b h l e =
       let g : i < length rs = omega arith in
       let m : j < length rs = omega arith in
-      built-rows-differ i j g m (same-row i j g m (λ p q u v. same-term-below n p q (omega arith) (omega arith) (omega arith)) e)
+      built-rows-differ i j g m
+      (same-row i j g m (λ p q u v. same-term-below n p q (omega arith) (omega arith) (omega arith)) e)
 
   -- two rows with the same term are the same row
   pub built-terms-differ : (i j : ℕ) → i < length rs → j < length rs → termAt rs i ≡ termAt rs j → i ≡ j

@@ -5,11 +5,11 @@ use mathlib.Core.List.{List, [], _∷_}
 use mathlib.Core.Logic.{⊎-elim}
 use native.Mathlib.Omega.{arith}
 use lib.ListN.{List·getD-eq-default}
-use Rattle.xpath.proofs.Reflect.{le-or-lt}
-use Rattle.xpath.specs.Term.{Void, Root, Step, Union, Composition, Filter, True, False, Not, And, Or, In}
+use Rattle.common.proofs.Reflect.{le-or-lt}
+use Rattle.xpath.specs.Term.{Void, Root, AxisStep, Union, Composition, Filter, True, False, Not, And, Or, In}
 use Rattle.terms.specs.Row.{row}
 use Rattle.terms.specs.Fields.{noFields, maxKind, fieldsOf}
-use Rattle.terms.specs.Decode.{Term, ofPath, ofQualifier, asPath, asQualifier, termBy}
+use Rattle.terms.specs.Terms.{Term, ofPath, ofQualifier, asPath, asQualifier, termBy}
 
 pub data Kind : ℕ → Type 0 where
   void-kind : Kind 0
@@ -44,7 +44,7 @@ kind-of (suc (suc (suc (suc (suc (suc (suc (suc (suc (suc (suc (suc k)))))))))))
 unfoldable pub kindOf : Term → ℕ
 kindOf (ofPath Void) = 0
 kindOf (ofPath Root) = 1
-kindOf (ofPath (Step a t c)) = 2
+kindOf (ofPath (AxisStep a t c)) = 2
 kindOf (ofPath (Union p q)) = 3
 kindOf (ofPath (Composition p q)) = 4
 kindOf (ofPath (Filter p f)) = 5
@@ -87,7 +87,8 @@ module _ (ts : List Term) (x y z : ℕ) where
   term-path or-kind h = absurd (omega arith)
   term-path in-kind h = absurd (omega arith)
 
-  pub term-qualifier : {k : ℕ} → Kind k → 6 ≤ k → termBy ts (row k x y z) ≡ ofQualifier (asQualifier (termBy ts (row k x y z)))
+  pub term-qualifier : {k : ℕ} → Kind k → 6 ≤ k →
+      termBy ts (row k x y z) ≡ ofQualifier (asQualifier (termBy ts (row k x y z)))
   unfolding termBy asQualifier
   term-qualifier void-kind h = absurd (omega arith)
   term-qualifier root-kind h = absurd (omega arith)

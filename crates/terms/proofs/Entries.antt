@@ -6,12 +6,13 @@ use mathlib.Core.Logic.{⊎-elim}
 use native.Mathlib.Omega.{arith}
 use lib.ListN.{length, getD, take, drop, length-append, take-append-drop, List·getD-eq-default}
 use lib.Seq.{take-at, getD-at, take-all, take-suc, getD-take, length-take-le}
-use Rattle.xpath.proofs.Reflect.{le-or-lt}
+use Rattle.common.proofs.Reflect.{le-or-lt}
 use Rattle.terms.specs.Row.{Row, noRow, rowAt, entriesFrom}
 
 module _ {X : Type 0} (f : List X → Row → X) where
   -- the entries of more rows go on from those of the first
-  pub entries-append : (t : List X) (rs ss : List Row) → entriesFrom f t (rs ++ ss) ≡ entriesFrom f (entriesFrom f t rs) ss
+  pub entries-append : (t : List X) (rs ss : List Row) →
+      entriesFrom f t (rs ++ ss) ≡ entriesFrom f (entriesFrom f t rs) ss
   unfolding entriesFrom
   entries-append t [] ss = refl
   entries-append t (r ∷ rs) ss = entries-append (t ++ (f t r ∷ [])) rs ss
@@ -47,7 +48,8 @@ module _ {X : Type 0} (f : List X → Row → X) where
           let g = grows (entriesFrom f [] (take n rs)) (drop n rs) in
           let e : entriesFrom f [] rs ≡ entriesFrom f [] (take n rs) ++ g .0 =
           ap (entriesFrom f []) (sym (take-append-drop n rs)) ∙ entries-append [] (take n rs) (drop n rs) ∙ g .1 in
-          rw e (sym (take-at (entriesFrom f [] (take n rs)) (g .0) n (length-entries (take n rs) ∙ length-take-le n rs h)))
+          rw e (sym (take-at (entriesFrom f [] (take n rs)) (g .0) n
+          (length-entries (take n rs) ∙ length-take-le n rs h)))
 
       past : length rs ≤ n → entriesFrom f [] (take n rs) ≡ take n (entriesFrom f [] rs)
       past h =
@@ -60,7 +62,8 @@ module _ {X : Type 0} (f : List X → Row → X) where
   entry-at d rs i h =
       sym (getD-take (suc i) (entriesFrom f [] rs) i d (omega arith))
       ∙ ap (λ (l : List X). getD l i d)
-      (sym (entries-take (suc i) rs) ∙ ap (entriesFrom f []) (take-suc rs i noRow h) ∙ entries-snoc (take i rs) (rowAt rs i))
+      (sym (entries-take (suc i) rs) ∙ ap (entriesFrom f []) (take-suc rs i noRow h)
+      ∙ entries-snoc (take i rs) (rowAt rs i))
       ∙ getD-at (entriesFrom f [] (take i rs)) _ [] d i (length-entries (take i rs) ∙ length-take-le i rs (omega arith))
 
   pub entry-past : (d : X) (rs : List Row) (i : ℕ) → length rs ≤ i → getD (entriesFrom f [] rs) i d ≡ d

@@ -11,7 +11,7 @@ use lib.ListN.{length, drop, drop-of-length-le}
 use lib.Seq.{drop-cons}
 use borrow.Author.Tests.{eq-eqb}
 use Rattle.terms.specs.Row.{Row, noRow, rowAt, sameRow, find}
-use Rattle.terms.specs.Table.{isNew}
+use Rattle.terms.specs.AcceptedRows.{isNew}
 
 -- rows with the same fields are equal
 pub row-equal : {r s : Row} → r .kind ≡ s .kind → r .a ≡ s .a → r .b ≡ s .b → r .c ≡ s .c → r ≡ s
@@ -20,7 +20,12 @@ row-equal k x y z = λ i. record { kind = k i; a = x i; b = y i; c = z i }
 same-row-self : (r : Row) → sameRow r r ≡ true
 unfolding sameRow
 same-row-self r =
-    rw (eq-eqb (r .kind) (r .kind) refl, eq-eqb (r .a) (r .a) refl, eq-eqb (r .b) (r .b) refl, eq-eqb (r .c) (r .c) refl)
+    rw (
+      eq-eqb (r .kind) (r .kind) refl,
+      eq-eqb (r .a) (r .a) refl,
+      eq-eqb (r .b) (r .b) refl,
+      eq-eqb (r .c) (r .c) refl,
+    )
 
 pub find-le : (rs : List Row) (r : Row) → find rs r ≤ length rs
 unfolding find

@@ -1,7 +1,7 @@
-pub mod Lent
+pub mod LentRows
 pub mod Entries
 pub mod Find
 pub mod Nesting
-pub mod Decode
+pub mod Terms
 pub mod ByKind
 pub mod Built

@@ -4,7 +4,9 @@ use mathlib.Core.Bool.{Bool, cond, _&&_, not}
 use mathlib.Core.List.{List, [], _∷_}
 use lib.Dec.{ltb, leb, eqb}
 use lib.ListN.{length, getD}
-use Rattle.xpath.specs.Axis.{maxAxis, name-test, maxTest}
+use Rattle.common.specs.Axes.{maxAxis}
+use Rattle.common.specs.NodeTests.{name-test, maxTest}
+use Rattle.common.specs.RowKinds.{filter-row, true-row, inclusion-row}
 use Rattle.terms.specs.Row.{Row, rowAt}
 
 -- what a field must be; the name's field depends on the row's test
@@ -23,9 +25,9 @@ abbrev pub noFields : Fields
 noFields = fields unused unused unused
 
 abbrev pub maxKind : ℕ
-maxKind = 11
+maxKind = inclusion-row
 
--- a line for each kind from 0 to 11
+-- a line for each kind from void-row to inclusion-row
 unfoldable pub fieldsOf : ℕ → Fields
 fieldsOf kind =
     getD
@@ -44,15 +46,15 @@ fieldsOf kind =
     ∷ [])
     kind noFields
 
--- kinds 0 to 5 are paths, 6 to 11 qualifiers
+-- the kinds up to filter are paths, those from true on qualifiers
 abbrev pub lastPath : ℕ
-lastPath = 5
+lastPath = filter-row
 
 unfoldable pub isPath : Row → Bool
 isPath r = leb (r .kind) lastPath
 
 abbrev pub firstQualifier : ℕ
-firstQualifier = 6
+firstQualifier = true-row
 
 unfoldable pub isQualifier : Row → Bool
 isQualifier r = leb firstQualifier (r .kind) && leb (r .kind) maxKind

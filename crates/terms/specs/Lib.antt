@@ -1,7 +1,7 @@
 pub mod Row
 pub mod Fields
 pub mod Nesting
-pub mod Decode
-pub mod Table
-pub mod Lent
-pub mod Values
+pub mod Terms
+pub mod AcceptedRows
+pub mod code
+pub mod values

@@ -19,7 +19,8 @@ operandNesting ns qualifier x = getD ns x 0
 
 -- the nesting of a row by those of the rows before it; only a and b can be operands
 unfoldable pub nestingBy : List ℕ → Row → ℕ
-nestingBy ns r = 1 + max (operandNesting ns (fieldsOf (r .kind) .a) (r .a)) (operandNesting ns (fieldsOf (r .kind) .b) (r .b))
+nestingBy ns r = 1 + max (operandNesting ns (fieldsOf (r .kind) .a) (r .a))
+    (operandNesting ns (fieldsOf (r .kind) .b) (r .b))
 
 -- the nestings of the rows of a table, in order
 unfoldable pub nestings : List Row → List ℕ

@@ -4,6 +4,7 @@ use mathlib.Core.Bool.{Bool, cond, _&&_}
 use mathlib.Core.List.{List, [], _∷_, _++_}
 use lib.Dec.{eqb}
 use lib.ListN.{getD}
+use Rattle.common.specs.RowKinds.{void-row}
 
 pub record Row : Type 0 where
   pub kind : ℕ
@@ -16,7 +17,7 @@ row k x y z = record { kind = k; a = x; b = y; c = z }
 
 -- what stands past the end of a table
 abbrev pub noRow : Row
-noRow = row 0 0 0 0
+noRow = row void-row 0 0 0
 
 abbrev pub rowAt : List Row → ℕ → Row
 rowAt rs i = getD rs i noRow

@@ -1,5 +1,8 @@
-// Tables of rows lent as 16-bit numbers, four a row: what the fields of a row must be, its nesting, and the search for an equal
-// row. An incomplete last row is no row.
+// Tables of rows lent as 16-bit numbers, four a row: what the fields of a row must be, its nesting, and the search
+// for an equal row. An incomplete last row is no row.
+use common::axis;
+use common::node_test;
+use common::row_kind;
 ghost use mathlib.Core.Path.{_≡_};
 ghost use mathlib.Core.Bool.{cond};
 ghost use lib.Dec.{leb};
@@ -8,7 +11,7 @@ ghost use lib.ListN.{length, getD, take};
 ghost use Rattle.terms.specs.Row.{rowAt, tableOf, maxRows, sameRow, find};
 ghost use Rattle.terms.specs.Fields.{fieldsOf, heldPath, heldQualifier, fieldOk, badPlace};
 ghost use Rattle.terms.specs.Nesting.{operandNesting, nestingBy, nestings, nesting};
-ghost use Rattle.terms.specs.Lent.{rowOf, fieldOf, fieldsIn};
+ghost use Rattle.terms.specs.code.RowTypes.{rowOf, fieldOf, fieldsIn};
 
 // The most rows of a table.
 pub const MAX_ROWS: usize = 1024;
@@ -19,18 +22,12 @@ pub const MAX_NESTING: u16 = 32;
 // How many numbers a row has.
 pub const ROW_WIDTH: usize = 4;
 
-// Kinds 0 to LAST_PATH are paths, FIRST_QUALIFIER to MAX_KIND qualifiers.
-pub const LAST_PATH: u16 = 5;
+// The kinds up to LAST_PATH are paths, those from FIRST_QUALIFIER to MAX_KIND qualifiers.
+pub const LAST_PATH: u16 = row_kind::FILTER;
 
-const FIRST_QUALIFIER: u16 = 6;
+const FIRST_QUALIFIER: u16 = row_kind::TRUE;
 
-pub const MAX_KIND: u16 = 11;
-
-const MAX_AXIS: u16 = 11;
-
-const MAX_TEST: u16 = 5;
-
-const NAME_TEST: u16 = 0;
+pub const MAX_KIND: u16 = row_kind::INCLUSION;
 
 pub struct Row {
     pub kind: u16,
@@ -71,7 +68,7 @@ pub fn row_at(rows: &[u16], i: usize) -> Row
         return Row { kind, a, b, c };
     }
     Row {
-        kind: 0,
+        kind: row_kind::VOID,
         a: 0,
         b: 0,
         c: 0,
@@ -107,14 +104,14 @@ fn fields_of(kind: u16) -> Fields
     ensures { λ r. ⌜ fieldsIn r ≡ fieldsOf kind ⌝ }
 {
     match kind {
-        2 => Fields(Field::Axis, Field::Test, Field::Name),
-        3 => Fields(Field::Path, Field::Path, Field::Unused),
-        4 => Fields(Field::Path, Field::Path, Field::Unused),
-        5 => Fields(Field::Path, Field::Qualifier, Field::Unused),
-        8 => Fields(Field::Qualifier, Field::Unused, Field::Unused),
-        9 => Fields(Field::Qualifier, Field::Qualifier, Field::Unused),
-        10 => Fields(Field::Qualifier, Field::Qualifier, Field::Unused),
-        11 => Fields(Field::Path, Field::Path, Field::Unused),
+        row_kind::STEP => Fields(Field::Axis, Field::Test, Field::Name),
+        row_kind::UNION => Fields(Field::Path, Field::Path, Field::Unused),
+        row_kind::COMPOSITION => Fields(Field::Path, Field::Path, Field::Unused),
+        row_kind::FILTER => Fields(Field::Path, Field::Qualifier, Field::Unused),
+        row_kind::NOT => Fields(Field::Qualifier, Field::Unused, Field::Unused),
+        row_kind::AND => Fields(Field::Qualifier, Field::Qualifier, Field::Unused),
+        row_kind::OR => Fields(Field::Qualifier, Field::Qualifier, Field::Unused),
+        row_kind::INCLUSION => Fields(Field::Path, Field::Path, Field::Unused),
         _ => Fields(Field::Unused, Field::Unused, Field::Unused),
     }
 }
@@ -125,10 +122,10 @@ fn field_ok(rows: &[u16], field: Field, x: u16, t: u16) -> bool
 {
     match field {
         Field::Unused => x == 0,
-        Field::Axis => x <= MAX_AXIS,
-        Field::Test => x <= MAX_TEST,
+        Field::Axis => x <= axis::LAST,
+        Field::Test => x <= node_test::LAST,
         Field::Name => {
-            if t == NAME_TEST {
+            if t == node_test::NAME {
                 return 1 <= x;
             }
             x == 0
@@ -228,7 +225,8 @@ fn deeper_operand(nestings: &[u16], row: Row) -> u16
 // The nestings of the rows, in order, each by those before it.
 fn fill_nestings(rows: &[u16], table: &mut [u16])
     requires { ⌜ (length (tableOf (now rows)) ≤ maxRows) × (length (now table) ≡ maxRows) ⌝ }
-    ensures { λ r. ⌜ take (length (tableOf (now (rows .entry)))) (now (table .exit)) ≡ nestings (tableOf (now (rows .entry))) ⌝ }
+    ensures { λ r. ⌜ take (length (tableOf (now (rows .entry)))) (now (table .exit)) ≡ nestings
+        (tableOf (now (rows .entry))) ⌝ }
 {
     let n = row_count(rows);
     let mut i = 0;
@@ -239,8 +237,8 @@ fn fill_nestings(rows: &[u16], table: &mut [u16])
     }
 }
 
-// The nesting of a row whose operands are among the rows. These are at most MAX_ROWS: the table of their nestings has room for
-// no more.
+// The nesting of a row whose operands are among the rows. These are at most MAX_ROWS: the table of their nestings has
+// room for no more.
 fn nesting_within(rows: &[u16], row: Row) -> u16
     requires { ⌜ length (tableOf (now rows)) ≤ maxRows ⌝ }
     ensures { λ r. ⌜ r ≡ nesting (tableOf (now (rows .entry))) (rowOf row) ⌝ }
@@ -253,7 +251,8 @@ fn nesting_within(rows: &[u16], row: Row) -> u16
 
 // The nesting of a row whose operands are among the rows; 0, which no row has, where these are more than MAX_ROWS.
 pub fn nesting_of(rows: &[u16], row: Row) -> u16
-    ensures { λ r. ⌜ r ≡ cond (leb (length (tableOf (now (rows .entry)))) maxRows) (nesting (tableOf (now (rows .entry))) (rowOf row)) 0 ⌝ }
+    ensures { λ r. ⌜ r ≡ cond (leb (length (tableOf (now (rows .entry)))) maxRows)
+        (nesting (tableOf (now (rows .entry))) (rowOf row)) 0 ⌝ }
 {
     if MAX_ROWS < row_count(rows) {
         0

@@ -6,15 +6,15 @@ use mathlib.Core.List.{List, [], _∷_}
 use mathlib.Core.Option.{Option, none, some, Option·elim}
 use lib.ListN.{length, drop}
 use Rattle.lines.specs.Line.{Line, lines}
-use Rattle.lines.specs.Read.{firstParts}
+use Rattle.lines.specs.code.NumbersRead.{firstParts}
 use Rattle.lines.proofs.Cutting.{no-lines, some-line}
 use Rattle.script.specs.declared.Call.{Call}
 use Rattle.script.specs.declared.Call.the-variants as CallCases
 use Rattle.script.specs.declared.CallLine.{CallLine}
 use Rattle.script.specs.Command.{Command, commandOf}
-use Rattle.script.specs.Read.{commandIn, CallMet}
+use Rattle.script.specs.code.CommandRead.{commandIn, CallMet}
 use Rattle.transcript.specs.declared.Style.{Style}
-use Rattle.transcript.specs.Run.{isTaken, endingLine}
+use Rattle.transcript.specs.Transcript.{isTaken, endingLine}
 
 -- whether a call is taken doesn't go by its document
 taken-by-word : (style : Style) (call : Call) (ns : List ℕ) → isTaken style (commandIn call ns) ≡ isTaken style (commandIn call [])

@@ -1,2 +1,2 @@
-pub mod Run
-pub mod RunCases
+pub mod Transcript
+pub mod values

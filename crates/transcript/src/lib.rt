@@ -1,20 +1,17 @@
 // Makes the calls of a script on a session, a call a line, and prints the answers in one of two styles.
+use calls::Step;
 use script::Call;
 use script::SelectCall;
-use script::StepCall;
-use script::TermCall;
 use session::Session;
+use terms::Row;
 ghost use mathlib.Core.Path.{_≡_};
 ghost use mathlib.Core.List.{[]};
 ghost use Prim.Native.Nat.{_≤_};
 ghost use lib.ListN.{length};
 ghost use Rattle.lines.specs.Line.{lines};
 ghost use Rattle.script.specs.Command.{maxMarks, maxNumbers};
-ghost use Rattle.script.specs.Read.{commandIn};
-ghost use Rattle.transcript.specs.Run.{isTaken, endingLine};
-
-// The most bytes that a program takes.
-pub const MAX_INPUT: usize = 65536;
+ghost use Rattle.script.specs.code.CommandRead.{commandIn};
+ghost use Rattle.transcript.specs.Transcript.{isTaken, endingLine};
 
 // What the lent marks hold before a select.
 const FILL: u8 = 7;
@@ -22,9 +19,9 @@ const FILL: u8 = 7;
 // Longer than the longest line: a word, two numbers, and 512 nodes of at most three digits.
 const LINE: usize = 4096;
 
-// What is printed. `Answers`: `NUMBER VALUE` for each call but document, and after an accepted select the marked nodes; a script has one
-// session, so `fresh` is no call. `Nodes`: the marked nodes of each accepted select, and `refused NUMBER VALUE` for what is refused;
-// `fresh` starts a new session.
+// What is printed. `Answers`: `NUMBER VALUE` for each call but document, and after an accepted select the marked nodes;
+// a script has one session, so `fresh` is no call. `Nodes`: the marked nodes of each accepted select, and
+// `refused NUMBER VALUE` for what is refused; `fresh` starts a new session.
 pub enum Style {
     Answers,
     Nodes,
@@ -99,14 +96,14 @@ fn print(style: Style, number: u16, value: u64) {
     }
 }
 
-fn term(s: Session, t: TermCall, style: Style) -> Session {
-    let made = s.term(t.kind, t.a, t.b, t.c);
+fn term(s: Session, row: Row, style: Style) -> Session {
+    let made = s.term(row.kind, row.a, row.b, row.c);
     let answer = made.answer;
     print(style, answer.number(), answer.value() as u64);
     made.session
 }
 
-fn step(s: Session, p: StepCall, style: Style) -> Session {
+fn step(s: Session, p: Step, style: Style) -> Session {
     let made = s.step(p.rule, p.left, p.right, p.first, p.second);
     let answer = made.answer;
     print(style, answer.number(), answer.value() as u64);
@@ -180,8 +177,9 @@ fn no_document() -> [u16; script::MAX_NUMBERS]
     [0; script::MAX_NUMBERS]
 }
 
-// Makes the calls of a script, a call a line, from a fresh session, and prints their answers. Gives the number of the line that ended it, the
-// first that is not taken; 0 if all were. What is printed is beyond contracts, since the C library's write is.
+// Makes the calls of a script, a call a line, from a fresh session, and prints their answers. Gives the number of the
+// line that ended it, the first that is not taken; 0 if all were. What is printed is beyond contracts, since the C
+// library's write is.
 pub fn run(input: &[u8], style: Style) -> usize
     ensures { λ r. ⌜ r ≡ endingLine style 1 (lines (now (input .entry))) ⌝ }
 {
@@ -198,8 +196,8 @@ pub fn run(input: &[u8], style: Style) -> usize
             return line;
         }
         match call {
-            Call::Term(t) => {
-                let after = term(s, t, style);
+            Call::Term(row) => {
+                let after = term(s, row, style);
                 s = after;
             }
             Call::Step(p) => {
@@ -221,4 +219,30 @@ pub fn run(input: &[u8], style: Style) -> usize
         at = read.next;
     }
     0
+}
+
+// The same of a script from standard input. A line that is not taken is printed as refusal 10; so is input that is too
+// long, with line 0.
+fn run_input(style: Style) {
+    // One byte more than is taken, so that longer input shows.
+    let mut input = [0u8; common::MAX_BYTES + 1];
+    let length = io::read_full(0, &mut input);
+    if common::MAX_BYTES < length {
+        print(style, calls::WRONG_FORM, 0);
+        return;
+    }
+    let line = run(&input[..length], style);
+    if line != 0 {
+        print(style, calls::WRONG_FORM, line as u64);
+    }
+}
+
+// What the program replay does.
+pub fn print_answers() {
+    run_input(Style::Answers)
+}
+
+// What the program engine_cases does.
+pub fn print_nodes() {
+    run_input(Style::Nodes)
 }

@@ -7,7 +7,7 @@ use lib.Dec.{eqb}
 use lib.ListN.{List·getD-eq-default}
 use Rattle.xpath.specs.Document.{Document, kindAt, nameAt}
 use Rattle.xpath.specs.Axis.{onAxis, passes}
-use Rattle.xpath.specs.Check.{kindOfTest}
+use Rattle.xpath.specs.code.Check.{kindOfTest}
 
 pub past-last-axis : (a : ℕ) (d : Document) (x y : ℕ) → 12 ≤ a → false ≡ onAxis a d x y
 unfolding onAxis

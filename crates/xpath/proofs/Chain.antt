@@ -5,7 +5,7 @@ use mathlib.Core.Bool.{Bool, true, false, cond}
 use native.Mathlib.Omega.{arith}
 use native.Mathlib.Nat.{suc-mul}
 use lib.ListN.{length}
-use Rattle.xpath.specs.Bounded.{sumBelow}
+use Rattle.common.specs.Bounded.{sumBelow}
 use Rattle.xpath.specs.Term.{Path}
 use Rattle.xpath.specs.Meaning.{selects}
 use Rattle.xpath.specs.Visits.{visits}

@@ -14,10 +14,10 @@ use Rattle.xpath.specs.Document.{Document, parentAt, isChild, climbMeets
 use Rattle.xpath.specs.Document.{documentOf, lentRows, maxNodes, badRow, badRowBy, documentRefusal}
 use Rattle.xpath.specs.Climb.{above, climbTakes, parentsTaken, climbMet, Least}
 use Rattle.xpath.specs.Climb.{CountEnds, CountLeast, AnswersAlike, RefusesAlike}
-use Rattle.xpath.specs.Check.{closed, ClimbMade}
-use Rattle.xpath.proofs.Reflect.{or-false, le-or-lt, eq-or-ne}
+use Rattle.xpath.specs.code.Check.{closed, ClimbMade}
+use Rattle.common.proofs.Reflect.{or-false, le-or-lt, eq-or-ne}
 use Rattle.xpath.proofs.Tree.{ParentsSmaller, parents-smaller, parent-smaller}
-use Rattle.xpath.proofs.Search.{first-alike}
+use Rattle.common.proofs.Search.{first-alike}
 use Rattle.xpath.proofs.Refusal.{row-sound}
 
 -- the number of parents that the climb may take doesn't matter, if it is enough

@@ -10,11 +10,11 @@ use lib.ListN.{length, getD, set, replicate, length-set, length-replicate}
 use lib.Seq.{getD-set-same, getD-set-other}
 use mir.Facts.{and-yes, yes-and, leb-yes}
 use Rattle.xpath.specs.Document.{Document, parentAt, isAncestor, rowOk, wellFormed, maxNodes}
-use Rattle.xpath.specs.Bounded.{allBelow}
+use Rattle.common.specs.Bounded.{allBelow}
 use Rattle.xpath.specs.Climb.{above, parentsTaken}
-use Rattle.xpath.specs.Check.{closed, closedBefore, closedInTurn}
-use Rattle.xpath.specs.Ends.{EndsAt, Ends, Filled}
-use Rattle.xpath.proofs.Reflect.{tests-equal, eq-or-ne, le-or-lt}
+use Rattle.xpath.specs.code.Check.{closed, closedBefore, closedInTurn}
+use Rattle.xpath.specs.code.Ends.{EndsAt, Ends, Filled}
+use Rattle.common.proofs.Reflect.{tests-equal, eq-or-ne, le-or-lt}
 use Rattle.xpath.proofs.Tree.{Ancestor, parent-is, ancestor-cases, ancestor-yes, row-facts}
 use Rattle.xpath.proofs.Tree.{ancestor-smaller, yes-ancestor, subtree-contiguous}
 use Rattle.xpath.proofs.Climbing.{count-least}
@@ -57,7 +57,7 @@ module _ (d : Document) (w : T (wellFormed d)) where
       record {
         after = omega arith;
         within = l;
-        descendants = λ y m. tests-equal (isAncestor d x y) (ltb x y && ltb y (suc k)) (
+        below = λ y m. tests-equal (isAncestor d x y) (ltb x y && ltb y (suc k)) (
           λ t. let a = ancestor-yes d x y t in
               let g : x < y = ancestor-smaller d w m a in
               yes-and (ltb x y) (ltb y (suc k)) (lt→ltb x y g)

@@ -1,15 +1,12 @@
-pub mod Reflect
 pub mod Tree
 pub mod Facts
 pub mod Order
 pub mod Attributes
 pub mod Ends
-pub mod Search
-pub mod Lent
+pub mod LentNumbers
 pub mod Refusal
 pub mod Climbing
 pub mod Rows
 pub mod Axes
-pub mod Cases
 pub mod Chain
 pub mod OneName

@@ -14,8 +14,8 @@ use Rattle.xpath.specs.Axis.{onAxis, passes}
 use Rattle.xpath.specs.Meaning.{selects}
 use Rattle.xpath.specs.OneName.{SameButName, StepSameElsewhere, Renamed}
 use Rattle.xpath.specs.OneName.{LentSameButName, LentDocuments, LentRenamed}
-use Rattle.xpath.proofs.Reflect.{le-or-lt, eq-or-ne}
-use Rattle.xpath.proofs.Lent.{nodes-lent, kind-lent, parent-lent, name-lent}
+use Rattle.common.proofs.Reflect.{le-or-lt, eq-or-ne}
+use Rattle.xpath.proofs.LentNumbers.{nodes-lent, kind-lent, parent-lent, name-lent}
 
 module _ (m : ℕ) (d e : Document) (s : SameButName m d e) where
   child-same : (x y : ℕ) → isChild d x y ≡ isChild e x y

@@ -9,9 +9,13 @@ use lib.Dec.{T}
 use lib.ListN.{length}
 use borrow.Author.Tests.{eq-eqb, ne-eqb, lt-ltb, le-ltb}
 use Rattle.xpath.specs.Document.{Document, kindAt, parentAt, isAncestor, wellFormed}
-use Rattle.xpath.specs.Axis.{self, descendant, ancestor, descendant-or-self, ancestor-or-self, following-sibling, preceding-sibling, following, preceding, onAxis}
-use Rattle.xpath.proofs.Reflect.{le-or-lt, eq-or-ne}
-use Rattle.xpath.proofs.Tree.{Ancestor, parent-is, ancestor-trans, ancestor-cases, descendant-positive, child-toward, parent-smaller, ancestor-smaller, no-later-ancestor, subtree-contiguous, ancestor-kind, attributes-first}
+use Rattle.common.specs.Axes.{self, descendant, ancestor, descendant-or-self, ancestor-or-self, following-sibling}
+use Rattle.common.specs.Axes.{preceding-sibling, following, preceding}
+use Rattle.xpath.specs.Axis.{onAxis}
+use Rattle.common.proofs.Reflect.{le-or-lt, eq-or-ne}
+use Rattle.xpath.proofs.Tree.{Ancestor, parent-is, ancestor-trans, ancestor-cases, descendant-positive}
+use Rattle.xpath.proofs.Tree.{child-toward, parent-smaller, ancestor-smaller, no-later-ancestor}
+use Rattle.xpath.proofs.Tree.{subtree-contiguous, ancestor-kind, attributes-first}
 use Rattle.xpath.proofs.Facts.{AncestorOrSelf, NoAttribute, FollowingSibling, Following, OnAxis}
 
 pub or-self-trans : {d : Document} {x y z : ℕ} → AncestorOrSelf d x y → AncestorOrSelf d y z → AncestorOrSelf d x z
@@ -43,7 +47,8 @@ none-below : {d : Document} {x y : ℕ} → NoAttribute d x → DescendantOrSelf
 none-below n (inl e) = rw e at n
 none-below n (inr a) = a .1
 
-descendant-or-self-trans : {d : Document} {x y z : ℕ} → DescendantOrSelf d x y → DescendantOrSelf d y z → DescendantOrSelf d x z
+descendant-or-self-trans : {d : Document} {x y z : ℕ} → DescendantOrSelf d x y → DescendantOrSelf d y z →
+    DescendantOrSelf d x z
 descendant-or-self-trans (inl e) o = rw e o
 descendant-or-self-trans (inr a) (inl f) = inr (rw f at a)
 descendant-or-self-trans (inr a) (inr b) = inr (ancestor-trans (a .0) (b .0), b .1)
@@ -62,7 +67,8 @@ module _ (d : Document) (w : T (wellFormed d)) where
   ancestor-to-parent : {x y : ℕ} → y < length d → Ancestor d x y → x ≤ parentAt d y
   ancestor-to-parent {x} {y} l a =
       let p : parentAt d y < y = parent-smaller d w y l (descendant-positive a) in
-      ⊎-elim (λ e. omega arith) (λ b. let q = ancestor-smaller d w {y = parentAt d y} (omega arith) b in omega arith) (ancestor-cases a)
+      ⊎-elim (λ e. omega arith) (λ b. let q = ancestor-smaller d w {y = parentAt d y} (omega arith) b in omega arith)
+      (ancestor-cases a)
 
   or-self-le : {x y : ℕ} → y < length d → AncestorOrSelf d x y → x ≤ y
   or-self-le l (inl e) = omega arith
@@ -132,7 +138,8 @@ module _ (d : Document) (w : T (wellFormed d)) where
 
   -- rule 54: a descendant-or-self of a following sibling of an ancestor-or-self of x follows x
   pub following-by-siblings : (x y : ℕ) → x < length d → y < length d →
-      ((a s : ℕ) × (a < length d) × (s < length d) × OnAxis ancestor-or-self d x a × OnAxis following-sibling d a s × OnAxis descendant-or-self d s y)
+      ((a s : ℕ) × (a < length d) × (s < length d) × OnAxis ancestor-or-self d x a × OnAxis following-sibling d a s
+      × OnAxis descendant-or-self d s y)
       → OnAxis following d x y
   unfolding OnAxis
   following-by-siblings x y k l (a, s, n, m, above, (across, p, q), below) =
@@ -141,12 +148,21 @@ module _ (d : Document) (w : T (wellFormed d)) where
   -- rule 55: what precedes x is a descendant-or-self of a preceding sibling of an ancestor-or-self of x
   pub preceding-by-siblings : (x y : ℕ) → x < length d → y < length d →
       OnAxis preceding d x y
-      ↔ ((a s : ℕ) × (a < length d) × (s < length d) × OnAxis ancestor-or-self d x a × OnAxis preceding-sibling d a s × OnAxis descendant-or-self d s y)
+      ↔ ((a s : ℕ) × (a < length d) × (s < length d) × OnAxis ancestor-or-self d x a × OnAxis preceding-sibling d a s
+      × OnAxis descendant-or-self d s y)
   unfolding OnAxis
   preceding-by-siblings x y k l = (
     λ (f, v). let (s, a, m, n, below, across, above) = following-to-across k f in
         let p = none-above l v below in (a, s, n, m, above, (across, none-after n p across, p), of-below v below),
-    λ (a, s, n, m, above, (across, p, q), below). (across-to-following l k (s, a, m, n, below-of below, across, above), none-below q below),
+    λ (
+      a,
+      s,
+      n,
+      m,
+      above,
+      (across, p, q),
+      below,
+    ). (across-to-following l k (s, a, m, n, below-of below, across, above), none-below q below),
   )
 
   -- the axes 3 to 10 are transitive
@@ -160,22 +176,41 @@ module _ (d : Document) (w : T (wellFormed d)) where
   axis-transitive (suc (suc (suc (suc zero)))) h g x y z k m s t = ancestor-trans t s
   axis-transitive (suc (suc (suc (suc (suc zero))))) h g x y z k m s t = descendant-or-self-trans s t
   axis-transitive (suc (suc (suc (suc (suc (suc zero)))))) h g x y z k m s t = or-self-trans t s
-  axis-transitive (suc (suc (suc (suc (suc (suc (suc zero))))))) h g x y z k m s t = (following-sibling-trans (s .0) (t .0), s .1, t .2)
-  axis-transitive (suc (suc (suc (suc (suc (suc (suc (suc zero)))))))) h g x y z k m s t = (following-sibling-trans (t .0) (s .0), s .1, t .2)
-  axis-transitive (suc (suc (suc (suc (suc (suc (suc (suc (suc zero))))))))) h g x y z k m s t = (following-trans m (s .0) (t .0), t .1)
-  axis-transitive (suc (suc (suc (suc (suc (suc (suc (suc (suc (suc zero)))))))))) h g x y z k m s t = (following-trans k (t .0) (s .0), t .1)
-  axis-transitive (suc (suc (suc (suc (suc (suc (suc (suc (suc (suc (suc b))))))))))) h g x y z k m s t = absurd (omega arith)
+  axis-transitive (suc (suc (suc (suc (suc (suc (suc zero))))))) h g x y z k m s t =
+      (following-sibling-trans (s .0) (t .0), s .1, t .2)
+  axis-transitive (suc (suc (suc (suc (suc (suc (suc (suc zero)))))))) h g x y z k m s t =
+      (following-sibling-trans (t .0) (s .0), s .1, t .2)
+  axis-transitive (suc (suc (suc (suc (suc (suc (suc (suc (suc zero))))))))) h g x y z k m s t =
+      (following-trans m (s .0) (t .0), t .1)
+  axis-transitive (suc (suc (suc (suc (suc (suc (suc (suc (suc (suc zero)))))))))) h g x y z k m s t =
+      (following-trans k (t .0) (s .0), t .1)
+  axis-transitive (suc (suc (suc (suc (suc (suc (suc (suc (suc (suc (suc b))))))))))) h g x y z k m s t =
+      absurd (omega arith)
 
-  -- self, ancestor, descendant, following and preceding share no node and leave out attributes only: from x, each other node is on exactly one of them
+  -- self, ancestor, descendant, following and preceding share no node and leave out attributes only: from x, each
+  -- other node is on exactly one of them
   pub five-axes-partition : (x y : ℕ) → x < length d → y < length d → NoAttribute d y →
-      countTrue (onAxis self d x y ∷ onAxis ancestor d x y ∷ onAxis descendant d x y ∷ onAxis following d x y ∷ onAxis preceding d x y ∷ []) ≡ 1
+      countTrue (onAxis self d x y ∷ onAxis ancestor d x y ∷ onAxis descendant d x y ∷ onAxis following d x y
+      ∷ onAxis preceding d x y ∷ []) ≡ 1
   unfolding onAxis
   five-axes-partition x y k l n =
       ⊎-elim
       (λ e. rw (e, eq-eqb y y refl, le-ltb y y (omega arith), no-later-ancestor d w y y l (omega arith)))
       (λ ne. ⊎-elim
-      (λ h. rw (ne-eqb x y ne, le-ltb y x h, lt-ltb x y (omega arith), no-later-ancestor d w y x k h, ne-eqb (kindAt d y) 5 n) (later (isAncestor d x y)))
-      (λ h. rw (ne-eqb x y ne, lt-ltb y x h, le-ltb x y (omega arith), no-later-ancestor d w x y l (omega arith), ne-eqb (kindAt d y) 5 n) (earlier (isAncestor d y x)))
+      (λ h. rw (
+        ne-eqb x y ne,
+        le-ltb y x h,
+        lt-ltb x y (omega arith),
+        no-later-ancestor d w y x k h,
+        ne-eqb (kindAt d y) 5 n,
+      ) (later (isAncestor d x y)))
+      (λ h. rw (
+        ne-eqb x y ne,
+        lt-ltb y x h,
+        le-ltb x y (omega arith),
+        no-later-ancestor d w x y l (omega arith),
+        ne-eqb (kindAt d y) 5 n,
+      ) (earlier (isAncestor d y x)))
       (le-or-lt x y))
       (eq-or-ne x y)
     where

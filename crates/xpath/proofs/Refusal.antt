@@ -10,14 +10,15 @@ use lib.Dec.{T, leb, ltb, eqb}
 use lib.ListN.{length}
 use borrow.Author.Tests.{eqb-false, ltb-false, ne-eqb, le-ltb, not-false}
 use mir.Facts.{yes-and, and-yes, yes-leb, leb-yes}
-use Rattle.xpath.specs.Bounded.{firstBelow, allBelow}
+use Rattle.common.specs.Bounded.{firstBelow, allBelow}
 use Rattle.xpath.specs.Document.{rowOk, wellFormed, documentOf, lentRows, maxNodes, badRow, documentRefusal}
-use Rattle.xpath.proofs.Lent.{nodes-lent}
-use Rattle.xpath.proofs.Reflect.{yes-all, all-yes, true-iff}
-use Rattle.xpath.proofs.Search.{none-iff}
+use Rattle.xpath.proofs.LentNumbers.{nodes-lent}
+use Rattle.common.proofs.Reflect.{yes-all, all-yes, true-iff}
+use Rattle.common.proofs.Search.{none-iff}
 
 -- where no test finds a refusal
-no-refusal : (a b : Bool) (v w : ℕ) (o : Option ℕ) → cond a (some v) (cond b (some w) o) ≡ none → (a ≡ false) × (b ≡ false) × (o ≡ none)
+no-refusal : (a b : Bool) (v w : ℕ) (o : Option ℕ) → cond a (some v) (cond b (some w) o) ≡ none →
+    (a ≡ false) × (b ≡ false) × (o ≡ none)
 no-refusal true b v w o e = let z : _≡_ {A = ℕ} 0 1 = cc in absurd (omega arith)
 no-refusal false true v w o e = let z : _≡_ {A = ℕ} 0 1 = cc in absurd (omega arith)
 no-refusal false false v w o e = (refl, refl, e)
@@ -37,10 +38,12 @@ module _ (xs : List ℕ) where
   unfolding badRow rowOk
   sound-row n l t = rw (le-ltb (length xs) (3 * n + 3) l, true-iff (rowOk (documentOf xs) n) .0 t)
 
-  accepted-is : documentRefusal xs ≡ none → (length xs ≡ 3 * length (documentOf xs)) × (length (documentOf xs) ≤ maxNodes) × T (wellFormed (documentOf xs))
+  accepted-is : documentRefusal xs ≡ none →
+      (length xs ≡ 3 * length (documentOf xs)) × (length (documentOf xs) ≤ maxNodes) × T (wellFormed (documentOf xs))
   unfolding documentRefusal badRow wellFormed lentRows
   accepted-is e =
-      let r = no-refusal (eqb (lentRows xs) 0) (ltb maxNodes (lentRows xs)) 0 maxNodes (firstBelow (lentRows xs) (badRow xs)) e in
+      let r = no-refusal (eqb (lentRows xs) 0) (ltb maxNodes (lentRows xs)) 0 maxNodes
+      (firstBelow (lentRows xs) (badRow xs)) e in
       let n = (length xs + 2) / 3 in
       let some-row : ¬ (n ≡ 0) = eqb-false n 0 (r .0) in
       let few : n ≤ maxNodes = ltb-false maxNodes n (r .1) in
@@ -51,10 +54,12 @@ module _ (xs : List ℕ) where
         omega arith,
         omega arith,
         yes-and (leb 1 (length (documentOf xs))) (allBelow (length (documentOf xs)) (rowOk (documentOf xs)))
-            (yes-leb {a = 1} {b = length (documentOf xs)} (omega arith)) (yes-all _ _ (λ k l. row-sound k (sound k (omega arith)) .1)),
+            (yes-leb {a = 1} {b = length (documentOf xs)} (omega arith))
+            (yes-all _ _ (λ k l. row-sound k (sound k (omega arith)) .1)),
       )
 
-  is-accepted : (length xs ≡ 3 * length (documentOf xs)) × (length (documentOf xs) ≤ maxNodes) × T (wellFormed (documentOf xs)) → documentRefusal xs ≡ none
+  is-accepted : (length xs ≡ 3 * length (documentOf xs)) × (length (documentOf xs) ≤ maxNodes)
+      × T (wellFormed (documentOf xs)) → documentRefusal xs ≡ none
   unfolding documentRefusal badRow wellFormed lentRows
   is-accepted (whole, few, w) =
       let n = length (documentOf xs) in
@@ -65,5 +70,7 @@ module _ (xs : List ℕ) where
       (none-iff (badRow xs) n .1 (λ k l. sound-row k (omega arith) (all-yes n (rowOk (documentOf xs)) (r .1) k l)))
 
   -- refusal 8 doesn't apply just where the numbers are whole rows, at most 512, of a well-formed document
-  pub accepted-iff : (documentRefusal xs ≡ none) ↔ ((length xs ≡ 3 * length (documentOf xs)) × (length (documentOf xs) ≤ maxNodes) × T (wellFormed (documentOf xs)))
+  pub accepted-iff : (documentRefusal xs ≡ none)
+      ↔ ((length xs ≡ 3 * length (documentOf xs)) × (length (documentOf xs) ≤ maxNodes)
+      × T (wellFormed (documentOf xs)))
   accepted-iff = (accepted-is, is-accepted)

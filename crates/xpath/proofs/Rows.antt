@@ -9,17 +9,17 @@ use native.Mathlib.Omega.{arith}
 use lib.Dec.{leb, ltb}
 use lib.ListN.{length, length-set}
 use borrow.Author.Tests.{eq-eqb, ne-eqb, lt-ltb, le-ltb}
-use Rattle.xpath.specs.Bounded.{firstBelow}
+use Rattle.common.specs.Bounded.{firstBelow}
 use Rattle.xpath.specs.Document.{Document, kindAt, parentAt, nameAt, isAttribute, attributePlaced, kindAndNameOk}
 use Rattle.xpath.specs.Document.{rowOkBy, documentOf, lentRows, badRowBy, maxNodes, documentRefusal}
 use Rattle.xpath.specs.Climb.{above, climbMet}
-use Rattle.xpath.specs.Ends.{Filled}
-use Rattle.xpath.specs.Check.{closed, closedBefore, closedInTurn, ClimbMade, Placed, FirstBad, DocumentChecked}
+use Rattle.xpath.specs.code.Ends.{Filled}
+use Rattle.xpath.specs.code.Check.{closed, closedBefore, closedInTurn, ClimbMade, Placed, FirstBad, DocumentChecked}
 use Rattle.xpath.specs.declared.Climb.{Climb}
 use Rattle.xpath.specs.declared.DocumentCheck.the-variants.{Accepted, Refused}
-use Rattle.xpath.proofs.Reflect.{le-or-lt}
-use Rattle.xpath.proofs.Search.{first-not-yet, first-found}
-use Rattle.xpath.proofs.Lent.{nodes-lent}
+use Rattle.common.proofs.Reflect.{le-or-lt}
+use Rattle.common.proofs.Search.{first-not-yet, first-found}
+use Rattle.xpath.proofs.LentNumbers.{nodes-lent}
 use Rattle.xpath.proofs.Refusal.{accepted-iff}
 use Rattle.xpath.proofs.Climbing.{takes-none, not-met, refuses-alike}
 use Rattle.xpath.proofs.Ends.{ends-found}

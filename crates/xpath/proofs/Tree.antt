@@ -7,9 +7,10 @@ use native.Mathlib.Omega.{arith}
 use lib.Dec.{T, leb, eqb}
 use lib.ListN.{length}
 use mir.Facts.{and-yes, yes-and, or-yes, eqb-yes, yes-eqb, eqb-no, no-eqb}
-use Rattle.xpath.specs.Bounded.{allBelow}
-use Rattle.xpath.specs.Document.{Document, kindAt, parentAt, isChild, climbMeets, isAncestor, kindAndNameOk, rowOk, wellFormed}
-use Rattle.xpath.proofs.Reflect.{tests-equal, yes-or, all-yes, below-suc, eq-or-ne, facts}
+use Rattle.common.specs.Bounded.{allBelow}
+use Rattle.xpath.specs.Document.{Document, kindAt, parentAt, isChild, climbMeets, isAncestor, kindAndNameOk}
+use Rattle.xpath.specs.Document.{rowOk, wellFormed}
+use Rattle.common.proofs.Reflect.{tests-equal, yes-or, all-yes, below-suc, eq-or-ne, facts}
 
 -- y is a child of x
 abbrev pub Child : Document → ℕ → ℕ → Type 0
@@ -28,7 +29,8 @@ child-yes d x y t =
 
 pub yes-child : (d : Document) (x y : ℕ) → Child d x y → T (isChild d x y)
 unfolding isChild
-yes-child d x y c = yes-and (not (eqb y 0)) (eqb (parentAt d y) x) (no-eqb {a = y} {b = 0} (λ e. omega arith)) (yes-eqb (c .1))
+yes-child d x y c = yes-and (not (eqb y 0)) (eqb (parentAt d y) x) (no-eqb {a = y} {b = 0} (λ e. omega arith))
+    (yes-eqb (c .1))
 
 pub ancestor-trans : {d : Document} {x y z : ℕ} → Ancestor d x y → Ancestor d y z → Ancestor d x z
 ancestor-trans a (parent-is h e) = above-parent h (rw e a)
@@ -76,7 +78,8 @@ ancestor-smaller-below {d} {n} {x} {y} f l (above-parent h a) =
     omega (arith, ancestor-smaller-below {n = n} f (omega arith) a)
 
 -- the climb meets every ancestor, if it may take enough parents
-yes-climb : {d : Document} {m x y : ℕ} → ParentsSmaller d m → y < m → (n : ℕ) → y ≤ n → Ancestor d x y → T (climbMeets n d x y)
+yes-climb : {d : Document} {m x y : ℕ} → ParentsSmaller d m → y < m → (n : ℕ) → y ≤ n → Ancestor d x y →
+    T (climbMeets n d x y)
 unfolding climbMeets
 yes-climb f l zero h (parent-is p e) = omega arith
 yes-climb {d} {m} {x} {y} f l (suc n) h (parent-is p e) = yes-or (isChild d x y) _ (inl (yes-child d x y (p, e)))
@@ -134,7 +137,8 @@ module _ (d : Document) (w : T (wellFormed d)) where
 
   -- what is asked of row n + 1, an attribute: its parent is an element, and is row n or has row n for an attribute
   pub attribute-facts : (n : ℕ) → suc n < length d → kindAt d (suc n) ≡ 5 →
-      (kindAt d (parentAt d (suc n)) ≡ 1) × ((parentAt d (suc n) ≡ n) ⊎ ((kindAt d n ≡ 5) × (parentAt d n ≡ parentAt d (suc n))))
+      (kindAt d (parentAt d (suc n)) ≡ 1)
+      × ((parentAt d (suc n) ≡ n) ⊎ ((kindAt d n ≡ 5) × (parentAt d n ≡ parentAt d (suc n))))
   unfolding rowOk
   attribute-facts n l k =
       let r = simp (facts, rowOk) at (row-ok (suc n) l) in
@@ -157,7 +161,8 @@ module _ (d : Document) (w : T (wellFormed d)) where
   -- no row is an ancestor of itself or of an earlier one
   pub no-later-ancestor : (x y : ℕ) → y < length d → y ≤ x → isAncestor d x y ≡ false
   no-later-ancestor x y l h =
-      tests-equal (isAncestor d x y) false (λ t. let a = ancestor-smaller l (ancestor-yes d x y t) in omega arith, λ f. absurd f)
+      tests-equal (isAncestor d x y) false
+      (λ t. let a = ancestor-smaller l (ancestor-yes d x y t) in omega arith, λ f. absurd f)
 
   root-above-to : (n y : ℕ) → y ≤ n → y < length d → 0 < y → Ancestor d 0 y
   root-above-to zero y h l p = absurd (omega arith)
@@ -189,7 +194,8 @@ module _ (d : Document) (w : T (wellFormed d)) where
   subtree-contiguous x y (suc v) h k l a =
       ⊎-elim
       (λ e. rw e a)
-      (λ ne. let g : y ≤ v = omega arith in subtree-contiguous x y v h g (omega arith) (ancestor-of-previous x v l (omega arith) a))
+      (λ ne. let g : y ≤ v = omega arith in
+      subtree-contiguous x y v h g (omega arith) (ancestor-of-previous x v l (omega arith) a))
       (eq-or-ne y (suc v))
 
   -- a row after row 0 is no root
@@ -212,7 +218,8 @@ module _ (d : Document) (w : T (wellFormed d)) where
       let q : parentAt d y < y = parent-smaller y l h in
       let b : kindAt d x ≤ 1 = rw e at (parent-kind y l h) in
       omega (arith, kind-positive x (omega arith) p)
-  ancestor-is-element {x} {y} l p (above-parent h a) = let q = parent-smaller y l h in ancestor-is-element (omega arith) p a
+  ancestor-is-element {x} {y} l p (above-parent h a) = let q = parent-smaller y l h in
+      ancestor-is-element (omega arith) p a
 
   -- an ancestor is the root or an element, and so no attribute
   pub ancestor-kind : {x y : ℕ} → y < length d → Ancestor d x y → kindAt d x ≤ 1
@@ -220,7 +227,8 @@ module _ (d : Document) (w : T (wellFormed d)) where
   ancestor-kind {x} {y} l (above-parent h a) = let q = parent-smaller y l h in ancestor-kind (omega arith) a
 
   -- between an element and an attribute of it stand only attributes of it
-  pub attributes-first : (s v : ℕ) → v < length d → kindAt d v ≡ 5 → parentAt d v < s → s ≤ v → (kindAt d s ≡ 5) × (parentAt d s ≡ parentAt d v)
+  pub attributes-first : (s v : ℕ) → v < length d → kindAt d v ≡ 5 → parentAt d v < s → s ≤ v →
+      (kindAt d s ≡ 5) × (parentAt d s ≡ parentAt d v)
   attributes-first s zero l k h g = absurd (omega arith)
   attributes-first s (suc n) l k h g =
       ⊎-elim

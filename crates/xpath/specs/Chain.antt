@@ -2,13 +2,13 @@
 use Prim.Native.Nat.{ℕ, suc, _+_, _-_, _*_, _≤_}
 use lib.ListN.{length}
 use Rattle.xpath.specs.Document.{Document}
-use Rattle.xpath.specs.Term.{Path, Step, Composition}
+use Rattle.xpath.specs.Term.{Path, AxisStep, Composition}
 use Rattle.xpath.specs.Visits.{visits}
 
 -- a path of k steps composed from the left, without filters: a step, or such a path and a step after it
 pub data Chain : (k : ℕ) → Path → Type 0 where
-  one : {a t c : ℕ} → Chain 1 (Step a t c)
-  more : {k a t c : ℕ} {p : Path} → Chain k p → Chain (suc k) (Composition p (Step a t c))
+  one : {a t c : ℕ} → Chain 1 (AxisStep a t c)
+  more : {k a t c : ℕ} {p : Path} → Chain k p → Chain (suc k) (Composition p (AxisStep a t c))
 
 -- the bound for k steps on n nodes
 abbrev pub visitBound : (k n : ℕ) → ℕ

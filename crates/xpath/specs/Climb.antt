@@ -1,4 +1,5 @@
--- The ancestor test: a climb from y that ends once it is at or below x, while 01's goes on to the root. Assumes nothing.
+-- The ancestor test: a climb from y that ends once it is at or below x, while 01's goes on to the root. Assumes
+-- nothing.
 use Prim.Native.Nat.{ℕ, zero, suc, _≤_, _<_}
 use mathlib.Core.Path.{_≡_}
 use mathlib.Core.Bool.{Bool, cond, _&&_}

@@ -5,9 +5,10 @@ use mathlib.Core.List.{List, [], _∷_}
 use mathlib.Core.Option.{Option, some}
 use lib.Dec.{leb, ltb, eqb}
 use lib.ListN.{length, getD}
-use Rattle.xpath.specs.Bounded.{allBelow, firstBelow}
+use Rattle.common.specs.Bounded.{allBelow, firstBelow}
+use Rattle.common.specs.NodeKinds.{root-kind, element-kind, text-kind, instruction-kind, attribute-kind}
 
--- kinds: 0 root, 1 element, 2 text, 3 comment, 4 processing instruction, 5 attribute
+-- the kind is one of common's NodeKinds
 pub record Node : Type 0 where
   pub kind : ℕ
   pub parent : ℕ
@@ -20,7 +21,7 @@ abbrev pub node : ℕ → ℕ → ℕ → Node
 node k p n = record { kind = k; parent = p; name = n }
 
 abbrev pub rootNode : Node
-rootNode = node 0 0 0
+rootNode = node root-kind 0 0
 
 -- the fields of row n; past the last row, those of the root
 unfoldable pub kindAt : Document → ℕ → ℕ
@@ -34,7 +35,7 @@ nameAt d n = (getD d n rootNode) .name
 
 -- y is an attribute
 abbrev pub isAttribute : Document → ℕ → Bool
-isAttribute d y = eqb (kindAt d y) 5
+isAttribute d y = eqb (kindAt d y) attribute-kind
 
 -- x is the parent of y, which may be an attribute; row 0 has no parent
 unfoldable pub isChild : Document → ℕ → ℕ → Bool
@@ -45,37 +46,41 @@ unfoldable pub climbMeets : ℕ → Document → ℕ → ℕ → Bool
 climbMeets zero d x y = false
 climbMeets (suc most) d x y = isChild d x y || not (eqb y 0) && climbMeets most d x (parentAt d y)
 
--- x is an ancestor of y, which may be an attribute: a parent's row is the smaller one, so y parents are enough to reach the root
+-- x is an ancestor of y, which may be an attribute: a parent's row is the smaller one, so y parents are enough to
+-- reach the root
 unfoldable pub isAncestor : Document → ℕ → ℕ → Bool
 isAncestor d x y = climbMeets y d x y
 
 -- x and y are siblings: they have the same parent and are two, neither an attribute; row 0 has no parent
 unfoldable pub areSiblings : Document → ℕ → ℕ → Bool
-areSiblings d x y = not (eqb x 0) && isChild d (parentAt d x) y && not (eqb x y) && not (isAttribute d x) && not (isAttribute d y)
+areSiblings d x y =
+    not (eqb x 0) && isChild d (parentAt d x) y && not (eqb x y) && not (isAttribute d x) && not (isAttribute d y)
 
 abbrev pub maxName : ℕ
 maxName = 65535
 
--- the name of an element or an attribute is 1 to 65535, any other's 0; the kinds of the rows after row 0 are 1 to 5
+-- the name of an element or an attribute is 1 to maxName, any other's 0; a row after row 0 has a kind other than
+-- root's; the kinds from text to processing instruction are those without a name
 unfoldable pub kindAndNameOk : ℕ → ℕ → Bool
 kindAndNameOk kind name =
-    (eqb kind 1 || eqb kind 5) && leb 1 name && leb name maxName
-    || leb 2 kind && leb kind 4 && eqb name 0
+    (eqb kind element-kind || eqb kind attribute-kind) && leb 1 name && leb name maxName
+    || leb text-kind kind && leb kind instruction-kind && eqb name 0
 
--- row n + 1, an attribute, stands where it must: its parent is an element, and is the row before it or has the row before it for an attribute
+-- row n + 1, an attribute, stands where it must: its parent is an element, and is the row before it or has the row
+-- before it for an attribute
 abbrev pub attributePlaced : Document → ℕ → Bool
 attributePlaced d n =
-    eqb (kindAt d (parentAt d (suc n))) 1
+    eqb (kindAt d (parentAt d (suc n))) element-kind
     && (eqb (parentAt d (suc n)) n || isAttribute d n && eqb (parentAt d n) (parentAt d (suc n)))
 
--- row n is as it must be, by a test for ancestors: row 0 is `0 0 0`; the parent of a later row is the row before it or
--- an ancestor of that one, and is the root or an element; an attribute stands after its parent, with only attributes of
--- that parent between
+-- row n is as it must be, by a test for ancestors: row 0 is `0 0 0`; the parent of a later row is the row before it
+-- or an ancestor of that one, and is the root or an element, the kinds up to element; an attribute stands after its
+-- parent, with only attributes of that parent between
 abbrev pub rowOkBy : (ancestor : Document → ℕ → ℕ → Bool) → Document → ℕ → Bool
-rowOkBy ancestor d zero = eqb (kindAt d 0) 0 && eqb (parentAt d 0) 0 && eqb (nameAt d 0) 0
+rowOkBy ancestor d zero = eqb (kindAt d 0) root-kind && eqb (parentAt d 0) 0 && eqb (nameAt d 0) 0
 rowOkBy ancestor d (suc n) =
     (eqb (parentAt d (suc n)) n || ancestor d (parentAt d (suc n)) n)
-    && leb (kindAt d (parentAt d (suc n))) 1
+    && leb (kindAt d (parentAt d (suc n))) element-kind
     && kindAndNameOk (kindAt d (suc n)) (nameAt d (suc n))
     && (not (isAttribute d (suc n)) || attributePlaced d n)
 
@@ -110,7 +115,7 @@ badRowBy ancestor xs n = ltb (length xs) (3 * n + 3) || not (rowOkBy ancestor (d
 unfoldable pub badRow : List ℕ → ℕ → Bool
 badRow = badRowBy isAncestor
 
--- the value of refusal 8, where it applies: no rows 0, too many 512, else the first bad row
+-- the value of refusal 8, where it applies: no rows 0, too many maxNodes, else the first bad row
 abbrev pub documentRefusalBy : (ancestor : Document → ℕ → ℕ → Bool) → List ℕ → Option ℕ
 documentRefusalBy ancestor xs =
     cond (eqb (lentRows xs) 0) (some 0)

@@ -4,7 +4,7 @@ use mathlib.Core.Path.{_≡_}
 use mathlib.Core.List.{List}
 use lib.ListN.{length, getD, set}
 use Rattle.xpath.specs.Document.{Document, node, kindAt, parentAt, nameAt, documentOf}
-use Rattle.xpath.specs.Term.{Step}
+use Rattle.xpath.specs.Term.{AxisStep}
 use Rattle.xpath.specs.Meaning.{selects}
 
 -- d and e are alike but for the name of node m; neither need be well formed
@@ -17,7 +17,7 @@ pub record SameButName (m : ℕ) (d e : Document) : Type 0 where
 -- a step from one context node selects the same of the other nodes on both
 abbrev pub StepSameElsewhere : Type 0
 StepSameElsewhere = (m : ℕ) (d e : Document) → SameButName m d e → (a t c x y : ℕ) → ¬ (y ≡ m)
-    → selects d (Step a t c) x y ≡ selects e (Step a t c) x y
+    → selects d (AxisStep a t c) x y ≡ selects e (AxisStep a t c) x y
 
 -- lent numbers that are alike but for the name of row m, the third number of it
 pub record LentSameButName (m : ℕ) (xs ys : List ℕ) : Type 0 where

@@ -2,10 +2,10 @@
 use Prim.Native.Nat.{ℕ}
 
 mutual
-  -- void, root, axis::test, p|q, p/q, p[f]; the name is 0 where the test takes none
+  -- void, root, axis::test (a step of a path), p|q, p/q, p[f]; the name is 0 where the test takes none
   pub data Path : Type 0 where
     Void Root : Path
-    Step : (axis test name : ℕ) → Path
+    AxisStep : (axis test name : ℕ) → Path
     Union Composition : Path → Path → Path
     Filter : Path → Qualifier → Path
     deriving Discrete as Path-discrete

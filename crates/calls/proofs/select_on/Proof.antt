@@ -2,7 +2,7 @@
 use borrow.Author.Tests.{not-true, not-false}
 use mathlib.Core.Path.{sym, ap, _∙_}
 use native.Mathlib.Omega.{arith}
-use Rattle.xpath.specs.Check.{refusalOf}
+use Rattle.xpath.specs.code.Check.{refusalOf}
 use Rattle.xpath.proofs.Refusal.{accepted-iff}
 use Rattle.calls.proofs.SelectJudged.{bad-document, bad-context, bad-row, select-evaluated}
 use borrow.Author.Needs.{needs}

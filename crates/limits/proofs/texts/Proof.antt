@@ -1,16 +1,17 @@
 -- `texts` is safe and ends, and keeps the array's length. Assumes nothing.
-use Prim.Native.Nat.{_≤_, _-_}
+use Prim.Native.Nat.{_+_, _≤_, _-_}
 use native.Mathlib.Omega.{arith}
 use mathlib.Core.Path.{_≡_}
 use lib.ListN.{length, length-set}
+use Rattle.script.specs.Command.{maxNumbers}
 use Rattle.limits.proofs.texts.Statement.{statement}
 use Rattle.limits.proofs.texts.Tie as tie
 
 abbrev Inv-loop : tie.InvT-loop
-Inv-loop d₀ i₀ d i = (i ≤ 1541) × (length d ≡ 1539)
+Inv-loop d₀ i₀ d i = (i ≤ maxNumbers + 2) × (length d ≡ maxNumbers)
 
 abbrev μ-loop : tie.MeasureT-loop
-μ-loop d₀ i₀ d i = 1539 - i
+μ-loop d₀ i₀ d i = maxNumbers - i
 
 loop-holds : tie.Need-loop-holds Inv-loop μ-loop
 loop-holds c = omega arith

@@ -1,7 +1,7 @@
 -- `first_digit` meets its contract. Assumes nothing.
 use mathlib.Core.Path.{sym, ap, _∙_}
 use borrow.Author.Tests.{not-true, not-false}
-use Rattle.lines.specs.Read.{upTo}
+use Rattle.lines.specs.code.NumbersRead.{upTo}
 use Rattle.lines.proofs.Scan.{first-ends, first-no-digit, first-is-digit}
 use borrow.Author.Needs.{needs}
 use Rattle.lines.proofs.first_digit.Statement.{statement}

@@ -3,7 +3,7 @@ use Prim.Native.Nat.{_+_, _-_, _≤_, _<_}
 use mathlib.Core.Path.{_≡_, sym, ap, _∙_}
 use native.Mathlib.Omega.{arith}
 use lib.ListN.{length, getD, drop}
-use Rattle.lines.specs.Read.{writtenNumber, numberCut}
+use Rattle.lines.specs.code.NumbersRead.{writtenNumber, numberCut}
 use borrow.Author.Needs.{needs}
 use Rattle.lines.proofs.Scan.{scan, number-met, no-number-met, nothing-there, no-digit-there, digit-there, end-there, stops-there, goes-on-there, first-digit-fits, one-more-fits, scan-past}
 use Rattle.lines.proofs.number_at.Statement.{statement}

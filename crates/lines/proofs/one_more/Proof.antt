@@ -2,7 +2,7 @@
 use Prim.Native.Nat.{_+_, _*_}
 use mathlib.Core.Path.{sym, ap, _∙_}
 use borrow.Author.Tests.{not-true, not-false}
-use Rattle.lines.specs.Read.{upTo}
+use Rattle.lines.specs.code.NumbersRead.{upTo}
 use Rattle.lines.proofs.Scan.{behind-zero, behind-no-digit, behind-digit}
 use borrow.Author.Needs.{needs}
 use Rattle.lines.proofs.one_more.Statement.{statement}

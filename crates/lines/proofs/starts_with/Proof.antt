@@ -4,7 +4,7 @@ use mathlib.Core.Path.{_≡_, sym, _∙_}
 use native.Mathlib.Nat.{add-zero}
 use native.Mathlib.Omega.{arith}
 use lib.ListN.{length, drop}
-use Rattle.lines.specs.Read.{startsWith}
+use Rattle.lines.specs.code.NumbersRead.{startsWith}
 use Rattle.lines.proofs.Start.{starts-further, starts-differ, starts-past, starts-whole}
 use Rattle.lines.proofs.starts_with.Statement.{statement}
 use Rattle.lines.proofs.starts_with.Tie as tie

@@ -1,6 +1,6 @@
 -- `up_to` meets its contract. Assumes nothing.
 use borrow.Author.Tests.{le-leb, lt-leb}
-use Rattle.lines.specs.Read.{upTo}
+use Rattle.lines.specs.code.NumbersRead.{upTo}
 use borrow.Author.Needs.{needs}
 use Rattle.lines.proofs.up_to.Statement.{statement}
 use Rattle.lines.proofs.up_to.Tie as tie

@@ -5,7 +5,8 @@ use native.Mathlib.Omega.{arith}
 use lib.ListN.{length}
 use Rattle.xpath.specs.Document.{documentOf}
 use Rattle.xpath.specs.Axis.{passes}
-use Rattle.marking.proofs.Walks.{AncestorsFrom, ancestors-start, ancestors-less, ancestors-inside, ancestors-marked, ancestors-left, ancestors-end}
+use Rattle.marking.proofs.Walks.{AncestorsFrom, ancestors-start, ancestors-less, ancestors-inside}
+use Rattle.marking.proofs.Walks.{ancestors-marked, ancestors-left, ancestors-end}
 use Rattle.marking.proofs.mark_ancestors.Statement.{statement}
 use Rattle.marking.proofs.mark_ancestors.Tie as tie
 
@@ -35,7 +36,8 @@ slice-write-out c =
     let g = start .pre in
     let l = at-loop .loop in
     let p = c .before .before .parent-at in
-    ancestors-inside (documentOf (a .d .now)) (g .0) (passes 4 (a .test) (a .name) (documentOf (a .d .now))) (a .x) (g .1) (a .out .now) (g .2) (l .at) (p .result) (l .out) (l .inv) (omega arith) (p .ensures)
+    ancestors-inside (documentOf (a .d .now)) (g .0) (passes 4 (a .test) (a .name) (documentOf (a .d .now))) (a .x)
+    (g .1) (a .out .now) (g .2) (l .at) (p .result) (l .out) (l .inv) (omega arith) (p .ensures)
 
 loop-less : tie.Need-loop-less Inv-loop μ-loop
 loop-less c =
@@ -45,7 +47,8 @@ loop-less c =
     let g = start .pre in
     let l = at-loop .loop in
     let p = c .before .before .parent-at in
-    ancestors-less (documentOf (a .d .now)) (g .0) (passes 4 (a .test) (a .name) (documentOf (a .d .now))) (a .x) (g .1) (a .out .now) (g .2) (l .at) (p .result) (l .out) (l .inv) (omega arith) (p .ensures)
+    ancestors-less (documentOf (a .d .now)) (g .0) (passes 4 (a .test) (a .name) (documentOf (a .d .now))) (a .x)
+    (g .1) (a .out .now) (g .2) (l .at) (p .result) (l .out) (l .inv) (omega arith) (p .ensures)
 
 loop-again : tie.Need-loop-again Inv-loop μ-loop
 loop-again c =
@@ -55,7 +58,9 @@ loop-again c =
     let g = start .pre in
     let l = at-loop .loop in
     let p = c .before .before .parent-at in
-    ancestors-marked (documentOf (a .d .now)) (g .0) (passes 4 (a .test) (a .name) (documentOf (a .d .now))) (a .x) (g .1) (a .out .now) (g .2) (l .at) (p .result) (l .out) (l .inv) (omega arith) (p .ensures) (sym (c .before .passes-test .ensures) ∙ c .if1 .taken)
+    ancestors-marked (documentOf (a .d .now)) (g .0) (passes 4 (a .test) (a .name) (documentOf (a .d .now))) (a .x)
+    (g .1) (a .out .now) (g .2) (l .at) (p .result) (l .out) (l .inv) (omega arith) (p .ensures)
+    (sym (c .before .passes-test .ensures) ∙ c .if1 .taken)
 
 loop-less-2 : tie.Need-loop-less-2 Inv-loop μ-loop
 loop-less-2 c =
@@ -65,7 +70,8 @@ loop-less-2 c =
     let g = start .pre in
     let l = at-loop .loop in
     let p = c .before .before .parent-at in
-    ancestors-less (documentOf (a .d .now)) (g .0) (passes 4 (a .test) (a .name) (documentOf (a .d .now))) (a .x) (g .1) (a .out .now) (g .2) (l .at) (p .result) (l .out) (l .inv) (omega arith) (p .ensures)
+    ancestors-less (documentOf (a .d .now)) (g .0) (passes 4 (a .test) (a .name) (documentOf (a .d .now))) (a .x)
+    (g .1) (a .out .now) (g .2) (l .at) (p .result) (l .out) (l .inv) (omega arith) (p .ensures)
 
 loop-again-2 : tie.Need-loop-again-2 Inv-loop μ-loop
 loop-again-2 c =
@@ -75,7 +81,9 @@ loop-again-2 c =
     let g = start .pre in
     let l = at-loop .loop in
     let p = c .before .before .parent-at in
-    ancestors-left (documentOf (a .d .now)) (g .0) (passes 4 (a .test) (a .name) (documentOf (a .d .now))) (a .x) (g .1) (a .out .now) (g .2) (l .at) (p .result) (l .out) (l .inv) (omega arith) (p .ensures) (sym (c .before .passes-test .ensures) ∙ c .if1 .left)
+    ancestors-left (documentOf (a .d .now)) (g .0) (passes 4 (a .test) (a .name) (documentOf (a .d .now))) (a .x)
+    (g .1) (a .out .now) (g .2) (l .at) (p .result) (l .out) (l .inv) (omega arith) (p .ensures)
+    (sym (c .before .passes-test .ensures) ∙ c .if1 .left)
 
 same-length : tie.Need-same-length Inv-loop μ-loop
 same-length c = c .before .loop .inv .added .size

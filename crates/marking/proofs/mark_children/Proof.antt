@@ -6,8 +6,8 @@ use mathlib.Core.List.{List}
 use native.Mathlib.Omega.{arith}
 use lib.ListN.{length, getD}
 use Rattle.xpath.specs.Document.{documentOf, maxNodes}
-use Rattle.xpath.specs.Ends.{Prepared}
-use Rattle.marking.specs.Added.{candidate, ChildrenFrom}
+use Rattle.xpath.specs.code.Ends.{Prepared}
+use Rattle.marking.specs.code.Added.{candidate, ChildrenFrom}
 use Rattle.marking.proofs.Walks.{ChildrenBelow, AtChild, at-child, children-start, children-end}
 use Rattle.marking.proofs.mark_children.Statement.{statement}
 use Rattle.marking.proofs.mark_children.Tie as tie
@@ -24,7 +24,8 @@ abbrev μ-loop : tie.MeasureT-loop
 μ-loop d ends axis test name p lo hi out₀ y₀ out y = getD ends p 0 - y
 
 -- what the loop knows at the child y, whose subtree ends at e
-here : (d ends : List ℕ) (axis test name p lo hi : ℕ) (out₀ : List ℕ) (y e : ℕ) (out : List ℕ) → Prepared (documentOf d) ends →
+here : (d ends : List ℕ) (axis test name p lo hi : ℕ) (out₀ : List ℕ) (y e : ℕ) (out : List ℕ) →
+    Prepared (documentOf d) ends →
     length out₀ ≡ maxNodes → ChildrenFrom (documentOf d) ends p lo hi →
     ChildrenBelow (documentOf d) ends (passing d axis test name) p lo hi y out₀ out → y < hi → e ≡ getD ends y 0 →
     AtChild (documentOf d) ends (passing d axis test name) p lo hi y e out₀ out
@@ -52,50 +53,60 @@ is-candidate-requires c κs = tt
 slice-write-out : tie.Need-slice-write-out Inv-loop μ-loop
 slice-write-out c =
     let w = c .before .before in
-    let l = w .before .before .loop in
-    let s = w .before .before .before .before .before .before in
+    let looped = w .before .before in
+    let l = looped .loop in
+    let s = looped .before .before .before .before in
     let a = s .args in
-    let h = here (a .d .now) (a .ends .now) (a .axis) (a .test) (a .name) (a .p) (a .lo) (a .hi) (a .out .now) (l .y) (w .after-subtree .result)
+    let h = here (a .d .now) (a .ends .now) (a .axis) (a .test) (a .name) (a .p) (a .lo) (a .hi) (a .out .now) (l .y)
+    (w .after-subtree .result)
     (l .out) (s .pre .0) (s .pre .1 .0) (s .pre .1 .1) (l .inv) (omega arith) (w .after-subtree .ensures) in
     h .in-marks
 
 loop-less : tie.Need-loop-less Inv-loop μ-loop
 loop-less c =
     let w = c .before .before in
-    let l = w .before .before .loop in
-    let s = w .before .before .before .before .before .before in
+    let looped = w .before .before in
+    let l = looped .loop in
+    let s = looped .before .before .before .before in
     let a = s .args in
-    let h = here (a .d .now) (a .ends .now) (a .axis) (a .test) (a .name) (a .p) (a .lo) (a .hi) (a .out .now) (l .y) (w .after-subtree .result)
+    let h = here (a .d .now) (a .ends .now) (a .axis) (a .test) (a .name) (a .p) (a .lo) (a .hi) (a .out .now) (l .y)
+    (w .after-subtree .result)
     (l .out) (s .pre .0) (s .pre .1 .0) (s .pre .1 .1) (l .inv) (omega arith) (w .after-subtree .ensures) in
     omega (arith, h .less, s .pre .1 .1 .inside)
 
 loop-again : tie.Need-loop-again Inv-loop μ-loop
 loop-again c =
     let w = c .before .before in
-    let l = w .before .before .loop in
-    let s = w .before .before .before .before .before .before in
+    let looped = w .before .before in
+    let l = looped .loop in
+    let s = looped .before .before .before .before in
     let a = s .args in
-    let h = here (a .d .now) (a .ends .now) (a .axis) (a .test) (a .name) (a .p) (a .lo) (a .hi) (a .out .now) (l .y) (w .after-subtree .result)
+    let h = here (a .d .now) (a .ends .now) (a .axis) (a .test) (a .name) (a .p) (a .lo) (a .hi) (a .out .now) (l .y)
+    (w .after-subtree .result)
     (l .out) (s .pre .0) (s .pre .1 .0) (s .pre .1 .1) (l .inv) (omega arith) (w .after-subtree .ensures) in
     h .marked (sym (c .before .is-candidate .ensures) ∙ c .if1 .taken)
 
 loop-less-2 : tie.Need-loop-less-2 Inv-loop μ-loop
 loop-less-2 c =
     let w = c .before .before in
-    let l = w .before .before .loop in
-    let s = w .before .before .before .before .before .before in
+    let looped = w .before .before in
+    let l = looped .loop in
+    let s = looped .before .before .before .before in
     let a = s .args in
-    let h = here (a .d .now) (a .ends .now) (a .axis) (a .test) (a .name) (a .p) (a .lo) (a .hi) (a .out .now) (l .y) (w .after-subtree .result)
+    let h = here (a .d .now) (a .ends .now) (a .axis) (a .test) (a .name) (a .p) (a .lo) (a .hi) (a .out .now) (l .y)
+    (w .after-subtree .result)
     (l .out) (s .pre .0) (s .pre .1 .0) (s .pre .1 .1) (l .inv) (omega arith) (w .after-subtree .ensures) in
     omega (arith, h .less, s .pre .1 .1 .inside)
 
 loop-again-2 : tie.Need-loop-again-2 Inv-loop μ-loop
 loop-again-2 c =
     let w = c .before .before in
-    let l = w .before .before .loop in
-    let s = w .before .before .before .before .before .before in
+    let looped = w .before .before in
+    let l = looped .loop in
+    let s = looped .before .before .before .before in
     let a = s .args in
-    let h = here (a .d .now) (a .ends .now) (a .axis) (a .test) (a .name) (a .p) (a .lo) (a .hi) (a .out .now) (l .y) (w .after-subtree .result)
+    let h = here (a .d .now) (a .ends .now) (a .axis) (a .test) (a .name) (a .p) (a .lo) (a .hi) (a .out .now) (l .y)
+    (w .after-subtree .result)
     (l .out) (s .pre .0) (s .pre .1 .0) (s .pre .1 .1) (l .inv) (omega arith) (w .after-subtree .ensures) in
     h .left (sym (c .before .is-candidate .ensures) ∙ c .if1 .left)
 

@@ -4,7 +4,8 @@ use native.Mathlib.Omega.{arith}
 use Rattle.xpath.specs.Document.{documentOf}
 use Rattle.xpath.specs.Axis.{passes}
 use Rattle.xpath.proofs.Tree.{parent-smaller}
-use Rattle.marking.proofs.Steps.{following-sibling-marked, no-following-sibling, may-have-siblings, later-siblings}
+use Rattle.marking.proofs.Steps.{following-sibling-marked, no-following-sibling, may-have-siblings}
+use Rattle.marking.proofs.Steps.{later-siblings}
 use borrow.Author.Needs.{needs}
 use Rattle.marking.proofs.mark_following_siblings.Statement.{statement}
 use Rattle.marking.proofs.mark_following_siblings.Tie as tie
@@ -21,7 +22,9 @@ returns c =
     let start = at-shared-slice-known2 .before .before in
     let a = start .args in
     let g = start .pre in
-    no-following-sibling (documentOf (a .d .now)) (a .ends .now) (g .prepared) (passes 7 (a .test) (a .name) (documentOf (a .d .now))) (a .x) (g .row) (sym (c .before .or .ensures ∙ rw (c .before .before .is-attribute .ensures)) ∙ c .if1 .taken)
+    no-following-sibling (documentOf (a .d .now)) (a .ends .now) (g .prepared)
+    (passes 7 (a .test) (a .name) (documentOf (a .d .now))) (a .x) (g .row)
+    (sym (c .before .or .ensures ∙ rw (c .before .before .is-attribute .ensures)) ∙ c .if1 .taken)
 
 parent-at-requires : tie.Need-parent-at-requires
 parent-at-requires c κs = search needs
@@ -42,7 +45,10 @@ mul-wide-2 c =
     let start = at-is-attribute .before .before .before .before in
     let a = start .args in
     let g = start .pre in
-    let m = may-have-siblings (documentOf (a .d .now)) (a .ends .now) (g .prepared) (passes 0 0 0 (documentOf (a .d .now))) (a .x) (g .row) (sym (at-or .or .ensures ∙ rw (at-is-attribute .is-attribute .ensures)) ∙ c .before .before .before .if1 .left) in
+    let m = may-have-siblings (documentOf (a .d .now)) (a .ends .now) (g .prepared)
+    (passes 0 0 0 (documentOf (a .d .now))) (a .x) (g .row)
+    (sym (at-or .or .ensures ∙ rw (at-is-attribute .is-attribute .ensures))
+    ∙ c .before .before .before .if1 .left) in
     let s = parent-smaller _ (g .prepared .formed) (a .x) (g .row) (m .0) in
     omega (arith, c .before .before .parent-at .ensures, g .prepared .few, g .row)
 
@@ -54,7 +60,9 @@ shared-slice-read-wide-2 c =
     let start = at-is-attribute .before .before .before .before in
     let a = start .args in
     let g = start .pre in
-    let m = may-have-siblings (documentOf (a .d .now)) (a .ends .now) (g .prepared) (passes 0 0 0 (documentOf (a .d .now))) (a .x) (g .row) (sym (at-or .or .ensures ∙ rw (at-is-attribute .is-attribute .ensures)) ∙ at-if1 .if1 .left) in
+    let m = may-have-siblings (documentOf (a .d .now)) (a .ends .now) (g .prepared)
+    (passes 0 0 0 (documentOf (a .d .now))) (a .x) (g .row)
+    (sym (at-or .or .ensures ∙ rw (at-is-attribute .is-attribute .ensures)) ∙ at-if1 .if1 .left) in
     let s = parent-smaller _ (g .prepared .formed) (a .x) (g .row) (m .0) in
     omega (arith, c .before .before .before .parent-at .ensures, g .prepared .ends .room, g .row)
 
@@ -71,8 +79,17 @@ mark-children-requires c κs =
     let start = at-is-attribute .before .before .before .before in
     let a = start .args in
     let g = start .pre in
-    let m = may-have-siblings (documentOf (a .d .now)) (a .ends .now) (g .prepared) (passes 0 0 0 (documentOf (a .d .now))) (a .x) (g .row) (sym (at-or .or .ensures ∙ rw (at-is-attribute .is-attribute .ensures)) ∙ at-if1 .if1 .left) in
-    (g .prepared, (g .room, rw (c .before .before .before .wide .ensures, c .before .wide2 .ensures) (later-siblings (documentOf (a .d .now)) (a .ends .now) (g .prepared) (a .x) (at-parent-at .parent-at .result) (g .row) (m .0) (at-parent-at .parent-at .ensures))))
+    let m = may-have-siblings (documentOf (a .d .now)) (a .ends .now) (g .prepared)
+    (passes 0 0 0 (documentOf (a .d .now))) (a .x) (g .row)
+    (sym (at-or .or .ensures ∙ rw (at-is-attribute .is-attribute .ensures)) ∙ at-if1 .if1 .left) in (
+      g .prepared,
+      (
+        g .room,
+        rw (c .before .before .before .wide .ensures, c .before .wide2 .ensures)
+            (later-siblings (documentOf (a .d .now)) (a .ends .now) (g .prepared) (a .x) (at-parent-at .parent-at .result)
+            (g .row) (m .0) (at-parent-at .parent-at .ensures)),
+      ),
+    )
 
 same-length : tie.Need-same-length
 same-length c = search needs
@@ -88,8 +105,13 @@ returns-2 c =
     let start = at-is-attribute .before .before .before .before in
     let a = start .args in
     let g = start .pre in
-    let m = may-have-siblings (documentOf (a .d .now)) (a .ends .now) (g .prepared) (passes 0 0 0 (documentOf (a .d .now))) (a .x) (g .row) (sym (at-or .or .ensures ∙ rw (at-is-attribute .is-attribute .ensures)) ∙ at-if1 .if1 .left) in
-    following-sibling-marked (documentOf (a .d .now)) (a .ends .now) (g .prepared) (passes 7 (a .test) (a .name) (documentOf (a .d .now))) (a .x) (g .row) _ (m .0) (at-parent-at .parent-at .ensures) (m .1) (rw (at-wide .wide .ensures, at-wide2 .wide2 .ensures) at (c .before .before .mark-children .ensures))
+    let m = may-have-siblings (documentOf (a .d .now)) (a .ends .now) (g .prepared)
+    (passes 0 0 0 (documentOf (a .d .now))) (a .x) (g .row)
+    (sym (at-or .or .ensures ∙ rw (at-is-attribute .is-attribute .ensures)) ∙ at-if1 .if1 .left) in
+    following-sibling-marked (documentOf (a .d .now)) (a .ends .now) (g .prepared)
+    (passes 7 (a .test) (a .name) (documentOf (a .d .now))) (a .x) (g .row) _ (m .0)
+    (at-parent-at .parent-at .ensures) (m .1)
+    (rw (at-wide .wide .ensures, at-wide2 .wide2 .ensures) at (c .before .before .mark-children .ensures))
 
 pub mark-following-siblings-spec : {M : Type 1} → statement M
 mark-following-siblings-spec =

@@ -19,12 +19,14 @@ same-length c = search needs
 returns : tie.Need-returns
 returns c =
     let a = c .before .before .before .before .args in
-    node-marked (passes (a .axis) (a .test) (a .name) (documentOf (a .d .now))) (a .at) (c .before .before .before .before .pre) (sym (c .before .passes-test .ensures) ∙ c .if1 .taken)
+    node-marked (passes (a .axis) (a .test) (a .name) (documentOf (a .d .now))) (a .at)
+    (c .before .before .before .before .pre) (sym (c .before .passes-test .ensures) ∙ c .if1 .taken)
 
 returns-2 : tie.Need-returns-2
 returns-2 c =
     let a = c .before .before .before .before .args in
-    node-left (passes (a .axis) (a .test) (a .name) (documentOf (a .d .now))) (a .at) (sym (c .before .passes-test .ensures) ∙ c .if1 .left)
+    node-left (passes (a .axis) (a .test) (a .name) (documentOf (a .d .now))) (a .at)
+    (sym (c .before .passes-test .ensures) ∙ c .if1 .left)
 
 pub mark-node-spec : {M : Type 1} → statement M
 mark-node-spec =

@@ -13,7 +13,8 @@ returns : tie.Need-returns
 returns c =
     let a = c .before .before .before .before .args in
     let g = c .before .before .before .before .pre in
-    root-parent (documentOf (a .d .now)) (a .ends .now) (g .prepared) (passes 2 (a .test) (a .name) (documentOf (a .d .now))) (a .x) (g .row) (c .if1 .taken)
+    root-parent (documentOf (a .d .now)) (a .ends .now) (g .prepared)
+    (passes 2 (a .test) (a .name) (documentOf (a .d .now))) (a .x) (g .row) (c .if1 .taken)
 
 parent-at-requires : tie.Need-parent-at-requires
 parent-at-requires c κs = search needs
@@ -37,7 +38,9 @@ returns-2 c =
     let start = at-if1 .before .before .before .before in
     let a = start .args in
     let g = start .pre in
-    parent-marked (documentOf (a .d .now)) (a .ends .now) (g .prepared) (passes 2 (a .test) (a .name) (documentOf (a .d .now))) (a .x) (g .row) _ (pos-of-ne-zero (at-if1 .if1 .left)) (at-parent-at .parent-at .ensures) (c .before .before .mark-node .ensures)
+    parent-marked (documentOf (a .d .now)) (a .ends .now) (g .prepared)
+    (passes 2 (a .test) (a .name) (documentOf (a .d .now))) (a .x) (g .row) _ (pos-of-ne-zero (at-if1 .if1 .left))
+    (at-parent-at .parent-at .ensures) (c .before .before .mark-node .ensures)
 
 pub mark-parent-spec : {M : Type 1} → statement M
 mark-parent-spec =

@@ -8,14 +8,15 @@ use borrow.Author.Needs.{needs}
 use lib.Dec.{leb}
 use lib.ListN.{length, getD}
 use Rattle.xpath.specs.Document.{documentOf}
-use Rattle.marking.specs.Added.{Added, candidate}
+use Rattle.marking.specs.code.Added.{Added, candidate}
 use Rattle.marking.proofs.Added.{between, up-start, up-marked, up-left, up-end}
 use Rattle.marking.proofs.mark_preceding.Statement.{statement}
 use Rattle.marking.proofs.mark_preceding.Tie as tie
 
 abbrev Inv-loop : tie.InvT-loop
 Inv-loop d ends test name x out₀ y₀ out y =
-    (y ≤ x) × Added (length (documentOf d)) out₀ out (between 0 y (λ k. leb (getD ends k 0) x && candidate 10 test name (documentOf d) k))
+    (y ≤ x) × Added (length (documentOf d)) out₀ out
+    (between 0 y (λ k. leb (getD ends k 0) x && candidate 10 test name (documentOf d) k))
 
 abbrev μ-loop : tie.MeasureT-loop
 μ-loop d ends test name x out₀ y₀ out y = x - y
@@ -54,12 +55,17 @@ loop-again c =
     let start = at-loop .before .before .before .before in
     let a = start .args in
     let l = at-loop .loop in
-    let f : ℕ → Bool = λ k. leb (getD (a .ends .now) k 0) (a .x) && candidate 10 (a .test) (a .name) (documentOf (a .d .now)) k in
-    let e : f (l .y) ≡ (c .before .and .result) = sym (c .before .and .ensures ∙ rw (c .before .before .before .wide .ensures, c .before .before .is-candidate .ensures)) in (
+    let f : ℕ → Bool = λ k. leb (getD (a .ends .now) k 0) (a .x)
+    && candidate 10 (a .test) (a .name) (documentOf (a .d .now)) k in
+    let e : f (l .y) ≡ (c .before .and .result) =
+    sym (c .before .and .ensures
+    ∙ rw (c .before .before .before .wide .ensures, c .before .before .is-candidate .ensures)) in (
       omega arith,
       ⊎-elim
-          (λ w. rw (w .1) (up-marked f 0 (l .y) (l .y + 1) (l .inv .1) (omega arith) (omega arith) (λ k m a b. absurd (omega arith)) (omega (arith, l .inv .1 .size)) (e ∙ w .0 .taken)))
-          (λ w. rw (w .1) (up-left f 0 (l .y) (l .y + 1) (l .inv .1) (omega arith) (omega arith) (λ k m a b. absurd (omega arith)) (e ∙ w .0 .left)))
+          (λ w. rw (w .1) (up-marked f 0 (l .y) (l .y + 1) (l .inv .1) (omega arith) (omega arith)
+          (λ k m a b. absurd (omega arith)) (omega (arith, l .inv .1 .size)) (e ∙ w .0 .taken)))
+          (λ w. rw (w .1) (up-left f 0 (l .y) (l .y + 1) (l .inv .1) (omega arith) (omega arith)
+          (λ k m a b. absurd (omega arith)) (e ∙ w .0 .left)))
           (c .if1 .came),
     )
 
@@ -72,7 +78,8 @@ returns c =
     let start = at-shared-slice-known .before in
     let a = start .args in
     let l = c .before .loop in
-    up-end (λ k. leb (getD (a .ends .now) k 0) (a .x) && candidate 10 (a .test) (a .name) (documentOf (a .d .now)) k) 0 (a .x) (l .y) (l .inv .1) (omega arith)
+    up-end (λ k. leb (getD (a .ends .now) k 0) (a .x)
+    && candidate 10 (a .test) (a .name) (documentOf (a .d .now)) k) 0 (a .x) (l .y) (l .inv .1) (omega arith)
     (λ k m a b. absurd (omega arith))
 
 pub mark-preceding-spec : {M : Type 1} → statement M

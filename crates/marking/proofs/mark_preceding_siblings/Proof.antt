@@ -4,7 +4,8 @@ use native.Mathlib.Omega.{arith}
 use Rattle.xpath.specs.Document.{documentOf}
 use Rattle.xpath.specs.Axis.{passes}
 use Rattle.xpath.proofs.Tree.{parent-smaller}
-use Rattle.marking.proofs.Steps.{preceding-sibling-marked, no-preceding-sibling, may-have-siblings, earlier-siblings}
+use Rattle.marking.proofs.Steps.{preceding-sibling-marked, no-preceding-sibling, may-have-siblings}
+use Rattle.marking.proofs.Steps.{earlier-siblings}
 use borrow.Author.Needs.{needs}
 use Rattle.marking.proofs.mark_preceding_siblings.Statement.{statement}
 use Rattle.marking.proofs.mark_preceding_siblings.Tie as tie
@@ -21,7 +22,9 @@ returns c =
     let start = at-shared-slice-known2 .before .before in
     let a = start .args in
     let g = start .pre in
-    no-preceding-sibling (documentOf (a .d .now)) (a .ends .now) (g .prepared) (passes 8 (a .test) (a .name) (documentOf (a .d .now))) (a .x) (g .row) (sym (c .before .or .ensures ∙ rw (c .before .before .is-attribute .ensures)) ∙ c .if1 .taken)
+    no-preceding-sibling (documentOf (a .d .now)) (a .ends .now) (g .prepared)
+    (passes 8 (a .test) (a .name) (documentOf (a .d .now))) (a .x) (g .row)
+    (sym (c .before .or .ensures ∙ rw (c .before .before .is-attribute .ensures)) ∙ c .if1 .taken)
 
 parent-at-requires : tie.Need-parent-at-requires
 parent-at-requires c κs = search needs
@@ -32,7 +35,10 @@ add-mark-children c =
     let start = at-slice-known .before .before .before in
     let a = start .args in
     let g = start .pre in
-    let m = may-have-siblings (documentOf (a .d .now)) (a .ends .now) (g .prepared) (passes 0 0 0 (documentOf (a .d .now))) (a .x) (g .row) (sym (c .before .before .or .ensures ∙ rw (c .before .before .before .is-attribute .ensures)) ∙ c .before .if1 .left) in
+    let m = may-have-siblings (documentOf (a .d .now)) (a .ends .now) (g .prepared)
+    (passes 0 0 0 (documentOf (a .d .now))) (a .x) (g .row)
+    (sym (c .before .before .or .ensures ∙ rw (c .before .before .before .is-attribute .ensures))
+    ∙ c .before .if1 .left) in
     let s = parent-smaller _ (g .prepared .formed) (a .x) (g .row) (m .0) in
     omega (arith, c .parent-at .ensures, g .prepared .few, g .row)
 
@@ -42,8 +48,17 @@ mark-children-requires c κs =
     let start = at-is-attribute .before .before .before .before in
     let a = start .args in
     let g = start .pre in
-    let m = may-have-siblings (documentOf (a .d .now)) (a .ends .now) (g .prepared) (passes 0 0 0 (documentOf (a .d .now))) (a .x) (g .row) (sym (c .before .before .before .or .ensures ∙ rw (at-is-attribute .is-attribute .ensures)) ∙ c .before .before .if1 .left) in
-    (g .prepared, (g .room, earlier-siblings (documentOf (a .d .now)) (a .ends .now) (g .prepared) (a .x) (c .before .parent-at .result) (g .row) (m .0) (c .before .parent-at .ensures) _ refl))
+    let m = may-have-siblings (documentOf (a .d .now)) (a .ends .now) (g .prepared)
+    (passes 0 0 0 (documentOf (a .d .now))) (a .x) (g .row)
+    (sym (c .before .before .before .or .ensures ∙ rw (at-is-attribute .is-attribute .ensures))
+    ∙ c .before .before .if1 .left) in (
+      g .prepared,
+      (
+        g .room,
+        earlier-siblings (documentOf (a .d .now)) (a .ends .now) (g .prepared) (a .x)
+            (c .before .parent-at .result) (g .row) (m .0) (c .before .parent-at .ensures) _ refl,
+      ),
+    )
 
 same-length : tie.Need-same-length
 same-length c = search needs
@@ -57,8 +72,12 @@ returns-2 c =
     let start = at-is-attribute .before .before .before .before in
     let a = start .args in
     let g = start .pre in
-    let m = may-have-siblings (documentOf (a .d .now)) (a .ends .now) (g .prepared) (passes 0 0 0 (documentOf (a .d .now))) (a .x) (g .row) (sym (at-or .or .ensures ∙ rw (at-is-attribute .is-attribute .ensures)) ∙ at-if1 .if1 .left) in
-    preceding-sibling-marked (documentOf (a .d .now)) (a .ends .now) (g .prepared) (passes 8 (a .test) (a .name) (documentOf (a .d .now))) (a .x) (g .row) _ (m .0) (at-parent-at .parent-at .ensures) (m .1) _ refl (c .before .before .mark-children .ensures)
+    let m = may-have-siblings (documentOf (a .d .now)) (a .ends .now) (g .prepared)
+    (passes 0 0 0 (documentOf (a .d .now))) (a .x) (g .row)
+    (sym (at-or .or .ensures ∙ rw (at-is-attribute .is-attribute .ensures)) ∙ at-if1 .if1 .left) in
+    preceding-sibling-marked (documentOf (a .d .now)) (a .ends .now) (g .prepared)
+    (passes 8 (a .test) (a .name) (documentOf (a .d .now))) (a .x) (g .row) _ (m .0)
+    (at-parent-at .parent-at .ensures) (m .1) _ refl (c .before .before .mark-children .ensures)
 
 pub mark-preceding-siblings-spec : {M : Type 1} → statement M
 mark-preceding-siblings-spec =

@@ -7,14 +7,15 @@ use native.Mathlib.Omega.{arith}
 use borrow.Author.Needs.{needs}
 use lib.ListN.{length}
 use Rattle.xpath.specs.Document.{documentOf}
-use Rattle.marking.specs.Added.{Added, candidate}
+use Rattle.marking.specs.code.Added.{Added, candidate}
 use Rattle.marking.proofs.Added.{between, up-start, up-marked, up-left, up-end}
 use Rattle.marking.proofs.mark_range.Statement.{statement}
 use Rattle.marking.proofs.mark_range.Tie as tie
 
 abbrev Inv-loop : tie.InvT-loop
 Inv-loop d axis test name lo hi out₀ y₀ out y =
-    (lo ≤ y) × (y ≤ hi) × Added (length (documentOf d)) out₀ out (between lo y (candidate axis test name (documentOf d)))
+    (lo ≤ y) × (y ≤ hi) × Added (length (documentOf d)) out₀ out
+    (between lo y (candidate axis test name (documentOf d)))
 
 abbrev μ-loop : tie.MeasureT-loop
 μ-loop d axis test name lo hi out₀ y₀ out y = hi - y
@@ -45,8 +46,10 @@ loop-again c =
       omega arith,
       omega arith,
       ⊎-elim
-          (λ w. rw (w .1) (up-marked f (a .lo) (l .y) (l .y + 1) (l .inv .2) (omega arith) (omega arith) (λ k m a b. absurd (omega arith)) (omega (arith, l .inv .2 .size)) (p ∙ w .0 .taken)))
-          (λ w. rw (w .1) (up-left f (a .lo) (l .y) (l .y + 1) (l .inv .2) (omega arith) (omega arith) (λ k m a b. absurd (omega arith)) (p ∙ w .0 .left)))
+          (λ w. rw (w .1) (up-marked f (a .lo) (l .y) (l .y + 1) (l .inv .2) (omega arith) (omega arith)
+          (λ k m a b. absurd (omega arith)) (omega (arith, l .inv .2 .size)) (p ∙ w .0 .taken)))
+          (λ w. rw (w .1) (up-left f (a .lo) (l .y) (l .y + 1) (l .inv .2) (omega arith) (omega arith)
+          (λ k m a b. absurd (omega arith)) (p ∙ w .0 .left)))
           (c .if1 .came),
     )
 
@@ -57,7 +60,8 @@ returns : tie.Need-returns Inv-loop μ-loop
 returns c =
     let a = c .before .before .before .before .args in
     let l = c .before .loop in
-    up-end (candidate (a .axis) (a .test) (a .name) (documentOf (a .d .now))) (a .lo) (a .hi) (l .y) (l .inv .2) (omega arith) (λ k m a b. absurd (omega arith))
+    up-end (candidate (a .axis) (a .test) (a .name) (documentOf (a .d .now))) (a .lo) (a .hi) (l .y) (l .inv .2)
+    (omega arith) (λ k m a b. absurd (omega arith))
 
 pub mark-range-spec : {M : Type 1} → statement M
 mark-range-spec =

@@ -4,7 +4,9 @@ use native.Mathlib.Omega.{arith}
 use Rattle.xpath.specs.Document.{documentOf}
 use Rattle.xpath.specs.Axis.{passes}
 use Rattle.marking.proofs.Walks.{at-end}
-use Rattle.marking.proofs.Steps.{self-marked, child-marked, descendant-marked, ancestor-marked, descendant-or-self-passed, ancestor-or-self-passed, following-marked, preceding-marked, attribute-marked, no-axis, past-axes, children-of}
+use Rattle.marking.proofs.Steps.{self-marked, child-marked, descendant-marked, ancestor-marked}
+use Rattle.marking.proofs.Steps.{descendant-or-self-passed, ancestor-or-self-passed, following-marked}
+use Rattle.marking.proofs.Steps.{preceding-marked, attribute-marked, no-axis, past-axes, children-of}
 use borrow.Author.Needs.{needs}
 use Rattle.marking.proofs.mark_step.Statement.{statement}
 use Rattle.marking.proofs.mark_step.Tie as tie
@@ -31,7 +33,9 @@ returns c =
     let start = at-shared-slice-known2 .before .before in
     let a = start .args in
     let g = start .pre in
-    rw (at-if1 .if1 .taken) (self-marked (documentOf (a .d .now)) (a .ends .now) (g .prepared) (passes 0 (a .test) (a .name) (documentOf (a .d .now))) (a .x) (g .row) (c .before .before .mark-node .ensures))
+    rw (at-if1 .if1 .taken) (self-marked (documentOf (a .d .now)) (a .ends .now) (g .prepared)
+    (passes 0 (a .test) (a .name) (documentOf (a .d .now))) (a .x) (g .row)
+    (c .before .before .mark-node .ensures))
 
 add-mark-children : tie.Need-add-mark-children
 add-mark-children c = search needs
@@ -41,8 +45,14 @@ mark-children-requires c κs =
     let at-shared-slice-known3 = c .before .before .before .before in
     let start = at-shared-slice-known3 .before .before .before .before in
     let a = start .args in
-    let g = start .pre in
-    (g .prepared, (g .room, rw (c .before .before .before .wide .ensures) (children-of (documentOf (a .d .now)) (a .ends .now) (g .prepared) (a .x) _ (g .row) refl)))
+    let g = start .pre in (
+      g .prepared,
+      (
+        g .room,
+        rw (c .before .before .before .wide .ensures)
+            (children-of (documentOf (a .d .now)) (a .ends .now) (g .prepared) (a .x) _ (g .row) refl),
+      ),
+    )
 
 same-length-2 : tie.Need-same-length-2
 same-length-2 c = search needs
@@ -55,7 +65,9 @@ returns-2 c =
     let start = at-shared-slice-known .before in
     let a = start .args in
     let g = start .pre in
-    rw (at-if2 .if2 .taken) (child-marked (documentOf (a .d .now)) (a .ends .now) (g .prepared) (passes 1 (a .test) (a .name) (documentOf (a .d .now))) (a .x) (g .row) _ refl (rw (at-wide .wide .ensures) at (c .before .before .mark-children .ensures)))
+    rw (at-if2 .if2 .taken) (child-marked (documentOf (a .d .now)) (a .ends .now) (g .prepared)
+    (passes 1 (a .test) (a .name) (documentOf (a .d .now))) (a .x) (g .row) _ refl
+    (rw (at-wide .wide .ensures) at (c .before .before .mark-children .ensures)))
 
 mark-parent-requires : tie.Need-mark-parent-requires
 mark-parent-requires c κs = search needs
@@ -77,8 +89,10 @@ mark-range-requires c κs =
     let start = at-shared-slice-known .before in
     let a = start .args in
     let g = start .pre in
-    let e = at-end (documentOf (a .d .now)) (a .ends .now) (g .prepared) (a .x) (g .row) in
-    (omega (arith, e .after, e .within, at-wide .wide .ensures), omega (arith, e .within, at-wide .wide .ensures, g .prepared .few, g .room))
+    let e = at-end (documentOf (a .d .now)) (a .ends .now) (g .prepared) (a .x) (g .row) in (
+      omega (arith, e .after, e .within, at-wide .wide .ensures),
+      omega (arith, e .within, at-wide .wide .ensures, g .prepared .few, g .room),
+    )
 
 same-length-4 : tie.Need-same-length-4
 same-length-4 c = search needs
@@ -91,7 +105,9 @@ returns-4 c =
     let start = at-shared-slice-known .before in
     let a = start .args in
     let g = start .pre in
-    rw (at-if4 .if4 .taken) (descendant-marked (documentOf (a .d .now)) (a .ends .now) (g .prepared) (passes 3 (a .test) (a .name) (documentOf (a .d .now))) (a .x) (g .row) _ refl (rw (at-wide .wide .ensures) at (c .before .before .mark-range .ensures)))
+    rw (at-if4 .if4 .taken) (descendant-marked (documentOf (a .d .now)) (a .ends .now) (g .prepared)
+    (passes 3 (a .test) (a .name) (documentOf (a .d .now))) (a .x) (g .row) _ refl
+    (rw (at-wide .wide .ensures) at (c .before .before .mark-range .ensures)))
 
 mark-ancestors-requires : tie.Need-mark-ancestors-requires
 mark-ancestors-requires c κs = search needs
@@ -107,7 +123,9 @@ returns-5 c =
     let start = at-shared-slice-known2 .before .before in
     let a = start .args in
     let g = start .pre in
-    rw (at-if5 .if5 .taken) (ancestor-marked (documentOf (a .d .now)) (a .ends .now) (g .prepared) (passes 4 (a .test) (a .name) (documentOf (a .d .now))) (a .x) (g .row) (c .before .before .mark-ancestors .ensures))
+    rw (at-if5 .if5 .taken) (ancestor-marked (documentOf (a .d .now)) (a .ends .now) (g .prepared)
+    (passes 4 (a .test) (a .name) (documentOf (a .d .now))) (a .x) (g .row)
+    (c .before .before .mark-ancestors .ensures))
 
 mark-node-requires-2 : tie.Need-mark-node-requires-2
 mark-node-requires-2 c κs = search needs
@@ -124,8 +142,17 @@ mark-range-requires-2 c κs =
     let start = at-shared-slice-known .before in
     let a = start .args in
     let g = start .pre in
-    let e = at-end (documentOf (a .d .now)) (a .ends .now) (g .prepared) (a .x) (g .row) in
-    (omega (arith, e .after, e .within, at-wide .wide .ensures, c .before .before .before .mark-node2 .ensures .size), omega (arith, e .within, at-wide .wide .ensures, g .prepared .few, g .room, c .before .before .before .mark-node2 .ensures .size))
+    let e = at-end (documentOf (a .d .now)) (a .ends .now) (g .prepared) (a .x) (g .row) in (
+      omega (arith, e .after, e .within, at-wide .wide .ensures, c .before .before .before .mark-node2 .ensures .size),
+      omega (
+        arith,
+        e .within,
+        at-wide .wide .ensures,
+        g .prepared .few,
+        g .room,
+        c .before .before .before .mark-node2 .ensures .size,
+      ),
+    )
 
 same-length-6 : tie.Need-same-length-6
 same-length-6 c = search needs
@@ -141,7 +168,9 @@ returns-6 c =
     let start = at-shared-slice-known .before in
     let a = start .args in
     let g = start .pre in
-    rw (at-if6 .if6 .taken) (descendant-or-self-passed (documentOf (a .d .now)) (a .ends .now) (g .prepared) (a .test) (a .name) (a .x) (g .row) _ refl (at-mark-node2 .mark-node2 .ensures) (rw (at-wide .wide .ensures) at (c .before .before .mark-range2 .ensures)))
+    rw (at-if6 .if6 .taken) (descendant-or-self-passed (documentOf (a .d .now)) (a .ends .now) (g .prepared) (a .test)
+    (a .name) (a .x) (g .row) _ refl (at-mark-node2 .mark-node2 .ensures)
+    (rw (at-wide .wide .ensures) at (c .before .before .mark-range2 .ensures)))
 
 mark-node-requires-3 : tie.Need-mark-node-requires-3
 mark-node-requires-3 c κs = search needs
@@ -162,7 +191,8 @@ returns-7 c =
     let start = at-shared-slice-known3 .before .before .before .before in
     let a = start .args in
     let g = start .pre in
-    rw (at-if7 .if7 .taken) (ancestor-or-self-passed (documentOf (a .d .now)) (a .ends .now) (g .prepared) (a .test) (a .name) (a .x) (g .row) (at-mark-node3 .mark-node3 .ensures) (c .before .before .mark-ancestors2 .ensures))
+    rw (at-if7 .if7 .taken) (ancestor-or-self-passed (documentOf (a .d .now)) (a .ends .now) (g .prepared) (a .test)
+    (a .name) (a .x) (g .row) (at-mark-node3 .mark-node3 .ensures) (c .before .before .mark-ancestors2 .ensures))
 
 mark-following-siblings-requires : tie.Need-mark-following-siblings-requires
 mark-following-siblings-requires c κs = search needs
@@ -194,8 +224,10 @@ mark-range-requires-3 c κs =
     let start = at-shared-slice-known .before in
     let a = start .args in
     let g = start .pre in
-    let e = at-end (documentOf (a .d .now)) (a .ends .now) (g .prepared) (a .x) (g .row) in
-    (omega (arith, e .after, e .within, at-wide .wide .ensures, c .before .node-count .ensures), omega (arith, e .within, at-wide .wide .ensures, g .prepared .few, g .room, c .before .node-count .ensures))
+    let e = at-end (documentOf (a .d .now)) (a .ends .now) (g .prepared) (a .x) (g .row) in (
+      omega (arith, e .after, e .within, at-wide .wide .ensures, c .before .node-count .ensures),
+      omega (arith, e .within, at-wide .wide .ensures, g .prepared .few, g .room, c .before .node-count .ensures),
+    )
 
 same-length-10 : tie.Need-same-length-10
 same-length-10 c = search needs
@@ -211,7 +243,9 @@ returns-10 c =
     let start = at-shared-slice-known .before in
     let a = start .args in
     let g = start .pre in
-    rw (at-if10 .if10 .taken) (following-marked (documentOf (a .d .now)) (a .ends .now) (g .prepared) (passes 9 (a .test) (a .name) (documentOf (a .d .now))) (a .x) (g .row) _ (at-node-count .node-count .ensures) (rw (at-wide .wide .ensures) at (c .before .before .mark-range3 .ensures)))
+    rw (at-if10 .if10 .taken) (following-marked (documentOf (a .d .now)) (a .ends .now) (g .prepared)
+    (passes 9 (a .test) (a .name) (documentOf (a .d .now))) (a .x) (g .row) _ (at-node-count .node-count .ensures)
+    (rw (at-wide .wide .ensures) at (c .before .before .mark-range3 .ensures)))
 
 mark-preceding-requires : tie.Need-mark-preceding-requires
 mark-preceding-requires c κs = search needs
@@ -228,7 +262,9 @@ returns-11 c =
     let start = at-shared-slice-known3 .before .before .before .before in
     let a = start .args in
     let g = start .pre in
-    rw (at-if11 .if11 .taken) (preceding-marked (documentOf (a .d .now)) (a .ends .now) (g .prepared) (passes 10 (a .test) (a .name) (documentOf (a .d .now))) (a .x) (g .row) (c .before .before .mark-preceding .ensures))
+    rw (at-if11 .if11 .taken) (preceding-marked (documentOf (a .d .now)) (a .ends .now) (g .prepared)
+    (passes 10 (a .test) (a .name) (documentOf (a .d .now))) (a .x) (g .row)
+    (c .before .before .mark-preceding .ensures))
 
 add-mark-children-2 : tie.Need-add-mark-children-2
 add-mark-children-2 c = search needs
@@ -242,8 +278,14 @@ mark-children-requires-2 c κs =
     let at-shared-slice-known = at-wide .before .before .before .before in
     let start = at-shared-slice-known .before in
     let a = start .args in
-    let g = start .pre in
-    (g .prepared, (g .room, rw (at-wide .wide .ensures) (children-of (documentOf (a .d .now)) (a .ends .now) (g .prepared) (a .x) _ (g .row) refl)))
+    let g = start .pre in (
+      g .prepared,
+      (
+        g .room,
+        rw (at-wide .wide .ensures)
+            (children-of (documentOf (a .d .now)) (a .ends .now) (g .prepared) (a .x) _ (g .row) refl),
+      ),
+    )
 
 same-length-12 : tie.Need-same-length-12
 same-length-12 c = search needs
@@ -258,7 +300,9 @@ returns-12 c =
     let start = at-shared-slice-known .before in
     let a = start .args in
     let g = start .pre in
-    rw (at-if12 .if12 .taken) (attribute-marked (documentOf (a .d .now)) (a .ends .now) (g .prepared) (passes 11 (a .test) (a .name) (documentOf (a .d .now))) (a .x) (g .row) _ refl (rw (at-wide .wide .ensures) at (c .before .before .mark-children2 .ensures)))
+    rw (at-if12 .if12 .taken) (attribute-marked (documentOf (a .d .now)) (a .ends .now) (g .prepared)
+    (passes 11 (a .test) (a .name) (documentOf (a .d .now))) (a .x) (g .row) _ refl
+    (rw (at-wide .wide .ensures) at (c .before .before .mark-children2 .ensures)))
 
 returns-13 : tie.Need-returns-13
 returns-13 c =
@@ -274,8 +318,12 @@ returns-13 c =
     let start = at-shared-slice-known2 .before .before in
     let a = start .args in
     let g = start .pre in
-    no-axis (documentOf (a .d .now)) (a .ends .now) (g .prepared) (passes (a .axis) (a .test) (a .name) (documentOf (a .d .now))) (a .x) (g .row) (a .axis)
-    (past-axes (a .axis) (at-if1 .if1 .left) (at-if2 .if2 .left) (at-if3 .if3 .left) (at-if4 .if4 .left) (at-if5 .if5 .left) (at-if6 .if6 .left) (at-if7 .if7 .left) (at-if8 .if8 .left) (c .before .before .before .if9 .left) (c .before .before .if10 .left) (c .before .if11 .left) (c .if12 .left))
+    no-axis (documentOf (a .d .now)) (a .ends .now) (g .prepared)
+    (passes (a .axis) (a .test) (a .name) (documentOf (a .d .now))) (a .x) (g .row) (a .axis)
+    (past-axes (a .axis) (at-if1 .if1 .left) (at-if2 .if2 .left) (at-if3 .if3 .left) (at-if4 .if4 .left)
+    (at-if5 .if5 .left) (at-if6 .if6 .left) (at-if7 .if7 .left) (at-if8 .if8 .left)
+    (c .before .before .before .if9 .left) (c .before .before .if10 .left) (c .before .if11 .left)
+    (c .if12 .left))
 
 pub mark-step-spec : {M : Type 1} → statement M
 mark-step-spec =

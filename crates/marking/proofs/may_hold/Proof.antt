@@ -2,7 +2,7 @@
 use mathlib.Core.Path.{ap}
 use mathlib.Core.Bool.{not}
 use borrow.Author.Tests.{eq-eqb, ne-eqb}
-use Rattle.marking.specs.Added.{mayHold}
+use Rattle.marking.specs.code.Added.{mayHold}
 use borrow.Author.Needs.{needs}
 use Rattle.marking.proofs.may_hold.Statement.{statement}
 use Rattle.marking.proofs.may_hold.Tie as tie

@@ -5,7 +5,7 @@ use native.Mathlib.Omega.{arith}
 use lib.ListN.{length, take, drop, length-set}
 use borrow.Author.Tests.{not-true, not-false}
 use Rattle.script.specs.Command.{maxNumbers}
-use Rattle.script.specs.Read.{noNumbers}
+use Rattle.script.specs.code.CommandRead.{noNumbers}
 use borrow.Author.Needs.{needs}
 use Rattle.script.proofs.Numbers.{SoFar, no-number-yet}
 use Rattle.script.proofs.Calls.{no-numbers-size}

@@ -1,6 +1,6 @@
 -- `no_numbers` meets its contract. Assumes nothing.
 use mathlib.Core.Path.{refl}
-use Rattle.script.specs.Read.{noNumbers}
+use Rattle.script.specs.code.CommandRead.{noNumbers}
 use Rattle.script.proofs.no_numbers.Statement.{statement}
 use Rattle.script.proofs.no_numbers.Tie as tie
 

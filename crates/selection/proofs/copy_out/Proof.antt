@@ -6,7 +6,7 @@ use native.Mathlib.Omega.{arith}
 use borrow.Author.Tests.{eq-eqb, ne-eqb}
 use lib.ListN.{length, length-set}
 use Rattle.selection.specs.Marks.{written}
-use Rattle.marking.specs.Added.{marked}
+use Rattle.marking.specs.code.Added.{marked}
 use Rattle.selection.proofs.Marks.{written-more}
 use Rattle.selection.proofs.copy_out.Statement.{statement}
 use Rattle.selection.proofs.copy_out.Tie as tie
@@ -39,7 +39,8 @@ loop-again c =
     let l = c .before .before .before .loop in (
       omega arith,
       written-more (l .y) (marked (a .m .now)) (a .buffer .now) (l .buffer) (c .if1 .v) (l .inv .1)
-          (⊎-elim (λ w. rw (eq-eqb _ 1 (w .0 .taken)) (w .1)) (λ w. rw (ne-eqb _ 1 (w .0 .left)) (w .1)) (c .if1 .came)),
+          (⊎-elim (λ w. rw (eq-eqb _ 1 (w .0 .taken)) (w .1)) (λ w. rw (ne-eqb _ 1 (w .0 .left)) (w .1))
+          (c .if1 .came)),
       length-set (l .buffer) (l .y) (c .if1 .v) ∙ l .inv .2,
     )
 

@@ -12,7 +12,8 @@ node-count-requires c κs = search needs
 returns : tie.Need-returns
 returns c =
     let counted = c .before in
-    let start = counted .before .before .before .before .before in
+    let lent = counted .before in
+    let start = lent .before .before .before .before in
     too-short _ _ _ _ _ (start .pre .prepared .few) (omega arith)
 
 row-count-requires : tie.Need-row-count-requires
@@ -32,7 +33,8 @@ returns-2 c =
     let evaluated = c .before .before .before in
     let cleared = evaluated .before .before in
     let counted = cleared .before .before .before in
-    let start = counted .before .before .before .before .before in
+    let lent = counted .before in
+    let start = lent .before .before .before .before in
     let e = evaluated .eval-path in
     passed _ _ _ _ _ (start .pre .prepared .few) (omega (arith, counted .node-count .ensures)) _ _
     (cleared .empty-marks .ensures)
@@ -55,7 +57,8 @@ returns-3 c =
     let evaluated = finished .before .before .before in
     let cleared = evaluated .before .before in
     let counted = cleared .before .before .before in
-    let start = counted .before .before .before .before .before in
+    let lent = counted .before in
+    let start = lent .before .before .before .before in
     let e = evaluated .eval-path in
     let n = counted .node-count in
     copied _ _ _ _ _ (start .pre .prepared .few) (omega (arith, n .ensures)) _ _

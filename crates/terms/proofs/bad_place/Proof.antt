@@ -21,7 +21,13 @@ returns-2 : tie.Need-returns-2
 unfolding badPlace
 returns-2 c =
     let c₁ = c .before .before in
-    rw (← c₁ .before .before .fields-of .ensures, ← c₁ .before .field-ok .ensures, c₁ .if1 .left, ← c .before .field-ok2 .ensures, c .if2 .taken)
+    rw (
+      ← c₁ .before .before .fields-of .ensures,
+      ← c₁ .before .field-ok .ensures,
+      c₁ .if1 .left,
+      ← c .before .field-ok2 .ensures,
+      c .if2 .taken,
+    )
 
 field-ok-requires-3 : tie.Need-field-ok-requires-3
 field-ok-requires-3 c κs = search needs

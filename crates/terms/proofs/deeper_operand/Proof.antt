@@ -18,13 +18,15 @@ returns : tie.Need-returns
 unfolding nestingBy
 returns c =
     let c₁ = c .before .before in
-    rw (← c₁ .before .fields-of .ensures, ← c₁ .operand-nesting .ensures, ← c .before .operand-nesting2 .ensures) (omega arith)
+    rw (← c₁ .before .fields-of .ensures, ← c₁ .operand-nesting .ensures, ← c .before .operand-nesting2 .ensures)
+    (omega arith)
 
 returns-2 : tie.Need-returns-2
 unfolding nestingBy
 returns-2 c =
     let c₁ = c .before .before in
-    rw (← c₁ .before .fields-of .ensures, ← c₁ .operand-nesting .ensures, ← c .before .operand-nesting2 .ensures) (omega arith)
+    rw (← c₁ .before .fields-of .ensures, ← c₁ .operand-nesting .ensures, ← c .before .operand-nesting2 .ensures)
+    (omega arith)
 
 pub deeper-operand-spec : {M : Type 1} → statement M
 deeper-operand-spec =

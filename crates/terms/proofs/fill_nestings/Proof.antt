@@ -1,4 +1,5 @@
--- `fill_nestings` meets its contract. The invariant: the table's first i numbers are the nestings of the first i rows. Assumes nothing.
+-- `fill_nestings` meets its contract. The invariant: the table's first i numbers are the nestings of the first i
+-- rows. Assumes nothing.
 use Prim.Native.Nat.{_-_, _≤_}
 use mathlib.Core.Path.{_≡_, refl, sym, _∙_, ap}
 use native.Mathlib.Omega.{arith}
@@ -29,7 +30,8 @@ slice-reshare-prefix-deeper-operand : tie.Need-slice-reshare-prefix-deeper-opera
 slice-reshare-prefix-deeper-operand c = search needs
 
 slice-aggregate-deeper-operand : tie.Need-slice-aggregate-deeper-operand Inv-loop μ-loop
-slice-aggregate-deeper-operand c = sym (length-take-le (c .before .before .loop .i) (c .before .before .loop .table) (omega arith))
+slice-aggregate-deeper-operand c =
+    sym (length-take-le (c .before .before .loop .i) (c .before .before .loop .table) (omega arith))
 
 row-at-requires : tie.Need-row-at-requires Inv-loop μ-loop
 row-at-requires c κs = search needs
@@ -39,10 +41,12 @@ deeper-operand-requires c κs = search needs
 
 add-table : tie.Need-add-table Inv-loop μ-loop
 add-table c =
-    let rs = tableOf (c .before .before .before .before .before .before .before .before .args .rows .now) in
-    let t = c .before .before .before .before .loop in
+    let looped = c .before .before .before .before in
+    let rs = tableOf (looped .before .before .before .before .args .rows .now) in
+    let t = looped .loop in
     let l =
-    deeper-le (take (t .i) rs) (take (t .i) (t .table)) _ _ _ (t .inv .2) (c .before .row-at .ensures) (c .deeper-operand .ensures) in
+    deeper-le (take (t .i) rs) (take (t .i) (t .table)) _ _ _ (t .inv .2) (c .before .row-at .ensures)
+    (c .deeper-operand .ensures) in
     omega (arith, length-take (t .i) rs, l)
 
 mul-table : tie.Need-mul-table Inv-loop μ-loop
@@ -59,10 +63,12 @@ loop-less c = search needs
 
 loop-again : tie.Need-loop-again Inv-loop μ-loop
 loop-again c =
-    let rs = tableOf (c .before .before .before .before .before .before .before .before .args .rows .now) in
-    let t = c .before .before .before .before .loop in
+    let looped = c .before .before .before .before in
+    let rs = tableOf (looped .before .before .before .before .args .rows .now) in
+    let t = looped .loop in
     let e =
-    nesting-from (take (t .i) rs) (take (t .i) (t .table)) _ _ _ (t .inv .2) (c .before .row-at .ensures) (c .deeper-operand .ensures) in
+    nesting-from (take (t .i) rs) (take (t .i) (t .table)) _ _ _ (t .inv .2) (c .before .row-at .ensures)
+    (c .deeper-operand .ensures) in
     (search needs, search needs, nestings-put rs (t .table) (t .i) _ (omega arith) (omega arith) (t .inv .2) e)
 
 same-length : tie.Need-same-length Inv-loop μ-loop
@@ -70,8 +76,9 @@ same-length c = search needs
 
 returns : tie.Need-returns Inv-loop μ-loop
 returns c =
-    let rs = tableOf (c .before .before .before .before .before .args .rows .now) in
-    let t = c .before .loop in
+    let looped = c .before in
+    let rs = tableOf (looped .before .before .before .before .args .rows .now) in
+    let t = looped .loop in
     let e : t .i ≡ length rs = omega arith in
     (rw e at (t .inv .2)) ∙ ap nestings (take-length rs)
 

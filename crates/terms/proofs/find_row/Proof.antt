@@ -1,4 +1,5 @@
--- `find_row` meets its contract. The invariant: what is found is i rows past what is found from row i on. Assumes nothing.
+-- `find_row` meets its contract. The invariant: what is found is i rows past what is found from row i on. Assumes
+-- nothing.
 use Prim.Native.Nat.{_+_, _-_, _≤_}
 use mathlib.Core.Path.{_≡_, sym, _∙_}
 use mathlib.Core.Bool.{true, false}
@@ -6,7 +7,7 @@ use native.Mathlib.Omega.{arith}
 use lib.ListN.{drop}
 use borrow.Author.Needs.{needs}
 use Rattle.terms.specs.Row.{rowAt, tableOf, sameRow, find}
-use Rattle.terms.specs.Lent.{rowOf}
+use Rattle.terms.specs.code.RowTypes.{rowOf}
 use Rattle.terms.proofs.Find.{find-end, find-hit, find-miss}
 use Rattle.terms.proofs.find_row.Statement.{statement}
 use Rattle.terms.proofs.find_row.Tie as tie
@@ -31,9 +32,10 @@ same-row-requires c κs = search needs
 
 returns : tie.Need-returns Inv-loop μ-loop
 returns c =
-    let a = c .before .before .before .before .before .before .before .args in
+    let looped = c .before .before .before .before in
+    let a = looped .before .before .before .args in
     let rs = tableOf (a .rows .now) in
-    let i = c .before .before .before .before .loop .i in
+    let i = looped .loop .i in
     let e : sameRow (rowAt rs i) (rowOf (a .row)) ≡ true =
     rw (← c .before .before .row-at .ensures) (sym (c .before .same-row .ensures) ∙ c .if1 .taken) in
     omega (arith, find-hit rs (rowOf (a .row)) i (omega arith) e)
@@ -46,9 +48,10 @@ loop-less c = search needs
 
 loop-again : tie.Need-loop-again Inv-loop μ-loop
 loop-again c =
-    let a = c .before .before .before .before .before .before .before .args in
+    let looped = c .before .before .before .before in
+    let a = looped .before .before .before .args in
     let rs = tableOf (a .rows .now) in
-    let i = c .before .before .before .before .loop .i in
+    let i = looped .loop .i in
     let e : sameRow (rowAt rs i) (rowOf (a .row)) ≡ false =
     rw (← c .before .before .row-at .ensures) (sym (c .before .same-row .ensures) ∙ c .if1 .left) in
     (search needs, omega (arith, find-miss rs (rowOf (a .row)) i (omega arith) e))

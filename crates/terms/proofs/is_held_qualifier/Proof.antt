@@ -15,13 +15,23 @@ returns : tie.Need-returns
 unfolding heldQualifier isQualifier
 returns c =
     let c₁ = c .before .before in
-    rw (← c₁ .before .row-count .ensures, lt-ltb _ _ (c₁ .if1 .taken), ← c .before .row-at .ensures, le-leb _ _ (c .if2 .taken))
+    rw (
+      ← c₁ .before .row-count .ensures,
+      lt-ltb _ _ (c₁ .if1 .taken),
+      ← c .before .row-at .ensures,
+      le-leb _ _ (c .if2 .taken),
+    )
 
 returns-2 : tie.Need-returns-2
 unfolding heldQualifier isQualifier
 returns-2 c =
     let c₁ = c .before .before in
-    rw (← c₁ .before .row-count .ensures, lt-ltb _ _ (c₁ .if1 .taken), ← c .before .row-at .ensures, lt-leb _ _ (c .if2 .left))
+    rw (
+      ← c₁ .before .row-count .ensures,
+      lt-ltb _ _ (c₁ .if1 .taken),
+      ← c .before .row-at .ensures,
+      lt-leb _ _ (c .if2 .left),
+    )
 
 returns-3 : tie.Need-returns-3
 unfolding heldQualifier

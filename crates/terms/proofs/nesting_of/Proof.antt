@@ -20,7 +20,8 @@ returns c = let table = tableOf (c .before .before .before .args .rows .now) in
 
 returns-2 : tie.Need-returns-2
 returns-2 c = let table = tableOf (c .before .before .before .before .args .rows .now) in
-    c .nesting-within .ensures ∙ rw (le-leb (length table) maxRows (omega (arith, c .before .if1 .left, c .before .before .row-count .ensures)))
+    c .nesting-within .ensures ∙ rw
+    (le-leb (length table) maxRows (omega (arith, c .before .if1 .left, c .before .before .row-count .ensures)))
 
 pub nesting-of-spec : {M : Type 1} → statement M
 nesting-of-spec = tie.close (tie.spec row-count-requires nesting-within-requires returns returns-2)

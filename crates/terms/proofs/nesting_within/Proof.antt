@@ -22,7 +22,8 @@ array-share-prefix-table c = search needs
 
 slice-aggregate-deeper-operand : tie.Need-slice-aggregate-deeper-operand
 slice-aggregate-deeper-operand c =
-    sym (length-take-le (c .before .row-count .result) (c .before .before .before .fill-nestings .last .1 .0) (omega arith))
+    sym (length-take-le (c .before .row-count .result) (c .before .before .before .fill-nestings .last .1 .0)
+    (omega arith))
 
 deeper-operand-requires : tie.Need-deeper-operand-requires
 deeper-operand-requires c κs = search needs

@@ -1,7 +1,7 @@
 -- `row_at` meets its contract: row i is the four numbers from 4 * i on. Assumes nothing.
 use mathlib.Core.Path.{sym}
 use native.Mathlib.Omega.{arith}
-use Rattle.terms.proofs.Lent.{row-lent, row-past}
+use Rattle.terms.proofs.LentRows.{row-lent, row-past}
 use borrow.Author.Needs.{needs}
 use Rattle.terms.proofs.row_at.Statement.{statement}
 use Rattle.terms.proofs.row_at.Tie as tie
@@ -43,7 +43,10 @@ shared-slice-read-c : tie.Need-shared-slice-read-c
 shared-slice-read-c c = search needs
 
 returns : tie.Need-returns
-returns c = let a = c .before .before .before .before .before .args in sym (row-lent (a .rows .now) (a .i) (omega arith))
+returns c =
+    let read = c .before in
+    let a = read .before .before .before .before .args in
+    sym (row-lent (a .rows .now) (a .i) (omega arith))
 
 returns-2 : tie.Need-returns-2
 returns-2 c = let a = c .before .args in sym (row-past (a .rows .now) (a .i) (omega arith))

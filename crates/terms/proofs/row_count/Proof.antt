@@ -1,6 +1,6 @@
 -- `row_count` meets its contract: a row is four numbers. Assumes nothing.
 use mathlib.Core.Path.{sym}
-use Rattle.terms.proofs.Lent.{rows-lent}
+use Rattle.terms.proofs.LentRows.{rows-lent}
 use Rattle.terms.proofs.row_count.Statement.{statement}
 use Rattle.terms.proofs.row_count.Tie as tie
 

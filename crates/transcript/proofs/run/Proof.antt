@@ -5,11 +5,11 @@ use native.Mathlib.Omega.{arith}
 use lib.ListN.{length, drop}
 use lib.Seq.{length-take-le}
 use Rattle.script.specs.Command.{maxMarks, maxNumbers}
-use Rattle.script.specs.Read.{countOf, marksOf}
+use Rattle.script.specs.code.CommandRead.{countOf, marksOf}
 use borrow.Author.Needs.{needs}
 use borrow.Author.Tests.{not-true, not-false}
 use Rattle.lines.specs.Line.{lines}
-use Rattle.transcript.specs.Run.{endingLine}
+use Rattle.transcript.specs.Transcript.{endingLine}
 use Rattle.transcript.proofs.Ending.{no-line-left, line-ends, line-passed}
 use Rattle.transcript.proofs.run.Statement.{statement}
 use Rattle.transcript.proofs.run.Tie as tie

@@ -1,0 +1,62 @@
+-- The refusals of document 01, each number by one name. Assumes nothing.
+use Prim.Native.Nat.{ℕ}
+
+-- kind above 11
+abbrev pub bad-kind : ℕ
+bad-kind = 1
+
+-- bad operand, axis, test, name or unused field: its place
+abbrev pub bad-field : ℕ
+bad-field = 2
+
+-- nesting above 32
+abbrev pub too-deep : ℕ
+too-deep = 3
+
+-- rule not 1 to 58
+abbrev pub no-rule : ℕ
+no-rule = 4
+
+-- left (1) not held, or right (2) not held or of the other sort
+abbrev pub bad-side : ℕ
+bad-side = 5
+
+-- premise (1, 2) not a held step, or used where the rule has none
+abbrev pub bad-premise : ℕ
+bad-premise = 6
+
+-- the rule doesn't yield it
+abbrev pub not-yielded : ℕ
+not-yielded = 7
+
+-- document: no rows, too many, else the first bad row
+abbrev pub bad-document : ℕ
+bad-document = 8
+
+-- context (1) outside, or row (2) not a held path
+abbrev pub bad-argument : ℕ
+bad-argument = 9
+
+-- a line of the wrong form
+abbrev pub wrong-form : ℕ
+wrong-form = 10
+
+-- terms full
+abbrev pub terms-full : ℕ
+terms-full = 11
+
+-- row held already: its number
+abbrev pub already-held : ℕ
+already-held = 12
+
+-- steps full
+abbrev pub steps-full : ℕ
+steps-full = 13
+
+-- marks shorter than the document
+abbrev pub short-marks : ℕ
+short-marks = 14
+
+-- more visits needed than the limit
+abbrev pub limit-passed : ℕ
+limit-passed = 15

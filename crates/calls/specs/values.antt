@@ -1,0 +1,3 @@
+pub mod CallCases
+pub mod TableCases
+pub mod SelectLawCases

@@ -1,0 +1,4 @@
+pub mod Reflect
+pub mod Search
+pub mod Cases
+pub mod Entries

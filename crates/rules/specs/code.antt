@@ -1,0 +1,5 @@
+pub mod Pattern
+pub mod RowYields
+pub mod Encode
+pub mod Unpack
+pub mod MatchTypes

@@ -1,0 +1,21 @@
+-- The code's types as the definitions have them. Assumes nothing.
+use Prim.Native.Nat.{ℕ}
+use mathlib.Core.List.{List, map}
+use lib.ListN.{getD}
+use Rattle.rules.specs.declared.matcher.Sides.{Sides as CodeSides}
+use Rattle.rules.specs.declared.matcher.Match.{Match as CodeMatch}
+use Rattle.rules.specs.declared.matcher.Entry.{Entry as CodeEntry}
+use Rattle.rules.specs.code.RowYields.{Sides, sides, Match}
+use Rattle.rules.specs.code.Unpack.{Entry}
+
+abbrev pub sidesIn : CodeSides → Sides
+sidesIn s = sides (s .left) (s .right)
+
+abbrev pub matchOf : CodeMatch → Match
+matchOf m = record { fits = m .fits; known = m .known; value = m .value }
+
+abbrev pub entryOf : CodeEntry → Entry
+entryOf f = record { first = f .0; second = f .1; third = f .2; fourth = f .3 }
+
+unfoldable pub pairsOf : List (List ℕ) → List (ℕ × ℕ)
+pairsOf ps = map (λ p. (getD p 0 0, getD p 1 0)) ps

@@ -1,0 +1,46 @@
+// The order of the axes and the order of the tests.
+use crate::tables::AXIS_PAIRS;
+use common::and;
+use common::or;
+ghost use mathlib.Core.Path.{_≡_};
+ghost use Rattle.rules.specs.Order.{isPair, axisBelow, testBelow};
+ghost use Rattle.rules.specs.code.MatchTypes.{pairsOf};
+
+pub const NAME_TEST: u16 = 0;
+
+pub const STAR_TEST: u16 = 1;
+
+pub const NODE_TEST: u16 = 2;
+
+// Whether (a, b) is one of the pairs.
+fn is_pair(pairs: &[[u16; 2]], a: u16, b: u16) -> bool
+    ensures { λ r. ⌜ r ≡ isPair (pairsOf (now (pairs .entry))) a b ⌝ }
+{
+    let mut i: usize = 0;
+    while i < pairs.len() {
+        let pair = pairs[i];
+        if and(pair[0] == a, pair[1] == b) {
+            return true;
+        }
+        i += 1;
+    }
+    false
+}
+
+// Whether axis a is below axis b.
+pub fn axis_below(a: u16, b: u16) -> bool
+    ensures { λ r. ⌜ r ≡ axisBelow a b ⌝ }
+{
+    let pairs = AXIS_PAIRS;
+    is_pair(&pairs, a, b)
+}
+
+// Whether test t with name c is below test u with name e.
+pub fn test_below(t: u16, c: u16, u: u16, e: u16) -> bool
+    ensures { λ r. ⌜ r ≡ testBelow t c u e ⌝ }
+{
+    or(
+        or(and(t == u, c == e), and(t == NAME_TEST, u == STAR_TEST)),
+        u == NODE_TEST,
+    )
+}

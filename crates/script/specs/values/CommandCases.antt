@@ -1,0 +1,80 @@
+-- Values of the definitions, by computation. Assumes nothing.
+use Prim.Native.Nat.{ℕ}
+use Prim.Native.String.{String}
+use mathlib.Core.Path.{refl}
+use mathlib.Core.List.{List, [], _∷_}
+use mathlib.Core.Option.{Option, none, some, Option·elim}
+use lib.ListN.{replicate}
+use Rattle.common.specs.values.Expected.{_is_, AllRight}
+use Rattle.lines.specs.Ascii.{ascii}
+use Rattle.lines.specs.Line.{inFirstLine, lines, inFirstPart, parts, sameBytes}
+use Rattle.lines.specs.Number.{isDigit, areDigits, isDecimal, appendDigits, numbersUpTo}
+use Rattle.lines.specs.code.NumbersRead.{firstParts}
+use Rattle.script.specs.Command.{Command, command, term, step, select, document, fresh}
+use Rattle.script.specs.Command.{documentBytes, atMost, named, commandOf}
+
+-- the command of a text's first line
+abbrev first : String → Option Command
+first text = firstParts commandOf (lines (ascii text))
+
+pub commands :
+    AllRight
+    (first "term 2 3 0 65535\n" is some (command term (2 ∷ 3 ∷ 0 ∷ 65535 ∷ []))
+    ∷ first "step 8 0 1 0 0\n" is some (command step (8 ∷ 0 ∷ 1 ∷ 0 ∷ 0 ∷ []))
+    ∷ first "select 4 0 4294967295 1024\n" is some (command select (4 ∷ 0 ∷ 4294967295 ∷ 1024 ∷ []))
+    ∷ first "document 0 0 7\n" is some (command document (0 ∷ 0 ∷ 7 ∷ []))
+    ∷ first "document\n" is some (command document [])
+    ∷ first "fresh\n" is some (command fresh [])
+    ∷ [])
+unfolding ascii commandOf named atMost firstParts lines inFirstLine parts inFirstPart sameBytes numbersUpTo Option·elim
+    isDecimal areDigits isDigit appendDigits
+commands = refl
+
+pub no-commands :
+    AllRight
+    -- no line, an empty line, a line without its newline
+    (first "" is none
+    ∷ first "\n" is none
+    ∷ first "fresh" is none
+    -- a term of three numbers, of five, with a space at its end, with two spaces, with a leading zero, with 65536
+    ∷ first "term 2 3 0\n" is none
+    ∷ first "term 2 3 0 2 2\n" is none
+    ∷ first "term 2 3 0 2 \n" is none
+    ∷ first "term  2 3 0 2\n" is none
+    ∷ first "term 2 3 0 02\n" is none
+    ∷ first "term 2 3 0 65536\n" is none
+    -- another word, the word alone, a space before a word
+    ∷ first "Term 2 3 0 2\n" is none
+    ∷ first "term\n" is none
+    ∷ first " fresh\n" is none
+    -- a step of four numbers, of six
+    ∷ first "step 8 0 1 0\n" is none
+    ∷ first "step 8 0 1 0 0 0\n" is none
+    -- a select with row 65536, with context 65536, with limit 4294967296, with marks 1025
+    ∷ first "select 65536 0 1 1\n" is none
+    ∷ first "select 4 65536 1 1\n" is none
+    ∷ first "select 4 0 4294967296 1\n" is none
+    ∷ first "select 4 0 1 1025\n" is none
+    -- a document with a space at its end, with 65536, another word; fresh with a space at its end, with a number
+    ∷ first "document \n" is none
+    ∷ first "document 0 0 65536\n" is none
+    ∷ first "documents\n" is none
+    ∷ first "fresh \n" is none
+    ∷ first "fresh 0\n" is none
+    ∷ [])
+unfolding ascii commandOf named atMost firstParts lines inFirstLine parts inFirstPart sameBytes numbersUpTo Option·elim
+    isDecimal areDigits isDigit appendDigits
+no-commands = refl
+
+-- the parts of a document of n zeros
+abbrev zeros : ℕ → List (List ℕ)
+zeros n = documentBytes ∷ replicate n (ascii "0")
+
+-- 1,539 numbers, and 1,540
+pub longest-document :
+    AllRight
+    (commandOf (zeros 1539) is some (command document (replicate 1539 0))
+    ∷ commandOf (zeros 1540) is none
+    ∷ [])
+unfolding ascii commandOf named atMost sameBytes numbersUpTo Option·elim isDecimal isDigit appendDigits
+longest-document = refl

@@ -1,9 +1,0 @@
--- The answer of each case of the code's enum. Assumes nothing.
-use Rattle.selection.specs.declared.Evaluated.{Evaluated}
-use Rattle.selection.specs.declared.Evaluated.the-variants.{Selected, NoRoom, LimitPassed}
-use Rattle.selection.specs.Evaluation.{Answer, selected, no-room, limit-passed}
-
-abbrev pub answerOf : Evaluated → Answer
-answerOf (Selected made) = selected made
-answerOf NoRoom = no-room
-answerOf LimitPassed = limit-passed

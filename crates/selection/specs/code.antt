@@ -1,0 +1,3 @@
+pub mod EvaluatedTypes
+pub mod Limit
+pub mod Parts

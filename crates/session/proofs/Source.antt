@@ -1,0 +1,129 @@
+-- What the contracts in the source say of each call, as the toolchain reads them off it, and demand 3 of them. Assumes nothing.
+use Prim.Native.Nat.{ℕ, zero, suc}
+use mathlib.Core.Path.{_≡_, refl, sym, subst, _∙_}
+use mathlib.Core.List.{List, []}
+use native.Mathlib.Omega.{arith}
+use borrow.Author.Tests.{ne-eqb}
+use denote.Ref.{RefT, now}
+use lib.ListN.{length}
+use Rattle.terms.specs.Row.{row}
+use Rattle.session.specs.declared.session.Session.{Session}
+use Rattle.session.specs.declared.read.ReadResult.{ReadResult}
+use Rattle.calls.specs.declared.SelectAnswer.{SelectAnswer}
+use Rattle.calls.specs.Book as book
+use Rattle.calls.specs.Book.{Answer, answer, accepted}
+use Rattle.calls.specs.Calls.{Call, term, step, CallSeen}
+use Rattle.calls.specs.code.Answers.{termAnswerOf, stepAnswerOf}
+use Rattle.calls.specs.SelectCall.{selectBuffer}
+use Rattle.calls.specs.Runs.{next, Run}
+use Rattle.calls.specs.Promises.{rowYielded, rowStepAnswer}
+use Rattle.session.specs.View.{view, freshSession}
+use Rattle.session.specs.Promises.{sessionAnswer, session, Met, SelectMet}
+use Rattle.session.specs.Demand3.{DemandThree}
+use Rattle.session.specs.declared.read.ReadAnswer.{ReadAnswer}
+use Rattle.session.specs.declared.read.ReadAnswer.the-variants as ReadCases
+use Rattle.session.specs.Reading.{reading}
+use Rattle.session.specs.ReadCall.{readAnswerOf, isHeld, ReadMet}
+use Rattle.session.specs.ReadDemand.{ReadDemand}
+use Rattle.calls.proofs.Runs.{made, run-exists}
+use Rattle.calls.proofs.Cases.{term-case, step-case, select-case}
+use Rattle.session.proofs.Demand3.{CallsKept, SelectsKept, demand3-by}
+use Rattle.session.proofs.Bundles.{read-demand-by}
+use Rattle.session.proofs.session.Session.new.Reads as new-reads
+use Rattle.session.proofs.session.Session.term.Reads as term-reads
+use Rattle.session.proofs.session.Session.step.Reads as step-reads
+use Rattle.session.proofs.session.Session.select.Reads as select-reads
+use Rattle.session.proofs.session.Session.read.Reads as read-reads
+
+-- `Session::new` gives the session r
+pub data New : Session → Type 0 where
+  new-called : (κs : _) (a : _) (r : _) (x : _) → new-reads.Post κs a r x → New r
+
+-- `Session::term` or `Session::step` on a session, with the arguments of a call, has an answer and leaves a session
+pub data Called : Session → Call → Answer → Session → Type 0 where
+  term-called : (κs : _) (a : _) (r : _) (x : _) → term-reads.Post κs a r x
+      → Called (a .0) (term (row (a .1 .0) (a .1 .1 .0) (a .1 .1 .1 .0) (a .1 .1 .1 .1 .0)))
+      (termAnswerOf (r .answer)) (r .session)
+  step-called : (κs : _) (a : _) (r : _) (x : _) → step-reads.Post κs a r x
+      → Called (a .0)
+      (step (book.step (a .1 .0) (a .1 .1 .0) (a .1 .1 .1 .0) (a .1 .1 .1 .1 .0) (a .1 .1 .1 .1 .1 .0)))
+      (stepAnswerOf (r .answer)) (r .session)
+
+-- `Session::select` on a session with a row, lent numbers, a node, a limit and a buffer has the answer r and leaves bytes
+pub data Selected : Session → (row : ℕ) → List ℕ → (x limit : ℕ) → List ℕ → SelectAnswer → List ℕ → Type 0 where
+  select-called : (κs : _) (a : _) (r : _) (x : _) → select-reads.Post κs a r x
+      → Selected (a .0) (a .1 .0) (now (a .1 .1 .0)) (a .1 .1 .1 .0) (a .1 .1 .1 .1 .0)
+      (now (a .1 .1 .1 .1 .1 .0)) r (now (x .1 .1 .1 .1 .1 .0))
+
+-- `Session::read` on bytes has the result r
+pub data Read : List ℕ → ReadResult → Type 0 where
+  read-called : (κs : _) (a : _) (r : _) (x : _) → read-reads.Post κs a r x → Read (now (a .0)) r
+
+-- the contracts promise what the specifications say, word for word
+pub new-tied : (s : Session) → New s → s ≡ freshSession
+new-tied s (new-called κs a r x m) = m
+
+pub call-tied : CallsKept Called Met
+call-tied s c a t (term-called κs args r x m) = m
+call-tied s c a t (step-called κs args r x m) = m
+
+pub select-tied : SelectsKept Selected SelectMet
+select-tied s row xs x limit buffer t left (select-called κs a r y m) = m
+
+pub read-tied : (bytes : List ℕ) (t : ReadResult) → Read bytes t → ReadMet bytes t
+read-tied bytes t (read-called κs a r x m) = m
+
+-- and no more: a call that meets what they say can be made
+met-called : CallsKept Met Called
+unfolding rowStepAnswer
+met-called s (term r) a t m =
+    let (o, e) = term-case (view s .rows) r in
+    subst (λ a. Called s (term r) a t) (e ∙ sym (m .answer))
+    (term-called tt (s, (r .kind, (r .a, (r .b, (r .c, tt))))) (record { answer = o; session = t })
+    (s, (r .kind, (r .a, (r .b, (r .c, tt))))) (record { answer = e; left = m .left }))
+met-called s (step p) a t m =
+    let (o, e) = step-case (rowYielded (view s) p) (view s) p in
+    subst (λ a. Called s (step p) a t) (e ∙ sym (m .answer))
+    (step-called tt (s, (p .rule, (p .left, (p .right, (p .first, (p .second, tt))))))
+    (record { answer = o; session = t }) (s, (p .rule, (p .left, (p .right, (p .first, (p .second, tt))))))
+    (record { answer = e; left = m .left }))
+
+pub demand3 : DemandThree Selected New Called
+demand3 = demand3-by Selected select-tied New Called new-tied call-tied
+
+-- a fresh session can be made, and from it every list of calls: the demand is about something
+pub new-exists : New freshSession
+new-exists = new-called _ _ freshSession _ refl
+
+pub calls-exist : (s : Session) (cs : List Call) → (os : List CallSeen) × (t : Session) × Run view Called s cs os t
+calls-exist =
+    run-exists view Called (λ s c. (sessionAnswer s c, next session s c, met-called s c _ _ (made session s c)))
+
+-- and so can every select, and every read
+abbrev lent : {A : Type 0} → A → RefT A
+lent x = record { ptr = (0, 0); name = 0; now = x }
+
+pub selects-exist : (s : Session) (row : ℕ) (xs : List ℕ) (x limit : ℕ) (buffer : List ℕ)
+    → (t : SelectAnswer) × (left : List ℕ) × Selected s row xs x limit buffer t left
+selects-exist s row xs x limit buffer =
+    let (t, e) = select-case (view s .rows) row xs x limit (length buffer) in
+    let left = selectBuffer (view s .rows) row xs x limit buffer in (
+      t,
+      left,
+      select-called ([], ([], tt)) (s, (row, (lent xs, (x, (limit, (lent buffer, tt))))))
+          t (s, (row, (lent xs, (x, (limit, (lent left, tt)))))) (record { answer = e; bytes = refl }),
+    )
+
+read-case : (k n : ℕ) → (o : ReadAnswer) × (readAnswerOf o ≡ answer k n) × (isHeld o ≡ accepted (answer k n))
+read-case zero n = (ReadCases.Held n, refl, refl)
+read-case (suc k) n = (ReadCases.Refused (suc k) n, refl, sym (ne-eqb (suc k) 0 (λ e. absurd (omega arith))))
+
+pub reads-exist : (bytes : List ℕ) → (t : ReadResult) × Read bytes t
+reads-exist bytes =
+    let told = reading bytes .answer in
+    let (o, e, f) = read-case (told .number) (told .value) in
+    let t : ReadResult = record { answer = o; session = reading bytes .session } in
+    (t, read-called ([], tt) (lent bytes, tt) t (lent bytes, tt) (record { answer = e; variant = f; session = refl }))
+
+pub read-demand : ReadDemand Selected Called Read
+read-demand = read-demand-by Selected Called Read select-tied call-tied met-called read-tied

@@ -1,0 +1,133 @@
+-- All that is proved of the calls, as one list. `New`, `Called`, `Selected` and `Read` (in Source) say of a call what its
+-- contract in the source does. Assumes nothing.
+use Prim.Native.Nat.{ℕ}
+use mathlib.Core.Path.{_≡_}
+use mathlib.Core.List.{List, map}
+use mathlib.Core.Logic.{_↔_}
+use denote.Ref.{now}
+use lib.Dec.{T}
+use Rattle.xpath.specs.Chain.{ChainVisits}
+use Rattle.xpath.specs.Climb.{CountEnds, CountLeast, AnswersAlike, RefusesAlike}
+use Rattle.xpath.proofs.Chain.{chain-visits}
+use Rattle.xpath.proofs.Climbing.{count-ends, count-least, answers-alike, refuses-alike}
+use Rattle.terms.specs.Row.{Row}
+use Rattle.terms.specs.AcceptedRows.{Built}
+use Rattle.common.specs.Lists.{Every}
+use Rattle.rules.specs.Claim.{Claim, IsTrue}
+use Rattle.rules.specs.Yields.{Yields}
+use Rattle.rules.specs.code.RowYields.{Sides, oneSort, saysOf, rowYields}
+use Rattle.rules.proofs.Sound.{yields-sound}
+use Rattle.rules.proofs.RowYields.{row-yields-iff}
+use Rattle.calls.specs.declared.SelectAnswer.{SelectAnswer}
+use Rattle.calls.specs.Book.{Answer}
+use Rattle.calls.specs.Runs.{Run}
+use Rattle.calls.specs.SelectLaws.{LimitSuffices, MarksSameElsewhere}
+use Rattle.calls.proofs.SelectLaws.{limit-suffices, marks-same-elsewhere}
+use Rattle.calls.specs.Calls.{Call, CallSeen}
+use Rattle.session.specs.declared.session.Session.{Session}
+use Rattle.session.specs.declared.read.ReadResult.{ReadResult}
+use Rattle.session.specs.View.{view, freshSession}
+use Rattle.session.specs.Promises.{Met, SelectMet, AnswersByTerms}
+use Rattle.session.specs.Demand3.{DemandThree}
+use Rattle.session.specs.Reading.{reading}
+use Rattle.session.specs.ReadCall.{ReadMet}
+use Rattle.session.specs.ReadDemand.{ReadDemand}
+use Rattle.session.specs.Audit.{report}
+use Rattle.session.proofs.Simulation as simulation
+use Rattle.session.proofs.Source as source
+use Rattle.session.proofs.Source.{New, Called, Selected, Read}
+use Rattle.session.proofs.session.Session.new.Reads as new-reads
+use Rattle.session.proofs.session.Session.term.Reads as term-reads
+use Rattle.session.proofs.session.Session.step.Reads as step-reads
+use Rattle.session.proofs.session.Session.select.Reads as select-reads
+use Rattle.session.proofs.session.Session.read.Reads as read-reads
+use Rattle.session.proofs.report.audit.Reads as audit-reads
+use Rattle.session.proofs.c.spinebriar_read.Reads as c-reads
+
+pub record Theorems : Type 0 where
+  -- every call takes every input: the contracts in the source ask nothing
+  pub new-takes : (κs : _) (a : _) → new-reads.Pre κs a
+  pub term-takes : (κs : _) (a : _) → term-reads.Pre κs a
+  pub step-takes : (κs : _) (a : _) → step-reads.Pre κs a
+  pub select-takes : (κs : _) (a : _) → select-reads.Pre κs a
+  pub read-takes : (κs : _) (a : _) → read-reads.Pre κs a
+  pub audit-takes : (κs : _) (a : _) → audit-reads.Pre κs a
+  pub c-takes : (κs : _) (a : _) → c-reads.Pre κs a
+  -- `Session::new` gives a session without rows and steps
+  pub new : (s : Session) → New s → s ≡ freshSession
+  -- term and step answer the first refusal that applies and leave the session, or accept and add their row or step
+  pub call : (s : Session) (c : Call) (a : Answer) (t : Session) → Called s c a t → Met s c a t
+  -- on every session that calls lead to, their answers are those of the plain book, where steps are judged as terms
+  pub by-terms : AnswersByTerms
+  -- select answers the first refusal that applies and leaves the buffer, or marks the nodes that the path selects and
+  -- answers the visits
+  pub select : (s : Session) (row : ℕ) (xs : List ℕ) (x limit : ℕ) (buffer : List ℕ) (t : SelectAnswer) (left : List ℕ)
+      → Selected s row xs x limit buffer t left → SelectMet s row xs x limit buffer t left
+  -- read answers the first refused line and leaves a fresh session, or the number of steps and leaves what the calls do
+  pub read : (bytes : List ℕ) (t : ReadResult) → Read bytes t → ReadMet bytes t
+  -- what the program audit prints is the report of the bytes, and what the C call answers is the number that read gives
+  pub audit : (κs : _) (a : _) (r : _) (s : _) → audit-reads.Post κs a r s → r ≡ report (now (a .0))
+  pub c-read : (κs : _) (a : _) (r : _) (s : _) → c-reads.Post κs a r s → r ≡ reading (now (a .0)) .answer .number
+  -- demand 3: after every list of calls from a fresh session all is as in the plain book, what is held is true on every
+  -- document, and select marks by it
+  pub demand3 : DemandThree Selected New Called
+  -- what is demanded of read: it accepts just the bundles whose calls are all accepted, and demand 3 holds of the calls
+  pub read-demand : ReadDemand Selected Called Read
+  -- a fresh session can be made as the contracts have it, and on every session every list of calls; so can every select
+  -- and every read
+  pub new-exists : New freshSession
+  pub calls-exist : (s : Session) (cs : List Call) → (os : List CallSeen) × (t : Session) × Run view Called s cs os t
+  pub selects-exist : (s : Session) (row : ℕ) (xs : List ℕ) (x limit : ℕ) (buffer : List ℕ)
+      → (t : SelectAnswer) × (left : List ℕ) × Selected s row xs x limit buffer t left
+  pub reads-exist : (bytes : List ℕ) → (t : ReadResult) × Read bytes t
+  -- a select call on a path of k steps, with a limit of at least the bound, is never answered 15; two accepted calls of
+  -- one step of a path, on lent numbers that differ in the name of one node, mark every other node alike
+  pub limit-suffices : LimitSuffices
+  pub marks-same-elsewhere : MarksSameElsewhere
+  -- the visits of such a path are at most the bound
+  pub chain-visits : ChainVisits
+  -- the ancestor test: its count ends the climb and is the least that does, and it answers as the climb to the root does
+  pub count-ends : CountEnds
+  pub count-least : CountLeast
+  pub answers-alike : AnswersAlike
+  pub refuses-alike : RefusesAlike
+  -- the rules are sound: what a rule yields from what is true on every document is true on every document
+  pub rules-sound : (n : ℕ) (c : Claim) (cs : List Claim) → Yields n c cs → Every IsTrue cs → IsTrue c
+  -- the matcher that the code runs, on row numbers, decides what the rule table yields, on terms
+  pub matcher-decides : (rs : List Row) → Built rs → (n : ℕ) (s : Sides) (ss : List Sides)
+      → T (oneSort rs s) → Every (λ s. T (oneSort rs s)) ss
+      → T (rowYields rs n s ss) ↔ Yields n (saysOf rs s) (map (saysOf rs) ss)
+
+pub theorems : Theorems
+theorems =
+    record {
+      new-takes = λ κs a. tt;
+      term-takes = λ κs a. tt;
+      step-takes = λ κs a. tt;
+      select-takes = λ κs a. tt;
+      read-takes = λ κs a. tt;
+      audit-takes = λ κs a. tt;
+      c-takes = λ κs a. tt;
+      new = source.new-tied;
+      call = source.call-tied;
+      by-terms = simulation.answers-by-terms;
+      select = source.select-tied;
+      read = source.read-tied;
+      audit = λ κs a r s m. m;
+      c-read = λ κs a r s m. m;
+      demand3 = source.demand3;
+      read-demand = source.read-demand;
+      new-exists = source.new-exists;
+      calls-exist = source.calls-exist;
+      selects-exist = source.selects-exist;
+      reads-exist = source.reads-exist;
+      limit-suffices = limit-suffices;
+      marks-same-elsewhere = marks-same-elsewhere;
+      chain-visits = chain-visits;
+      count-ends = count-ends;
+      count-least = count-least;
+      answers-alike = answers-alike;
+      refuses-alike = refuses-alike;
+      rules-sound = yields-sound;
+      matcher-decides = λ rs built. row-yields-iff built;
+    }

@@ -1,0 +1,22 @@
+-- `is_step_names` meets its contract. Assumes nothing.
+use mathlib.Core.Path.{_∙_}
+use borrow.Author.Needs.{needs}
+use Rattle.lines.proofs.Start.{starts-with-line}
+use Rattle.lines.specs.Ascii.{ascii}
+use Rattle.session.specs.Bundle.{stepNames}
+use Rattle.session.proofs.LineCalls.{step-names-free}
+use Rattle.session.proofs.read.is_step_names.Statement.{statement}
+use Rattle.session.proofs.read.is_step_names.Tie as tie
+
+slice-aggregate-is-line : tie.Need-slice-aggregate-is-line
+slice-aggregate-is-line c = search needs
+
+is-line-requires : tie.Need-is-line-requires
+is-line-requires c κs = search needs
+
+returns : tie.Need-returns
+unfolding stepNames ascii
+returns c = c .is-line .ensures ∙ starts-with-line stepNames step-names-free _
+
+pub is-step-names-spec : {M : Type 1} → statement M
+is-step-names-spec = tie.close (tie.spec slice-aggregate-is-line is-line-requires returns)

@@ -1,0 +1,68 @@
+-- `Session::step` meets its contract: the step is written, and the count grows, just where the step is held. Assumes nothing.
+use Prim.Native.Nat.{_*_, min}
+use mathlib.Core.Path.{_≡_, sym, ap, _∙_}
+use native.Mathlib.Omega.{arith}
+use lib.ListN.{length}
+use borrow.Author.Needs.{needs}
+use Rattle.calls.specs.Book.{maxSteps}
+use Rattle.calls.specs.code.Tables.{stepWidth}
+use Rattle.calls.specs.Promises.{rowStepAnswer}
+use Rattle.calls.proofs.Tables.{steps-held}
+use Rattle.calls.proofs.StepJudged.{step-accepted}
+use Rattle.session.proofs.StepMade.{step-made-held, step-made-refused}
+use Rattle.session.proofs.session.Session.step.Statement.{statement}
+use Rattle.session.proofs.session.Session.step.Tie as tie
+
+clamp-requires : tie.Need-clamp-requires
+clamp-requires c κs = search needs
+
+judge-step-requires : tie.Need-judge-step-requires
+judge-step-requires c κs = search needs
+
+number-requires : tie.Need-number-requires
+number-requires c κs = search needs
+
+put-in-table-requires : tie.Need-put-in-table-requires
+unfolding rowStepAnswer
+put-in-table-requires c κs =
+    let at-number = c .before .before in
+    let at-judge = at-number .before in
+    let at-self = at-judge .before .before .before .before in
+    let at-clamp = at-self .before .before in
+    let a = at-clamp .before .args in
+    let size : length (a .t1 .steps) ≡ stepWidth * maxSteps = search needs in
+    let held = sym (at-number .number .ensures) ∙ c .before .if1 .taken in
+    let room = step-accepted _ _ _ (sym (ap (λ t. t .number) (at-judge .judge-step .ensures)) ∙ held) .room in
+    let all = steps-held (a .t1 .steps) (min (a .t1 .«step_count») maxSteps) (omega arith) size in
+    (omega (arith, room, at-clamp .clamp .ensures, all), size)
+
+add-self : tie.Need-add-self
+add-self c = search needs
+
+returns : tie.Need-returns
+returns c =
+    let at-if = c .before .before in
+    let at-judge = at-if .before .before in
+    let at-self = at-judge .before .before .before .before in
+    let at-clamp = at-self .before .before in
+    step-made-held (at-clamp .before .args .t1) _ (at-judge .judge-step .result) (at-judge .judge-step .ensures)
+    (sym (at-if .before .number .ensures) ∙ at-if .if1 .taken) _ (at-clamp .clamp .ensures) _ (c .put-in-table .ensures)
+
+returns-2 : tie.Need-returns-2
+returns-2 c =
+    let at-judge = c .before .before in
+    let at-self = at-judge .before .before .before .before in
+    step-made-refused (at-self .before .before .before .args .t1) _ (at-judge .judge-step .result)
+    (at-judge .judge-step .ensures) (λ e. c .if1 .left (c .before .number .ensures ∙ e))
+
+pub step-spec : {M : Type 1} → statement M
+step-spec =
+    tie.close
+    (tie.spec
+    clamp-requires
+    judge-step-requires
+    number-requires
+    put-in-table-requires
+    add-self
+    returns
+    returns-2)

@@ -1,0 +1,2 @@
+pub mod BundleCases
+pub mod AuditCases

@@ -1,0 +1,35 @@
+-- The lines that end scripts, by computation. Assumes nothing.
+use Prim.Native.Nat.{ℕ}
+use Prim.Native.String.{String}
+use mathlib.Core.Path.{refl}
+use mathlib.Core.List.{[], _∷_}
+use mathlib.Core.Option.{Option·elim}
+use Rattle.common.specs.values.Expected.{_is_, AllRight}
+use Rattle.lines.specs.Ascii.{ascii}
+use Rattle.lines.specs.Line.{inFirstLine, lines, inFirstPart, parts, sameBytes}
+use Rattle.lines.specs.Number.{isDigit, areDigits, isDecimal, appendDigits, numbersUpTo}
+use Rattle.script.specs.Command.{atMost, named, commandOf}
+use Rattle.transcript.specs.declared.Style.{Style}
+use Rattle.transcript.specs.declared.Style.the-variants.{Answers, Nodes}
+use Rattle.transcript.specs.Transcript.{endingLine}
+
+abbrev ends : Style → String → ℕ
+ends style text = endingLine style 1 (lines (ascii text))
+
+pub endings :
+    AllRight
+    -- no line, two calls, a line without its newline, `fresh`, a word that is none
+    (ends Answers "" is 0
+    ∷ ends Answers "term 1 0 0 0\ndocument\n" is 0
+    ∷ ends Answers "term 1 0 0 0\nterm 1 0 0 0" is 2
+    ∷ ends Answers "document\nfresh\n" is 2
+    ∷ ends Answers "terms 1 0 0 0\n" is 1
+    -- the first of two lines that are not taken
+    ∷ ends Answers "document\n\nfresh\n" is 2
+    -- `fresh`, where nodes are printed; and a word that is none
+    ∷ ends Nodes "document\nfresh\n" is 0
+    ∷ ends Nodes "document\nfresh\nfreshly\n" is 3
+    ∷ [])
+unfolding endingLine ascii commandOf named atMost numbersUpTo lines inFirstLine parts inFirstPart sameBytes Option·elim
+    isDecimal areDigits isDigit appendDigits
+endings = refl

@@ -1,0 +1,10 @@
+pub mod StepNotation
+pub mod LogCases
+pub mod DocumentCases
+pub mod DocumentSizes
+pub mod ClimbCases
+pub mod MeaningCases
+pub mod AttributeCases
+pub mod VisitCases
+pub mod ChainCases
+pub mod NameCases
