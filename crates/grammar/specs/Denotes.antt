@@ -1,0 +1,202 @@
+-- The term of a tree, the names in it with their places, and the rows that a term needs. Assumes nothing.
+use Prim.Native.Nat.{ℕ, suc, _+_, _<_, _≤_, max}
+use mathlib.Core.Path.{_≡_}
+use mathlib.Core.Bool.{Bool, true, false, cond, _&&_}
+use mathlib.Core.List.{List, [], _∷_, _++_}
+use mathlib.Core.Option.{Option, none, some}
+use lib.Dec.{eqb, ltb}
+use lib.ListN.{length}
+use Rattle.grammar.specs.Bytes.{Bytes}
+use Rattle.grammar.specs.Words.{axisCode, typeCode, instructionWord, numberOf}
+use Rattle.xpath.specs.Term as term
+use Rattle.xpath.specs.Term.{some-of}
+use Rattle.terms.specs.Row.{Row, row, find, maxRows}
+use Rattle.terms.specs.Nesting.{maxNesting}
+use Rattle.grammar.specs.Grammar.{Axis, implied, attribute, axis, Test, any, called, kind, target, Step}
+use Rattle.grammar.specs.Grammar.{dot, dots, test, filter, Rel, one, slash, slashes, Path, relative, root}
+use Rattle.grammar.specs.Grammar.{rooted, anywhere, Union, single, union, Unary, paths, group, negation}
+use Rattle.grammar.specs.Grammar.{constant, And, operand, conj, Or, alone, disj, spellAxis, spellTest}
+use Rattle.grammar.specs.Grammar.{spellStep, spellRel, spellPath, spellUnion, spellUnary, spellAnd}
+use Rattle.grammar.specs.Grammar.{spellOr, spellBool, Spells, Outside}
+
+unfoldable pub axisOf : Axis → ℕ
+axisOf implied = 1
+axisOf (attribute w) = 11
+axisOf (axis w n v) = axisCode n
+
+-- descendant-or-self::node()
+abbrev pub everyBelow : term.Path
+everyBelow = term.AxisStep 5 2 0
+
+unfoldable pub constantOf : Bool → term.Qualifier
+constantOf true = term.True
+constantOf false = term.False
+
+module _ (num : Bytes → ℕ) where
+  unfoldable pub testOf : ℕ → Test → term.Path
+  testOf a (any w) = term.AxisStep a 1 0
+  testOf a (called w n) = term.AxisStep a 0 (num n)
+  testOf a (kind w n v u) = term.AxisStep a (typeCode n) 0
+  testOf a (target w v u q m y) = term.AxisStep a 6 (num m)
+
+  unfoldable mutual
+    pub stepOf : Step → term.Path
+    stepOf (dot w) = term.AxisStep 0 2 0
+    stepOf (dots w) = term.AxisStep 2 2 0
+    stepOf (test a t) = testOf (axisOf a) t
+    stepOf (filter s w e v) = term.Filter (stepOf s) (orOf e)
+
+    -- steps grouped from the left after the path p
+    pub relOf : Rel → term.Path
+    relOf (one s) = stepOf s
+    relOf (slash r w s) = term.Composition (relOf r) (stepOf s)
+    relOf (slashes r w s) = term.Composition (term.Composition (relOf r) everyBelow) (stepOf s)
+
+    pub relAfter : Rel → term.Path → term.Path
+    relAfter (one s) = λ p. term.Composition p (stepOf s)
+    relAfter (slash r w s) = λ p. term.Composition (relAfter r p) (stepOf s)
+    relAfter (slashes r w s) = λ p. term.Composition (term.Composition (relAfter r p) everyBelow) (stepOf s)
+
+    pub pathOf : Path → term.Path
+    pathOf (relative r) = relOf r
+    pathOf (root w) = term.Root
+    pathOf (rooted w r) = relAfter r term.Root
+    pathOf (anywhere w r) = relAfter r (term.Composition term.Root everyBelow)
+
+    pub unionOf : Union → term.Path
+    unionOf (single p) = pathOf p
+    unionOf (union u w p) = term.Union (unionOf u) (pathOf p)
+
+    pub unaryOf : Unary → term.Qualifier
+    unaryOf (paths u) = some-of (unionOf u)
+    unaryOf (group w e v) = orOf e
+    unaryOf (negation w v e u) = term.Not (orOf e)
+    unaryOf (constant b w v u) = constantOf b
+
+    pub andOf : And → term.Qualifier
+    andOf (operand u) = unaryOf u
+    andOf (conj a w u) = term.And (andOf a) (unaryOf u)
+
+    pub orOf : Or → term.Qualifier
+    orOf (alone a) = andOf a
+    orOf (disj o w a) = term.Or (orOf o) (andOf a)
+
+-- a name, of a test or of a target, and the place of its first byte
+pub record Named : Type 0 where
+  pub place : ℕ
+  pub name : Bytes
+
+unfoldable pub testNames : ℕ → Test → List Named
+testNames i (any w) = []
+testNames i (called w n) = record { place = i + length w; name = n } ∷ []
+testNames i (kind w n v u) = []
+testNames i (target w v u q m y) =
+    record { place = i + length (w ++ (instructionWord ++ (v ++ (40 ∷ (u ++ (q ∷ [])))))); name = m } ∷ []
+
+-- the name tests of a tree that begins at place i, in order
+unfoldable mutual
+  pub stepNames : Step → ℕ → List Named
+  stepNames (dot w) i = []
+  stepNames (dots w) i = []
+  stepNames (test a t) i = testNames (i + length (spellAxis a)) t
+  stepNames (filter s w e v) i = stepNames s i ++ orNames e (i + length (spellStep s ++ (w ++ (91 ∷ []))))
+
+  pub relNames : Rel → ℕ → List Named
+  relNames (one s) i = stepNames s i
+  relNames (slash r w s) i = relNames r i ++ stepNames s (i + length (spellRel r ++ (w ++ (47 ∷ []))))
+  relNames (slashes r w s) i = relNames r i ++ stepNames s (i + length (spellRel r ++ (w ++ (47 ∷ 47 ∷ []))))
+
+  pub pathNames : Path → ℕ → List Named
+  pathNames (relative r) i = relNames r i
+  pathNames (root w) i = []
+  pathNames (rooted w r) i = relNames r (i + length (w ++ (47 ∷ [])))
+  pathNames (anywhere w r) i = relNames r (i + length (w ++ (47 ∷ 47 ∷ [])))
+
+  pub unionNames : Union → ℕ → List Named
+  unionNames (single p) i = pathNames p i
+  unionNames (union u w p) i = unionNames u i ++ pathNames p (i + length (spellUnion u ++ (w ++ (124 ∷ []))))
+
+  pub unaryNames : Unary → ℕ → List Named
+  unaryNames (paths u) i = unionNames u i
+  unaryNames (group w e v) i = orNames e (i + length (w ++ (40 ∷ [])))
+  unaryNames (negation w v e u) i = orNames e (i + length (w ++ (110 ∷ 111 ∷ 116 ∷ (v ++ (40 ∷ [])))))
+  unaryNames (constant b w v u) i = []
+
+  pub andNames : And → ℕ → List Named
+  andNames (operand u) i = unaryNames u i
+  andNames (conj a w u) i = andNames a i ++ unaryNames u (i + length (spellAnd a ++ (w ++ (97 ∷ 110 ∷ 100 ∷ []))))
+
+  pub orNames : Or → ℕ → List Named
+  orNames (alone a) i = andNames a i
+  orNames (disj o w a) i = orNames o i ++ andNames a (i + length (spellOr o ++ (w ++ (111 ∷ 114 ∷ []))))
+
+-- the place of the first name that is not in the list
+unfoldable pub unlisted : (Bytes → ℕ) → List Named → Option ℕ
+unlisted num [] = none
+unlisted num (x ∷ xs) = cond (eqb (num (x .name)) 0) (some (x .place)) (unlisted num xs)
+
+-- rows and the number of the row put last
+pub record Put : Type 0 where
+  pub rows : List Row
+  pub at : ℕ
+
+-- a row held already is used again, else it goes to the end
+unfoldable pub put : List Row → Row → Put
+put rs r = record { rows = cond (ltb (find rs r) (length rs)) rs (rs ++ (r ∷ [])); at = find rs r }
+
+-- operands first, left first
+unfoldable mutual
+  pub putPath : term.Path → List Row → Put
+  putPath term.Void rs = put rs (row 0 0 0 0)
+  putPath term.Root rs = put rs (row 1 0 0 0)
+  putPath (term.AxisStep a t c) rs = put rs (row 2 a t c)
+  putPath (term.Union p q) rs =
+      let x = putPath p rs in let y = putPath q (x .rows) in put (y .rows) (row 3 (x .at) (y .at) 0)
+  putPath (term.Composition p q) rs =
+      let x = putPath p rs in let y = putPath q (x .rows) in put (y .rows) (row 4 (x .at) (y .at) 0)
+  putPath (term.Filter p f) rs =
+      let x = putPath p rs in let y = putQual f (x .rows) in put (y .rows) (row 5 (x .at) (y .at) 0)
+
+  pub putQual : term.Qualifier → List Row → Put
+  putQual term.True rs = put rs (row 6 0 0 0)
+  putQual term.False rs = put rs (row 7 0 0 0)
+  putQual (term.Not f) rs = let x = putQual f rs in put (x .rows) (row 8 (x .at) 0 0)
+  putQual (term.And f g) rs =
+      let x = putQual f rs in let y = putQual g (x .rows) in put (y .rows) (row 9 (x .at) (y .at) 0)
+  putQual (term.Or f g) rs =
+      let x = putQual f rs in let y = putQual g (x .rows) in put (y .rows) (row 10 (x .at) (y .at) 0)
+  putQual (term.In p q) rs =
+      let x = putPath p rs in let y = putPath q (x .rows) in put (y .rows) (row 11 (x .at) (y .at) 0)
+
+unfoldable mutual
+  pub nestPath : term.Path → ℕ
+  nestPath term.Void = 1
+  nestPath term.Root = 1
+  nestPath (term.AxisStep a t c) = 1
+  nestPath (term.Union p q) = suc (max (nestPath p) (nestPath q))
+  nestPath (term.Composition p q) = suc (max (nestPath p) (nestPath q))
+  nestPath (term.Filter p f) = suc (max (nestPath p) (nestQual f))
+
+  pub nestQual : term.Qualifier → ℕ
+  nestQual term.True = 1
+  nestQual term.False = 1
+  nestQual (term.Not f) = suc (nestQual f)
+  nestQual (term.And f g) = suc (max (nestQual f) (nestQual g))
+  nestQual (term.Or f g) = suc (max (nestQual f) (nestQual g))
+  nestQual (term.In p q) = suc (max (nestPath p) (nestPath q))
+
+-- The answer to a text call on the rows held: number, value, and the rows afterwards.
+pub data Answers (list t : Bytes) (rs : List Row) : (number value : ℕ) → List Row → Type 0 where
+  outside : {k : ℕ} → Outside t k → Answers list t rs 18 k rs
+  unnumbered : {u : Union} {k : ℕ} → Spells t u → unlisted (numberOf list) (unionNames u 0) ≡ some k
+      → Answers list t rs 19 k rs
+  deep : {u : Union} → Spells t u → unlisted (numberOf list) (unionNames u 0) ≡ none
+      → maxNesting < nestPath (unionOf (numberOf list) u) → Answers list t rs 3 0 rs
+  full : {u : Union} → Spells t u → unlisted (numberOf list) (unionNames u 0) ≡ none
+      → nestPath (unionOf (numberOf list) u) ≤ maxNesting
+      → maxRows < length (putPath (unionOf (numberOf list) u) rs .rows) → Answers list t rs 11 0 rs
+  held : (u : Union) → Spells t u → unlisted (numberOf list) (unionNames u 0) ≡ none
+      → nestPath (unionOf (numberOf list) u) ≤ maxNesting
+      → length (putPath (unionOf (numberOf list) u) rs .rows) ≤ maxRows
+      → Answers list t rs 0 (putPath (unionOf (numberOf list) u) rs .at)
+      (putPath (unionOf (numberOf list) u) rs .rows)

@@ -1,0 +1,12 @@
+pub mod Scanned
+pub mod Named
+pub mod Built
+pub mod Ran
+pub mod Headed
+pub mod Worded
+pub mod StepLaws
+pub mod PathLaws
+pub mod ExpressionLaws
+pub mod OperandLaws
+pub mod LoopLaws
+pub mod TextLaws

@@ -1,0 +1,317 @@
+-- What the readers promise: a run of the grammar's reader from one place is one from another, and the rows, the
+-- nesting and the first unlisted name are those of the tree that was read. Assumes nothing.
+use Prim.Native.Nat.{ℕ, suc, _+_, _-_, _*_, _<_, _≤_, max}
+use mathlib.Core.Path.{_≡_}
+use mathlib.Core.Bool.{Bool, true, false, cond}
+use mathlib.Core.List.{List, [], _∷_, _++_}
+use mathlib.Core.Option.{Option, none, some}
+use lib.Dec.{eqb}
+use lib.ListN.{length, drop, take}
+use Rattle.xpath.specs.Term as term
+use Rattle.terms.specs.Row.{Row, row, tableOf}
+use Rattle.grammar.specs.Bytes.{Bytes, isSpace}
+use Rattle.grammar.specs.Words.{numberOf}
+use Rattle.grammar.specs.Grammar.{Step, Path, Union, Unary, And, Or, filter, takesPredicate, spellStep}
+use Rattle.grammar.specs.Grammar.{spellPath, spellUnion, spellUnary, spellAnd, spellOr}
+use Rattle.grammar.specs.Denotes.{Put, Named, stepOf, pathOf, unionOf, unaryOf, andOf, orOf, stepNames}
+use Rattle.grammar.specs.Denotes.{pathNames, unionNames, unaryNames, andNames, orNames, unlisted, putPath}
+use Rattle.grammar.specs.Denotes.{putQual, nestPath, nestQual}
+use Rattle.grammar.specs.Reader.{Next, need, after, Ctx, top, inside, Open, Alt, first, Lead, begin}
+use Rattle.grammar.specs.Reader.{Left, either, Pend, plain, both, leftOf, andTo, orTo, room, roomOf, enter}
+use Rattle.grammar.specs.Reader.{follow, run, outcome, Outcome, bad, atTop, pathByte, unionByte, unaryByte}
+use Rattle.grammar.specs.Reader.{shut, Text}
+use Rattle.grammar.specs.Answer.{answer}
+use Rattle.text.specs.declared.build.Reading.{Reading}
+use Rattle.text.specs.declared.TextAnswer.{TextAnswer}
+use Rattle.text.specs.declared.build.Start.{Start}
+use Rattle.text.specs.declared.head.Opens.{Opens}
+use Rattle.text.specs.declared.head.Opens.the-variants as Opening
+use Rattle.text.specs.Scan.{byteAt, Passed, beginsStep}
+use Rattle.text.specs.Head.{Between, callable, NoCall, Due}
+use Rattle.text.specs.Build.{rowWidth, capped, movedTo, failedAt, Sized, Made, PutMet, Grown}
+use Rattle.text.specs.Build.{joined, belowOf, onlyInStep, firstOf}
+
+-- the run goes on with the byte at a place
+unfoldable pub proceed : Bytes → ℕ → Next → Outcome
+proceed s at n = follow n (bad (length s - at)) (λ st. run (drop (suc at) s) st)
+
+-- what follows a path, and a union
+unfoldable pub afterPath : Ctx → Alt → Path → Bytes → Bytes → Outcome
+afterPath c g p w [] = outcome (atTop c g p w)
+afterPath c g p w (b ∷ t) = follow (pathByte c g p w b) (bad (suc (length t))) (λ st. run t st)
+
+unfoldable pub unionAtTop : Ctx → Union → Bytes → Option Text
+unionAtTop top u w = some (record { tree = u; rest = w })
+unionAtTop (inside x p) u w = none
+
+unfoldable pub afterUnion : Ctx → Union → Bytes → Bytes → Outcome
+afterUnion c u w [] = outcome (unionAtTop c u w)
+afterUnion c u w (b ∷ t) = follow (unionByte c u w b) (bad (suc (length t))) (λ st. run t st)
+
+-- a path, or a qualifier, was made of a text with these names
+abbrev pub MadePath : Bytes → term.Path → List Named → List ℕ → Reading → List ℕ → Reading → Type 0
+MadePath list p ns xs x ys y = Made (putPath p) (nestPath p) (unlisted (numberOf list) ns) xs x ys y
+
+abbrev pub MadeQual : Bytes → term.Qualifier → List Named → List ℕ → Reading → List ℕ → Reading → Type 0
+MadeQual list f ns xs x ys y = Made (putQual f) (nestQual f) (unlisted (numberOf list) ns) xs x ys y
+
+-- before a reader: nothing was refused, the place is in the text, the table has its size
+pub record Ready (s : Bytes) (xs : List ℕ) (x : Reading) : Type 0 where
+  pub ok : x .ok ≡ true
+  pub fits : x .at ≤ length s
+  pub sized : Sized xs (x .count)
+
+-- after one: the place is not before the first, and in the text; the table has its size
+pub record Reached (s : Bytes) (at : ℕ) (ys : List ℕ) (y : Reading) : Type 0 where
+  pub from : at ≤ y .at
+  pub fits : y .at ≤ length s
+  pub sized : Sized ys (y .count)
+
+-- `and` and `or`, of n bytes: only the place changes
+pub record WordMet (s : Bytes) (r q : Reading) (n : ℕ) (next : Open → Pend → Unary → Bytes → Pend) : Type 0 where
+  pub between : Between s (r .at + 1) (q .at)
+  pub same : q ≡ cond (q .ok) (movedTo r (q .at)) (failedAt r (q .at))
+  pub place : q .ok ≡ true → q .at ≡ r .at + n
+  pub read : q .ok ≡ true → (x : Open) (p : Pend) (u : Unary) (w : Bytes)
+      → proceed s (r .at) (unaryByte x p u w (byteAt s (r .at)))
+      ≡ run (drop (q .at) s) (need (inside x (next x p u w)) first begin [])
+  pub failed : q .ok ≡ false → (x : Open) (p : Pend) (u : Unary) (w : Bytes)
+      → proceed s (r .at) (unaryByte x p u w (byteAt s (r .at))) ≡ bad (length s - q .at)
+
+abbrev pub afterAnd : Open → Pend → Unary → Bytes → Pend
+afterAnd x p u w = both (leftOf p) (andTo p u) w
+
+abbrev pub afterOr : Open → Pend → Unary → Bytes → Pend
+afterOr x p u w = plain (either (orTo p u) w)
+
+-- a predicate, after any step that takes one: the expression in it, and whitespace after its `]`
+pub record PredicateRead (s list : Bytes) (left : ℕ) (xs : List ℕ) (x : Reading) (ys : List ℕ) (y : Reading)
+    : Type 0 where
+  pub tree : Or
+  pub inner : Bytes
+  pub spaces : Bytes
+  pub size : x .at + length (spellOr tree ++ (inner ++ spaces)) + 2 ≡ y .at
+  pub runs : (c : Ctx) (g : Alt) (l : Lead) (t : Step) (w : Bytes) → room c ≡ left → takesPredicate t ≡ true
+      → run (drop (x .at) s) (after c g l t w) ≡ run (drop (y .at) s) (after c g l (filter t w tree inner) spaces)
+  pub made : (f : List Row → Put) (n : ℕ) (m : Option ℕ) (zs : List ℕ) (z : Reading) → Made f n m zs z xs x
+      → Made (joined 5 f (putQual (orOf (numberOf list) tree))) (suc (max n (nestQual (orOf (numberOf list) tree))))
+      (firstOf m (unlisted (numberOf list) (orNames tree (x .at + 1)))) zs z ys y
+  pub space : isSpace (byteAt s (y .at)) ≡ false
+
+pub record PredicateMet (s list : Bytes) (left : ℕ) (xs : List ℕ) (x : Reading) (ys : List ℕ) (y : Reading)
+    : Type 0 where
+  pub reached : Reached s (x .at) ys y
+  pub further : y .ok ≡ true → x .at < y .at
+  pub read : y .ok ≡ true → PredicateRead s list left xs x ys y
+  pub failed : y .ok ≡ false → (c : Ctx) (g : Alt) (l : Lead) (t : Step) (w : Bytes) → room c ≡ left
+      → takesPredicate t ≡ true → run (drop (x .at) s) (after c g l t w) ≡ bad (length s - y .at)
+
+-- a step, from a place without whitespace: its tree by the whitespace before it, and whitespace after it
+pub record StepRead (s list : Bytes) (left : ℕ) (tree : Bytes → Step) (spaces : Bytes)
+    (xs : List ℕ) (x : Reading) (ys : List ℕ) (y : Reading) : Type 0 where
+  pub size : (w : Bytes) → x .at + length (spellStep (tree w) ++ spaces) ≡ length w + y .at
+  pub runs : (c : Ctx) (g : Alt) (l : Lead) (w : Bytes) → room c ≡ left
+      → run (drop (x .at) s) (need c g l w) ≡ run (drop (y .at) s) (after c g l (tree w) spaces)
+  pub made : (w : Bytes) (i : ℕ) → i + length w ≡ x .at
+      → MadePath list (stepOf (numberOf list) (tree w)) (stepNames (tree w) i) xs x ys y
+  pub space : isSpace (byteAt s (y .at)) ≡ false
+
+abbrev pub StepFails : Bytes → (left at to : ℕ) → Type 0
+StepFails s left at to = (c : Ctx) (g : Alt) (l : Lead) (w : Bytes) → room c ≡ left → Due s at c g l w
+    → run (drop at s) (need c g l w) ≡ bad (length s - to)
+
+pub record StepMet (s list : Bytes) (left : ℕ) (xs : List ℕ) (x : Reading) (ys : List ℕ) (y : Reading)
+    : Type 0 where
+  pub reached : Reached s (x .at) ys y
+  pub read : y .ok ≡ true → (tree : Bytes → Step) × (spaces : Bytes) × StepRead s list left tree spaces xs x ys y
+  pub stops : y .ok ≡ true → onlyInStep (byteAt s (y .at)) ≡ false
+  pub failed : y .ok ≡ false → StepFails s left (x .at) (y .at)
+
+-- where a path may begin: not with a call, nor with `(`, if it is an operand
+abbrev pub NoOperand : Bytes → ℕ → Ctx → Alt → Type 0
+NoOperand s at c g = callable c g begin ≡ true → (to : ℕ) → Passed isSpace s at to
+    → NoCall s to × (byteAt s to ≡ 40 → ⊥)
+
+-- a path, and whitespace after it
+pub record PathRead (s list : Bytes) (left : ℕ) (xs : List ℕ) (x : Reading) (ys : List ℕ) (y : Reading)
+    : Type 0 where
+  pub tree : Path
+  pub spaces : Bytes
+  pub size : x .at + length (spellPath tree ++ spaces) ≡ y .at
+  pub made : MadePath list (pathOf (numberOf list) tree) (pathNames tree (x .at)) xs x ys y
+  pub runs : (c : Ctx) (g : Alt) → room c ≡ left
+      → run (drop (x .at) s) (need c g begin []) ≡ afterPath c g tree spaces (drop (y .at) s)
+
+abbrev pub PathFails : Bytes → (left at to : ℕ) → Type 0
+PathFails s left at to = (c : Ctx) (g : Alt) → room c ≡ left → NoOperand s at c g
+    → run (drop at s) (need c g begin []) ≡ bad (length s - to)
+
+pub record PathMet (s list : Bytes) (left : ℕ) (xs : List ℕ) (x : Reading) (ys : List ℕ) (y : Reading)
+    : Type 0 where
+  pub reached : Reached s (x .at) ys y
+  pub read : y .ok ≡ true → PathRead s list left xs x ys y
+  pub failed : y .ok ≡ false → PathFails s left (x .at) (y .at)
+
+-- a union, and whitespace after it
+pub record UnionRead (s list : Bytes) (left : ℕ) (xs : List ℕ) (x : Reading) (ys : List ℕ) (y : Reading)
+    : Type 0 where
+  pub tree : Union
+  pub spaces : Bytes
+  pub size : x .at + length (spellUnion tree ++ spaces) ≡ y .at
+  pub made : MadePath list (unionOf (numberOf list) tree) (unionNames tree (x .at)) xs x ys y
+  pub runs : (c : Ctx) → room c ≡ left
+      → run (drop (x .at) s) (need c first begin []) ≡ afterUnion c tree spaces (drop (y .at) s)
+
+abbrev pub UnionFails : Bytes → (left at to : ℕ) → Type 0
+UnionFails s left at to = (c : Ctx) → room c ≡ left → NoOperand s at c first
+    → run (drop at s) (need c first begin []) ≡ bad (length s - to)
+
+pub record UnionMet (s list : Bytes) (left : ℕ) (xs : List ℕ) (x : Reading) (ys : List ℕ) (y : Reading)
+    : Type 0 where
+  pub reached : Reached s (x .at) ys y
+  pub read : y .ok ≡ true → UnionRead s list left xs x ys y
+  pub failed : y .ok ≡ false → UnionFails s left (x .at) (y .at)
+
+-- an operand of `and` or `or`, and whitespace after it
+pub record UnaryRead (s list : Bytes) (left : ℕ) (xs : List ℕ) (x : Reading) (ys : List ℕ) (y : Reading)
+    : Type 0 where
+  pub tree : Unary
+  pub spaces : Bytes
+  pub size : x .at + length (spellUnary tree ++ spaces) ≡ y .at
+  pub made : MadeQual list (unaryOf (numberOf list) tree) (unaryNames tree (x .at)) xs x ys y
+  pub runs : (o : Open) (p : Pend) → roomOf o ≡ left
+      → run (drop (x .at) s) (need (inside o p) first begin [])
+      ≡ proceed s (y .at) (unaryByte o p tree spaces (byteAt s (y .at)))
+
+abbrev pub UnaryFails : Bytes → (left at to : ℕ) → Type 0
+UnaryFails s left at to = (o : Open) (p : Pend) → roomOf o ≡ left
+    → run (drop at s) (need (inside o p) first begin []) ≡ bad (length s - to)
+
+pub record UnaryMet (s list : Bytes) (left : ℕ) (xs : List ℕ) (x : Reading) (ys : List ℕ) (y : Reading)
+    : Type 0 where
+  pub reached : Reached s (x .at) ys y
+  pub read : y .ok ≡ true → UnaryRead s list left xs x ys y
+  pub failed : y .ok ≡ false → UnaryFails s left (x .at) (y .at)
+
+-- operands joined by `and`: the last one, and what stands before it
+pub record AndRead (s list : Bytes) (left : ℕ) (xs : List ℕ) (x : Reading) (ys : List ℕ) (y : Reading)
+    : Type 0 where
+  pub tree : And
+  pub pend : Left → Pend
+  pub last : Unary
+  pub spaces : Bytes
+  pub parts : (l : Left) → (leftOf (pend l) ≡ l) × (andTo (pend l) last ≡ tree)
+  pub size : x .at + length (spellAnd tree ++ spaces) ≡ y .at
+  pub made : MadeQual list (andOf (numberOf list) tree) (andNames tree (x .at)) xs x ys y
+  pub runs : (o : Open) (l : Left) → roomOf o ≡ left
+      → run (drop (x .at) s) (need (inside o (plain l)) first begin [])
+      ≡ proceed s (y .at) (unaryByte o (pend l) last spaces (byteAt s (y .at)))
+
+abbrev pub AndFails : Bytes → (left at to : ℕ) → Type 0
+AndFails s left at to = (o : Open) (l : Left) → roomOf o ≡ left
+    → run (drop at s) (need (inside o (plain l)) first begin []) ≡ bad (length s - to)
+
+pub record AndMet (s list : Bytes) (left : ℕ) (xs : List ℕ) (x : Reading) (ys : List ℕ) (y : Reading)
+    : Type 0 where
+  pub reached : Reached s (x .at) ys y
+  pub read : y .ok ≡ true → AndRead s list left xs x ys y
+  pub stops : y .ok ≡ true → eqb (byteAt s (y .at)) 97 ≡ false
+  pub failed : y .ok ≡ false → AndFails s left (x .at) (y .at)
+
+-- a whole expression, up to the byte that closes it
+pub record OrRead (s list : Bytes) (left : ℕ) (xs : List ℕ) (x : Reading) (ys : List ℕ) (y : Reading)
+    : Type 0 where
+  pub tree : Or
+  pub spaces : Bytes
+  pub size : x .at + length (spellOr tree ++ spaces) ≡ y .at
+  pub made : MadeQual list (orOf (numberOf list) tree) (orNames tree (x .at)) xs x ys y
+  pub runs : (o : Open) → roomOf o ≡ left
+      → run (drop (x .at) s) (enter o) ≡ proceed s (y .at) (shut o tree spaces (byteAt s (y .at)))
+
+abbrev pub OrFails : Bytes → (left at to : ℕ) → Type 0
+OrFails s left at to = (o : Open) → roomOf o ≡ left → run (drop at s) (enter o) ≡ bad (length s - to)
+
+pub record OrMet (s list : Bytes) (left : ℕ) (xs : List ℕ) (x : Reading) (ys : List ℕ) (y : Reading)
+    : Type 0 where
+  pub reached : Reached s (x .at) ys y
+  pub read : y .ok ≡ true → OrRead s list left xs x ys y
+  pub failed : y .ok ≡ false → OrFails s left (x .at) (y .at)
+
+abbrev pub refusalOf : (number value count : ℕ) → TextAnswer
+refusalOf n v k = record { number = n; value = v; count = k }
+
+-- the rows that a table holds, as many as are counted
+abbrev pub heldRows : List ℕ → ℕ → List Row
+heldRows xs count = tableOf (take (rowWidth * count) xs)
+
+-- the whole text: the book's answer, and the rows where it is accepted
+pub record TextMet (s list : Bytes) (xs : List ℕ) (count : ℕ) (ys : List ℕ) (a : TextAnswer) : Type 0 where
+  pub number : a .number ≡ answer list s (heldRows xs count) .number
+  pub value : a .value ≡ answer list s (heldRows xs count) .value
+  pub sized : Sized ys (a .count)
+  pub accepted : a .number ≡ 0 → heldRows ys (a .count) ≡ answer list s (heldRows xs count) .rows
+  pub refused : (a .number ≡ 0 → ⊥) → a .count ≡ count
+
+-- where the table has its size
+abbrev pub TextPromise : (s list : Bytes) (xs : List ℕ) (count : ℕ) (ys : List ℕ) (a : TextAnswer) → Type 0
+TextPromise s list xs count ys a = Sized xs count → TextMet s list xs count ys a
+
+-- the closing byte b is due where r ends; a refused reading stays as it is
+pub record CloseMet (s : Bytes) (r : Reading) (b : ℕ) (q : Reading) : Type 0 where
+  pub count : q .count ≡ r .count
+  pub kept : r .ok ≡ false → q ≡ r
+  pub wrong : r .ok ≡ true → (byteAt s (r .at) ≡ b → ⊥) → q ≡ failedAt r (r .at)
+  pub right : r .ok ≡ true → byteAt s (r .at) ≡ b → (to : ℕ) × (q ≡ movedTo r to) × Passed isSpace s (r .at + 1) to
+
+-- the first step of a path, over what stands before it
+pub record FirstPut (rooted : Bool) (lead step : Reading) (xs ys : List ℕ) (q : Reading) : Type 0 where
+  pub sized : Sized ys (q .count)
+  pub joins : rooted ≡ true
+      → PutMet (row 4 (lead .row) (step .row) 0) (capped (suc (max (lead .nesting) (step .nesting)))) xs step ys q
+  pub stays : rooted ≡ false → (ys ≡ xs) × (q ≡ step)
+
+-- the whitespace, the `)` and the row of `true()` or `false()`
+pub record ConstPut (s : Bytes) (kind : ℕ) (xs : List ℕ) (r : Reading) (ys : List ℕ) (q : Reading) : Type 0 where
+  pub to : ℕ
+  pub passed : Passed isSpace s (r .at) to
+  pub shut : Reading
+  pub closes : CloseMet s (movedTo r to) 41 shut
+  pub puts : PutMet (row kind 0 0 0) 1 xs shut ys q
+
+-- `/` or `//` after a path, and whitespace
+pub record SlashPut (s : Bytes) (xs : List ℕ) (r : Reading) (ys : List ℕ) (q : Reading) : Type 0 where
+  pub sized : Sized ys (q .count)
+  pub two : byteAt s (r .at + 1) ≡ 47
+      → (to : ℕ) × (b : Reading) × Passed isSpace s (r .at + 1 + 1) to
+      × Grown belowOf (λ n. suc (max n 1)) xs r ys b × (q ≡ movedTo b to)
+  pub one : (byteAt s (r .at + 1) ≡ 47 → ⊥)
+      → (to : ℕ) × Passed isSpace s (r .at + 1) to × (ys ≡ xs) × (q ≡ movedTo r to)
+
+-- a row of `not` over the expression in `not ( )`; a group is what it holds
+abbrev pub NegatePut : Opens → List ℕ → Reading → List ℕ → Reading → Type 0
+NegatePut Opening.Not xs r ys q = PutMet (row 8 (r .row) 0 0) (capped (suc (r .nesting))) xs r ys q
+NegatePut Opening.Group xs r ys q = (ys ≡ xs) × (q ≡ r)
+NegatePut Opening.Paths xs r ys q = (ys ≡ xs) × (q ≡ r)
+NegatePut Opening.True xs r ys q = (ys ≡ xs) × (q ≡ r)
+NegatePut Opening.False xs r ys q = (ys ≡ xs) × (q ≡ r)
+
+-- what stands before a path's first step, if any does
+abbrev pub startOf : Reading → (rooted steps : Bool) → Start
+startOf r x y = record { lead = r; rooted = x; steps = y }
+
+-- after `/` and whitespace: a step, or nothing more of this path; a second `/` can't follow
+unfoldable pub rootStart : Bytes → Reading → Start
+rootStart s r = cond (beginsStep (byteAt s (r .at))) (startOf r true true)
+    (cond (eqb (byteAt s (r .at)) 47) (startOf (failedAt r (r .at)) true false) (startOf r true false))
+
+pub record BeginPut (s : Bytes) (xs : List ℕ) (r : Reading) (ys : List ℕ) (q : Start) : Type 0 where
+  pub to : ℕ
+  pub passed : Passed isSpace s (r .at) to
+  pub bare : (byteAt s to ≡ 47 → ⊥) → (ys ≡ xs) × (q ≡ startOf (movedTo r to) false true)
+  pub root : byteAt s to ≡ 47 → (byteAt s (to + 1) ≡ 47 → ⊥)
+      → (p : Reading) × (end : ℕ) × PutMet (row 1 0 0 0) 1 xs (movedTo r to) ys p × Passed isSpace s (to + 1) end
+      × (q ≡ rootStart s (movedTo p end))
+  pub any : byteAt s to ≡ 47 → byteAt s (to + 1) ≡ 47
+      → (p b : Reading) × (zs : List ℕ) × (end : ℕ) × PutMet (row 1 0 0 0) 1 xs (movedTo r to) zs p
+      × Grown belowOf (λ n. suc (max n 1)) zs p ys b × Passed isSpace s (to + 1 + 1) end
+      × (q ≡ startOf (movedTo b end) true true)
