@@ -28,7 +28,8 @@ enum spinebriar_answer {
     SPINEBRIAR_ALREADY_HELD = 12,
     SPINEBRIAR_STEPS_FULL = 13,
     SPINEBRIAR_SHORT_MARKS = 14,
-    SPINEBRIAR_LIMIT_PASSED = 15
+    SPINEBRIAR_LIMIT_PASSED = 15,
+    SPINEBRIAR_BAD_NAME = 17 /* the program tally's */
 };
 
 /* What an answer says, in English; null for a number that no answer has. */
@@ -51,6 +52,7 @@ static inline const char *spinebriar_answer_text(uint16_t answer)
     case SPINEBRIAR_STEPS_FULL: return "the session holds 2,048 steps already";
     case SPINEBRIAR_SHORT_MARKS: return "the marks are shorter than the document";
     case SPINEBRIAR_LIMIT_PASSED: return "more visits are needed than the limit";
+    case SPINEBRIAR_BAD_NAME: return "a 65th name, or a file that can't be opened";
     default: return NULL;
     }
 }

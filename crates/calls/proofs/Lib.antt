@@ -11,3 +11,4 @@ pub mod Cases
 pub mod Reached
 pub mod Yielded
 pub mod ByTerms
+pub mod RuleUses

@@ -5,6 +5,7 @@ pub mod StepCall
 pub mod SelectCall
 pub mod Promises
 pub mod SelectLaws
+pub mod Uses
 pub mod Runs
 pub mod Calls
 pub mod code

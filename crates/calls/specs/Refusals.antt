@@ -60,3 +60,7 @@ short-marks = 14
 -- more visits needed than the limit
 abbrev pub limit-passed : ℕ
 limit-passed = 15
+
+-- a 65th name, or a file that can't be opened
+abbrev pub bad-name : ℕ
+bad-name = 17

@@ -14,6 +14,7 @@ ghost use Rattle.rules.specs.code.MatchTypes.{sidesIn};
 ghost use Rattle.calls.specs.Book.{maxSteps, book};
 ghost use Rattle.calls.specs.TermCall.{termAnswer};
 ghost use Rattle.calls.specs.StepCall.{sameSort, badSide, premiseOk, badPremise, stepNumbered};
+ghost use Rattle.calls.specs.Uses.{usesOf};
 ghost use Rattle.calls.specs.code.Tables.{stepsOf, firstRowNumbers, firstStepNumbers, firstRows, firstSteps};
 ghost use Rattle.calls.specs.code.Answers.{termAnswerOf, stepAnswerOf, selectAnswerOf, evaluationAnswer, stepOf};
 ghost use Rattle.calls.specs.Promises.{sidesOf, rowYielded, rowStepAnswer, SelectMade};
@@ -48,6 +49,8 @@ pub const STEPS_FULL: u16 = 13;
 pub const SHORT_MARKS: u16 = 14;
 
 pub const LIMIT_PASSED: u16 = 15;
+
+pub const BAD_NAME: u16 = 17;
 
 // A step has five numbers.
 pub const STEP_WIDTH: usize = 5;
@@ -160,6 +163,23 @@ fn step_count(steps: &[u16]) -> usize
     ensures { λ r. ⌜ r ≡ length (stepsOf (now (steps .entry))) ⌝ }
 {
     steps.len() / STEP_WIDTH
+}
+
+// How many of the steps are held by the rule.
+pub fn rule_uses(steps: &[u16], rule: u16) -> usize
+    ensures { λ r. ⌜ r ≡ usesOf rule (stepsOf (now (steps .entry))) ⌝ }
+{
+    let count = step_count(steps);
+    let mut uses = 0;
+    let mut i = 0;
+    while i < count {
+        let held_by = steps[STEP_WIDTH * i];
+        if held_by == rule {
+            uses += 1;
+        }
+        i += 1;
+    }
+    uses
 }
 
 // The place of step i, counted from 1, among the steps; of 0, the first one.

@@ -1,4 +1,4 @@
-// What the program audit prints of a bundle.
+// The counts of a session's steps, and what the program audit prints of a bundle.
 use crate::session::Session;
 use rules::Sides;
 ghost use mathlib.Core.Path.{_≡_};
@@ -7,6 +7,7 @@ ghost use lib.ListN.{length};
 ghost use Rattle.rules.specs.code.MatchTypes.{sidesIn};
 ghost use Rattle.calls.specs.Book.{answer, accepted};
 ghost use Rattle.calls.specs.StepCall.{stepNumbered};
+ghost use Rattle.calls.specs.Uses.{usesOf};
 ghost use Rattle.calls.specs.Promises.{sidesOf};
 ghost use Rattle.session.specs.View.{view};
 ghost use Rattle.session.specs.Audit.{report};
@@ -24,10 +25,18 @@ pub struct Report {
 }
 
 impl Session {
-    fn steps_held(self) -> u16
+    pub fn steps_held(self) -> u16
         ensures { λ r. ⌜ r ≡ length (view self .steps) ⌝ }
     {
         calls::clamp(self.step_count, Session::STEPS) as u16
+    }
+
+    // How many of the steps are held by the rule.
+    pub fn rule_uses(self, rule: u16) -> usize
+        ensures { λ r. ⌜ r ≡ usesOf rule (view self .steps) ⌝ }
+    {
+        let steps = calls::first_steps(&self.steps, self.step_count);
+        calls::rule_uses(steps, rule)
     }
 
     // The rows of the last step; zeros where there is none.

@@ -6,6 +6,7 @@
 //! cargo build --release
 //! target/release/reference audit < BUNDLE     what the program audit must print
 //! target/release/reference replay < CALLS     what the program replay must print
+//! target/release/reference tally < NAMES      what the program tally must print
 //! ```
 
 pub mod book;
@@ -15,6 +16,7 @@ pub mod document;
 pub mod programs;
 pub mod rules;
 pub mod selection;
+pub mod tally;
 pub mod term;
 #[cfg(test)]
 mod tests;

@@ -3,9 +3,13 @@
 use crate::book::Book;
 use crate::bundle::read;
 use crate::programs::{audit, replay, MOST_BYTES};
+use crate::tally::tally;
 
 /// 01's document: root, log 1, mark 2, a text, zero 3, run 4, mark 2.
 const LOG: &str = "document 0 0 0 1 0 1 1 1 2 2 2 0 1 1 3 1 1 4 1 5 2\n";
+
+/// 01's bundle.
+const EXAMPLE: &str = "kind a b c\n2 1 0 2\n2 3 1 0\nrule left right first second\n8 0 1 0 0\n";
 
 fn replayed(input: &str) -> Vec<String> {
     replay(input.as_bytes()).lines().map(str::to_string).collect()
@@ -17,8 +21,7 @@ fn last(input: &str) -> String {
 
 #[test]
 fn example_bundle() {
-    let bundle = "kind a b c\n2 1 0 2\n2 3 1 0\nrule left right first second\n8 0 1 0 0\n";
-    assert_eq!(audit(bundle.as_bytes()), "answer line steps left right\n0 0 1 0 1\n");
+    assert_eq!(audit(EXAMPLE.as_bytes()), "answer line steps left right\n0 0 1 0 1\n");
 }
 
 #[test]
@@ -244,4 +247,42 @@ fn mistakes_ruled_out() {
     };
     assert_eq!(last(&following(2)), "0 1");
     assert_eq!(last(&following(1)), "7 0");
+}
+
+/// The files of the tally tests: 01's example, the same with a second step that isn't yielded, and a text too long.
+fn tally_files(name: &str) -> String {
+    let directory = std::env::temp_dir().join(format!("reference-{}-{name}", std::process::id()));
+    std::fs::create_dir_all(&directory).unwrap();
+    let place = directory.to_str().unwrap().to_string();
+    std::fs::write(format!("{place}/one"), EXAMPLE).unwrap();
+    std::fs::write(format!("{place}/refused"), format!("{EXAMPLE}8 1 0 0 0\n")).unwrap();
+    std::fs::write(format!("{place}/long"), "x".repeat(65537)).unwrap();
+    place
+}
+
+#[test]
+fn tally_counts_accepted_bundles() {
+    let place = tally_files("counts");
+    let counted = |uses: u32| {
+        let lines: String = (1..=58).map(|rule| format!("{rule} {}\n", if rule == 8 { uses } else { 0 })).collect();
+        format!("rule uses\n{lines}0 {uses}\n")
+    };
+    let one = format!("{place}/one\n");
+    assert_eq!(tally(b""), counted(0));
+    assert_eq!(tally(one.trim_end().as_bytes()), counted(1));
+    assert_eq!(tally(one.repeat(64).as_bytes()), counted(64));
+    let others = format!("{one}{place}/refused\n{place}/long\n{place}\n{one}");
+    assert_eq!(tally(others.as_bytes()), counted(2));
+}
+
+#[test]
+fn tally_refuses_the_first_bad_line() {
+    let place = tally_files("refuses");
+    let one = format!("{place}/one\n");
+    let missing = format!("{place}/missing\n");
+    assert_eq!(tally(one.repeat(65).as_bytes()), "17 65\n");
+    assert_eq!(tally(format!("{one}{missing}{}", one.repeat(64)).as_bytes()), "17 2\n");
+    assert_eq!(tally(format!("{one}\n").as_bytes()), "17 2\n");
+    assert_eq!(tally(format!("{one}{place}/one\0b\n").as_bytes()), "17 2\n");
+    assert_eq!(tally(format!("{}\n", "x".repeat(5000)).as_bytes()), "17 1\n");
 }

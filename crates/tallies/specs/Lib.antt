@@ -1,0 +1,4 @@
+pub mod NameList
+pub mod Count
+pub mod code
+pub mod values
