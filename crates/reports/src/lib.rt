@@ -21,7 +21,7 @@ fn print(report: Report) {
 // `session::audit`.
 pub fn print_report(file: i32) {
     // One byte more than audit takes, so that longer input shows.
-    let mut bytes = [0u8; session::AUDIT_LIMIT + 1];
+    let mut bytes = [0u8; common::MAX_BYTES + 1];
     let n = io::read_full(file, &mut bytes);
     print(session::audit(&bytes[..n]));
 }

@@ -1,7 +1,4 @@
 // A form of a rule against the rows of a step and of its premises, by the numbers of a table.
-use crate::order::NAME_TEST;
-use crate::order::NODE_TEST;
-use crate::order::STAR_TEST;
 use crate::order::axis_below;
 use crate::order::test_below;
 use crate::tables::FIRST_LETTER;
@@ -9,6 +6,8 @@ use crate::tables::FIRST_PATTERN;
 use crate::tables::FIRST_ROW;
 use crate::tables::PATTERN_DEPTH;
 use common::and;
+use common::axis;
+use common::node_test;
 use common::or;
 use common::wide;
 use terms::is_held_path;
@@ -51,12 +50,6 @@ const NAME_N: usize = 10;
 const TEST_M: usize = 11;
 
 const NAME_M: usize = 12;
-
-const DESCENDANT: u16 = 3;
-
-const PRECEDING: u16 = 10;
-
-const ATTRIBUTE: u16 = 11;
 
 // The side conditions.
 const A_BELOW_B: u16 = 1;
@@ -258,10 +251,10 @@ fn meets_condition(k: u16, m: Match) -> bool
     match k {
         A_BELOW_B => axis_below(a, b),
         N_BELOW_M => test_below(test, m.value[NAME_N], m.value[TEST_M], m.value[NAME_M]),
-        B_FROM_3_TO_10 => and(DESCENDANT <= b, b <= PRECEDING),
-        N_A_NAME_OR_STAR => or(test == NAME_TEST, test == STAR_TEST),
-        N_NOT_NODE => test != NODE_TEST,
-        A_NOT_ATTRIBUTE => a != ATTRIBUTE,
+        B_FROM_3_TO_10 => and(axis::DESCENDANT <= b, b <= axis::PRECEDING),
+        N_A_NAME_OR_STAR => or(test == node_test::NAME, test == node_test::STAR),
+        N_NOT_NODE => test != node_test::NODE,
+        A_NOT_ATTRIBUTE => a != axis::ATTRIBUTE,
         _ => true,
     }
 }

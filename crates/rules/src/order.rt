@@ -1,16 +1,11 @@
 // The order of the axes and the order of the tests.
 use crate::tables::AXIS_PAIRS;
 use common::and;
+use common::node_test;
 use common::or;
 ghost use mathlib.Core.Path.{_≡_};
 ghost use Rattle.rules.specs.Order.{isPair, axisBelow, testBelow};
 ghost use Rattle.rules.specs.code.MatchTypes.{pairsOf};
-
-pub const NAME_TEST: u16 = 0;
-
-pub const STAR_TEST: u16 = 1;
-
-pub const NODE_TEST: u16 = 2;
 
 // Whether (a, b) is one of the pairs.
 fn is_pair(pairs: &[[u16; 2]], a: u16, b: u16) -> bool
@@ -40,7 +35,7 @@ pub fn test_below(t: u16, c: u16, u: u16, e: u16) -> bool
     ensures { λ r. ⌜ r ≡ testBelow t c u e ⌝ }
 {
     or(
-        or(and(t == u, c == e), and(t == NAME_TEST, u == STAR_TEST)),
-        u == NODE_TEST,
+        or(and(t == u, c == e), and(t == node_test::NAME, u == node_test::STAR)),
+        u == node_test::NODE,
     )
 }

@@ -14,22 +14,22 @@ use Rattle.calls.specs.Promises.{sidesOf}
 use Rattle.calls.specs.Refusals.{wrong-form}
 use Rattle.session.specs.Reading.{reading}
 use Rattle.session.specs.ReadCall.{readAnswerOf, readingOf, ReadMet}
-use Rattle.session.specs.Audit.{auditLimit, reportBy, readReport, report}
+use Rattle.session.specs.Audit.{maxBytes, reportBy, readReport, report}
 
 module _ (bytes : List ℕ) where
-  pub too-long : auditLimit < length bytes → reportBy wrong-form 0 0 0 0 ≡ report bytes
+  pub too-long : maxBytes < length bytes → reportBy wrong-form 0 0 0 0 ≡ report bytes
   unfolding report
-  too-long h = rw (lt-ltb auditLimit (length bytes) h)
+  too-long h = rw (lt-ltb maxBytes (length bytes) h)
 
   met-reading : (t : ReadResult) → ReadMet bytes t → readingOf t ≡ reading bytes
   met-reading t m = λ i. record { answer = m .answer i; session = m .session i }
 
   -- what is printed of a result that read gives
-  module _ (short : length bytes ≤ auditLimit) (t : ReadResult) (met : ReadMet bytes t) where
+  module _ (short : length bytes ≤ maxBytes) (t : ReadResult) (met : ReadMet bytes t) where
     pub reported : (number value line steps : ℕ) (last : Sides) → number ≡ readAnswerOf (t .answer) .number → value ≡ readAnswerOf (t .answer) .value
         → line ≡ cond (accepted (answer number value)) 0 value → steps ≡ length (view (t .session) .steps)
         → last ≡ sidesOf (stepNumbered (view (t .session) .steps) (length (view (t .session) .steps)))
         → reportBy number line steps (last .left) (last .right) ≡ report bytes
     unfolding report sidesOf
     reported number value line steps last is-number is-value is-line is-steps is-last =
-        rw (is-line, is-number, is-value, is-steps, is-last, le-ltb auditLimit (length bytes) short) (ap readReport (met-reading t met))
+        rw (is-line, is-number, is-value, is-steps, is-last, le-ltb maxBytes (length bytes) short) (ap readReport (met-reading t met))

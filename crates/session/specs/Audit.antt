@@ -11,9 +11,9 @@ use Rattle.session.specs.View.{view}
 use Rattle.calls.specs.Refusals.{wrong-form}
 use Rattle.session.specs.Reading.{Reading, reading}
 
--- the most bytes that audit takes
-abbrev pub auditLimit : ℕ
-auditLimit = 65536
+-- the most bytes of a bundle that a program takes
+abbrev pub maxBytes : ℕ
+maxBytes = 65536
 
 -- answer, refused line or 0, steps held, the rows of the last step or zeros
 abbrev pub reportBy : (answer line steps left right : ℕ) → Report
@@ -26,4 +26,4 @@ readReport r =
     reportBy (r .answer .number) (cond (accepted (r .answer)) 0 (r .answer .value)) (length held) (last .left) (last .right)
 
 unfoldable pub report : List ℕ → Report
-report bytes = cond (ltb auditLimit (length bytes)) (reportBy wrong-form 0 0 0 0) (readReport (reading bytes))
+report bytes = cond (ltb maxBytes (length bytes)) (reportBy wrong-form 0 0 0 0) (readReport (reading bytes))

@@ -9,7 +9,6 @@ pub use calls::StepAnswer;
 pub use calls::TermAnswer;
 pub use read::ReadAnswer;
 pub use read::ReadResult;
-pub use report::AUDIT_LIMIT;
 pub use report::Report;
 pub use report::audit;
 pub use session::Session;

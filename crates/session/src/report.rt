@@ -12,9 +12,6 @@ ghost use Rattle.calls.specs.Promises.{sidesOf};
 ghost use Rattle.session.specs.View.{view};
 ghost use Rattle.session.specs.Audit.{report};
 
-// The most bytes that audit takes.
-pub const AUDIT_LIMIT: usize = common::MAX_BYTES;
-
 // What the program audit prints: the answer's number, the refused line or 0, the steps held, the rows of the last step or zeros.
 pub struct Report {
     pub answer: u16,
@@ -60,7 +57,7 @@ fn refused_line(number: u16, value: usize) -> usize
 pub fn audit(bytes: &[u8]) -> Report
     ensures { λ r. ⌜ r ≡ report (now (bytes .entry)) ⌝ }
 {
-    if AUDIT_LIMIT < bytes.len() {
+    if common::MAX_BYTES < bytes.len() {
         return Report {
             answer: calls::WRONG_FORM,
             line: 0,

@@ -21,7 +21,8 @@ use Rattle.session.specs.View.{view}
 use Rattle.session.specs.Reading.{reading}
 use Rattle.session.specs.ReadCall.{readAnswerOf}
 use Rattle.session.proofs.Source.{read-tied, reads-exist, read-demand}
-use Rattle.tallies.specs.Count.{File, maxBytes, isAccepted, countedSteps}
+use Rattle.session.specs.Audit.{maxBytes}
+use Rattle.tallies.specs.Count.{File, isAccepted, countedSteps}
 
 -- the step is held by a rule of the table
 abbrev pub RuleHeld : Step → Type 0

@@ -9,6 +9,7 @@ use Rattle.calls.specs.Book.{Step, accepted}
 use Rattle.calls.specs.Uses.{usesOf}
 use Rattle.session.specs.View.{view}
 use Rattle.session.specs.Reading.{reading}
+use Rattle.session.specs.Audit.{maxBytes}
 
 -- what is read of a named file, and whether the reading failed
 pub record File : Type 0 where
@@ -17,10 +18,6 @@ pub record File : Type 0 where
 
 abbrev pub file : Bool → List ℕ → File
 file failed bytes = record { failed = failed; bytes = bytes }
-
--- the most bytes of a bundle
-abbrev pub maxBytes : ℕ
-maxBytes = 65536
 
 -- a file above 65,536 bytes, or one whose reading fails, is a refused bundle
 unfoldable pub isAccepted : File → Bool

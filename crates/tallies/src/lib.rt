@@ -11,9 +11,6 @@ ghost use Rattle.tallies.specs.code.Tally.{entriesOf, entryOf, noEntry};
 // The most names of a list.
 pub const MAX_FILES: usize = 64;
 
-// The most bytes of a bundle.
-pub const MAX_BYTES: usize = common::MAX_BYTES;
-
 // The lines of a tally: one for each rule, and one for the total.
 pub const LINES: usize = RULES + 1;
 
@@ -130,7 +127,7 @@ impl Tally {
         if failed {
             return self;
         }
-        if MAX_BYTES < bytes.len() {
+        if common::MAX_BYTES < bytes.len() {
             return self;
         }
         let read = Session::read(bytes);

@@ -72,7 +72,7 @@ fn read_file(file: i32, bytes: &mut [u8]) -> Reading
 
 fn add_file(tally: Tally, file: i32) -> Tally {
     // One byte more than a bundle has, so that a longer file shows.
-    let mut bytes = [0u8; tallies::MAX_BYTES + 1];
+    let mut bytes = [0u8; common::MAX_BYTES + 1];
     let reading = read_file(file, &mut bytes);
     let length = reading.length;
     tally.add(reading.failed, &bytes[..length])

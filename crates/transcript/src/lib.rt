@@ -237,12 +237,12 @@ fn run_input(style: Style) {
     }
 }
 
-// What the program replay does.
+// What the program replay does. Nothing is promised, since no contract can speak of what is read or printed.
 pub fn print_answers() {
     run_input(Style::Answers)
 }
 
-// What the program engine_cases does.
+// What the program engine_cases does; as `print_answers`.
 pub fn print_nodes() {
     run_input(Style::Nodes)
 }
