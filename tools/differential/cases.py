@@ -9,12 +9,14 @@ import re
 import sys
 from collections import namedtuple
 
-from rules import (AXES, AXIS_LETTERS, DEEPEST, FORMS, KINDS, MOST_ROWS, MOST_STEPS, PATH_LETTERS, ROOT, TEST_LETTERS, VOID,
-                   Book, Term, below, condition, fill, inclusion, looser_forms, match, match_both, step)
+from rules import (AXES, AXIS_LETTERS, DEEPEST, FORMS, KINDS, MOST_ROWS, MOST_STEPS, NAMED, PATH_LETTERS, ROOT,
+                   TEST_LETTERS, VOID, Book, Term, below, condition, fill, inclusion, looser_forms, match, match_both,
+                   step)
 
 MOST_BYTES, MOST_NODES, MOST_NUMBERS, MOST_MARKS, MOST_LIMIT = 65536, 512, 1539, 1024, 4294967295
 NAMES = [1, 2, 3, 65535]
-EDGES = [0, 1, 2, 3, 5, 6, 10, 11, 12, 31, 32, 33, 58, 59, 511, 512, 513, 1023, 1024, 1025, 2047, 2048, 2049, 65534, 65535]
+EDGES = [0, 1, 2, 3, 5, 6, 7, 10, 11, 12, 31, 32, 33, 58, 59, 511, 512, 513, 1023, 1024, 1025, 2047, 2048, 2049,
+         65534, 65535]
 FORMS_WITH_PREMISES = [form for form in FORMS if form[2]]
 CONDITIONED = (8, 10, 22, 23, 26, 58)
 # Rule 8 has most pairs to decide.
@@ -42,8 +44,8 @@ class Session:
     # Random terms
 
     def test(self):
-        test = self.rng.choice([0, 0, 1, 1, 2, 2, 2, 2, 3, 4, 5])
-        return (test, self.rng.choice(NAMES) if test == 0 else 0)
+        test = self.rng.choice([0, 0, 1, 1, 2, 2, 2, 2, 3, 4, 5, 6, 6])
+        return (test, self.rng.choice(NAMES) if test in NAMED else 0)
 
     def path(self, depth):
         rng = self.rng
@@ -317,11 +319,16 @@ def document(rng, nodes):
         parent = len(rows) - 1
         while parent and (rows[parent][0] != 1 or rng.random() > deep):
             parent = rows[parent][1]
-        kind = rng.choice([1, 1, 1, 1, 2, 3, 4])
-        rows.append((kind, parent, rng.choice(NAMES) if kind == 1 else 0))
+        kind = rng.choice([1, 1, 1, 1, 2, 3, 4, 4])
+        rows.append((kind, parent, name_for(rng, kind)))
         while kind == 1 and len(rows) < nodes and rng.random() < attributes:
             rows.append((5, owner(rows), rng.choice(NAMES)))
     return [number for row in rows for number in row]
+
+
+def name_for(rng, kind):
+    """An element's name, or an instruction's target, 0 for none recorded; 0 for other nodes."""
+    return rng.choice({1: NAMES, 4: [0, *NAMES]}.get(kind, [0]))
 
 
 def owner(rows):

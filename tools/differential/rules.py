@@ -10,7 +10,8 @@ KINDS = "void root step union composition filter true false not and or in".split
 PATHS = set(KINDS[:6])
 AXES = ("self child parent descendant ancestor descendant-or-self ancestor-or-self following-sibling "
         "preceding-sibling following preceding attribute").split()
-STAR, NODE = (1, 0), (2, 0)
+STAR, NODE, INSTRUCTION = (1, 0), (2, 0), (5, 0)
+NAMED = (0, 6)  # the tests that take a name or a target
 PATH_LETTERS, QUALIFIER_LETTERS, AXIS_LETTERS, TEST_LETTERS = "pqrst", "fghi", "abc", "NMTO"
 MOST_ROWS, MOST_STEPS, DEEPEST = 1024, 2048, 32
 
@@ -156,7 +157,7 @@ AXIS_BELOW = {(a, a) for a in range(12)} | {
 
 
 def test_below(n, m):
-    return n == m or m == NODE or (n[0] == 0 and m == STAR)
+    return n == m or m == NODE or (n[0] == 0 and m == STAR) or (n[0] == 6 and m == INSTRUCTION)
 
 
 def below(letters):
@@ -275,7 +276,7 @@ class Book:
             return False
         operands = ()
         if kind == 2:
-            if a > 11 or b > 5 or (c == 0) != (b != 0):
+            if a > 11 or b > 6 or (c == 0) != (b not in NAMED):
                 return False
             term = step(a, (b, c))
         else:

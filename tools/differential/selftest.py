@@ -29,7 +29,9 @@ from rules import (AXIS_LETTERS, FORMS, PATH_LETTERS, QUALIFIER_LETTERS, TEST_LE
 # (file, right, wrong)
 EDITS = [
     ("book.rs", "row[0] > 11", "row[0] > 10"),
-    ("book.rs", "b <= 5", "b <= 6 && b != 5"),
+    ("book.rs", "b <= 6", "b <= 5"),
+    ("book.rs", "b == 0 || b == 6", "b == 0"),
+    ("book.rs", "b == 0 || b == 6 { c >= 1", "b == 0 || b == 6 { c >= 1 || b == 6"),
     ("book.rs", "a <= 11, b", "a <= 10, b"),
     ("book.rs", "c >= 1", "c >= 2"),
     ("book.rs", "3 | 4 | 11 => [path(a), path(b), c == 0]", "3 | 4 | 11 => [path(a), path(b), c <= 1]"),
@@ -53,7 +55,12 @@ EDITS = [
     ("document.rs", "parent == n - 1 || is_ancestor(before, parent, n - 1)", "parent < n"),
     ("document.rs", "matches!(before[parent].kind, 0 | 1)", "matches!(before[parent].kind, 0..=3)"),
     ("document.rs", "name >= 1", "true"),
-    ("document.rs", "name == 0 }", "true }"),
+    ("document.rs", "_ => name == 0", "_ => kind == 3 || name == 0"),
+    ("document.rs", "_ => name == 0", "_ => kind == 2 || name == 0"),
+    ("document.rs", "4 => true", "4 => name == 0"),
+    ("document.rs", "4 => true", "4 => name != 65535"),
+    ("document.rs", "node.kind == 4 && node.name == target", "node.kind == 4 && [0, target].contains(&node.name)"),
+    ("document.rs", "node.kind == 4 && node.name == target", "node.name == target"),
     ("document.rs", "(1..=5).contains(&kind)", "(0..=5).contains(&kind)"),
     ("document.rs", "before[parent].kind == 1 && before", "before"),
     ("document.rs", "node.kind == 5 && node.parent == parent)", "node.kind != 2)"),
@@ -75,7 +82,11 @@ EDITS = [
     ("selection.rs", "left.is_subset(&right)", "left == right"),
     ("rules.rs", "(Child, Descendant | DescendantOrSelf)", "(Child, Descendant)"),
     ("rules.rs", "(FollowingSibling, Following)", "(FollowingSibling, Following | Preceding)"),
-    ("rules.rs", "m == Test::AnyNode ||", ""),
+    ("rules.rs", "m == Test::AnyNode\n        ||", ""),
+    ("rules.rs", " | (Test::Target(_), Test::Instruction)", ""),
+    ("rules.rs", "(Test::Target(_), Test::Instruction)", "(Test::Target(_), Test::Instruction | Test::Target(_))"),
+    ("rules.rs", "(Test::Target(_), Test::Instruction)",
+     "(Test::Target(_) | Test::Instruction, Test::Instruction | Test::Target(_))"),
     ("rules.rs", "(3..=10).contains", "(4..=10).contains"),
     ("rules.rs", "(3..=10).contains", "(0..=10).contains"),
     ("rules.rs", "matches!(l.test('N'), Test::Name(_) | Test::AnyElement)", "matches!(l.test('N'), Test::Name(_))"),
@@ -157,7 +168,7 @@ def missed_conditions(asked):
     def tests(letters, n, m):
         return letters[n][0], letters[m][0], letters[n] == letters[m]
 
-    pairs = {(n, m, n == m) for n in range(6) for m in range(6)} | {(0, 0, False)}
+    pairs = {(n, m, n == m) for n in range(7) for m in range(7)} | {(0, 0, False), (6, 6, False)}
     decided = [
         (8, {(x["a"], x["b"]) for x in letters_of(8) if rules.test_below(x["N"], x["M"])},
          set(itertools.product(range(12), repeat=2))),
@@ -166,7 +177,7 @@ def missed_conditions(asked):
         (26, {tests(x, "N", "M") for x in letters_of(26)}, pairs),
         (26, {x["a"] for x in letters_of(26)}, set(range(12))),
         (58, {x["a"] for x in letters_of(58)}, set(range(12))),
-        *((rule, {(x["T"][0], x["N"][0]) for x in letters_of(rule)}, set(itertools.product(range(6), repeat=2)))
+        *((rule, {(x["T"][0], x["N"][0]) for x in letters_of(rule)}, set(itertools.product(range(7), repeat=2)))
           for rule in (22, 23)),
     ]
     return sum(len(every) for _, _, every in decided), [(rule, x) for rule, found, every in decided for x in every - found]

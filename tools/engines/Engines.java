@@ -26,9 +26,10 @@ public class Engines {
         TreeSet<Integer> select(int context, String xpath) throws Exception;
     }
 
-    /** An element's or an attribute's number is its name without the first letter. */
+    /** A name's number is what follows its first letter; an instruction of target i has none, 0. */
     static String row(int kind, int parent, String name) {
-        return kind + " " + parent + " " + (kind == 1 || kind == 5 ? name.substring(1) : "0");
+        boolean named = kind == 1 || kind == 5 || kind == 4 && !name.equals("i");
+        return kind + " " + parent + " " + (named ? name.substring(1) : "0");
     }
 
     static class Jaxen implements Engine {
@@ -105,7 +106,7 @@ public class Engines {
             int number = nodes.size();
             nodes.add(node);
             numbers.put(node, number);
-            rows.add(row(kind, parent, kind == 1 || kind == 5 ? node.getNodeName().getLocalName() : ""));
+            rows.add(row(kind, parent, kind == 1 || kind == 4 || kind == 5 ? node.getNodeName().getLocalName() : ""));
             if (kind == 1) {
                 for (XdmSequenceIterator<XdmNode> attributes = node.axisIterator(Axis.ATTRIBUTE); attributes.hasNext();) {
                     add(attributes.next(), number, rows);

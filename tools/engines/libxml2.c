@@ -38,7 +38,8 @@ static void add(xmlNodePtr node, long parent) {
     if (count == MOST_NODES) fail("too many nodes", "");
     nodes[count++] = node;
     node->_private = (void *)number;
-    printf("%s%d %ld %s", number ? " " : "", kind, parent, kind == 1 ? (const char *)node->name + 1 : "0");
+    int named = kind == 1 || (kind == 4 && strcmp((const char *)node->name, "i"));
+    printf("%s%d %ld %s", number ? " " : "", kind, parent, named ? (const char *)node->name + 1 : "0");
     for (xmlNodePtr child = node->children; child; child = child->next) add(child, number);
 }
 

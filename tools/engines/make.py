@@ -7,6 +7,9 @@
 
 It needs Python 3, cargo for --compare, and Debian's packages in NEEDED, which it installs if they are missing (as root).
 
+An instruction without a recorded target, name 0, is `<?i d?>`, one of target n `<?en d?>`. For Saxon it is `<?tn d?>`,
+since its linked tree takes an instruction for an element of that name.
+
 stdin has lines as the program replay reads them: sessions, separated by a line `fresh`, each of one `document`, `term` calls
 that are all accepted, and `select` calls. stdout has a line for each select: the numbers of the selected nodes in order, with
 one space between them. Rows are numbered in document order, the root node is 0.
@@ -29,8 +32,8 @@ from pathlib import Path
 
 TREE = Path(__file__).resolve().parents[2]
 sys.path.insert(0, str(TREE / "tools/differential"))
-from cases import MOST_BYTES, MOST_LIMIT, NAMES, Session, is_quick
-from rules import AXES, NODE, ROOT, STAR, VOID, Term, axis, inclusion, some, step
+from cases import MOST_BYTES, MOST_LIMIT, NAMES, Session, is_quick, name_for
+from rules import AXES, INSTRUCTION, NAMED, NODE, ROOT, STAR, VOID, Term, axis, inclusion, some, step
 from run import build, output
 
 JAXEN, SAXON = "/usr/share/java/jaxen.jar", "/usr/share/java/Saxon-HE.jar"
@@ -39,6 +42,7 @@ NEEDED = {JAXEN: "libjaxen-java", SAXON: "libsaxonhe-java", "/usr/bin/javac": "d
 HERE = Path(__file__).resolve().parent
 SAXON_COMMAND = ["java", "-cp", f"{JAXEN}:{SAXON}", str(HERE / "Engines.java"), "saxon"]
 DOCUMENTS, SELECTIONS, CANDIDATES = 72, 7, 12
+LETTER, SAXON_LETTER = "e", "t"
 ATTRIBUTED = 24
 PRECEDING = AXES.index("preceding")
 # 01's document: root, log 1, mark 2, a text, zero 3, run 4, mark 2.
@@ -46,6 +50,10 @@ LOG = [(0, 0, 0), (1, 0, 1), (1, 1, 2), (2, 2, 0), (1, 1, 3), (1, 1, 4), (1, 5, 
 MARK, RUN = (0, 2), (0, 4)
 # Row 5 is the owner of attributes 6 and 7, row 8 its first child; rows 2 and 4 are attributes too.
 SERIAL = [(0, 0, 0), (1, 0, 1), (5, 1, 2), (1, 1, 1), (5, 3, 3), (1, 1, 2), (5, 5, 2), (5, 5, 3), (2, 5, 0), (1, 5, 1), (3, 1, 0)]
+
+# Targets 1, 2 and 65535, instructions without one (rows 1 and 9), an element named as target 1 is.
+PLOTTER = [(0, 0, 0), (4, 0, 0), (4, 0, 1), (1, 0, 1), (4, 3, 2), (2, 3, 0), (4, 3, 1), (1, 3, 2), (4, 7, 1), (4, 7, 0),
+           (4, 0, 65535)]
 
 Question = namedtuple("Question", "document term context")
 
@@ -67,7 +75,7 @@ def document(rng, nodes, attributes=0):
     rows = [(0, 0, 0)]
 
     def add(kind, parent):
-        rows.append((kind, parent, rng.choice(NAMES) if kind == 1 else 0))
+        rows.append((kind, parent, name_for(rng, kind)))
         names, owner = rng.sample(NAMES, len(NAMES)) if attributes and kind == 1 else [], len(rows) - 1
         while names and rng.random() < attributes:
             rows.append((5, owner, names.pop()))
@@ -91,21 +99,25 @@ def document(rng, nodes, attributes=0):
     return rows
 
 
-def xml(rows):
+def xml(rows, letter):
+    """The document; an instruction's target begins with this letter."""
     def text(number):
         kind, _, name = rows[number]
         under = [n for n, row in enumerate(rows) if n and row[1] == number]
         inner = "".join(text(n) for n in under if rows[n][0] != 5)
         attributes = "".join(f' e{rows[n][2]}=""' for n in under if rows[n][0] == 5)
-        return [inner, f"<e{name}{attributes}>{inner}</e{name}>", "t", "<!--c-->", "<?i d?>"][kind]
+        target = f"{letter}{name}" if name else "i"
+        return [inner, f"<e{name}{attributes}>{inner}</e{name}>", "t", "<!--c-->", f"<?{target} d?>"][kind]
     return text(0)
 
 
 # Expressions
 
-def step_text(term):
+def step_text(term, letter):
     number, (test, name) = term.args
-    return AXES[number] + "::" + [f"e{name}", "*", "node()", "text()", "comment()", "processing-instruction()"][test]
+    instruction = "processing-instruction"
+    tests = [f"e{name}", "*", "node()", "text()", "comment()", f"{instruction}()", f"{instruction}('{letter}{name}')"]
+    return AXES[number] + "::" + tests[test]
 
 
 def qualifier_text(term, path_text):
@@ -118,14 +130,14 @@ def qualifier_text(term, path_text):
     return f"not{operands[0]}" if term.kind == "not" else f" {term.kind} ".join(operands)
 
 
-def leaf_text(term):
-    return {"void": "(/..)", "root": "(/)"}.get(term.kind) or step_text(term)
+def leaf_text(term, letter):
+    return {"void": "(/..)", "root": "(/)"}.get(term.kind) or step_text(term, letter)
 
 
 def xpath2(term):
     """The path as it stands."""
     if term.kind in ("void", "root", "step"):
-        return leaf_text(term)
+        return leaf_text(term, SAXON_LETTER)
     left, right = term.args
     if term.kind == "filter":
         return f"({xpath2(left)})[{qualifier_text(right, xpath2)}]"
@@ -135,7 +147,7 @@ def xpath2(term):
 def xpath1(term):
     """The path in XPath 1.0's syntax."""
     if term.kind in ("void", "root", "step"):
-        return leaf_text(term)
+        return leaf_text(term, LETTER)
     left, right = term.args
     if term.kind == "filter":
         return f"({xpath1(left)})[{qualifier_text(right, xpath1)}]"
@@ -145,7 +157,7 @@ def xpath1(term):
 def after(left, path):
     """left/path in XPath 1.0's syntax. There void and root need a form that is a step."""
     if path.kind == "step":
-        return f"({left})/{step_text(path)}"
+        return f"({left})/{step_text(path, LETTER)}"
     if path.kind == "void":
         return f"({left})/self::node()[false()]"
     if path.kind == "root":
@@ -176,11 +188,11 @@ def libxml2_errs(question):
 
 def ask(command, questions, path_text):
     """The engine's answers, after it is seen to read the same documents as ours."""
-    lines, before = [], None
+    lines, before, letter = [], None, SAXON_LETTER if path_text is xpath2 else LETTER
     for question in questions:
         if question.document is not before:
             before = question.document
-            lines.append((f"document {xml(before)}", " ".join(str(n) for row in before for n in row)))
+            lines.append((f"document {xml(before, letter)}", " ".join(str(n) for row in before for n in row)))
         lines.append((f"select {question.context} {path_text(question.term)}", None))
     run = subprocess.run(command, input="".join(line + "\n" for line, _ in lines), capture_output=True, text=True)
     printed = run.stdout.split("\n")
@@ -212,7 +224,7 @@ def agree(name, answered):
     differences = [(question, right, answer) for question, right, answer in answered if answer != right]
     for question, right, answer in differences:
         print(f"{name} gives {answer or 'nothing'}, Jaxen {right or 'nothing'}, to {xpath1(question.term)} "
-              f"from {question.context} of {xml(question.document)}")
+              f"from {question.context} of {xml(question.document, LETTER)}")
     if differences:
         sys.exit(f"{name} differs from Jaxen in {len(differences)} of {len(answered)} answers")
     print(f"{name} gives Jaxen's answer to each of {len(answered)} selections")
@@ -231,7 +243,7 @@ def shapes(rng):
         return session.qualifier(rng.choice([0, 1, 1, 2]))
 
     def plain(number, test):
-        return lambda: step(number, (test, rng.choice(NAMES) if test == 0 else 0))
+        return lambda: step(number, (test, rng.choice(NAMES) if test in NAMED else 0))
 
     compound = [
         lambda: p() | p(),
@@ -247,7 +259,7 @@ def shapes(rng):
         lambda: rng.choice([ROOT, ROOT / p(), p() / ROOT, ROOT[f()], p()[inclusion(ROOT, p())], ROOT | p()]),
         lambda: p() / rng.choice([p() | p(), p() / p(), p()[f()]]),
     ]
-    pairs = list(itertools.product(range(len(AXES)), range(6)))
+    pairs = list(itertools.product(range(len(AXES)), range(7)))
     rng.shuffle(pairs)
     for pair, shape in zip(itertools.cycle(pairs), itertools.cycle(compound)):
         yield shape
@@ -291,12 +303,18 @@ def attribute_questions():
             for context in (6, 5, 8, 0) for number in range(len(AXES)) for test in (NODE, STAR)]
 
 
+def target_questions():
+    """Each axis, with a target, another one and any instruction, from an instruction, an element and the root."""
+    return [Question(PLOTTER, step(number, test), context)
+            for context in (6, 3, 0) for number in range(11) for test in ((6, 1), (6, 2), INSTRUCTION)]
+
+
 def make(seed, directory):
     """The cases. Of a few candidates for each selection, the one that selects most beside the root is taken, mostly."""
     rng = random.Random(seed)
     shape = shapes(rng)
-    groups = [[question] for question in log_questions()]
-    for _ in range(DOCUMENTS - 1):
+    groups = [[question] for question in log_questions() + target_questions()]
+    for _ in range(DOCUMENTS - 2):
         rows = document(rng, rng.choice([3, 6, 9, 12, 16, 24]))
         groups += [questions_on(rng, rows, next(shape), CANDIDATES) for _ in range(SELECTIONS)]
     plain = [question for group in groups for question in group]
@@ -355,7 +373,7 @@ def compare_attributes(seed, count):
         from_attributes += question.document[question.context][0] == 5
         if line.split(" ")[0] != "0" or " ".join(line.split(" ")[2:]) != answer:
             sys.exit(f"the reference gives {line}, Saxon {answer}, to {xpath2(question.term)} "
-                     f"from {question.context} of {xml(question.document)}")
+                     f"from {question.context} of {xml(question.document, SAXON_LETTER)}")
     print(f"seed {seed}: the reference gives Saxon's answer to each of {len(questions) - right.count('refused')} selections on documents "
           f"with attributes, {from_attributes} from attributes; {right.count('')} select nothing, Saxon refused {right.count('refused')}")
 
@@ -378,7 +396,7 @@ def compare(seed, count, directory):
     for question, answer, line in zip(questions, right, printed):
         if line.split(" ")[0] != "0" or " ".join(line.split(" ")[2:]) != answer:
             sys.exit(f"the reference gives {line}, the engines {answer}, to {xpath2(question.term)} "
-                     f"from {question.context} of {xml(question.document)}")
+                     f"from {question.context} of {xml(question.document, SAXON_LETTER)}")
     documents = len({id(q.document) for q in questions})
     print(f"seed {seed}: the reference gives the engines' answer to each of {len(questions)} selections on {documents} documents; "
           f"{right.count('')} select nothing")

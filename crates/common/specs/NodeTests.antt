@@ -1,5 +1,5 @@
--- The numbers of the six node tests: a name, `*`, `node()`, `text()`, `comment()`, `processing-instruction()`.
--- Assumes nothing.
+-- The numbers of the seven node tests: a name, `*`, `node()`, `text()`, `comment()`, `processing-instruction()`, and
+-- `processing-instruction('target')`. Assumes nothing.
 use Prim.Native.Nat.{ℕ}
 
 abbrev pub name-test : ℕ
@@ -20,5 +20,8 @@ comment-test = 4
 abbrev pub instruction-test : ℕ
 instruction-test = 5
 
+abbrev pub target-test : ℕ
+target-test = 6
+
 abbrev pub maxTest : ℕ
-maxTest = instruction-test
+maxTest = target-test

@@ -1,5 +1,5 @@
 // The node tests, as field b of a step's row has them: a name, `*`, node(), text(), comment(),
-// processing-instruction().
+// processing-instruction(), processing-instruction('target').
 pub const NAME: u16 = 0;
 
 pub const STAR: u16 = 1;
@@ -12,4 +12,6 @@ pub const COMMENT: u16 = 4;
 
 pub const INSTRUCTION: u16 = 5;
 
-pub const LAST: u16 = INSTRUCTION;
+pub const TARGET: u16 = 6;
+
+pub const LAST: u16 = TARGET;

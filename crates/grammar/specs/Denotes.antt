@@ -8,6 +8,7 @@ use lib.Dec.{eqb, ltb}
 use lib.ListN.{length}
 use Rattle.grammar.specs.Bytes.{Bytes}
 use Rattle.grammar.specs.Words.{axisCode, typeCode, instructionWord, numberOf}
+use Rattle.common.specs.NodeTests.{target-test}
 use Rattle.xpath.specs.Term as term
 use Rattle.xpath.specs.Term.{some-of}
 use Rattle.terms.specs.Row.{Row, row, find, maxRows}
@@ -37,7 +38,7 @@ module _ (num : Bytes → ℕ) where
   testOf a (any w) = term.AxisStep a 1 0
   testOf a (called w n) = term.AxisStep a 0 (num n)
   testOf a (kind w n v u) = term.AxisStep a (typeCode n) 0
-  testOf a (target w v u q m y) = term.AxisStep a 6 (num m)
+  testOf a (target w v u q m y) = term.AxisStep a target-test (num m)
 
   unfoldable mutual
     pub stepOf : Step → term.Path

@@ -1,7 +1,7 @@
 -- What a lower axis or test selects, a higher one selects. Assumes nothing.
 use Prim.Native.Nat.{ℕ, zero, suc, _<_}
 use mathlib.Core.Path.{_≡_, refl, sym, subst₂}
-use mathlib.Core.Bool.{_&&_, _||_}
+use mathlib.Core.Bool.{Bool, _&&_, _||_}
 use mathlib.Core.List.{List, [], _∷_}
 use mathlib.Core.Logic.{_≢_, inl, inr, ⊎-elim}
 use native.Mathlib.Omega.{arith}
@@ -12,12 +12,13 @@ use borrow.Author.Tests.{ne-eqb}
 use Rattle.xpath.specs.Document.{Document, kindAt, nameAt, wellFormed}
 use Rattle.common.specs.Axes.{self, child, parent, descendant, ancestor, descendant-or-self, ancestor-or-self}
 use Rattle.common.specs.Axes.{following-sibling, preceding-sibling, following, preceding, attribute}
-use Rattle.common.specs.NodeTests.{name-test, star-test, node-test}
+use Rattle.common.specs.NodeTests.{name-test, star-test, node-test, instruction-test, target-test}
 use Rattle.xpath.specs.Axis.{principal, passes}
 use Rattle.common.proofs.Reflect.{facts}
 use Rattle.xpath.proofs.Tree.{parent-is}
 use Rattle.xpath.proofs.Facts.{OnAxis, NoAttribute}
 use Rattle.xpath.proofs.Order.{following-sibling-follows}
+use Rattle.xpath.proofs.Targets.{has-target}
 use Rattle.common.specs.Lists.{Every}
 use Rattle.rules.specs.Instance.{Test}
 use Rattle.rules.specs.Order.{axisPairs, isPair, axisBelow, testBelow}
@@ -87,13 +88,20 @@ pub test-below : (a : ℕ) (n m : Test) (d : Document) (y : ℕ) → T (testBelo
     T (passes a (n .test) (n .name) d y) → T (passes a (m .test) (m .name) d y)
 unfolding testBelow passes
 test-below a n m d y b s =
+    let same : Bool = eqb (n .test) (m .test) && eqb (n .name) (m .name) in
+    let named : Bool = eqb (n .test) name-test && eqb (m .test) star-test in
+    let targeted : Bool = eqb (n .test) target-test && eqb (m .test) instruction-test in
     ⊎-elim
     (λ b. ⊎-elim
+    (λ b. ⊎-elim
     (λ b. let r = simp facts at b in subst₂ (λ t c. T (passes a t c d y)) (r .0) (r .1) s)
-    (λ b. let r = simp facts at b in rw (r .1) ((and-yes (eqb (kindAt d y) (principal a)) (eqb (nameAt d y) (n .name)) (rw (r .0) at s)) .0))
-    (or-yes (eqb (n .test) (m .test) && eqb (n .name) (m .name)) (eqb (n .test) name-test && eqb (m .test) star-test) b))
+    (λ b. let r = simp facts at b in
+    rw (r .1) ((and-yes (eqb (kindAt d y) (principal a)) (eqb (nameAt d y) (n .name)) (rw (r .0) at s)) .0))
+    (or-yes same named b))
+    (λ b. let r = simp facts at b in rw (r .1) (yes-eqb (has-target a (n .name) d y (rw (r .0) at s) .0)))
+    (or-yes (same || named) targeted b))
     (λ b. let r : m .test ≡ node-test = eqb-yes b in rw r tt)
-    (or-yes (eqb (n .test) (m .test) && eqb (n .name) (m .name) || eqb (n .test) name-test && eqb (m .test) star-test) (eqb (m .test) node-test) b)
+    (or-yes (same || named || targeted) (eqb (m .test) node-test) b)
 
 -- a name or `*` selects nodes of one kind only
 pub element-test : (a : ℕ) (n : Test) (d : Document) (y : ℕ) → T (eqb (n .test) name-test || eqb (n .test) star-test) →
@@ -118,4 +126,6 @@ plain-kind (suc (suc zero)) c d y h t = absurd (h refl)
 plain-kind (suc (suc (suc zero))) c d y h t = let r : kindAt d y ≡ 2 = simp facts at t in (omega arith, omega arith)
 plain-kind (suc (suc (suc (suc zero)))) c d y h t = let r : kindAt d y ≡ 3 = simp facts at t in (omega arith, omega arith)
 plain-kind (suc (suc (suc (suc (suc zero))))) c d y h t = let r : kindAt d y ≡ 4 = simp facts at t in (omega arith, omega arith)
-plain-kind (suc (suc (suc (suc (suc (suc n)))))) c d y h t = absurd t
+plain-kind (suc (suc (suc (suc (suc (suc zero)))))) c d y h t =
+    let r : kindAt d y ≡ 4 = has-target self c d y t .0 in (omega arith, omega arith)
+plain-kind (suc (suc (suc (suc (suc (suc (suc n))))))) c d y h t = absurd t

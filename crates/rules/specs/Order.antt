@@ -5,7 +5,7 @@ use mathlib.Core.List.{List, [], _∷_}
 use lib.Dec.{eqb}
 use Rattle.common.specs.Axes.{self, child, parent, descendant, ancestor, descendant-or-self, ancestor-or-self}
 use Rattle.common.specs.Axes.{following-sibling, preceding-sibling, following, preceding, attribute}
-use Rattle.common.specs.NodeTests.{name-test, star-test, node-test}
+use Rattle.common.specs.NodeTests.{name-test, star-test, node-test, instruction-test, target-test}
 
 -- the pairs of axes whose first one is below the second
 unfoldable pub axisPairs : List (ℕ × ℕ)
@@ -42,6 +42,11 @@ isPair (e ∷ es) a b = eqb (e .0) a && eqb (e .1) b || isPair es a b
 unfoldable pub axisBelow : ℕ → ℕ → Bool
 axisBelow a b = isPair axisPairs a b
 
--- test t with name c is below test u with name e: the same test and name; a name below `*`; all below `node()`
+-- test t with name c is below test u with name e: the same test and name; a name below `*`; an instruction of a target
+-- below any instruction; all below `node()`
 unfoldable pub testBelow : ℕ → ℕ → ℕ → ℕ → Bool
-testBelow t c u e = eqb t u && eqb c e || eqb t name-test && eqb u star-test || eqb u node-test
+testBelow t c u e =
+    eqb t u && eqb c e
+    || eqb t name-test && eqb u star-test
+    || eqb t target-test && eqb u instruction-test
+    || eqb u node-test

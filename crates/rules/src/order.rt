@@ -34,8 +34,8 @@ pub fn axis_below(a: u16, b: u16) -> bool
 pub fn test_below(t: u16, c: u16, u: u16, e: u16) -> bool
     ensures { λ r. ⌜ r ≡ testBelow t c u e ⌝ }
 {
-    or(
-        or(and(t == u, c == e), and(t == node_test::NAME, u == node_test::STAR)),
-        u == node_test::NODE,
-    )
+    let same = and(t == u, c == e);
+    let named = and(t == node_test::NAME, u == node_test::STAR);
+    let targeted = and(t == node_test::TARGET, u == node_test::INSTRUCTION);
+    or(or(or(same, named), targeted), u == node_test::NODE)
 }

@@ -4,7 +4,7 @@ use Prim.Native.Nat.{ℕ, zero, suc, _<_, _≤_}
 use mathlib.Core.Path.{_≡_, refl, sym, _∙_, ap}
 use mathlib.Core.Bool.{Bool, true, false, not, cond}
 use mathlib.Core.List.{List, [], _∷_, _++_}
-use mathlib.Core.Logic.{⊎-elim}
+use mathlib.Core.Logic.{_⊎_, ⊎-elim}
 use native.Mathlib.Omega.{arith}
 use lib.Dec.{T}
 use lib.ListN.{length, getD, take, length-append, length-take, List·getD-append}
@@ -30,8 +30,8 @@ use Rattle.terms.proofs.Nesting.{nesting-at}
 abbrev pub FieldLaw : List Row → ℕ → Field → ℕ → ℕ → Type 0
 FieldLaw rs i unused x t = x ≡ 0
 FieldLaw rs i axis x t = x ≤ 11
-FieldLaw rs i test x t = x ≤ 5
-FieldLaw rs i name x t = (t ≡ 0 → 1 ≤ x) × (¬ (t ≡ 0) → x ≡ 0)
+FieldLaw rs i test x t = x ≤ 6
+FieldLaw rs i name x t = ((t ≡ 0) ⊎ (t ≡ 6) → 1 ≤ x) × (¬ (t ≡ 0) → ¬ (t ≡ 6) → x ≡ 0)
 FieldLaw rs i path x t = (x < i) × (rowAt rs x .kind ≤ 5)
 FieldLaw rs i qualifier x t = (x < i) × (6 ≤ rowAt rs x .kind) × (rowAt rs x .kind ≤ maxKind)
 
@@ -71,8 +71,10 @@ unfolding fieldOk heldPath heldQualifier isPath isQualifier
 field-law rs i unused x t u = simp facts at u
 field-law rs i axis x t u = simp facts at u
 field-law rs i test x t u = simp facts at u
-field-law rs i name x t u =
-    (λ (e : t ≡ 0). leb-yes (rw e at u), λ (n : ¬ (t ≡ 0)). eqb-yes (rw (ne-eqb t 0 n) at u))
+field-law rs i name x t u = (
+  λ h. leb-yes (⊎-elim (λ (e : t ≡ 0). rw e at u) (λ (e : t ≡ 6). rw e at u) h),
+  λ n m. eqb-yes (rw (ne-eqb t 0 n, ne-eqb t 6 m) at u),
+)
 field-law rs i path x t u =
     let v = simp facts at u in
     let l : x < i = omega (arith, length-take i rs, v .0) in

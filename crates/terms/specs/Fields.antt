@@ -1,11 +1,11 @@
 -- What each field of each kind of row must be, and the place of the first bad field. Assumes nothing.
 use Prim.Native.Nat.{ℕ}
-use mathlib.Core.Bool.{Bool, cond, _&&_, not}
+use mathlib.Core.Bool.{Bool, cond, _&&_, _||_, not}
 use mathlib.Core.List.{List, [], _∷_}
 use lib.Dec.{ltb, leb, eqb}
 use lib.ListN.{length, getD}
 use Rattle.common.specs.Axes.{maxAxis}
-use Rattle.common.specs.NodeTests.{name-test, maxTest}
+use Rattle.common.specs.NodeTests.{name-test, target-test, maxTest}
 use Rattle.common.specs.RowKinds.{filter-row, true-row, inclusion-row}
 use Rattle.terms.specs.Row.{Row, rowAt}
 
@@ -71,7 +71,7 @@ unfoldable pub fieldOk : List Row → Field → ℕ → ℕ → Bool
 fieldOk rs unused x t = eqb x 0
 fieldOk rs axis x t = leb x maxAxis
 fieldOk rs test x t = leb x maxTest
-fieldOk rs name x t = cond (eqb t name-test) (leb 1 x) (eqb x 0)
+fieldOk rs name x t = cond (eqb t name-test || eqb t target-test) (leb 1 x) (eqb x 0)
 fieldOk rs path x t = heldPath rs x
 fieldOk rs qualifier x t = heldQualifier rs x
 

@@ -125,7 +125,7 @@ fn field_ok(rows: &[u16], field: Field, x: u16, t: u16) -> bool
         Field::Axis => x <= axis::LAST,
         Field::Test => x <= node_test::LAST,
         Field::Name => {
-            if t == node_test::NAME {
+            if common::or(t == node_test::NAME, t == node_test::TARGET) {
                 return 1 <= x;
             }
             x == 0

@@ -6,6 +6,7 @@ use mathlib.Core.List.{List, [], _∷_, _++_}
 use mathlib.Core.Option.{Option, none, some}
 use lib.Dec.{eqb}
 use lib.ListN.{length, drop, take}
+use Rattle.common.specs.NodeTests.{target-test}
 use Rattle.xpath.specs.Term as term
 use Rattle.grammar.specs.Bytes.{Bytes, isSpace, isStart, isName, isQuote, isWord, same, notWord, trueWord}
 use Rattle.grammar.specs.Bytes.{falseWord}
@@ -151,7 +152,7 @@ pub record TargetRead (s list : Bytes) (at : ℕ) (h : Head) : Type 0 where
   pub runs : (c : Ctx) (g : Alt) (l : Lead) (a : Axis) (w v u : Bytes)
       → run (drop (at + 1) s) (quote c g l a w v u (byteAt s at))
       ≡ run (drop (h .at) s) (after c g l (test a (target w v u (byteAt s at) word inner)) spaces)
-  pub test : h .test ≡ 6
+  pub test : h .test ≡ target-test
   pub name : h .name ≡ numberOf list word
   pub listed : h .listed ≡ not (eqb (numberOf list word) 0)
   pub place : h .place ≡ at + 1

@@ -14,6 +14,7 @@ use crate::bytes::name_end;
 use crate::bytes::or;
 use crate::bytes::skip;
 use crate::words;
+use common::node_test;
 
 const CHILD: u16 = 1;
 
@@ -24,8 +25,6 @@ const NAMED: u16 = 0;
 const ANY: u16 = 1;
 
 const NODE: u16 = 2;
-
-const TARGET: u16 = 6;
 
 // A step without its predicates: `at` is the first place after it that has no whitespace; or, where it is none, the
 // first byte that can't continue. `filters`: predicates may follow. `place`: that of its name, where it has one that
@@ -150,7 +149,15 @@ fn target_head(s: &[u8], names: &[u8], at: usize, axis: u16) -> Head
     if byte_at(s, close) != bytes::CLOSE {
         return no_head(close);
     }
-    named_head(s, names, from, end, skip(s, close + 1), axis, TARGET)
+    named_head(
+        s,
+        names,
+        from,
+        end,
+        skip(s, close + 1),
+        axis,
+        node_test::TARGET,
+    )
 }
 
 // What follows a node type and its `(`, from `at` on.

@@ -3,7 +3,7 @@ use Prim.Native.Nat.{ℕ, zero, suc, _≤_}
 use mathlib.Core.Path.{_≡_, refl}
 use mathlib.Core.Bool.{false, _&&_}
 use native.Mathlib.Omega.{arith}
-use lib.Dec.{eqb}
+use lib.Dec.{leb, eqb}
 use lib.ListN.{List·getD-eq-default}
 use Rattle.xpath.specs.Document.{Document, kindAt, nameAt}
 use Rattle.xpath.specs.Axis.{onAxis, passes}
@@ -13,7 +13,7 @@ pub past-last-axis : (a : ℕ) (d : Document) (x y : ℕ) → 12 ≤ a → false
 unfolding onAxis
 past-last-axis a d x y h = rw (List·getD-eq-default)
 
-pub past-last-test : (a t c : ℕ) (d : Document) (y : ℕ) → 6 ≤ t → false ≡ passes a t c d y
+pub past-last-test : (a t c : ℕ) (d : Document) (y : ℕ) → 7 ≤ t → false ≡ passes a t c d y
 unfolding passes
 past-last-test a t c d y h = rw (List·getD-eq-default)
 
@@ -22,6 +22,11 @@ pub name-by-kind : (a t c : ℕ) (d : Document) (y : ℕ) → t ≡ 0 →
 unfolding passes
 name-by-kind a zero c d y e = refl
 name-by-kind a (suc t) c d y e = absurd (omega arith)
+
+pub target-by-kind : (a t c : ℕ) (d : Document) (y : ℕ) → t ≡ 6 →
+    (eqb (kindAt d y) (kindOfTest a t) && leb 1 c && eqb (nameAt d y) c) ≡ passes a t c d y
+unfolding passes
+target-by-kind a t c d y e = rw e
 
 pub test-by-kind : (a t c : ℕ) (d : Document) (y : ℕ) → ¬ (t ≡ 0) → ¬ (t ≡ 2) → t ≤ 5 →
     eqb (kindAt d y) (kindOfTest a t) ≡ passes a t c d y

@@ -96,20 +96,19 @@ RowAsked d n =
     × (kindAt d (parentAt d (suc n)) ≤ 1)
     × (0 < kindAt d (suc n))
 
+-- a row after row 0 is no root, whatever its name
+kind-not-root : (kind name : ℕ) → T (kindAndNameOk kind name) → 0 < kind
+unfolding kindAndNameOk
+kind-not-root zero name t = absurd t
+kind-not-root (suc kind) name t = omega arith
+
 row-asked : (d : Document) (n : ℕ) → T (rowOk d (suc n)) → RowAsked d n
-unfolding rowOk kindAndNameOk
+unfolding rowOk
 row-asked d n t =
-    let r = simp (facts, rowOk, kindAndNameOk) at t in (
+    let r = simp (facts, rowOk) at t in (
       ⊎-elim (λ e. inl (eqb-yes e)) (λ a. inr (ancestor-yes d _ _ a)) (r .0 .0 .0),
       r .0 .0 .1,
-      ⊎-elim
-          (λ t. let u = simp facts at t in
-          ⊎-elim
-          (λ e. let k : kindAt d (suc n) ≡ 1 = eqb-yes e in omega arith)
-          (λ e. let k : kindAt d (suc n) ≡ 5 = eqb-yes e in omega arith)
-          (u .0 .0))
-          (λ t. let u = simp facts at t in omega arith)
-          (r .0 .1),
+      kind-not-root _ _ (r .0 .1),
     )
 
 -- where the rows below n are as they must be, each comes after its parent

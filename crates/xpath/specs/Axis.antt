@@ -2,7 +2,7 @@
 use Prim.Native.Nat.{ℕ}
 use mathlib.Core.Bool.{Bool, true, false, not, cond, _&&_, _||_}
 use mathlib.Core.List.{[], _∷_}
-use lib.Dec.{ltb, eqb}
+use lib.Dec.{leb, ltb, eqb}
 use lib.ListN.{getD}
 use Rattle.common.specs.NodeKinds.{element-kind, text-kind, comment-kind, instruction-kind, attribute-kind}
 use Rattle.common.specs.Axes.{attribute}
@@ -44,5 +44,7 @@ passes a t c d y =
     ∷ eqb (kindAt d y) text-kind  -- text()
     ∷ eqb (kindAt d y) comment-kind  -- comment()
     ∷ eqb (kindAt d y) instruction-kind  -- processing-instruction()
+    -- processing-instruction('c'): an instruction of that target; name 0 is none
+    ∷ (eqb (kindAt d y) instruction-kind && leb 1 c && eqb (nameAt d y) c)
     ∷ [])
     t false

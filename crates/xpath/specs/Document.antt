@@ -6,7 +6,7 @@ use mathlib.Core.Option.{Option, some}
 use lib.Dec.{leb, ltb, eqb}
 use lib.ListN.{length, getD}
 use Rattle.common.specs.Bounded.{allBelow, firstBelow}
-use Rattle.common.specs.NodeKinds.{root-kind, element-kind, text-kind, instruction-kind, attribute-kind}
+use Rattle.common.specs.NodeKinds.{root-kind, element-kind, text-kind, comment-kind, instruction-kind, attribute-kind}
 
 -- the kind is one of common's NodeKinds
 pub record Node : Type 0 where
@@ -59,12 +59,13 @@ areSiblings d x y =
 abbrev pub maxName : ℕ
 maxName = 65535
 
--- the name of an element or an attribute is 1 to maxName, any other's 0; a row after row 0 has a kind other than
--- root's; the kinds from text to processing instruction are those without a name
+-- the name of an element or an attribute is 1 to maxName; that of an instruction, its target, 1 to maxName, or 0 for
+-- none recorded; any other's 0; a row after row 0 has a kind other than root's
 unfoldable pub kindAndNameOk : ℕ → ℕ → Bool
 kindAndNameOk kind name =
     (eqb kind element-kind || eqb kind attribute-kind) && leb 1 name && leb name maxName
-    || leb text-kind kind && leb kind instruction-kind && eqb name 0
+    || eqb kind instruction-kind && leb name maxName
+    || (eqb kind text-kind || eqb kind comment-kind) && eqb name 0
 
 -- row n + 1, an attribute, stands where it must: its parent is an element, and is the row before it or has the row
 -- before it for an attribute

@@ -5,6 +5,7 @@ pub mod DocumentSizes
 pub mod ClimbCases
 pub mod MeaningCases
 pub mod AttributeCases
+pub mod TargetCases
 pub mod VisitCases
 pub mod ChainCases
 pub mod NameCases

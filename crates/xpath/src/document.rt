@@ -114,7 +114,7 @@ fn climb_toward(d: &[u16], x: usize, y: usize, end: u16, ends: &mut [u16]) -> Cl
     }
 }
 
-// The kinds from TEXT to INSTRUCTION are those without a name.
+// The kinds from TEXT to INSTRUCTION may have no name, the kinds but TEXT and COMMENT may have one.
 fn kind_and_name_ok(kind: usize, name: usize) -> bool
     ensures { λ r. ⌜ r ≡ kindAndNameOk kind name ⌝ }
 {
@@ -122,7 +122,10 @@ fn kind_and_name_ok(kind: usize, name: usize) -> bool
         common::and(node_kind::TEXT <= kind, kind <= node_kind::INSTRUCTION)
     } else {
         let named = common::or(kind == node_kind::ELEMENT, kind == node_kind::ATTRIBUTE);
-        common::and(named, name <= MAX_NAME)
+        common::and(
+            common::or(named, kind == node_kind::INSTRUCTION),
+            name <= MAX_NAME,
+        )
     }
 }
 

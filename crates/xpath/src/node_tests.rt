@@ -28,6 +28,9 @@ fn kind_of_test(axis: u16, test: u16) -> usize
     if test <= node_test::STAR {
         return principal_kind(axis);
     }
+    if test == node_test::TARGET {
+        return node_kind::INSTRUCTION;
+    }
     common::wide(test - 1)
 }
 
@@ -44,6 +47,12 @@ pub fn passes_test(d: &[u16], axis: u16, test: u16, name: usize, y: usize) -> bo
     let fits = document::kind_at(d, y) == kind_of_test(axis, test);
     if test == node_test::NAME {
         return common::and(fits, document::name_at(d, y) == name);
+    }
+    if test == node_test::TARGET {
+        return common::and(
+            common::and(fits, 1 <= name),
+            document::name_at(d, y) == name,
+        );
     }
     fits
 }

@@ -118,7 +118,7 @@ impl Book {
         let qualifier = |n| self.is_held_qualifier(n);
         let good = match kind {
             0 | 1 | 6 | 7 => [a == 0, b == 0, c == 0],
-            2 => [a <= 11, b <= 5, if b == 0 { c >= 1 } else { c == 0 }],
+            2 => [a <= 11, b <= 6, if b == 0 || b == 6 { c >= 1 } else { c == 0 }],
             3 | 4 | 11 => [path(a), path(b), c == 0],
             5 => [path(a), qualifier(b), c == 0],
             8 => [qualifier(a), b == 0, c == 0],
@@ -166,6 +166,7 @@ fn test_of(test: u16, name: u16) -> Test {
         3 => Test::Text,
         4 => Test::Comment,
         5 => Test::Instruction,
-        _ => unreachable!("a test above 5"),
+        6 => Test::Target(name),
+        _ => unreachable!("a test above 6"),
     }
 }

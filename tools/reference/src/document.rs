@@ -44,8 +44,17 @@ fn row_ok(before: &Document, kind: u16, parent: usize, name: u16) -> bool {
     (1..=5).contains(&kind)
         && parent_ok
         && matches!(before[parent].kind, 0 | 1)
-        && (if kind == 1 || kind == 5 { name >= 1 } else { name == 0 })
+        && name_ok(kind, name)
         && (kind != 5 || attribute_ok(before, parent))
+}
+
+/// An element or an attribute has a name, an instruction a target or 0 for none recorded, any other node has no name.
+fn name_ok(kind: u16, name: u16) -> bool {
+    match kind {
+        1 | 5 => name >= 1,
+        4 => true,
+        _ => name == 0,
+    }
 }
 
 /// Whether an attribute of this parent may come next: the parent is an element, and only attributes of it stand between.
@@ -112,5 +121,6 @@ pub fn passes(node: &Node, axis: Axis, test: Test) -> bool {
         Test::Text => node.kind == 2,
         Test::Comment => node.kind == 3,
         Test::Instruction => node.kind == 4,
+        Test::Target(target) => node.kind == 4 && node.name == target,
     }
 }

@@ -101,7 +101,9 @@ fn axis_below(a: Axis, b: Axis) -> bool {
 }
 
 fn test_below(n: Test, m: Test) -> bool {
-    n == m || m == Test::AnyNode || matches!((n, m), (Test::Name(_), Test::AnyElement))
+    n == m
+        || m == Test::AnyNode
+        || matches!((n, m), (Test::Name(_), Test::AnyElement) | (Test::Target(_), Test::Instruction))
 }
 
 /// What a step says: its left term and its right one.

@@ -34,7 +34,7 @@ pub const AXES: [(&str, Axis); 12] = [
     ("attribute", Axis::Attribute),
 ];
 
-/// A node test, a name test with its name.
+/// A node test, a name test with its name, that of an instruction's target with the target.
 #[derive(Clone, Copy, Debug, PartialEq, Eq)]
 pub enum Test {
     Name(u16),
@@ -43,6 +43,7 @@ pub enum Test {
     Text,
     Comment,
     Instruction,
+    Target(u16),
 }
 
 /// A path or a qualifier. Equality is equality of trees; that `Rc` compares addresses first only makes it quick.

@@ -63,8 +63,10 @@ fn refused_terms() {
     let mut book = Book::default();
     assert_eq!(book.term([12, 0, 0, 0]), (1, 0));
     assert_eq!(book.term([0, 0, 1, 1]), (2, 2));
-    assert_eq!(book.term([2, 12, 6, 0]), (2, 1));
-    assert_eq!(book.term([2, 10, 6, 0]), (2, 2));
+    assert_eq!(book.term([2, 12, 7, 0]), (2, 1));
+    assert_eq!(book.term([2, 10, 7, 0]), (2, 2));
+    assert_eq!(book.term([2, 10, 6, 0]), (2, 3));
+    assert_eq!(book.term([2, 10, 5, 1]), (2, 3));
     assert_eq!(book.term([2, 10, 0, 0]), (2, 3));
     assert_eq!(book.term([2, 10, 1, 1]), (2, 3));
     assert_eq!(book.term([2, 10, 0, 65535]), (0, 0));
@@ -141,6 +143,28 @@ fn refused_documents() {
     assert_eq!(bad(" 0 0 0 1 0 1 2 1 0 1 2 1"), "8 3");
     assert_eq!(bad(" 0 0 0 1 0 1 1 0 1 1 1 1"), "8 3");
     assert_eq!(bad(" 0 0 0 4 0 0 2 0 0 2 0 0 1 0 65535"), "0 1 0");
+    assert_eq!(bad(" 0 0 0 4 0 1 4 0 65535"), "0 1 0");
+    assert_eq!(bad(" 0 0 0 3 0 1"), "8 1");
+    assert_eq!(bad(" 0 0 0 4 0 1 2 1 0"), "8 2");
+}
+
+/// A target selects the instructions that have it, and is below itself, any instruction and node().
+#[test]
+fn targets() {
+    let rows = "term 2 3 6 1\nterm 2 1 6 1\nterm 2 3 6 2\nterm 2 3 5 0\nterm 2 3 2 0\nterm 2 1 0 1\n";
+    let document = "document 0 0 0 4 0 0 4 0 1 1 0 1 5 3 1 4 3 2 4 3 1\n";
+    let selected = |row: u16| last(&format!("{rows}{document}select {row} 0 9 7\n"));
+    assert_eq!(selected(0), "0 1 2 6");
+    assert_eq!(selected(1), "0 1 2");
+    assert_eq!(selected(2), "0 1 5");
+    assert_eq!(selected(3), "0 1 1 2 5 6");
+    let yielded = |left: u16, right: u16| last(&format!("{rows}step 8 {left} {right} 0 0\n"));
+    for right in [0, 3, 4] {
+        assert_eq!(yielded(1, right), "0 1");
+    }
+    for (left, right) in [(1, 2), (3, 0), (5, 0), (4, 0)] {
+        assert_eq!(yielded(left, right), "7 0");
+    }
 }
 
 #[test]

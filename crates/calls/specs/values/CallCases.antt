@@ -113,8 +113,8 @@ terms-refused :
     -- 2 at each place, and at the first of two and of three
     ∷ (term 3 3 0 0, answer 2 1) ∷ (term 3 0 2 0, answer 2 2) ∷ (term 3 0 0 1, answer 2 3)
     ∷ (term 3 2 2 0, answer 2 1) ∷ (term 3 2 0 1, answer 2 1) ∷ (term 3 0 2 1, answer 2 2) ∷ (term 3 9 9 9, answer 2 1)
-    ∷ (term 2 12 0 2, answer 2 1) ∷ (term 2 0 6 0, answer 2 2) ∷ (term 2 0 0 0, answer 2 3)
-    ∷ (term 2 12 6 7, answer 2 1)
+    ∷ (term 2 12 0 2, answer 2 1) ∷ (term 2 0 7 0, answer 2 2) ∷ (term 2 0 0 0, answer 2 3)
+    ∷ (term 2 12 7 7, answer 2 1) ∷ (term 2 0 6 0, answer 2 3) ∷ (term 2 0 5 1, answer 2 3) ∷ (term 2 0 7 1, answer 2 2)
     -- 12 with the first row, and with the last
     ∷ (term 2 1 0 2, answer 12 0) ∷ (term 6 0 0 0, answer 12 2)
     ∷ [])
@@ -220,6 +220,18 @@ steps-held :
     ≡ answer 0 2 ∷ answer 0 3 ∷ answer 0 4 ∷ answer 7 0 ∷ answer 0 5 ∷ answer 0 6 ∷ []
 unfolding seenFrom
 steps-held = refl
+
+-- rows with targets, and steps: a target is below itself, any instruction and node(), and no other target; any
+-- instruction is not below a target, nor is a name
+targets-seen :
+    map (λ o. o .answer)
+    (seenFrom emptyBook
+    (term 2 1 6 1 ∷ term 2 3 6 1 ∷ term 2 3 6 65535 ∷ term 2 3 5 0 ∷ term 2 3 2 0 ∷ term 2 1 0 1
+    ∷ step 8 0 1 0 0 ∷ step 8 0 3 0 0 ∷ step 8 0 4 0 0 ∷ step 8 0 2 0 0 ∷ step 8 3 1 0 0 ∷ step 8 5 1 0 0 ∷ []))
+    ≡ answer 0 0 ∷ answer 0 1 ∷ answer 0 2 ∷ answer 0 3 ∷ answer 0 4 ∷ answer 0 5
+    ∷ answer 0 1 ∷ answer 0 2 ∷ answer 0 3 ∷ answer 7 0 ∷ answer 7 0 ∷ answer 7 0 ∷ []
+unfolding seenFrom
+targets-seen = refl
 
 -- n steps, each child::2 <= descendant::*
 abbrev stepsAlike : ℕ → List books.Step

@@ -5,7 +5,7 @@ use mathlib.Core.List.{List, [], _∷_, _++_, map, List·Memᴰ}
 use lib.Dec.{T, eqb}
 use Rattle.common.specs.Axes.{self, child, parent, descendant, ancestor, descendant-or-self, ancestor-or-self}
 use Rattle.common.specs.Axes.{following-sibling, preceding-sibling, following, preceding, attribute}
-use Rattle.common.specs.NodeTests.{name-test, star-test, node-test, text-test}
+use Rattle.common.specs.NodeTests.{name-test, star-test, node-test, text-test, instruction-test, target-test}
 use Rattle.xpath.specs.Term.{Path, Qualifier, Void, Root, AxisStep, Union, Composition, Filter, True, False, Not, And, Or, In, some-of}
 use Rattle.rules.specs.Claim.{Claim, Containment, Implication}
 use Rattle.common.specs.Lists.{allOf, anyOf}
@@ -51,7 +51,7 @@ g = In (AxisStep child name-test 6) Void
 abbrev pub h : Qualifier
 h = In (AxisStep child name-test 7) Void
 
-infix 90 _::N _::M _::star _::node _::text
+infix 90 _::N _::M _::star _::node _::text _::instruction _::target
 -- names in place of N and M
 abbrev pub _::N : ℕ → Path
 a ::N = AxisStep a name-test 8
@@ -67,6 +67,13 @@ a ::node = AxisStep a node-test 0
 
 abbrev pub _::text : ℕ → Path
 a ::text = AxisStep a text-test 0
+
+abbrev pub _::instruction : ℕ → Path
+a ::instruction = AxisStep a instruction-test 0
+
+-- an instruction of target 11
+abbrev pub _::target : ℕ → Path
+a ::target = AxisStep a target-test 11
 
 -- rule 10 with its second premise ending in node(), on an axis in place of b
 abbrev pub endingInNode : ℕ → Sample
@@ -117,6 +124,9 @@ accepted =
     ∷ sample 7 (Containment (Composition p q) (Composition r s)) (Containment p r ∷ Containment q s ∷ [])
     ∷ sample 8 (Containment (child ::N) (descendant ::star)) []
     ∷ sample 8 (Containment (attribute ::N) (attribute ::star)) []
+    ∷ sample 8 (Containment (child ::target) (descendant ::target)) []
+    ∷ sample 8 (Containment (child ::target) (descendant ::instruction)) []
+    ∷ sample 8 (Containment (child ::target) (descendant ::node)) []
     ∷ sample 9 (Containment (Filter p f) (Filter r g)) (Containment p r ∷ Implication f g ∷ [])
     ∷ sample 10 (Containment (Composition p (child ::N)) (Composition r (descendant ::M))) (Containment (child ::N) (descendant ::M) ∷ Containment p (Composition r (descendant ::star)) ∷ [])
     ∷ sample 10 (Containment (Composition p (child ::N)) (Composition r (preceding ::M))) (Containment (child ::N) (preceding ::M) ∷ Containment p (Composition r (preceding ::star)) ∷ [])
@@ -134,12 +144,16 @@ accepted =
     ∷ sample 22 (Implication (In (child ::node) Void) (In (descendant ::text) Void)) []
     ∷ sample 22 (Implication (In (child ::star) Void) (In (descendant ::N) Void)) []
     ∷ sample 22 (Implication (In (child ::star) Void) (In (descendant ::star) Void)) []
+    ∷ sample 22 (Implication (In (child ::node) Void) (In (descendant ::target) Void)) []
     ∷ sample 23 (Implication (In (parent ::node) Void) (In (ancestor ::text) Void)) []
     ∷ sample 23 (Implication (In (parent ::star) Void) (In (ancestor ::N) Void)) []
     ∷ sample 23 (Implication (In (parent ::star) Void) (In (ancestor ::star) Void)) []
     ∷ sample 24 (Containment p Void) (Implication True (In p Void) ∷ [])
     ∷ sample 25 (Containment (Filter p (And f g)) Void) (Implication f (Not g) ∷ [])
     ∷ sample 26 (Containment (Composition p (child ::text)) (Composition Root (descendant ::node))) []
+    ∷ sample 26 (Containment (Composition p (child ::target)) (Composition Root (descendant ::target))) []
+    ∷ sample 26 (Containment (Composition p (child ::target)) (Composition Root (descendant ::instruction))) []
+    ∷ sample 26 (Containment (Composition p (child ::target)) (Composition Root (descendant ::node))) []
     ∷ [])
     ++ containments 27 p (Filter p True)
     ++ containments 28 p (Composition (self ::node) p)
@@ -173,6 +187,7 @@ accepted =
     ++ map (λ a. sample 26 (Containment (Composition p (a ::N)) (Composition Root (descendant ::star))) []) otherThanAttribute
     ++ map (λ a. sample 58 (Containment (Composition (a ::node) (self ::N)) (a ::N)) []) otherThanAttribute
     ++ map (λ a. sample 58 (Containment (a ::N) (Composition (a ::node) (self ::N))) []) otherThanAttribute
+    ++ containments 58 (Composition (child ::node) (self ::target)) (child ::target)
     ++ endingsInNode
 
 abbrev pub sampleYielded : Sample → Bool

@@ -1,4 +1,5 @@
--- Five mistakes of document 000, and what attributes make false, each shown false by a document. Assumes nothing.
+-- Five mistakes of document 000, what attributes make false, and wider orders of targets, each shown false by a
+-- document. Assumes nothing.
 use Prim.Native.Nat.{ℕ}
 use mathlib.Core.List.{[], _∷_}
 use native.Mathlib.Omega.{arith}
@@ -6,7 +7,7 @@ use Rattle.common.specs.Bounded.{anyBelow, allBelow}
 use Rattle.xpath.specs.Document.{Document, node, rootNode, kindAt, parentAt, nameAt, isChild, climbMeets, isAncestor, areSiblings, kindAndNameOk, rowOk, wellFormed}
 use Rattle.common.specs.Axes.{self, child, parent, descendant, descendant-or-self, ancestor-or-self}
 use Rattle.common.specs.Axes.{following-sibling, preceding-sibling, following, attribute}
-use Rattle.common.specs.NodeTests.{name-test, star-test, node-test, text-test}
+use Rattle.common.specs.NodeTests.{name-test, star-test, node-test, text-test, instruction-test, target-test}
 use Rattle.xpath.specs.Axis.{onAxis, passes}
 use Rattle.xpath.specs.Term.{Path, Qualifier, Void, Root, AxisStep, Union, Composition, Filter, True, Not, And, Or, In, some-of}
 use Rattle.xpath.specs.Meaning.{selects}
@@ -103,3 +104,28 @@ rule26-attribute-false rule = rule (AxisStep self node-test 0) withAttribute tt 
 pub rule58-attribute-false : IsFalse (IsTrue (Containment (AxisStep attribute star-test 0) (Composition (AxisStep attribute node-test 0) (AxisStep self star-test 0))))
 unfolding IsFalse
 rule58-attribute-false claim = claim withAttribute tt 1 (omega arith) 2 tt
+
+-- an element, and three instructions: of target 1, of target 2, and without a target
+abbrev withTargets : Document
+withTargets = rootNode ∷ node 1 0 1 ∷ node 4 0 1 ∷ node 4 0 2 ∷ node 4 0 0 ∷ []
+
+-- a target below another one
+pub other-target-false :
+    IsFalse (IsTrue (Containment (AxisStep child target-test 1) (AxisStep child target-test 2)))
+unfolding IsFalse
+other-target-false claim = claim withTargets tt 0 (omega arith) 2 tt
+
+-- any instruction below a target: one without a target has none
+pub instruction-below-target-false :
+    IsFalse (IsTrue (Containment (AxisStep child instruction-test 0) (AxisStep child target-test 1)))
+unfolding IsFalse
+instruction-below-target-false claim = claim withTargets tt 0 (omega arith) 4 tt
+
+-- a name below a target, and a target below a name
+pub name-below-target-false : IsFalse (IsTrue (Containment (AxisStep child name-test 1) (AxisStep child target-test 1)))
+unfolding IsFalse
+name-below-target-false claim = claim withTargets tt 0 (omega arith) 1 tt
+
+pub target-below-name-false : IsFalse (IsTrue (Containment (AxisStep child target-test 1) (AxisStep child name-test 1)))
+unfolding IsFalse
+target-below-name-false claim = claim withTargets tt 0 (omega arith) 2 tt

@@ -1,20 +1,22 @@
 -- Steps that differ little from accepted ones and that their rules don't yield. Assumes nothing.
 use Prim.Native.Nat.{ℕ, _+_}
 use mathlib.Core.Path.{refl}
-use mathlib.Core.Bool.{Bool, not, cond}
+use mathlib.Core.Bool.{Bool, not, cond, _||_}
 use mathlib.Core.List.{List, [], _∷_, _++_, map, List·Memᴰ}
 use lib.Dec.{T, T-not, eqb}
 use Rattle.common.specs.values.Expected.{_is_, AllRight}
 use Rattle.common.specs.Axes.{self, child, parent, descendant, ancestor, descendant-or-self, ancestor-or-self}
 use Rattle.common.specs.Axes.{following-sibling, preceding-sibling, following, preceding, attribute}
-use Rattle.common.specs.NodeTests.{name-test, comment-test, instruction-test}
+use Rattle.common.specs.NodeTests.{name-test, comment-test, instruction-test, target-test}
 use Rattle.xpath.specs.Term.{Path, Qualifier, Void, Root, AxisStep, Union, Composition, Filter, True, False, Not, And, Or, In, some-of}
 use Rattle.rules.specs.Claim.{Claim, Containment, Implication}
 use Rattle.rules.specs.RuleTable.{rules}
 use Rattle.common.specs.Lists.{allOf}
 use Rattle.rules.specs.Yields.{formsIn, formsOf}
 use Rattle.rules.specs.Decision.{someFormFits, yes-yielded, all-of-yes}
-use Rattle.rules.specs.values.AcceptedSteps.{Sample, sample, p, q, r, s, f, g, h, _::N, _::M, _::star, _::node, _::text, endingInNode, accepted, sampleYielded, SampleYields}
+use Rattle.rules.specs.values.AcceptedSteps.{Sample, sample, p, q, r, s, f, g, h, _::N, _::M, _::star, _::node}
+use Rattle.rules.specs.values.AcceptedSteps.{_::text, _::instruction, _::target, endingInNode, accepted}
+use Rattle.rules.specs.values.AcceptedSteps.{sampleYielded, SampleYields}
 
 -- there is no rule before 1 and none after 58, and rule 50 has no form
 pub no-forms : AllRight (formsOf 0 is [] ∷ formsOf 50 is [] ∷ formsOf 59 is [] ∷ [])
@@ -45,7 +47,27 @@ nearMisses =
     ∷ sample 8 (Containment (child ::node) (descendant ::star)) []
     ∷ sample 26 (Containment (Composition p (child ::N)) (Composition Root (descendant ::M))) []
     ∷ sample 26 (Containment (Composition p (child ::text)) (Composition Root (descendant ::star))) []
+    -- another target, any instruction below a target, a name below a target of that number, a target below that name,
+    -- and a target beside each other test
+    ∷ sample 8 (Containment (child ::target) (AxisStep descendant target-test 12)) []
+    ∷ sample 8 (Containment (child ::instruction) (descendant ::target)) []
+    ∷ sample 8 (Containment (AxisStep child name-test 11) (descendant ::target)) []
+    ∷ sample 8 (Containment (child ::target) (AxisStep descendant name-test 11)) []
+    ∷ sample 8 (Containment (child ::target) (descendant ::star)) []
+    ∷ sample 8 (Containment (child ::target) (descendant ::text)) []
+    ∷ sample 8 (Containment (child ::target) (AxisStep descendant comment-test 0)) []
+    ∷ sample 8 (Containment (child ::star) (descendant ::target)) []
+    ∷ sample 8 (Containment (child ::node) (descendant ::target)) []
+    ∷ sample 8 (Containment (child ::text) (descendant ::target)) []
+    ∷ sample 8 (Containment (AxisStep child comment-test 0) (descendant ::target)) []
+    ∷ sample 26
+    (Containment (Composition p (child ::target)) (Composition Root (AxisStep descendant target-test 12))) []
+    ∷ sample 26 (Containment (Composition p (child ::instruction)) (Composition Root (descendant ::target))) []
+    ∷ sample 26 (Containment (Composition p (AxisStep child name-test 11)) (Composition Root (descendant ::target))) []
+    ∷ sample 26 (Containment (Composition p (attribute ::target)) (Composition Root (descendant ::instruction))) []
     -- T is `*`, and N is neither a name nor `*`
+    ∷ sample 22 (Implication (In (child ::star) Void) (In (descendant ::target) Void)) []
+    ∷ sample 23 (Implication (In (parent ::star) Void) (In (ancestor ::target) Void)) []
     ∷ sample 22 (Implication (In (child ::star) Void) (In (descendant ::node) Void)) []
     ∷ sample 22 (Implication (In (child ::star) Void) (In (descendant ::text) Void)) []
     ∷ sample 23 (Implication (In (parent ::star) Void) (In (ancestor ::node) Void)) []
@@ -82,6 +104,8 @@ nearMisses =
     (Containment (child ::N) (descendant ::M) ∷ Containment p (Composition r (AxisStep descendant comment-test 0)) ∷ [])
     ∷ sample 10 (Containment (Composition p (child ::N)) (Composition r (descendant ::M)))
     (Containment (child ::N) (descendant ::M) ∷ Containment p (Composition r (AxisStep descendant instruction-test 0)) ∷ [])
+    ∷ sample 10 (Containment (Composition p (child ::N)) (Composition r (descendant ::M)))
+    (Containment (child ::N) (descendant ::M) ∷ Containment p (Composition r (descendant ::target)) ∷ [])
     ∷ sample 10 (Containment (Composition p (child ::N)) (Composition r (descendant ::M)))
     (Containment (child ::N) (descendant ::M) ∷ Containment p (Composition r (descendant ::M)) ∷ [])
     ∷ sample 10 (Containment (Composition p (child ::N)) (Composition r (descendant ::M)))
@@ -157,7 +181,7 @@ pub other-premises-refused : {x : Sample} → List·Memᴰ x accepted → {y : S
 unfolding accepted withOtherPremises otherPremises allOf someFormFits
 other-premises-refused {x} m {y} k = refused y (all-of-yes sampleRefused (withOtherPremises x) (all-of-yes (λ x. allOf sampleRefused (withOtherPremises x)) accepted tt m) k)
 
--- A letter with two values: another name in place of one name.
+-- A letter with two values: another name in place of one name or target.
 
 -- a name that no accepted step has
 abbrev pub otherName : ℕ
@@ -171,7 +195,7 @@ unfoldable mutual
   pub renamings : Path → List (ℕ × Path)
   renamings Void = []
   renamings Root = []
-  renamings (AxisStep a t c) = cond (eqb t name-test) ((c, AxisStep a t otherName) ∷ []) []
+  renamings (AxisStep a t c) = cond (eqb t name-test || eqb t target-test) ((c, AxisStep a t otherName) ∷ []) []
   renamings (Union x y) = inside (λ x. Union x y) (renamings x) ++ inside (Union x) (renamings y)
   renamings (Composition x y) = inside (λ x. Composition x y) (renamings x) ++ inside (Composition x) (renamings y)
   renamings (Filter x y) = inside (λ x. Filter x y) (renamings x) ++ inside (Filter x) (qualifierRenamings y)

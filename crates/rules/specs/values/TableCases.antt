@@ -9,6 +9,7 @@ use Rattle.common.specs.values.Expected.{_is_, AllRight}
 use Rattle.common.specs.Axes.{self, child, parent, descendant, ancestor, descendant-or-self, ancestor-or-self}
 use Rattle.common.specs.Axes.{following-sibling, preceding-sibling, following, preceding, attribute}
 use Rattle.common.specs.NodeTests.{name-test, star-test, node-test, text-test, comment-test, instruction-test}
+use Rattle.common.specs.NodeTests.{target-test}
 use Rattle.rules.specs.Order.{axisPairs, isPair, axisBelow, testBelow}
 use Rattle.rules.specs.RuleTable.{rules}
 use Rattle.rules.specs.Yields.{formsIn, formsOf, firstCount, premiseCount}
@@ -37,7 +38,7 @@ pub axes-above :
 unfolding listBelow axisBelow isPair axisPairs
 axes-above = refl
 
--- the tests, two names first, and for each the places of those that it is below
+-- the tests, two names first and two targets last, and for each the places of those that it is below
 abbrev tests : List (ℕ × ℕ)
 tests =
     (name-test, 1)
@@ -47,10 +48,12 @@ tests =
     ∷ (text-test, 0)
     ∷ (comment-test, 0)
     ∷ (instruction-test, 0)
+    ∷ (target-test, 1)
+    ∷ (target-test, 2)
     ∷ []
 
 abbrev placesAbove : (test name : ℕ) → List ℕ
-placesAbove t n = listBelow 7 (λ i. let u = getD tests i (0, 0) in testBelow t n (u .0) (u .1))
+placesAbove t n = listBelow 9 (λ i. let u = getD tests i (0, 0) in testBelow t n (u .0) (u .1))
 
 pub tests-above :
     AllRight
@@ -61,6 +64,8 @@ pub tests-above :
     ∷ placesAbove text-test 0 is (3 ∷ 4 ∷ [])
     ∷ placesAbove comment-test 0 is (3 ∷ 5 ∷ [])
     ∷ placesAbove instruction-test 0 is (3 ∷ 6 ∷ [])
+    ∷ placesAbove target-test 1 is (3 ∷ 6 ∷ 7 ∷ [])
+    ∷ placesAbove target-test 2 is (3 ∷ 6 ∷ 8 ∷ [])
     ∷ [])
 unfolding listBelow testBelow
 tests-above = refl

@@ -1,13 +1,14 @@
 -- The rule table once more, as terms, for every choice of the letters, and the conditions' values. Assumes nothing.
 use Prim.Native.Nat.{ℕ}
 use mathlib.Core.Path.{_≡_, refl}
-use mathlib.Core.Bool.{Bool, true, false, _&&_, _||_}
+use mathlib.Core.Bool.{Bool, true, false, not, _&&_, _||_}
 use mathlib.Core.List.{List, [], _∷_, _++_, map}
 use lib.Dec.{leb, eqb}
 use Rattle.common.specs.Bounded.{listBelow}
 use Rattle.common.specs.Axes.{self, child, parent, descendant, ancestor, descendant-or-self, ancestor-or-self}
 use Rattle.common.specs.Axes.{following-sibling, preceding-sibling, following, preceding, attribute}
 use Rattle.common.specs.NodeTests.{name-test, star-test, node-test, text-test, comment-test, instruction-test}
+use Rattle.common.specs.NodeTests.{target-test}
 use Rattle.xpath.specs.Term.{Path, Void, Root, AxisStep, Union, Composition, Filter}
 use Rattle.xpath.specs.Term.{Qualifier, True, False, Not, And, Or, In}
 use Rattle.rules.specs.Order.{axisPairs, isPair, axisBelow, testBelow}
@@ -26,7 +27,8 @@ pub axis-numbers :
 axis-numbers = refl
 
 pub test-numbers :
-    name-test ∷ star-test ∷ node-test ∷ text-test ∷ comment-test ∷ instruction-test ∷ [] ≡ 0 ∷ 1 ∷ 2 ∷ 3 ∷ 4 ∷ 5 ∷ []
+    name-test ∷ star-test ∷ node-test ∷ text-test ∷ comment-test ∷ instruction-test ∷ target-test ∷ []
+    ≡ 0 ∷ 1 ∷ 2 ∷ 3 ∷ 4 ∷ 5 ∷ 6 ∷ []
 test-numbers = refl
 
 -- what a form of a rule says for a choice of the letters: its conclusion, its premises in order, its conditions
@@ -205,7 +207,7 @@ module _ (e : Letters) where
   rules-as-written = refl
 
 -- The conditions, for every choice of the letters that they don't speak of: their values on the axes 0 to 11 and on
--- 12, which is none, and on the tests 0 to 5 with every name and on 6, which is none.
+-- 12, which is none, and on the tests 0 to 6 with every name and on 7, which is none.
 
 abbrev withAxes : Letters → (a b : ℕ) → Letters
 withAxes e a b = record { path = e .path; qualifier = e .qualifier; axis = axes; test = e .test }
@@ -224,6 +226,10 @@ withTests e N M = record { path = e .path; qualifier = e .qualifier; axis = e .a
 infix 70 _named_
 abbrev _named_ : ℕ → ℕ → Test
 t named c = record { test = t; name = c }
+
+or-none : (x : Bool) → (x || false || false || false) ≡ x
+or-none true = refl
+or-none false = refl
 
 -- N is below M
 abbrev isBelow : Letters → (N M : Test) → Bool
@@ -250,38 +256,57 @@ module _ (e : Letters) where
   a-not-attribute-met b = refl
 
   pub N-a-name-or-star-met : (c : ℕ) (M : Test)
-      → listBelow 7 (λ t. meets (withTests e (t named c) M) N-a-name-or-star) ≡ 0 ∷ 1 ∷ []
+      → listBelow 8 (λ t. meets (withTests e (t named c) M) N-a-name-or-star) ≡ 0 ∷ 1 ∷ []
   unfolding listBelow meets
   N-a-name-or-star-met c M = refl
 
   pub N-not-node-met : (c : ℕ) (M : Test)
-      → listBelow 7 (λ t. meets (withTests e (t named c) M) N-not-node) ≡ 0 ∷ 1 ∷ 3 ∷ 4 ∷ 5 ∷ 6 ∷ []
+      → listBelow 8 (λ t. meets (withTests e (t named c) M) N-not-node) ≡ 0 ∷ 1 ∷ 3 ∷ 4 ∷ 5 ∷ 6 ∷ 7 ∷ []
   unfolding listBelow meets
   N-not-node-met c M = refl
 
   -- a name is below itself and no other
   pub names-below-names : (c k : ℕ) → isBelow e (0 named c) (0 named k) ≡ eqb c k
   unfolding meets testBelow
-  names-below-names c k = or-neither (eqb c k)
-    where
-      or-neither : (x : Bool) → (x || false || false) ≡ x
-      or-neither true = refl
-      or-neither false = refl
+  names-below-names c k = or-none (eqb c k)
+
+  -- a target too
+  pub targets-below-targets : (c k : ℕ) → isBelow e (6 named c) (6 named k) ≡ eqb c k
+  unfolding meets testBelow
+  targets-below-targets c k = or-none (eqb c k)
+
+  -- and neither is below the other
+  pub names-and-targets : (c k : ℕ)
+      → isBelow e (0 named c) (6 named k) ∷ isBelow e (6 named c) (0 named k) ∷ [] ≡ false ∷ false ∷ []
+  unfolding meets testBelow
+  names-and-targets c k = refl
 
   -- the tests above a name, but names
   pub tests-above-names : (c : ℕ)
-      → listBelow 7 (λ u. leb 1 u && isBelow e (0 named c) (u named 0)) ≡ 1 ∷ 2 ∷ []
+      → listBelow 8 (λ u. leb 1 u && isBelow e (0 named c) (u named 0)) ≡ 1 ∷ 2 ∷ []
   unfolding listBelow meets testBelow
   tests-above-names c = refl
 
   -- the tests below a name, but names
-  pub tests-below-names : (c : ℕ) → listBelow 7 (λ t. leb 1 t && isBelow e (t named 0) (0 named c)) ≡ []
+  pub tests-below-names : (c : ℕ) → listBelow 8 (λ t. leb 1 t && isBelow e (t named 0) (0 named c)) ≡ []
   unfolding listBelow meets testBelow
   tests-below-names c = refl
 
+  -- the tests above a target, but targets: node() and any instruction
+  pub tests-above-targets : (c : ℕ)
+      → listBelow 8 (λ u. not (eqb u 6) && isBelow e (6 named c) (u named 0)) ≡ 2 ∷ 5 ∷ []
+  unfolding listBelow meets testBelow
+  tests-above-targets c = refl
+
+  -- the tests below a target, but targets
+  pub tests-below-targets : (c : ℕ)
+      → listBelow 8 (λ t. not (eqb t 6) && isBelow e (t named 0) (6 named c)) ≡ []
+  unfolding listBelow meets testBelow
+  tests-below-targets c = refl
+
   -- for each test from 1, the tests from 1 that it is below
   pub tests-above-tests :
-      map (λ t. listBelow 7 (λ u. leb 1 u && isBelow e (t named 0) (u named 0))) (listBelow 7 (leb 1))
-      ≡ (1 ∷ 2 ∷ []) ∷ (2 ∷ []) ∷ (2 ∷ 3 ∷ []) ∷ (2 ∷ 4 ∷ []) ∷ (2 ∷ 5 ∷ []) ∷ (2 ∷ 6 ∷ []) ∷ []
+      map (λ t. listBelow 8 (λ u. leb 1 u && isBelow e (t named 0) (u named 0))) (listBelow 8 (leb 1))
+      ≡ (1 ∷ 2 ∷ []) ∷ (2 ∷ []) ∷ (2 ∷ 3 ∷ []) ∷ (2 ∷ 4 ∷ []) ∷ (2 ∷ 5 ∷ []) ∷ (2 ∷ 5 ∷ 6 ∷ []) ∷ (2 ∷ 7 ∷ []) ∷ []
   unfolding listBelow meets testBelow
   tests-above-tests = refl

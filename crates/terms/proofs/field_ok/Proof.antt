@@ -1,5 +1,5 @@
 -- `field_ok` meets its contract, case by case. Assumes nothing.
-use borrow.Author.Tests.{eq-eqb, ne-eqb}
+use mathlib.Core.Path.{sym, _∙_}
 use Rattle.terms.specs.Fields.{fieldOk}
 use borrow.Author.Needs.{needs}
 use Rattle.terms.proofs.field_ok.Statement.{statement}
@@ -17,9 +17,12 @@ enum-told-3 c = search needs
 enum-told-4 : tie.Need-enum-told-4
 enum-told-4 c = search needs
 
+or-requires : tie.Need-or-requires
+or-requires c κs = search needs
+
 returns : tie.Need-returns
 unfolding fieldOk
-returns c = rw (c .before .enum-told4 .given .1, eq-eqb _ _ (c .if1 .taken))
+returns c = rw (c .before .before .enum-told4 .given .1, sym (c .before .or .ensures) ∙ c .if1 .taken)
 
 enum-told-5 : tie.Need-enum-told-5
 enum-told-5 c = search needs
@@ -47,7 +50,7 @@ returns-4 c = rw (c .enum-told3 .given .1)
 
 returns-5 : tie.Need-returns-5
 unfolding fieldOk
-returns-5 c = rw (c .before .enum-told4 .given .1, ne-eqb _ _ (c .if1 .left))
+returns-5 c = rw (c .before .before .enum-told4 .given .1, sym (c .before .or .ensures) ∙ c .if1 .left)
 
 returns-6 : tie.Need-returns-6
 unfolding fieldOk
@@ -65,6 +68,7 @@ field-ok-spec =
     enum-told-2
     enum-told-3
     enum-told-4
+    or-requires
     returns
     enum-told-5
     is-held-path-requires

@@ -37,6 +37,8 @@ pub good :
     ∷ place (row 2 11 0 65535) is 0
     ∷ place (row 2 0 1 0) is 0
     ∷ place (row 2 11 5 0) is 0
+    ∷ place (row 2 0 6 1) is 0
+    ∷ place (row 2 11 6 65535) is 0
     ∷ place (row 3 0 0 0) is 0
     ∷ place (row 4 0 0 0) is 0
     ∷ place (row 5 0 1 0) is 0
@@ -76,12 +78,13 @@ pub bad-first :
 unfolding badPlace fieldsOf fieldOk heldPath heldQualifier isPath isQualifier
 bad-first = refl
 
--- the second, test 6 among them
+-- the second, test 7 among them
 pub bad-second :
     AllRight
     (place (row 0 0 1 0) is 2
     ∷ place (row 1 0 1 0) is 2
-    ∷ place (row 2 1 6 0) is 2
+    ∷ place (row 2 1 7 0) is 2
+    ∷ place (row 2 1 7 1) is 2
     ∷ place (row 3 0 1 0) is 2
     ∷ place (row 3 0 2 0) is 2
     ∷ place (row 4 0 1 0) is 2
@@ -101,7 +104,7 @@ pub bad-second :
 unfolding badPlace fieldsOf fieldOk heldPath heldQualifier isPath isQualifier
 bad-second = refl
 
--- the third: name 0 with a name test, a name with each other test
+-- the third: name 0 with a name test, target 0 with test 6, a name with each other test
 pub bad-third :
     AllRight
     (place (row 0 0 0 1) is 3
@@ -112,6 +115,8 @@ pub bad-third :
     ∷ place (row 2 1 3 7) is 3
     ∷ place (row 2 1 4 7) is 3
     ∷ place (row 2 1 5 7) is 3
+    ∷ place (row 2 1 5 1) is 3
+    ∷ place (row 2 1 6 0) is 3
     ∷ place (row 3 0 0 1) is 3
     ∷ place (row 4 0 0 1) is 3
     ∷ place (row 5 0 1 1) is 3
@@ -129,9 +134,10 @@ bad-third = refl
 pub bad-fields :
     AllRight
     (place (row 0 1 1 1) is 1
-    ∷ place (row 2 12 6 7) is 1
+    ∷ place (row 2 12 7 7) is 1
+    ∷ place (row 2 12 6 0) is 1
     ∷ place (row 2 12 0 0) is 1
-    ∷ place (row 2 1 6 7) is 2
+    ∷ place (row 2 1 7 7) is 2
     ∷ place (row 3 1 1 0) is 1
     ∷ place (row 4 1 0 1) is 1
     ∷ place (row 5 0 0 1) is 2
@@ -209,6 +215,7 @@ pub found :
     ∷ find held (row 2 2 0 7) is 2
     ∷ find held (row 2 1 1 7) is 2
     ∷ find held (row 2 1 0 8) is 2
+    ∷ find held (row 2 1 6 7) is 2
     -- the first of two that are the same
     ∷ find (row 1 0 0 0 ∷ row 1 0 0 0 ∷ []) (row 1 0 0 0) is 0
     ∷ [])

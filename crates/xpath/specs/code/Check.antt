@@ -7,7 +7,8 @@ use mathlib.Core.Option.{Option, none, some}
 use lib.Dec.{leb, ltb, eqb}
 use lib.ListN.{length, set}
 use Rattle.common.specs.Bounded.{firstBelow}
-use Rattle.common.specs.NodeTests.{star-test}
+use Rattle.common.specs.NodeKinds.{instruction-kind}
+use Rattle.common.specs.NodeTests.{star-test, target-test}
 use Rattle.xpath.specs.Document.{Document, parentAt, documentOf, lentRows, badRowBy, documentRefusal}
 use Rattle.xpath.specs.Axis.{principal}
 use Rattle.xpath.specs.Climb.{above, parentsTaken, climbMet}
@@ -42,7 +43,7 @@ pub record ClimbMade (d : Document) (x y e : ℕ) (es : List ℕ) (r : Climb) (l
 -- the kind of node that test t, a test other than node(), selects on axis a; the numbers of text(), comment() and
 -- processing-instruction() are one above those of their kinds
 abbrev pub kindOfTest : ℕ → ℕ → ℕ
-kindOfTest a t = cond (leb t star-test) (principal a) (t - 1)
+kindOfTest a t = cond (leb t star-test) (principal a) (cond (eqb t target-test) instruction-kind (t - 1))
 
 -- What the parts of the check promise each other.
 

@@ -149,6 +149,8 @@ pub tests-on-the-attribute-axis :
     ∷ nodes attributed (AxisStep attribute comment-test 0) 5 is []
     ∷ nodes attributed (AxisStep attribute instruction-test 0) 5 is []
     ∷ nodes attributed (AxisStep attribute 6 0) 5 is []
+    ∷ nodes attributed (AxisStep attribute 6 2) 5 is []
+    ∷ nodes attributed (AxisStep attribute 7 0) 5 is []
     ∷ [])
 unfolding nodes listBelow selects onAxis passes kindAt parentAt nameAt isChild climbMeets isAncestor areSiblings
 tests-on-the-attribute-axis = refl
@@ -162,6 +164,7 @@ pub tests-on-other-axes :
     ∷ nodes attributed (AxisStep self text-test 0) 6 is []
     ∷ nodes attributed (AxisStep self comment-test 0) 6 is []
     ∷ nodes attributed (AxisStep self instruction-test 0) 6 is []
+    ∷ nodes attributed (AxisStep self 6 2) 6 is []
     ∷ nodes attributed (descendant-or-self :: 2) 6 is []
     ∷ nodes attributed (AxisStep descendant-or-self star-test 0) 6 is []
     ∷ nodes attributed (ancestor-or-self :: 2) 6 is (5 ∷ [])

@@ -31,6 +31,11 @@ pub documents-accepted :
     (rootNode ∷ node 1 0 1 ∷ node 4 1 0 ∷ node 3 1 0 ∷ node 2 1 0 ∷ node 2 1 0 ∷ node 1 1 1 ∷ [])) is none
     -- the greatest name
     ∷ documentRefusal (lent (rootNode ∷ node 1 0 65535 ∷ [])) is none
+    -- processing instructions with a target, the least and the greatest, under the root and under an element
+    ∷ documentRefusal (lent (rootNode ∷ node 4 0 1 ∷ [])) is none
+    ∷ documentRefusal (lent (rootNode ∷ node 4 0 65535 ∷ [])) is none
+    ∷ documentRefusal (lent
+    (rootNode ∷ node 1 0 1 ∷ node 4 1 1 ∷ node 4 1 0 ∷ node 4 1 65535 ∷ node 2 1 0 ∷ [])) is none
     -- attributes: one, two of one element with children after them, one on an inner element, the greatest name, two
     -- of one name
     ∷ documentRefusal (lent (rootNode ∷ node 1 0 1 ∷ node 5 1 1 ∷ [])) is none
@@ -60,12 +65,14 @@ pub documents-refused :
     -- a second root
     ∷ documentRefusal (lent (rootNode ∷ rootNode ∷ [])) is some 1
     ∷ documentRefusal (lent (rootNode ∷ node 1 0 1 ∷ node 0 1 0 ∷ [])) is some 2
-    -- an element without a name; a text, a comment, a processing instruction with one; a name of more than 16 bits
+    -- an element without a name; a text, a comment with one; a name of more than 16 bits
     ∷ documentRefusal (lent (rootNode ∷ node 1 0 0 ∷ [])) is some 1
     ∷ documentRefusal (lent (rootNode ∷ node 2 0 1 ∷ [])) is some 1
     ∷ documentRefusal (lent (rootNode ∷ node 3 0 1 ∷ [])) is some 1
-    ∷ documentRefusal (lent (rootNode ∷ node 4 0 1 ∷ [])) is some 1
+    ∷ documentRefusal (lent (rootNode ∷ node 2 0 65535 ∷ [])) is some 1
+    ∷ documentRefusal (lent (rootNode ∷ node 3 0 65535 ∷ [])) is some 1
     ∷ documentRefusal (lent (rootNode ∷ node 1 0 65536 ∷ [])) is some 1
+    ∷ documentRefusal (lent (rootNode ∷ node 4 0 65536 ∷ [])) is some 1
     -- a kind above 5
     ∷ documentRefusal (lent (rootNode ∷ node 6 0 0 ∷ [])) is some 1
     ∷ documentRefusal (lent (rootNode ∷ node 6 0 1 ∷ [])) is some 1
@@ -79,6 +86,7 @@ pub documents-refused :
     ∷ documentRefusal (lent (rootNode ∷ node 1 0 1 ∷ node 2 1 0 ∷ node 5 2 1 ∷ [])) is some 3
     ∷ documentRefusal (lent (rootNode ∷ node 1 0 1 ∷ node 3 1 0 ∷ node 5 2 1 ∷ [])) is some 3
     ∷ documentRefusal (lent (rootNode ∷ node 1 0 1 ∷ node 4 1 0 ∷ node 5 2 1 ∷ [])) is some 3
+    ∷ documentRefusal (lent (rootNode ∷ node 1 0 1 ∷ node 4 1 1 ∷ node 5 2 1 ∷ [])) is some 3
     -- an attribute after another child (a text, an element, of its owner), after a child's attribute, after a child's
     -- child; a parent that is an attribute
     ∷ documentRefusal (lent (rootNode ∷ node 1 0 1 ∷ node 2 1 0 ∷ node 5 1 1 ∷ [])) is some 3
@@ -91,6 +99,7 @@ pub documents-refused :
     ∷ documentRefusal (lent (rootNode ∷ node 2 0 0 ∷ node 2 1 0 ∷ [])) is some 2
     ∷ documentRefusal (lent (rootNode ∷ node 3 0 0 ∷ node 2 1 0 ∷ [])) is some 2
     ∷ documentRefusal (lent (rootNode ∷ node 4 0 0 ∷ node 2 1 0 ∷ [])) is some 2
+    ∷ documentRefusal (lent (rootNode ∷ node 4 0 1 ∷ node 2 1 0 ∷ [])) is some 2
     -- a parent that is the row itself, a later row, no row, a row whose subtree is closed
     ∷ documentRefusal (lent (rootNode ∷ node 1 1 1 ∷ [])) is some 1
     ∷ documentRefusal (lent (rootNode ∷ node 1 2 1 ∷ node 1 0 1 ∷ [])) is some 1

@@ -94,7 +94,8 @@ pub axes-at-the-edges :
 unfolding nodes listBelow selects onAxis passes kindAt parentAt nameAt isChild climbMeets isAncestor areSiblings
 axes-at-the-edges = refl
 
--- each test; a name or `*` selects elements only, also the name 0 that other nodes have; there is no test 6
+-- each test; a name or `*` selects elements only, also the name 0 that other nodes have; no instruction here has a
+-- target; there is no test 7
 pub nodes-of-each-test :
     AllRight
     (nodes sample (descendant-or-self :: 1) 0 is (2 ∷ 6 ∷ 10 ∷ [])
@@ -108,6 +109,8 @@ pub nodes-of-each-test :
     ∷ nodes sample (AxisStep descendant-or-self comment-test 0) 0 is (1 ∷ 9 ∷ [])
     ∷ nodes sample (AxisStep descendant-or-self instruction-test 0) 0 is (3 ∷ 12 ∷ [])
     ∷ nodes sample (AxisStep descendant-or-self 6 0) 0 is []
+    ∷ nodes sample (AxisStep descendant-or-self 6 1) 0 is []
+    ∷ nodes sample (AxisStep descendant-or-self 7 0) 0 is []
     ∷ [])
 unfolding nodes listBelow selects onAxis passes kindAt parentAt nameAt isChild climbMeets isAncestor areSiblings
 nodes-of-each-test = refl

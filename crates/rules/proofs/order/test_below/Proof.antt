@@ -10,11 +10,17 @@ and-requires c κs = search needs
 and-requires-2 : tie.Need-and-requires-2
 and-requires-2 c κs = search needs
 
+and-requires-3 : tie.Need-and-requires-3
+and-requires-3 c κs = search needs
+
 or-requires : tie.Need-or-requires
 or-requires c κs = search needs
 
 or-requires-2 : tie.Need-or-requires-2
 or-requires-2 c κs = search needs
+
+or-requires-3 : tie.Need-or-requires-3
+or-requires-3 c κs = search needs
 
 returns : tie.Need-returns
 unfolding testBelow
@@ -22,4 +28,5 @@ returns c = cc
 
 pub test-below-spec : {M : Type 1} → statement M
 test-below-spec =
-    tie.close (tie.spec and-requires and-requires-2 or-requires or-requires-2 returns)
+    tie.close
+    (tie.spec and-requires and-requires-2 and-requires-3 or-requires or-requires-2 or-requires-3 returns)
