@@ -29,7 +29,9 @@ enum spinebriar_answer {
     SPINEBRIAR_STEPS_FULL = 13,
     SPINEBRIAR_SHORT_MARKS = 14,
     SPINEBRIAR_LIMIT_PASSED = 15,
-    SPINEBRIAR_BAD_NAME = 17 /* the program tally's */
+    SPINEBRIAR_BAD_NAME = 17, /* the program tally's */
+    SPINEBRIAR_BAD_LISTS = 25, /* 25 and 26 are the call replace's */
+    SPINEBRIAR_NOT_COVERED = 26
 };
 
 /* What an answer says, in English; null for a number that no answer has. */
@@ -53,6 +55,8 @@ static inline const char *spinebriar_answer_text(uint16_t answer)
     case SPINEBRIAR_SHORT_MARKS: return "the marks are shorter than the document";
     case SPINEBRIAR_LIMIT_PASSED: return "more visits are needed than the limit";
     case SPINEBRIAR_BAD_NAME: return "a 65th name, or a file that can't be opened";
+    case SPINEBRIAR_BAD_LISTS: return "more than 64 old or new rows, or not as many steps as old rows";
+    case SPINEBRIAR_NOT_COVERED: return "an old row whose step doesn't say that it is contained in a new row";
     default: return NULL;
     }
 }

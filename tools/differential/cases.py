@@ -14,6 +14,7 @@ from rules import (AXES, AXIS_LETTERS, DEEPEST, FORMS, KINDS, MOST_ROWS, MOST_ST
                    step)
 
 MOST_BYTES, MOST_NODES, MOST_NUMBERS, MOST_MARKS, MOST_LIMIT = 65536, 512, 1539, 1024, 4294967295
+MOST_REPLACED, MOST_LISTED = 64, 100
 NAMES = [1, 2, 3, 65535]
 EDGES = [0, 1, 2, 3, 5, 6, 7, 10, 11, 12, 31, 32, 33, 58, 59, 511, 512, 513, 1023, 1024, 1025, 2047, 2048, 2049,
          65534, 65535]
@@ -26,7 +27,9 @@ OTHER_KIND = {"union": "composition", "composition": "union", "and": "or", "or":
 ODD_LINES = [b"", b"fresh", b"document", b"document ", b"document" + b" 0" * MOST_NUMBERS,
              b"document" + b" 0" * (MOST_NUMBERS + 1), b"select 0 0 0 1024", b"select 0 0 0 1025", b"select 0 0 4294967295 0",
              b"select 0 0 4294967296 0", b"kind a b c", b"rule left right first second", b"term 65535 65536 0 0",
-             b"step 1 0 0 0 0 0", b"Term 0 0 0 0"]
+             b"step 1 0 0 0 0 0", b"Term 0 0 0 0", b"old", b"new", b"replace", b"old ", b"old 65536",
+             *(word + b" 1" * count for word in (b"old", b"new", b"replace")
+               for count in (MOST_LISTED, MOST_LISTED + 1))]
 # A visit takes up to as many tests as the square of the nodes. A select that may need more tests gets a smaller limit.
 MANY_TESTS, FEW_VISITS = 10**8, 1000
 
@@ -259,8 +262,33 @@ class Session:
             limit = rng.choice([limit, MOST_LIMIT, MOST_LIMIT - 1])
         self.call("select", (row, context, limit, min(max(marks, 0), MOST_MARKS)))
 
+    def replace(self):
+        """The rows of some held steps, mostly of paths, replaced by those that they lead to, with a few changes."""
+        rng, book = self.rng, self.book
+        numbered = list(enumerate(book.steps, 1))
+        paths = [(n, held) for n, held in numbered if book.terms[held[1]].is_path()]
+        steps = paths if rng.random() < 0.95 else numbered
+        chosen = [rng.choice(steps) for _ in range(rng.choice([0, 1, 2, 3, 5, 10, 63, 64, 64, 65]))] if steps else []
+        steps, old, new = [n for n, _ in chosen], [held[1] for _, held in chosen], [held[2] for _, held in chosen]
+        if rng.random() < 0.6:
+            new = list(dict.fromkeys(new))
+        new += [rng.choice([rng.randrange(len(book.terms) + 2), *EDGES]) for _ in range(rng.choice([0, 0, 1, 3]))]
+        rng.shuffle(new)
+        for _ in range(rng.choice([0, 0, 0, 1, 1, 2])):
+            changed = rng.choice([steps, steps, old, new])
+            place = rng.randrange(len(changed) + 1)
+            number = rng.choice([0, rng.randrange(len(book.steps) + 3), rng.randrange(len(book.terms) + 2), *EDGES])
+            if changed is steps and numbered and rng.random() < 0.5:
+                number = rng.choice(numbered)[0]
+            changed[place:place + rng.choice([0, 1, 1, 1])] = [number] * rng.choice([0, 1, 1, 1])
+        self.call("old", old[:MOST_LISTED])
+        self.call("new", new[:MOST_LISTED])
+        self.call("replace", steps, is_covered(book, old, new[:MOST_LISTED], steps))
+
     def random_call(self):
         n = self.rng.random()
+        if self.rng.random() < 0.06:
+            return self.replace()
         if n < 0.5:
             self.derive()
         elif n < 0.6:
@@ -296,7 +324,7 @@ class Session:
 
     def accepted(self):
         """For each line that replay prints, whether the call is accepted, where the book says so."""
-        return [accepted for word, _, accepted in self.calls if word != "document"]
+        return [accepted for word, _, accepted in self.calls if word not in ("document", "old", "new")]
 
     def bundle(self, refused=False):
         """The accepted term and step calls as a bundle, with one of the refused ones in its place if so asked."""
@@ -305,6 +333,16 @@ class Session:
         calls = [call for place, call in enumerate(self.calls) if call[2] or place == kept]
         terms, steps = ([numbers for word, numbers, _ in calls if word == wanted] for wanted in ("term", "step"))
         return text_of(["kind a b c", *terms, "rule left right first second", *steps])
+
+
+def is_covered(book, old, new, steps):
+    """Whether replace accepts these lists."""
+    def covers(row, number):
+        held = book.steps[number - 1] if 1 <= number <= len(book.steps) else None
+        return held is not None and held[1] == row and book.terms[row].is_path() and held[2] in new
+    if max(len(old), len(new)) > MOST_REPLACED or len(steps) != len(old):
+        return False
+    return all(covers(row, number) for row, number in zip(old, steps))
 
 
 def text_of(lines):
@@ -398,7 +436,8 @@ def with_low_limits(text):
 def resized(rng, text):
     """The text made as long as the longest input, or a byte or more longer, by its last term or step over and over."""
     size = MOST_BYTES + rng.choice([0, 0, 1, 1, 2, 5000])
-    line = next((line for line in reversed(text.splitlines(True)) if not line.startswith((b"select", b"document"))), b"\n")
+    others = (b"select", b"document", b"old", b"new", b"replace")
+    line = next((line for line in reversed(text.splitlines(True)) if not line.startswith(others)), b"\n")
     return (text + line * (size // len(line) + 1))[:size - 1] + rng.choice([b"\n", b"0"])
 
 

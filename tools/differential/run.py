@@ -70,7 +70,7 @@ class Tally:
         answers = [line.split()[0] for line in printed.splitlines()]
         if answers and answers[-1] == b"10":
             self.answers["line", int(answers.pop())] += 1
-        calls = [words for words in map(bytes.split, lines) if words[:1] != [b"document"]]
+        calls = [words for words in map(bytes.split, lines) if words[:1] not in ([b"document"], [b"old"], [b"new"])]
         for words, number in zip(calls, map(int, answers)):
             self.answers[words[0].decode(), number] += 1
             if words[0] == b"step" and number == 0:
@@ -79,7 +79,7 @@ class Tally:
     def report(self, seed):
         print(f"seed {seed}: {sum(self.cases.values())} cases ran, no difference "
               f"({', '.join(f'{count} {program}' for program, count in sorted(self.cases.items()))})")
-        for call in ("term", "step", "select", "line", "read"):
+        for call in ("term", "step", "select", "replace", "line", "read"):
             numbers = sorted((number, count) for (word, number), count in self.answers.items() if word == call)
             print(f"  {call}: " + ", ".join(f"{count} answered {number}" for number, count in numbers))
         print("  accepted steps by rule: " + ", ".join(f"{rule}: {self.rules[rule]}" for rule in range(1, 59)))

@@ -3,6 +3,7 @@ use Prim.Native.Nat.{ℕ, _+_, _≤_, _<_}
 use mathlib.Core.Path.{_≡_, refl, sym, ap, subst}
 use mathlib.Core.Bool.{Bool, true, false, not, cond, _&&_, _||_, false≢true, decide-iff}
 use mathlib.Core.List.{List, [], _∷_, map}
+use native.Mathlib.Omega.{arith}
 use lib.Dec.{T, leb, ltb, eqb}
 use lib.ListN.{length, getD}
 use mathlib.Core.Logic.{inl, inr}
@@ -11,9 +12,12 @@ use mir.Facts.{yes-and, yes-ltb, yes-leb}
 use Rattle.common.proofs.Reflect.{yes-or, true-iff, tests-equal}
 use Rattle.terms.specs.Row.{Row, rowAt}
 use Rattle.terms.specs.Fields.{maxKind, isPath, isQualifier, heldPath, heldQualifier}
+use Rattle.terms.specs.Terms.{pathAt, qualifierAt}
 use Rattle.terms.specs.AcceptedRows.{Built}
 use Rattle.terms.proofs.Built.{built-row}
 use Rattle.common.specs.Lists.{Every}
+use Rattle.xpath.specs.Term.{Path}
+use Rattle.rules.specs.Claim.{Containment, Implication, says}
 use Rattle.rules.specs.code.RowYields.{oneSort, saysOf}
 use Rattle.rules.specs.Yields.{maxRule, Yields}
 use Rattle.rules.specs.Decision.{yields-dec}
@@ -41,7 +45,7 @@ answer-by y z b p f =
     (f (ltb-false _ _ sides) (ltb-false _ _ premises))
 
 -- a held row is a path, or it is a qualifier
-path-held : (rs : List Row) (i : ℕ) → i < length rs → isPath (rowAt rs i) ≡ true → T (heldPath rs i)
+pub path-held : (rs : List Row) (i : ℕ) → i < length rs → isPath (rowAt rs i) ≡ true → T (heldPath rs i)
 unfolding heldPath
 path-held rs i h e = yes-and (ltb i (length rs)) (isPath (rowAt rs i)) (yes-ltb h) (true-iff _ .1 e)
 
@@ -50,6 +54,18 @@ unfolding heldQualifier isQualifier isPath
 qualifier-held rs built i h e =
     yes-and (ltb i (length rs)) (leb 6 (rowAt rs i .kind) && leb (rowAt rs i .kind) maxKind) (yes-ltb h)
     (yes-and (leb 6 (rowAt rs i .kind)) (leb (rowAt rs i .kind) maxKind) (yes-leb (leb-false (rowAt rs i .kind) 5 e)) (yes-leb (built-row built i h .kind)))
+
+-- the rows of a step that says a containment are paths, those of the containment
+pub containment-sides : (rs : List Row) (l r : ℕ) (p q : Path) → says rs l r ≡ Containment p q
+    → (isPath (rowAt rs l) ≡ true) × (pathAt rs l ≡ p) × (pathAt rs r ≡ q)
+unfolding says
+containment-sides rs l r p q e = by-sort (isPath (rowAt rs l)) e
+  where
+    by-sort : (b : Bool)
+        → cond b (Containment (pathAt rs l) (pathAt rs r)) (Implication (qualifierAt rs l) (qualifierAt rs r))
+        ≡ Containment p q → (b ≡ true) × (pathAt rs l ≡ p) × (pathAt rs r ≡ q)
+    by-sort true e = (refl, cc, cc)
+    by-sort false e = let z : _≡_ {A = ℕ} 0 1 = cc in absurd (omega arith)
 
 -- the rows of a step that passes refusal 5 are of one sort for the matcher
 one-sort : (rs : List Row) → Built rs → (p : Step) → SidesHeld rs p → T (oneSort rs (sidesOf p))

@@ -64,3 +64,11 @@ limit-passed = 15
 -- a 65th name, or a file that can't be opened
 abbrev pub bad-name : ℕ
 bad-name = 17
+
+-- a list of more than 64, or not as many steps as old rows
+abbrev pub bad-lists : ℕ
+bad-lists = 25
+
+-- an old row whose step isn't as it must be: its place
+abbrev pub not-covered : ℕ
+not-covered = 26

@@ -52,6 +52,10 @@ pub const LIMIT_PASSED: u16 = 15;
 
 pub const BAD_NAME: u16 = 17;
 
+pub const BAD_LISTS: u16 = 25;
+
+pub const NOT_COVERED: u16 = 26;
+
 // A step has five numbers.
 pub const STEP_WIDTH: usize = 5;
 
@@ -103,7 +107,7 @@ pub fn clamp(count: usize, limit: usize) -> usize
 }
 
 // The first numbers, as many as `count` says, or all.
-fn front(numbers: &[u16], count: usize) -> &[u16]
+pub fn front(numbers: &[u16], count: usize) -> &[u16]
     ensures { λ r. ⌜ now r ≡ take count (now (numbers .entry)) ⌝ }
 {
     let end = clamp(count, numbers.len());

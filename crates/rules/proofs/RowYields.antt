@@ -27,7 +27,7 @@ use Rattle.rules.proofs.Agreement.{IsClaim, AreClaims, claims-map, Size
 use Rattle.rules.proofs.Letters.{Means, means-small, means-one, lettersOf, value-means}
 use Rattle.rules.proofs.RowForms.{path-instance, qualifier-instance}
 
-says-paths : (rs : List Row) (l r : ℕ) → T (heldPath rs l) → says rs l r ≡ Containment (pathAt rs l) (pathAt rs r)
+pub says-paths : (rs : List Row) (l r : ℕ) → T (heldPath rs l) → says rs l r ≡ Containment (pathAt rs l) (pathAt rs r)
 unfolding says heldPath
 says-paths rs l r t = let u = and-yes (ltb l (length rs)) (isPath (rowAt rs l)) t in rw (true-iff (isPath (rowAt rs l)) .0 (u .1))
 

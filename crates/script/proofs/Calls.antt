@@ -14,8 +14,11 @@ use Rattle.lines.proofs.Parts.{first-mapped, PartsMet}
 use Rattle.script.specs.declared.Call.{Call}
 use Rattle.script.specs.declared.Call.the-variants as CallCases
 use Rattle.script.specs.declared.CallLine.{CallLine}
-use Rattle.script.specs.Command.{Word, Command, command, document, maxMarks, maxNumbers, allNumbers, atMost, named}
-use Rattle.script.specs.code.CommandRead.{noNumbers, callLine, countOf, marksOf, commandIn, CallMet}
+use Rattle.script.specs.declared.Listed.{Listed}
+use Rattle.script.specs.declared.Listed.the-variants as ListedCases
+use Rattle.script.specs.Command.{Word, Command, command, maxMarks, maxNumbers, allNumbers, atMost, named}
+use Rattle.script.specs.code.CommandRead.{noNumbers, wordOf, mostOf, listCall, callLine, countOf, marksOf}
+use Rattle.script.specs.code.CommandRead.{commandIn, CallMet}
 
 pub no-numbers-size : length noNumbers ≡ maxNumbers
 unfolding noNumbers
@@ -82,25 +85,60 @@ module _ (word : Word) (numbers : List (List ℕ) → Option (List ℕ)) (xs : L
     if-read e call s c n k =
         rw s (numbers-call (callLine call next) ns (subst (λ b. PartsMet numbers xs at b ns next) e m) (c noNumbers) no-numbers-size (omega arith) refl k)
 
--- a document's numbers are all of its line, where they are not too many
-module _ (xs : List ℕ) (at : ℕ) where
-  at-most : firstParts (λ ws. atMost maxNumbers (allNumbers ws)) (lines (drop at xs)) ≡ atMost maxNumbers (firstParts allNumbers (lines (drop at xs)))
-  unfolding atMost Option·elim
-  at-most = first-mapped (atMost maxNumbers) refl (λ ws. atMost maxNumbers (allNumbers ws)) allNumbers (λ ws. refl) (lines (drop at xs))
+-- a list's numbers are all of its line, where they are not too many
+pub most-few : (list : Listed) → mostOf list ≤ maxNumbers
+most-few ListedCases.Document = omega arith
+most-few ListedCases.Old = omega arith
+most-few ListedCases.New = omega arith
+most-few ListedCases.Replace = omega arith
 
-  pub no-document : atMost maxNumbers (firstParts allNumbers (lines (drop at xs))) ≡ none
-      → CallMet (λ ws. named document (atMost maxNumbers (allNumbers ws))) xs at (callLine CallCases.Other (length xs))
-  no-document e = no-numbers-call document (λ ws. atMost maxNumbers (allNumbers ws)) xs at (at-most ∙ e)
+list-command : (list : Listed) (n : ℕ) (ns : List ℕ)
+    → commandIn (listCall list n) ns ≡ some (command (wordOf list) (take n ns))
+list-command ListedCases.Document n ns = refl
+list-command ListedCases.Old n ns = refl
+list-command ListedCases.New n ns = refl
+list-command ListedCases.Replace n ns = refl
 
-  pub document-call : (n : ℕ) (numbers : List ℕ) (next : ℕ) → PartsMet allNumbers xs at true (take n numbers) next → n ≤ maxNumbers → length numbers ≡ maxNumbers
-      → drop n numbers ≡ drop n noNumbers
-      → CallMet (λ ws. named document (atMost maxNumbers (allNumbers ws))) xs at (record { call = CallCases.Document n; numbers = numbers; next = next })
+list-count : (list : Listed) (n : ℕ) → countOf (listCall list n) ≡ n
+list-count ListedCases.Document n = refl
+list-count ListedCases.Old n = refl
+list-count ListedCases.New n = refl
+list-count ListedCases.Replace n = refl
+
+list-marks : (list : Listed) (n : ℕ) → marksOf (listCall list n) ≤ maxMarks
+list-marks ListedCases.Document n = omega arith
+list-marks ListedCases.Old n = omega arith
+list-marks ListedCases.New n = omega arith
+list-marks ListedCases.Replace n = omega arith
+
+module _ (list : Listed) (xs : List ℕ) (at : ℕ) where
+  abbrev most : ℕ
+  most = mostOf list
+
+  at-most : firstParts (λ ws. atMost most (allNumbers ws)) (lines (drop at xs))
+      ≡ atMost most (firstParts allNumbers (lines (drop at xs)))
   unfolding atMost Option·elim
-  document-call n numbers next m h k z =
-      numbers-call document (λ ws. atMost maxNumbers (allNumbers ws)) xs at (record { call = CallCases.Document n; numbers = numbers; next = next }) (take n numbers)
+  at-most =
+      first-mapped (atMost most) refl (λ ws. atMost most (allNumbers ws)) allNumbers (λ ws. refl) (lines (drop at xs))
+
+  pub no-list : atMost most (firstParts allNumbers (lines (drop at xs))) ≡ none
+      → CallMet (λ ws. named (wordOf list) (atMost most (allNumbers ws))) xs at (callLine CallCases.Other (length xs))
+  no-list e = no-numbers-call (wordOf list) (λ ws. atMost most (allNumbers ws)) xs at (at-most ∙ e)
+
+  pub list-call : (n : ℕ) (numbers : List ℕ) (next : ℕ) → PartsMet allNumbers xs at true (take n numbers) next
+      → n ≤ most → length numbers ≡ maxNumbers → drop n numbers ≡ drop n noNumbers
+      → CallMet (λ ws. named (wordOf list) (atMost most (allNumbers ws))) xs at
+      (record { call = listCall list n; numbers = numbers; next = next })
+  unfolding atMost Option·elim
+  list-call n numbers next m h k z =
+      let all : length (take n numbers) ≡ n = length-take-le n numbers (omega (arith, k, most-few list)) in
+      numbers-call (wordOf list) (λ ws. atMost most (allNumbers ws)) xs at
+      (record { call = listCall list n; numbers = numbers; next = next }) (take n numbers)
       (record {
-        numbers = sym (at-most ∙ ap (atMost maxNumbers) (sym (m .numbers)) ∙ rw (le-leb (length (take n numbers)) maxNumbers (omega (arith, length-take-le n numbers (omega (arith, k))))));
+        numbers = sym (at-most ∙ ap (atMost most) (sym (m .numbers))
+            ∙ rw (le-leb (length (take n numbers)) most (omega (arith, all))));
         rest = m .rest;
         right = m .right;
       })
-      refl k h z (omega arith)
+      (list-command list n numbers) k (omega (arith, list-count list n, most-few list))
+      (rw (list-count list n) z) (list-marks list n)

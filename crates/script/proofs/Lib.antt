@@ -1,4 +1,4 @@
 pub mod Numbers
 pub mod Calls
-pub mod Documents
+pub mod Lists
 pub mod Words

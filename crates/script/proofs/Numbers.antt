@@ -13,7 +13,7 @@ use Rattle.lines.specs.Number.{maxNumber, numberUpTo, numbersUpTo}
 use Rattle.lines.specs.code.NumbersRead.{NumberMet, firstParts}
 use Rattle.lines.proofs.Cutting.{lines-at}
 use Rattle.lines.proofs.Parts.{prepended, Reads, first-none, first-mapped, no-newline-in, next-behind, number-before-space, number-before-newline, number-found, nothing-read, PartsMet}
-use Rattle.script.specs.Command.{maxNumbers, allNumbers, atMost}
+use Rattle.script.specs.Command.{allNumbers, atMost}
 
 reads-all : Reads maxNumber allNumbers allNumbers
 unfolding numbersUpTo
@@ -72,17 +72,18 @@ module _ (xs : List ℕ) (at from : ℕ) (ns : List ℕ) (so-far : SoFar xs at f
       so-far .numbers ∙ ap (appended ns) (nothing-read maxNumber allNumbers allNumbers reads-all (drop from xs) (inl (sym (n .number))) (inl (sym (m .number))))
 
   -- the line goes on, and there is always one more part
-  pub numbers-full : length ns ≡ maxNumbers → atMost maxNumbers (firstParts allNumbers (lines (drop at xs))) ≡ none
+  pub numbers-full : (most : ℕ) → length ns ≡ most → atMost most (firstParts allNumbers (lines (drop at xs))) ≡ none
   unfolding atMost numbersUpTo Option·elim
-  numbers-full e =
+  numbers-full most e =
       rw (so-far .numbers)
       (sym (first-mapped cut-off refl (λ ws. cut-off (allNumbers ws)) allNumbers (λ ws. refl) (lines (drop from xs)))
       ∙ first-none (λ ws. cut-off (allNumbers ws)) (λ w ws. by-numbers (numberUpTo maxNumber w) (allNumbers ws)) (lines (drop from xs)))
     where
       cut-off : Option (List ℕ) → Option (List ℕ)
-      cut-off o = atMost maxNumbers (appended ns o)
+      cut-off o = atMost most (appended ns o)
 
       by-numbers : (o : Option ℕ) (p : Option (List ℕ)) → cut-off (Option·elim o none (λ v. prepended v p)) ≡ none
       by-numbers none p = refl
       by-numbers (some v) none = refl
-      by-numbers (some v) (some ms) = rw (lt-leb (length (ns ++ v ∷ ms)) maxNumbers (omega (arith, length-append ns (v ∷ ms), e)))
+      by-numbers (some v) (some ms) =
+          rw (lt-leb (length (ns ++ v ∷ ms)) most (omega (arith, length-append ns (v ∷ ms), e)))

@@ -17,7 +17,8 @@ use Rattle.script.specs.declared.Call.the-variants as CallCases
 use Rattle.script.specs.declared.CallLine.{CallLine}
 use Rattle.lines.proofs.SameBytes.{same-bytes}
 use Rattle.lines.specs.Number.{numbersUpTo}
-use Rattle.script.specs.Command.{Command, termBytes, stepBytes, selectBytes, documentBytes, freshBytes, named, commandOf}
+use Rattle.script.specs.Command.{Command, termBytes, stepBytes, selectBytes, documentBytes, freshBytes, oldBytes}
+use Rattle.script.specs.Command.{newBytes, replaceBytes, named, commandOf}
 use Rattle.script.specs.code.CommandRead.{noNumbers, callLine, countOf, marksOf, commandIn, CallMet}
 use Rattle.script.proofs.Calls.{no-numbers-size, no-call, is-call}
 
@@ -81,6 +82,12 @@ module _ (xs : List ℕ) (at : ℕ)
     (no-document : startsWith (documentBytes ++ space ∷ []) (drop at xs) ≡ false)
     (no-empty-document : startsWith (documentBytes ++ newline ∷ []) (drop at xs) ≡ false)
     (no-fresh : startsWith (freshBytes ++ newline ∷ []) (drop at xs) ≡ false)
+    (no-old : startsWith (oldBytes ++ space ∷ []) (drop at xs) ≡ false)
+    (no-empty-old : startsWith (oldBytes ++ newline ∷ []) (drop at xs) ≡ false)
+    (no-new : startsWith (newBytes ++ space ∷ []) (drop at xs) ≡ false)
+    (no-empty-new : startsWith (newBytes ++ newline ∷ []) (drop at xs) ≡ false)
+    (no-replace : startsWith (replaceBytes ++ space ∷ []) (drop at xs) ≡ false)
+    (no-empty-replace : startsWith (replaceBytes ++ newline ∷ []) (drop at xs) ≡ false)
   where
     -- the text does not start with a word and the byte e, though its first part is that word
     not-so : {A : Type 0} (w y r : List ℕ) (e : ℕ) → drop at xs ≡ w ++ e ∷ r → startsWith (y ++ e ∷ []) (drop at xs) ≡ false → startsWith (y ++ e ∷ []) (y ++ e ∷ r) ≡ true → w ≡ y → A
@@ -98,7 +105,10 @@ module _ (xs : List ℕ) (at : ℕ)
             (by-word w stepBytes _ _ (λ i. refl)
             (by-word w selectBytes _ _ (λ i. refl)
             (by-word w documentBytes _ _ (not-so w documentBytes r newline t no-empty-document refl)
-            (by-word w freshBytes _ _ (not-so w freshBytes r newline t no-fresh refl) refl))))
+            (by-word w freshBytes _ _ (not-so w freshBytes r newline t no-fresh refl)
+            (by-word w oldBytes _ _ (not-so w oldBytes r newline t no-empty-old refl)
+            (by-word w newBytes _ _ (not-so w newBytes r newline t no-empty-new refl)
+            (by-word w replaceBytes _ _ (not-so w replaceBytes r newline t no-empty-replace refl) refl)))))))
         by-part (part-before w r t f g) =
             ap (λ u. firstParts commandOf (lines u)) t ∙ before-space commandOf w r f g
             ∙ first-none (λ ws. commandOf (w ∷ ws)) (λ p ps.
@@ -106,4 +116,7 @@ module _ (xs : List ℕ) (at : ℕ)
             (by-word w stepBytes _ _ (not-so w stepBytes r space t no-step refl)
             (by-word w selectBytes _ _ (not-so w selectBytes r space t no-select refl)
             (by-word w documentBytes _ _ (not-so w documentBytes r space t no-document refl)
-            (by-word w freshBytes _ _ (λ i. refl) refl))))) (lines r)
+            (by-word w freshBytes _ _ (λ i. refl)
+            (by-word w oldBytes _ _ (not-so w oldBytes r space t no-old refl)
+            (by-word w newBytes _ _ (not-so w newBytes r space t no-new refl)
+            (by-word w replaceBytes _ _ (not-so w replaceBytes r space t no-replace refl) refl)))))))) (lines r)

@@ -16,6 +16,9 @@ pub data Word : Type 0 where
   step : Word
   select : Word
   document : Word
+  old : Word
+  new : Word
+  replace : Word
   fresh : Word
 
 pub record Command : Type 0 where
@@ -37,6 +40,15 @@ selectBytes = ascii "select"
 abbrev pub documentBytes : List ℕ
 documentBytes = ascii "document"
 
+abbrev pub oldBytes : List ℕ
+oldBytes = ascii "old"
+
+abbrev pub newBytes : List ℕ
+newBytes = ascii "new"
+
+abbrev pub replaceBytes : List ℕ
+replaceBytes = ascii "replace"
+
 abbrev pub freshBytes : List ℕ
 freshBytes = ascii "fresh"
 
@@ -50,6 +62,10 @@ maxMarks = 1024
 -- one node more than a select takes, three numbers a node
 abbrev pub maxNumbers : ℕ
 maxNumbers = 3 * (maxNodes + 1)
+
+-- the most numbers of a line of old rows, of new rows, or of steps: more than a replace takes
+abbrev pub maxListed : ℕ
+maxListed = 100
 
 -- as many numbers as there are parts
 abbrev pub allNumbers : List (List ℕ) → Option (List ℕ)
@@ -74,4 +90,7 @@ commandOf (w ∷ ws) =
     (cond (sameBytes w stepBytes) (named step (lineNumbers stepWidth ws))
     (cond (sameBytes w selectBytes) (named select (numbersUpTo selectBounds ws))
     (cond (sameBytes w documentBytes) (named document (atMost maxNumbers (allNumbers ws)))
-    (cond (sameBytes w freshBytes) (named fresh (numbersUpTo [] ws)) none))))
+    (cond (sameBytes w freshBytes) (named fresh (numbersUpTo [] ws))
+    (cond (sameBytes w oldBytes) (named old (atMost maxListed (allNumbers ws)))
+    (cond (sameBytes w newBytes) (named new (atMost maxListed (allNumbers ws)))
+    (cond (sameBytes w replaceBytes) (named replace (atMost maxListed (allNumbers ws))) none)))))))

@@ -5,9 +5,10 @@ ghost use mathlib.Core.Path.{_≡_};
 ghost use lib.ListN.{length};
 ghost use Rattle.lines.specs.Number.{numbersUpTo, lineNumbers};
 ghost use Rattle.calls.specs.code.Tables.{rowWidth, stepWidth};
-ghost use Rattle.script.specs.Command.{term, step, select, document};
-ghost use Rattle.script.specs.Command.{maxNumbers, allNumbers, atMost, selectBounds, named, commandOf};
-ghost use Rattle.script.specs.code.CommandRead.{noNumbers, callLine, CallMet};
+ghost use Rattle.script.specs.Command.{term, step, select};
+ghost use Rattle.script.specs.Command.{allNumbers, atMost, selectBounds, named, commandOf};
+ghost use Rattle.script.specs.code.CommandRead.{noNumbers, wordOf, mostOf, listCall, callLine};
+ghost use Rattle.script.specs.code.CommandRead.{NoOtherWord, CallMet};
 
 const MAX_LIMIT: u32 = 4294967295;
 
@@ -17,6 +18,9 @@ pub const MAX_MARKS: usize = 1024;
 // The numbers of the longest document, three a node: one node more than a select takes.
 pub const MAX_NUMBERS: usize = 3 * (xpath::MAX_NODES + 1);
 
+// The most numbers of a line of old rows, of new rows, or of steps: more than a replace takes.
+pub const MAX_LISTED: usize = 100;
+
 // A select, and the length of the marks buffer that it is lent.
 pub struct SelectCall {
     pub row: u16,
@@ -25,17 +29,29 @@ pub struct SelectCall {
     pub marks: usize,
 }
 
-// The call of a line; `Document` says how many numbers it has, and `Other` that the line is no call.
+// The call of a line; `Document`, `Old`, `New` and `Replace` say how many numbers it lists, and `Other` that the line
+// is no call.
 pub enum Call {
     Term(Row),
     Step(Step),
     Document(usize),
     Select(SelectCall),
     Fresh,
+    Old(usize),
+    New(usize),
+    Replace(usize),
     Other,
 }
 
-// A call, the numbers of its document and zeros after them, and the position of the next line.
+// What a line lists the numbers of.
+enum Listed {
+    Document,
+    Old,
+    New,
+    Replace,
+}
+
+// A call, the numbers that it lists and zeros after them, and the position of the next line.
 pub struct CallLine {
     pub call: Call,
     pub numbers: [u16; MAX_NUMBERS],
@@ -48,7 +64,7 @@ fn no_numbers() -> [u16; MAX_NUMBERS]
     [0; MAX_NUMBERS]
 }
 
-// A call without a document.
+// A call that lists no numbers.
 fn call_line(call: Call, next: usize) -> CallLine
     ensures { λ r. ⌜ r ≡ callLine call next ⌝ }
 {
@@ -120,13 +136,39 @@ fn select_call(bytes: &[u8], at: usize) -> CallLine
     call_line(Call::Select(call), marks.next)
 }
 
-fn document_call(bytes: &[u8], at: usize) -> CallLine
-    ensures { λ r. ⌜ CallMet (λ ws. named document (atMost maxNumbers (allNumbers ws))) (now (bytes .entry)) at r ⌝ }
+// The most numbers of such a line.
+fn most_of(list: Listed) -> usize
+    ensures { λ r. ⌜ r ≡ mostOf list ⌝ }
 {
+    match list {
+        Listed::Document => MAX_NUMBERS,
+        Listed::Old => MAX_LISTED,
+        Listed::New => MAX_LISTED,
+        Listed::Replace => MAX_LISTED,
+    }
+}
+
+// The call of such a line with n numbers.
+fn list_of(list: Listed, n: usize) -> Call
+    ensures { λ r. ⌜ r ≡ listCall list n ⌝ }
+{
+    match list {
+        Listed::Document => Call::Document(n),
+        Listed::Old => Call::Old(n),
+        Listed::New => Call::New(n),
+        Listed::Replace => Call::Replace(n),
+    }
+}
+
+fn list_call(bytes: &[u8], at: usize, list: Listed) -> CallLine
+    ensures { λ r. ⌜ CallMet (λ ws. named (wordOf list) (atMost (mostOf list) (allNumbers ws)))
+        (now (bytes .entry)) at r ⌝ }
+{
+    let most = most_of(list);
     let mut numbers = no_numbers();
     let mut count = 0;
     let mut from = at;
-    while count < MAX_NUMBERS {
+    while count < most {
         let more = lines::number_at(bytes, from, lines::SPACE, lines::MAX_NUMBER);
         if !more.ok {
             let last = lines::number_at(bytes, from, lines::NEWLINE, lines::MAX_NUMBER);
@@ -134,8 +176,9 @@ fn document_call(bytes: &[u8], at: usize) -> CallLine
                 return other(bytes);
             }
             numbers[count] = last.value as u16;
+            let call = list_of(list, count + 1);
             return CallLine {
-                call: Call::Document(count + 1),
+                call,
                 numbers,
                 next: last.next,
             };
@@ -143,6 +186,32 @@ fn document_call(bytes: &[u8], at: usize) -> CallLine
         numbers[count] = more.value as u16;
         count += 1;
         from = more.next;
+    }
+    other(bytes)
+}
+
+// The call of the line at `at`, which begins with no word of another call.
+fn list_at(bytes: &[u8], at: usize) -> CallLine
+    requires { ⌜ NoOtherWord (now bytes) at ⌝ }
+    ensures { λ r. ⌜ CallMet commandOf (now (bytes .entry)) at r ⌝ }
+{
+    if lines::starts_with(bytes, at, b"old ") {
+        return list_call(bytes, at + 4, Listed::Old);
+    }
+    if lines::is_line(bytes, at, b"old") {
+        return call_line(Call::Old(0), at + 4);
+    }
+    if lines::starts_with(bytes, at, b"new ") {
+        return list_call(bytes, at + 4, Listed::New);
+    }
+    if lines::is_line(bytes, at, b"new") {
+        return call_line(Call::New(0), at + 4);
+    }
+    if lines::starts_with(bytes, at, b"replace ") {
+        return list_call(bytes, at + 8, Listed::Replace);
+    }
+    if lines::is_line(bytes, at, b"replace") {
+        return call_line(Call::Replace(0), at + 8);
     }
     other(bytes)
 }
@@ -161,7 +230,7 @@ pub fn call_at(bytes: &[u8], at: usize) -> CallLine
         return select_call(bytes, at + 7);
     }
     if lines::starts_with(bytes, at, b"document ") {
-        return document_call(bytes, at + 9);
+        return list_call(bytes, at + 9, Listed::Document);
     }
     if lines::is_line(bytes, at, b"document") {
         return call_line(Call::Document(0), at + 9);
@@ -169,5 +238,5 @@ pub fn call_at(bytes: &[u8], at: usize) -> CallLine
     if lines::is_line(bytes, at, b"fresh") {
         return call_line(Call::Fresh, at + 6);
     }
-    other(bytes)
+    list_at(bytes, at)
 }

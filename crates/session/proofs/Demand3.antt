@@ -9,10 +9,8 @@ use lib.ListN.{length, getD}
 use Rattle.xpath.specs.Document.{Document, documentOf, wellFormed}
 use Rattle.xpath.specs.Term.{Path}
 use Rattle.xpath.specs.Meaning.{selects}
-use Rattle.terms.specs.Row.{Row, rowAt}
-use Rattle.terms.specs.Fields.{isPath}
-use Rattle.terms.specs.Terms.{pathAt, qualifierAt}
-use Rattle.rules.specs.Claim.{Containment, Implication, says, TrueOn, IsTrue}
+use Rattle.terms.specs.Terms.{pathAt}
+use Rattle.rules.specs.Claim.{Containment, TrueOn, IsTrue}
 use Rattle.session.specs.declared.session.Session.{Session}
 use Rattle.calls.specs.declared.SelectAnswer.{SelectAnswer}
 use Rattle.calls.specs.Book.{noStep, Book, Answer}
@@ -23,22 +21,11 @@ use Rattle.session.specs.View.{view, freshSession}
 use Rattle.session.specs.Promises.{CallRelation, SelectRelation, Met, CallsMade, SelectMet}
 use Rattle.session.specs.Demand3.{Upheld, Demand3, DemandThree}
 use Rattle.calls.proofs.Reached.{BookLaws, reachable-laws}
+use Rattle.calls.proofs.ByTerms.{containment-sides}
 use Rattle.calls.proofs.Runs.{run-map, run-follows}
 use Rattle.calls.proofs.Marked.{select-takes, select-leaves, select-well-formed, select-marks, select-stays}
 use Rattle.session.proofs.Views.{fresh-sized, fresh-view}
 use Rattle.session.proofs.Simulation.{session-as-book, fresh-kept}
-
--- the paths of a step that says a containment are those of its rows
-containment-sides : (rs : List Row) (l r : ℕ) (p q : Path) → says rs l r ≡ Containment p q
-    → (pathAt rs l ≡ p) × (pathAt rs r ≡ q)
-unfolding says
-containment-sides rs l r p q e = by-sort (isPath (rowAt rs l)) e
-  where
-    by-sort : (b : Bool)
-        → cond b (Containment (pathAt rs l) (pathAt rs r)) (Implication (qualifierAt rs l) (qualifierAt rs r))
-        ≡ Containment p q → (pathAt rs l ≡ p) × (pathAt rs r ≡ q)
-    by-sort true e = (cc, cc)
-    by-sort false e = let z : _≡_ {A = ℕ} 0 1 = cc in absurd (omega arith)
 
 mark-true : (b : Bool) → _≡_ {A = ℕ} (cond b 1 0) 1 → T b
 mark-true true e = tt
@@ -88,14 +75,14 @@ module _ (Selected : SelectRelation) (select-tied : SelectsKept Selected SelectM
             let old = rw rows at (select-marks _ (step .left) xs x limit buffer left t m a y l) in
             let new = rw rows at (select-marks _ (step .right) xs x limit′ buffer′ left′ t′ m′ a′ y l) in
             let by-p : T (selects d p x y) =
-            subst (λ p. T (selects d p x y)) (sides .0)
+            subst (λ p. T (selects d p x y)) (sides .1)
             (mark-true (selects d (pathAt (b .rows) (step .left)) x y) (sym old ∙ one)) in
             let by-q : T (selects d q x y) =
             contained i h p q e d (select-well-formed _ _ xs x limit buffer left t m a)
             x (select-takes _ _ xs x limit buffer left t m a .context) y by-p in
             new
             ∙ true-mark (selects d (pathAt (b .rows) (step .right)) x y)
-            (subst (λ q. T (selects d q x y)) (sym (sides .1)) by-q);
+            (subst (λ q. T (selects d q x y)) (sym (sides .2)) by-q);
       }
 
   pub demanded : (cs : List Call) (os : List CallSeen) (s : Session) → CallsMade freshSession cs os s → Demand3 Selected cs os s

@@ -5,6 +5,7 @@ pub mod ReadClauses
 pub mod Views
 pub mod Simulation
 pub mod Demand3
+pub mod SetsReplaced
 pub mod TermMade
 pub mod StepMade
 pub mod ReadByRows

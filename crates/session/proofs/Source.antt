@@ -25,15 +25,20 @@ use Rattle.session.specs.declared.read.ReadAnswer.the-variants as ReadCa
 use Rattle.session.specs.Reading.{reading}
 use Rattle.session.specs.ReadCall.{readAnswerOf, isHeld, ReadMet}
 use Rattle.session.specs.ReadDemand.{ReadDemand}
+use Rattle.session.specs.ReplaceDemand.{ReplaceMet, ReplaceDemand}
+use Rattle.replacing.specs.declared.ReplaceAnswer.{ReplaceAnswer}
+use Rattle.replacing.proofs.Judged.{replace-case}
 use Rattle.calls.proofs.Runs.{made, run-exists}
 use Rattle.calls.proofs.Cases.{term-case, step-case, select-case}
 use Rattle.session.proofs.Demand3.{CallsKept, SelectsKept, demand3-by}
 use Rattle.session.proofs.Bundles.{read-demand-by}
+use Rattle.session.proofs.SetsReplaced.{ReplacesKept, replace-demand-by}
 use Rattle.session.proofs.session.Session.new.Reads as new-reads
 use Rattle.session.proofs.session.Session.term.Reads as term-reads
 use Rattle.session.proofs.session.Session.step.Reads as step-reads
 use Rattle.session.proofs.session.Session.select.Reads as select-reads
 use Rattle.session.proofs.session.Session.read.Reads as read-reads
+use Rattle.session.proofs.session.Session.replace.Reads as replace-reads
 
 -- `Session::new` gives the session r
 pub data New : Session → Type 0 where
@@ -59,6 +64,11 @@ pub data Selected : Session → (row : ℕ) → List ℕ → (x limit : ℕ) →
 pub data Read : List ℕ → ReadResult → Type 0 where
   read-called : (κs : _) (a : _) (r : _) (x : _) → read-reads.Post κs a r x → Read (now (a .0)) r
 
+-- `Session::replace` on a session with old rows, new rows and steps has the answer r
+pub data Replaced : Session → (old new by : List ℕ) → ReplaceAnswer → Type 0 where
+  replace-called : (κs : _) (a : _) (r : _) (x : _) → replace-reads.Post κs a r x
+      → Replaced (a .0) (now (a .1 .0)) (now (a .1 .1 .0)) (now (a .1 .1 .1 .0)) r
+
 -- the contracts promise what the specifications say, word for word
 pub new-tied : (s : Session) → New s → s ≡ freshSession
 new-tied s (new-called κs a r x m) = m
@@ -72,6 +82,9 @@ select-tied s row xs x limit buffer t left (select-called κs a r y m) = m
 
 pub read-tied : (bytes : List ℕ) (t : ReadResult) → Read bytes t → ReadMet bytes t
 read-tied bytes t (read-called κs a r x m) = m
+
+pub replace-tied : ReplacesKept Replaced ReplaceMet
+replace-tied s old new by t (replace-called κs a r x m) = m
 
 -- and no more: a call that meets what they say can be made
 met-called : CallsKept Met Called
@@ -99,7 +112,7 @@ pub calls-exist : (s : Session) (cs : List Call) → (os : List CallSeen) × (t 
 calls-exist =
     run-exists view Called (λ s c. (sessionAnswer s c, next session s c, met-called s c _ _ (made session s c)))
 
--- and so can every select, and every read
+-- and so can every select, every read, and every replace
 abbrev lent : {A : Type 0} → A → RefT A
 lent x = record { ptr = (0, 0); name = 0; now = x }
 
@@ -127,3 +140,14 @@ reads-exist bytes =
 
 pub read-demand : ReadDemand Selected Called Read
 read-demand = read-demand-by Selected Called Read select-tied call-tied met-called read-tied
+
+pub replaces-exist : (s : Session) (old new by : List ℕ) → (t : ReplaceAnswer) × Replaced s old new by t
+replaces-exist s old new by =
+    let (t, e) = replace-case (view s) old new by in (
+      t,
+      replace-called ([], tt) (s, (lent old, (lent new, (lent by, tt)))) t
+          (s, (lent old, (lent new, (lent by, tt)))) e,
+    )
+
+pub replace-demand : ReplaceDemand Replaced New Called
+replace-demand = replace-demand-by Replaced replace-tied New Called new-tied call-tied

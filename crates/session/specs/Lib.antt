@@ -6,4 +6,5 @@ pub mod ReadCall
 pub mod Audit
 pub mod Demand3
 pub mod ReadDemand
+pub mod ReplaceDemand
 pub mod values

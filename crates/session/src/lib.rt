@@ -1,6 +1,7 @@
 // A session of terms and steps, the calls on it, the reading of bundles, and what a host in C calls.
 mod c;
 mod read;
+mod replace;
 mod report;
 mod session;
 
@@ -9,6 +10,7 @@ pub use calls::StepAnswer;
 pub use calls::TermAnswer;
 pub use read::ReadAnswer;
 pub use read::ReadResult;
+pub use replacing::ReplaceAnswer;
 pub use report::Report;
 pub use report::audit;
 pub use session::Session;

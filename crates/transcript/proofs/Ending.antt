@@ -21,6 +21,9 @@ taken-by-word : (style : Style) (call : Call) (ns : List ℕ) → isTaken style 
 taken-by-word style (CallCases.Term t) ns = refl
 taken-by-word style (CallCases.Step p) ns = refl
 taken-by-word style (CallCases.Document n) ns = refl
+taken-by-word style (CallCases.Old n) ns = refl
+taken-by-word style (CallCases.New n) ns = refl
+taken-by-word style (CallCases.Replace n) ns = refl
 taken-by-word style (CallCases.Select q) ns = refl
 taken-by-word style CallCases.Fresh ns = refl
 taken-by-word style CallCases.Other ns = refl

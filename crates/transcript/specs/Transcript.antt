@@ -4,7 +4,7 @@ use mathlib.Core.Bool.{Bool, true, false, cond}
 use mathlib.Core.List.{List, [], _∷_}
 use mathlib.Core.Option.{Option, none, some}
 use Rattle.lines.specs.Line.{Line, partsRead}
-use Rattle.script.specs.Command.{Word, term, step, select, document, fresh, Command, commandOf}
+use Rattle.script.specs.Command.{Word, term, step, select, document, old, new, replace, fresh, Command, commandOf}
 use Rattle.transcript.specs.declared.Style.{Style}
 use Rattle.transcript.specs.declared.Style.the-variants.{Answers, Nodes}
 
@@ -18,6 +18,9 @@ wordTaken s term = true
 wordTaken s step = true
 wordTaken s select = true
 wordTaken s document = true
+wordTaken s old = true
+wordTaken s new = true
+wordTaken s replace = true
 wordTaken s fresh = freshTaken s
 
 -- a line that is no command is never taken

@@ -1,6 +1,7 @@
 // Makes the calls of a script on a session, a call a line, and prints the answers in one of two styles.
 use calls::Step;
 use script::Call;
+use script::CallLine;
 use script::SelectCall;
 use session::Session;
 use terms::Row;
@@ -9,8 +10,8 @@ ghost use mathlib.Core.List.{[]};
 ghost use Prim.Native.Nat.{_≤_};
 ghost use lib.ListN.{length};
 ghost use Rattle.lines.specs.Line.{lines};
-ghost use Rattle.script.specs.Command.{maxMarks, maxNumbers};
-ghost use Rattle.script.specs.code.CommandRead.{commandIn};
+ghost use Rattle.script.specs.Command.{maxMarks};
+ghost use Rattle.script.specs.code.CommandRead.{commandIn, marksOf};
 ghost use Rattle.transcript.specs.Transcript.{isTaken, endingLine};
 
 // What the lent marks hold before a select.
@@ -19,12 +20,25 @@ const FILL: u8 = 7;
 // Longer than the longest line: a word, two numbers, and 512 nodes of at most three digits.
 const LINE: usize = 4096;
 
-// What is printed. `Answers`: `NUMBER VALUE` for each call but document, and after an accepted select the marked nodes;
-// a script has one session, so `fresh` is no call. `Nodes`: the marked nodes of each accepted select, and
+// What is printed. `Answers`: `NUMBER VALUE` for each call but document, old and new, and after an accepted select the
+// marked nodes; a script has one session, so `fresh` is no call. `Nodes`: the marked nodes of each accepted select, and
 // `refused NUMBER VALUE` for what is refused; `fresh` starts a new session.
 pub enum Style {
     Answers,
     Nodes,
+}
+
+// The numbers of a line: the first `count`.
+struct NumberList {
+    numbers: [u16; script::MAX_NUMBERS],
+    count: usize,
+}
+
+// What later calls are lent: the document, the old rows and the new rows.
+struct Lent {
+    document: NumberList,
+    old: NumberList,
+    new: NumberList,
 }
 
 // Puts b behind the first `used` bytes, where there is room; gives how many are used now.
@@ -146,12 +160,31 @@ fn filled_marks() -> [u8; script::MAX_MARKS]
     [FILL; script::MAX_MARKS]
 }
 
-fn select(s: Session, document: &[u16], q: SelectCall, style: Style)
+fn select(s: Session, document: NumberList, q: SelectCall, style: Style)
     requires { ⌜ q .marks ≤ maxMarks ⌝ }
 {
+    let numbers = document.numbers;
     let mut buffer = filled_marks();
     let size = q.marks;
-    select_into(s, document, q, style, &mut buffer[..size]);
+    select_into(
+        s,
+        calls::front(&numbers, document.count),
+        q,
+        style,
+        &mut buffer[..size],
+    );
+}
+
+fn replace(s: Session, old: NumberList, new: NumberList, by: NumberList, style: Style) {
+    let old_rows = old.numbers;
+    let new_rows = new.numbers;
+    let steps = by.numbers;
+    let answer = s.replace(
+        calls::front(&old_rows, old.count),
+        calls::front(&new_rows, new.count),
+        calls::front(&steps, by.count),
+    );
+    print(style, answer.number(), answer.value() as u64);
 }
 
 // Whether a style takes the call.
@@ -167,14 +200,62 @@ fn is_taken(call: Call, style: Style) -> bool
             Style::Answers => false,
             Style::Nodes => true,
         },
+        Call::Old(_) => true,
+        Call::New(_) => true,
+        Call::Replace(_) => true,
         Call::Other => false,
     }
 }
 
-fn no_document() -> [u16; script::MAX_NUMBERS]
-    ensures { λ r. ⌜ maxNumbers ≡ length r ⌝ }
+fn list_of(numbers: [u16; script::MAX_NUMBERS], count: usize) -> NumberList {
+    NumberList { numbers, count }
+}
+
+fn none_lent() -> Lent {
+    let none = list_of([0; script::MAX_NUMBERS], 0);
+    Lent {
+        document: none,
+        old: none,
+        new: none,
+    }
+}
+
+// What is lent after a line.
+fn lent_after(lent: Lent, read: CallLine) -> Lent {
+    let call = read.call;
+    let numbers = read.numbers;
+    let mut document = lent.document;
+    let mut old = lent.old;
+    let mut new = lent.new;
+    match call {
+        Call::Document(n) => document = list_of(numbers, n),
+        Call::Old(n) => old = list_of(numbers, n),
+        Call::New(n) => new = list_of(numbers, n),
+        _ => {}
+    }
+    Lent { document, old, new }
+}
+
+// Makes the call of a line and prints its answer; gives the session after it.
+fn make(s: Session, lent: Lent, read: CallLine, style: Style) -> Session
+    requires { ⌜ marksOf (read .call) ≤ maxMarks ⌝ }
 {
-    [0; script::MAX_NUMBERS]
+    let call = read.call;
+    let numbers = read.numbers;
+    match call {
+        Call::Term(row) => term(s, row, style),
+        Call::Step(p) => step(s, p, style),
+        Call::Select(q) => {
+            select(s, lent.document, q, style);
+            s
+        }
+        Call::Replace(n) => {
+            replace(s, lent.old, lent.new, list_of(numbers, n), style);
+            s
+        }
+        Call::Fresh => Session::new(),
+        _ => s,
+    }
 }
 
 // Makes the calls of a script, a call a line, from a fresh session, and prints their answers. Gives the number of the
@@ -184,8 +265,7 @@ pub fn run(input: &[u8], style: Style) -> usize
     ensures { λ r. ⌜ r ≡ endingLine style 1 (lines (now (input .entry))) ⌝ }
 {
     let mut s = Session::new();
-    let mut document = no_document();
-    let mut count = 0;
+    let mut lent = none_lent();
     let mut at = 0;
     let mut line: usize = 0;
     while at < input.len() {
@@ -195,27 +275,10 @@ pub fn run(input: &[u8], style: Style) -> usize
         if !is_taken(call, style) {
             return line;
         }
-        match call {
-            Call::Term(row) => {
-                let after = term(s, row, style);
-                s = after;
-            }
-            Call::Step(p) => {
-                let after = step(s, p, style);
-                s = after;
-            }
-            Call::Document(n) => {
-                let numbers = read.numbers;
-                document = numbers;
-                count = n;
-            }
-            Call::Select(q) => select(s, &document[..count], q, style),
-            Call::Fresh => {
-                let after = Session::new();
-                s = after;
-            }
-            Call::Other => {}
-        }
+        let after = make(s, lent, read, style);
+        s = after;
+        let lists = lent_after(lent, read);
+        lent = lists;
         at = read.next;
     }
     0

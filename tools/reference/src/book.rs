@@ -16,6 +16,8 @@ pub type Step = [u16; 5];
 pub const MOST_ROWS: usize = 1024;
 pub const MOST_STEPS: usize = 2048;
 pub const DEEPEST: u32 = 32;
+/// Of the old rows of a replace, and of the new ones.
+pub const MOST_REPLACED: usize = 64;
 
 #[derive(Default)]
 pub struct Book {
@@ -97,6 +99,21 @@ impl Book {
             *mark = nodes.contains(&y) as u8;
         }
         (0, visits)
+    }
+
+    /// Whether the old rows are covered by the new ones, by a step for each.
+    pub fn replace(&self, old: &[u16], new: &[u16], steps: &[u16]) -> Answer {
+        if old.len() > MOST_REPLACED || new.len() > MOST_REPLACED || steps.len() != old.len() {
+            return (25, 0);
+        }
+        for (place, (&row, &number)) in (1..).zip(old.iter().zip(steps)) {
+            let step = (number as usize).checked_sub(1).and_then(|i| self.steps.get(i));
+            let covers = |&[_, left, right, ..]: &Step| left == row && self.is_held_path(row) && new.contains(&right);
+            if !step.is_some_and(covers) {
+                return (26, place);
+            }
+        }
+        (0, 0)
     }
 
     /// What a step says: its two terms.

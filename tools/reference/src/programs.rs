@@ -1,8 +1,8 @@
 //! The programs audit and replay, from standard input to standard output.
 //!
 //! Of replay: its input is judged for length before any call is made, so too long a one prints `10 0` alone; `document`
-//! with no numbers is a call and lends none from then on; a last line that lacks its newline is of another form;
-//! empty input prints nothing.
+//! with no numbers is a call and lends none from then on, and so it is with `old`, `new` and `replace`; a last line
+//! that lacks its newline is of another form; empty input prints nothing.
 
 use crate::book::Book;
 use crate::bundle::{lines, number, read};
@@ -10,6 +10,8 @@ use crate::bundle::{lines, number, read};
 pub const MOST_BYTES: usize = 65536;
 const MOST_NUMBERS: usize = 1539;
 const MOST_MARKS: u64 = 1024;
+/// The numbers of an `old`, `new` or `replace` line.
+const MOST_LISTED: usize = 100;
 /// What the marks buffer holds before a select.
 const FILL: u8 = 7;
 
@@ -25,7 +27,7 @@ pub fn audit(input: &[u8]) -> String {
     format!("{heading}{answer} {line} {} {left} {right}\n", book.steps.len())
 }
 
-/// A line for each call but document; `10 LINE` at the first line of another form, which ends the run.
+/// A line for each call but document, old and new; `10 LINE` at the first line of another form, which ends the run.
 pub fn replay(input: &[u8]) -> String {
     if input.len() > MOST_BYTES {
         return "10 0\n".to_string();
@@ -45,6 +47,8 @@ pub fn replay(input: &[u8]) -> String {
 struct Run {
     book: Book,
     document: Vec<u16>,
+    old: Vec<u16>,
+    new: Vec<u16>,
 }
 
 impl Run {
@@ -60,6 +64,18 @@ impl Run {
             [b"document", ref numbers @ ..] if numbers.len() <= MOST_NUMBERS => {
                 self.document = numbers.iter().map(|word| small(word)).collect::<Option<_>>()?;
                 return Some(String::new());
+            }
+            [b"old", ref numbers @ ..] if numbers.len() <= MOST_LISTED => {
+                self.old = numbers.iter().map(|word| small(word)).collect::<Option<_>>()?;
+                return Some(String::new());
+            }
+            [b"new", ref numbers @ ..] if numbers.len() <= MOST_LISTED => {
+                self.new = numbers.iter().map(|word| small(word)).collect::<Option<_>>()?;
+                return Some(String::new());
+            }
+            [b"replace", ref numbers @ ..] if numbers.len() <= MOST_LISTED => {
+                let steps: Vec<u16> = numbers.iter().map(|word| small(word)).collect::<Option<_>>()?;
+                self.book.replace(&self.old, &self.new, &steps)
             }
             [b"select", row, context, limit, marks] => {
                 let limit = number(limit, u32::MAX as u64)? as u32;

@@ -273,6 +273,34 @@ fn mistakes_ruled_out() {
     assert_eq!(last(&following(1)), "7 0");
 }
 
+#[test]
+fn lists_replaced() {
+    // child::1 <= child::*, child::* <= child::*, true implies true
+    let held = "term 2 1 0 1\nterm 2 1 1 0\nterm 6 0 0 0\nstep 8 0 1 0 0\nstep 2 1 1 0 0\nstep 2 2 2 0 0\n";
+    assert_eq!(last(held), "0 3");
+    let answer = |old: &str, new: &str, steps: &str| last(&format!("{held}old{old}\nnew{new}\nreplace{steps}\n"));
+    let many = |word: &str, count: usize| format!(" {word}").repeat(count);
+    assert_eq!(answer("", "", ""), "0 0");
+    assert_eq!(answer("", " 1", ""), "0 0");
+    assert_eq!(answer(" 0 1 0", " 9 2 1", " 1 2 1"), "0 0");
+    assert_eq!(answer(&many("0", 64), &many("1", 64), &many("1", 64)), "0 0");
+    assert_eq!(answer(&many("0", 65), " 1", &many("1", 65)), "25 0");
+    assert_eq!(answer("", &many("1", 65), ""), "25 0");
+    assert_eq!(answer(&many("0", 64), " 1", &many("1", 65)), "25 0");
+    assert_eq!(answer(" 0", " 1", " 9 9"), "25 0");
+    assert_eq!(answer(" 0", " 1", ""), "25 0");
+    for (old, new) in [(" 0", " 0 2"), (" 0", ""), (" 1", " 0"), (" 1", " 1")] {
+        assert_eq!(answer(old, new, " 1"), "26 1");
+    }
+    for step in [" 0", " 2", " 3", " 4"] {
+        assert_eq!(answer(" 0", " 1", step), "26 1");
+    }
+    assert_eq!(answer(" 2", " 2", " 3"), "26 1");
+    assert_eq!(answer(" 0 0 0", " 1", " 1 1 2"), "26 3");
+    assert_eq!(last("old 0\nold\nreplace\n"), "0 0");
+    assert_eq!(last(&format!("old{}\n", many("0", 101))), "10 1");
+}
+
 /// The files of the tally tests: 01's example, the same with a second step that isn't yielded, and a text too long.
 fn tally_files(name: &str) -> String {
     let directory = std::env::temp_dir().join(format!("reference-{}-{name}", std::process::id()));

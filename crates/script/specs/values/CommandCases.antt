@@ -10,8 +10,8 @@ use Rattle.lines.specs.Ascii.{ascii}
 use Rattle.lines.specs.Line.{inFirstLine, lines, inFirstPart, parts, sameBytes}
 use Rattle.lines.specs.Number.{isDigit, areDigits, isDecimal, appendDigits, numbersUpTo}
 use Rattle.lines.specs.code.NumbersRead.{firstParts}
-use Rattle.script.specs.Command.{Command, command, term, step, select, document, fresh}
-use Rattle.script.specs.Command.{documentBytes, atMost, named, commandOf}
+use Rattle.script.specs.Command.{Command, command, term, step, select, document, old, new, replace, fresh}
+use Rattle.script.specs.Command.{documentBytes, oldBytes, newBytes, replaceBytes, atMost, named, commandOf}
 
 -- the command of a text's first line
 abbrev first : String → Option Command
@@ -25,6 +25,12 @@ pub commands :
     ∷ first "document 0 0 7\n" is some (command document (0 ∷ 0 ∷ 7 ∷ []))
     ∷ first "document\n" is some (command document [])
     ∷ first "fresh\n" is some (command fresh [])
+    ∷ first "old 3\n" is some (command old (3 ∷ []))
+    ∷ first "old\n" is some (command old [])
+    ∷ first "new 0 65535 0\n" is some (command new (0 ∷ 65535 ∷ 0 ∷ []))
+    ∷ first "new\n" is some (command new [])
+    ∷ first "replace 1 2\n" is some (command replace (1 ∷ 2 ∷ []))
+    ∷ first "replace\n" is some (command replace [])
     ∷ [])
 unfolding ascii commandOf named atMost firstParts lines inFirstLine parts inFirstPart sameBytes numbersUpTo Option·elim
     isDecimal areDigits isDigit appendDigits
@@ -61,20 +67,31 @@ pub no-commands :
     ∷ first "documents\n" is none
     ∷ first "fresh \n" is none
     ∷ first "fresh 0\n" is none
+    -- a list with a space at its end, with 65536, another word
+    ∷ first "old \n" is none
+    ∷ first "new 65536\n" is none
+    ∷ first "replace 1 \n" is none
+    ∷ first "olds 1\n" is none
     ∷ [])
 unfolding ascii commandOf named atMost firstParts lines inFirstLine parts inFirstPart sameBytes numbersUpTo Option·elim
     isDecimal areDigits isDigit appendDigits
 no-commands = refl
 
--- the parts of a document of n zeros
-abbrev zeros : ℕ → List (List ℕ)
-zeros n = documentBytes ∷ replicate n (ascii "0")
+-- the parts of a list of n zeros
+abbrev zeros : List ℕ → ℕ → List (List ℕ)
+zeros word n = word ∷ replicate n (ascii "0")
 
--- 1,539 numbers, and 1,540
-pub longest-document :
+-- 1,539 numbers of a document, and 1,540; 100 of the other lists, and 101
+pub longest-lists :
     AllRight
-    (commandOf (zeros 1539) is some (command document (replicate 1539 0))
-    ∷ commandOf (zeros 1540) is none
+    (commandOf (zeros documentBytes 1539) is some (command document (replicate 1539 0))
+    ∷ commandOf (zeros documentBytes 1540) is none
+    ∷ commandOf (zeros oldBytes 100) is some (command old (replicate 100 0))
+    ∷ commandOf (zeros oldBytes 101) is none
+    ∷ commandOf (zeros newBytes 100) is some (command new (replicate 100 0))
+    ∷ commandOf (zeros newBytes 101) is none
+    ∷ commandOf (zeros replaceBytes 100) is some (command replace (replicate 100 0))
+    ∷ commandOf (zeros replaceBytes 101) is none
     ∷ [])
 unfolding ascii commandOf named atMost sameBytes numbersUpTo Option·elim isDecimal isDigit appendDigits
-longest-document = refl
+longest-lists = refl

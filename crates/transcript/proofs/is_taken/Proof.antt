@@ -27,6 +27,15 @@ enum-told-7 c = search needs
 enum-told-8 : tie.Need-enum-told-8
 enum-told-8 c = search needs
 
+enum-told-9 : tie.Need-enum-told-9
+enum-told-9 c = search needs
+
+enum-told-10 : tie.Need-enum-told-10
+enum-told-10 c = search needs
+
+enum-told-11 : tie.Need-enum-told-11
+enum-told-11 c = search needs
+
 returns : tie.Need-returns
 returns c = search needs
 
@@ -48,6 +57,15 @@ returns-6 c = search needs
 returns-7 : tie.Need-returns-7
 returns-7 c = search needs
 
+returns-8 : tie.Need-returns-8
+returns-8 c = search needs
+
+returns-9 : tie.Need-returns-9
+returns-9 c = search needs
+
+returns-10 : tie.Need-returns-10
+returns-10 c = search needs
+
 pub is-taken-spec : {M : Type 1} → statement M
 is-taken-spec =
     tie.close
@@ -60,10 +78,16 @@ is-taken-spec =
     enum-told-6
     enum-told-7
     enum-told-8
+    enum-told-9
+    enum-told-10
+    enum-told-11
     returns
     returns-2
     returns-3
     returns-4
     returns-5
     returns-6
-    returns-7)
+    returns-7
+    returns-8
+    returns-9
+    returns-10)

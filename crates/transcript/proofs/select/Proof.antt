@@ -9,11 +9,19 @@ use Rattle.transcript.proofs.select.Tie as tie
 filled-marks-requires : tie.Need-filled-marks-requires
 filled-marks-requires c κs = search needs
 
+slice-aggregate-front : tie.Need-slice-aggregate-front
+slice-aggregate-front c = search needs
+
+front-requires : tie.Need-front-requires
+front-requires c κs = search needs
+
 array-borrow-prefix-buffer : tie.Need-array-borrow-prefix-buffer
 array-borrow-prefix-buffer c = search needs
 
 slice-aggregate-select-into : tie.Need-slice-aggregate-select-into
-slice-aggregate-select-into c = sym (length-take-le (c .before .before .before .args .q .marks) (c .before .filled-marks .result) (omega arith))
+slice-aggregate-select-into c =
+    let at-marks = c .before .before .before in
+    sym (length-take-le (at-marks .before .before .args .q .marks) (at-marks .filled-marks .result) (omega arith))
 
 select-into-requires : tie.Need-select-into-requires
 select-into-requires c κs = search needs
@@ -26,6 +34,8 @@ select-spec =
     tie.close
     (tie.spec
     filled-marks-requires
+    slice-aggregate-front
+    front-requires
     array-borrow-prefix-buffer
     slice-aggregate-select-into
     select-into-requires

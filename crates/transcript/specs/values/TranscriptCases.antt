@@ -24,6 +24,8 @@ pub endings :
     ∷ ends Answers "term 1 0 0 0\nterm 1 0 0 0" is 2
     ∷ ends Answers "document\nfresh\n" is 2
     ∷ ends Answers "terms 1 0 0 0\n" is 1
+    -- the lists of a replace, and it
+    ∷ ends Answers "old 0\nnew 1\nreplace 1\nold\nnew\nreplace\nreplaces\n" is 7
     -- the first of two lines that are not taken
     ∷ ends Answers "document\n\nfresh\n" is 2
     -- `fresh`, where nodes are printed; and a word that is none

@@ -1,0 +1,4 @@
+pub mod In
+pub mod Judged
+pub mod ByTerms
+pub mod NoneLost

@@ -1,0 +1,4 @@
+pub mod Covered
+pub mod ReplaceCall
+pub mod NoneLost
+pub mod values
