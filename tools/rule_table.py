@@ -11,12 +11,15 @@ order:
      read from CHANGES instead, a list of requests, each with the words of 02 that say so, which must stand in its text;
   2. crates/rules/specs/RuleTable.antt, with the fixities that specs/Form.antt and specs/Notation.antt declare;
   3. the numbers of crates/rules/src/tables.rt.
-It compares the axis order in the same way: 01's sentence, specs/Order.antt, AXIS_PAIRS.
+It compares the axis order in the same way: 01's sentence, specs/Order.antt, AXIS_PAIRS. Rule 59 is no pattern and none
+of the table's: of it the request's words are looked for, and the axes that have an opposite one are compared: 02's
+sentence, specs/WayBack.antt, OPPOSITES of crates/rules/src/way_back.rt.
 
 Read off 01's text: each rule's number, its conclusion, its premises in order, both directions of `=`, "the same from", and that
 `some p` and `.` stand for terms. Written out here by hand, so that a reader has to look at it: rule 3 for `=>`, rules 22 and 23 (the
-two cases of T), rules 53 and 55 ("so for .."), which phrase is which side condition, the numbers of axes, tests, kinds and letters.
-Not covered: what the words of Notation.antt, the side conditions and the orders mean (specs/Instance.antt, specs/Order.antt: read
+two cases of T), rules 53 and 55 ("so for .."), which phrase is which side condition, which axis is the opposite of
+which, the numbers of axes, tests, kinds and letters. Not covered: the way back but for its axes (specs/WayBack.antt),
+what the words of Notation.antt, the side conditions and the orders mean (specs/Instance.antt, specs/Order.antt: read
 these), and the test order.
 """
 import re, sys
@@ -171,6 +174,13 @@ CHANGES = [
     }, ['attribute']),
 ]
 AXES += [axis for _, _, _, axes in CHANGES for axis in axes]
+# the last rule of the table, and the rule that is none of the table's, with its request's words
+TABLE_RULES, WAY_BACK_RULE = 58, 59
+WAY_BACK = ('T-07', ["Rule 59: r <= r[some w], w being r's way back; other paths get 7.",
+                     'For a::N it is self::N, then the opposite axis with node().', '4 is now for a rule not 1 to 59.'])
+BACK_AXES = re.compile(r'the way back of a path built from axes ([\d, and]+) by composition, union and filter')
+OPPOSITE = {'self': 'self', 'child': 'parent', 'descendant': 'ancestor', 'descendant-or-self': 'ancestor-or-self',
+            'following-sibling': 'preceding-sibling', 'preceding-sibling': 'following-sibling'}
 REFERRING = {3: 'p <= r from p <= q, q <= r; so for =>', 53: 'so for ancestors', 55: 'so for preceding',
              22: '(child::T in V) => (descendant::N in V);', 23: 'the same with parent, ancestor. T is node(), or T is `*` and N a name or `*`'}
 
@@ -196,23 +206,31 @@ def forms_of(rule, text, before):
     return [(rule, (sign, left, right), [], conditions), (rule, (sign, right, left), [], conditions)]
 
 
+def requests(path):
+    return {name: body for name, body in re.findall(r'\*\*(T-\d\d)\.(.*)', open(path, encoding='utf-8').read())}
+
+
 def changed_rules(path):
     """The sentences of the rules that requests change. The words of each request must stand in its paragraph of 02."""
-    text = {name: body for name, body in re.findall(r'\*\*(T-\d\d)\.(.*)', open(path, encoding='utf-8').read())}
-    sentences = {}
-    for request, said, rules, _ in CHANGES:
+    text, sentences = requests(path), {}
+    for request, said, *rules in CHANGES + [WAY_BACK]:
         for words in said:
             if words not in text[request]:
                 raise SystemExit('02: %s has no words %r' % (request, words))
-        sentences.update(rules)
+        sentences.update(rules[0] if rules else {})
     return sentences
+
+
+def request_opposites(path):
+    numbers = re.findall(r'\d+', BACK_AXES.search(requests(path)[WAY_BACK[0]]).group(1))
+    return [(int(a), AXES.index(OPPOSITE[AXES[int(a)]])) for a in numbers]
 
 
 def document(path, changed):
     text = open(path, encoding='utf-8').read().split('## Rules')[1].split('A step is `rule left')[0]
     body = ' '.join(line[2:].strip() for line in text.split('\n') if line.startswith('- '))
     starts, at = [], 0
-    for rule in range(1, 59):
+    for rule in range(1, TABLE_RULES + 1):
         match = re.compile(r'(?:^|(?<=[.;] ))%d (?=\S)' % rule).search(body, at)
         if not match:
             raise SystemExit('01: no rule %d' % rule)
@@ -220,7 +238,7 @@ def document(path, changed):
         at = match.end()
     starts.append((len(body), 0))
     forms = []
-    for rule in range(1, 59):
+    for rule in range(1, TABLE_RULES + 1):
         sentence = re.sub(r'\.$', '', body[starts[rule - 1][1]:starts[rule][0]].strip())
         if rule in REFERRING and sentence != REFERRING[rule]:
             raise SystemExit('01: rule %d reads %r' % (rule, sentence))
@@ -343,8 +361,8 @@ def specification(folder):
     return forms
 
 
-def specification_axes(folder):
-    text = open(folder + '/Order.antt', encoding='utf-8').read().split('axisPairs =')[1].split('[]')[0]
+def specification_axes(folder, file='Order', name='axisPairs'):
+    text = open('%s/%s.antt' % (folder, file), encoding='utf-8').read().split(name + ' =')[1].split('[]')[0]
     return [(AXES.index(a), AXES.index(b)) for a, b in re.findall(r'\(([a-z-]+), ([a-z-]+)\)', text)]
 
 
@@ -357,6 +375,12 @@ def entries(path, name):
 
 def pairs_of(path, name):
     return [(int(a), int(b)) for a, b in re.findall(r'\[(\d+), (\d+)\]', entries(path, name))]
+
+
+def opposites_of(path, name):
+    text = open(path, encoding='utf-8').read().split('const %s:' % name)[1].split('= [', 1)[1].split('];')[0]
+    number = lambda word: AXES.index(word.lower().replace('_', '-'))
+    return [(number(a), number(b)) for a, b in re.findall(r'\[axis::(\w+), axis::(\w+)\]', text)]
 
 
 def fours_of(path, name):
@@ -511,7 +535,7 @@ pub const TABLE: [u64; %d] = [
 def print_constants(specs):
     word = lambda row: '_'.join('%03d' % x for x in row).lstrip('0_') or '0'
     forms, pairs = specification(specs), specification_axes(specs)
-    rules, coded, patterns = encoded(forms, 58)
+    rules, coded, patterns = encoded(forms, TABLE_RULES)
     table = rules + coded + patterns
     axes = ''.join('    [%d, %d], // %s, %s\n' % (a, b, AXES[a], AXES[b]) for a, b in pairs)
     lines = ''.join('    %s, // %s\n' % (word(row), words) for row, words in table)
@@ -532,18 +556,26 @@ def compare(what, left, right, found):
 
 
 def main():
-    specs, code = 'crates/rules/specs', 'crates/rules/src/tables.rt'
+    specs, code, way_back = 'crates/rules/specs', 'crates/rules/src/tables.rt', 'crates/rules/src/way_back.rt'
     if sys.argv[1:] == ['--constants']:
         return print_constants(specs)
     if len(sys.argv) != 3:
         raise SystemExit(__doc__)
     changed = changed_rules(sys.argv[2])
     forms, pairs = document(sys.argv[1], changed), document_axes(sys.argv[1])
+    opposites = request_opposites(sys.argv[2])
     checks = [compare('forms of the papers and of RuleTable.antt', forms, specification(specs), forms),
               compare('forms of the papers and of tables.rt', forms, constants(code), forms),
               compare('axis pairs of the papers and of Order.antt', pairs, specification_axes(specs), pairs),
-              compare('axis pairs of the papers and of tables.rt', pairs, pairs_of(code, 'AXIS_PAIRS'), pairs)]
+              compare('axis pairs of the papers and of tables.rt', pairs, pairs_of(code, 'AXIS_PAIRS'), pairs),
+              compare('opposite axes of 02 and of WayBack.antt', opposites,
+                      specification_axes(specs, 'WayBack', 'opposites'), opposites),
+              compare('opposite axes of 02 and of way_back.rt', opposites,
+                      opposites_of(way_back, 'OPPOSITES'), opposites)]
+    if number_of(way_back, 'WAY_BACK_RULE') != WAY_BACK_RULE:
+        raise SystemExit('way_back.rt: the rule that is none of the table\'s is another one')
     print('rules %d to %d; written out by hand: 3 for =>, 22, 23, 53, 55, and the phrases of the side conditions' % (forms[0][0], forms[-1][0]))
+    print('rule %d is none of the table\'s: %s' % (WAY_BACK_RULE, WAY_BACK[0]))
     for request, _, rules, axes in CHANGES:
         print('%s changes rules %s%s' % (request, ', '.join(map(str, sorted(rules))), ''.join('; it adds axis ' + axis for axis in axes)))
     sys.exit(0 if all(checks) else 1)

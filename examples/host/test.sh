@@ -123,7 +123,7 @@ answers 11 '1,025 rows'
 answers 1 'kind 12 where the terms are full'
 # 4: rule
 text 4 'rule 0' "$T$R${S}0 0 1 0 0\n"
-text 4 'rule 59 with rows not held' "$T$R${S}59 7 7 7 7\n"
+text 4 'rule 60 with rows not held' "$T$R${S}60 7 7 7 7\n"
 # 5: sides
 text 5 'left not held' "$T$R${S}8 2 1 0 0\n"
 text 5 'right not held' "$T$R${S}8 0 2 0 0\n"
@@ -208,8 +208,8 @@ text 7 'step not yielded before a bad form' "$T$R${S}8 1 0 0 0\n8\n"
 answers 11 '60,000 rows'
 { terms; rows 1 1; steps; lines 100000 '2 0 0 0 0'; } >$bundle
 answers 13 '100,000 steps'
-{ terms; rows 1 1; steps; lines 2048 '2 0 0 0 0'; lines 100000 '59 0 0 0 0'; } >$bundle
-answers 4 '100,000 steps of rule 59 after the last'
+{ terms; rows 1 1; steps; lines 2048 '2 0 0 0 0'; lines 100000 '60 0 0 0 0'; } >$bundle
+answers 4 '100,000 steps of rule 60 after the last'
 lines 100000 'kind a b c' >$bundle
 answers 10 '100,000 names lines'
 { terms; lines 1000000 1 | tr -d '\n'; echo; } >$bundle

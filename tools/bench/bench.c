@@ -1,6 +1,7 @@
 /* Measures the proved read against the reference's on one bundle, and the proved selection against libxml2's XPath with compiled
  * expressions on a document nested 500 levels and on a flat one: on a tree that stands already, and with the parsing of the document's
- * text. Then the longest time of one visit. Prints tables in Markdown. run.sh builds and runs it. */
+ * text. Then the longest time of one visit. After the bundle, one term call and one step call by rule 59. Prints tables in
+ * Markdown. run.sh builds and runs it. */
 
 #include "spinebriar.h"
 #include <libxml/parser.h>
@@ -125,6 +126,104 @@ static void bench_read(const char *file) {
     printf("| bundle | reference min | median | ours min | median | ratio of min | of median |\n|---|---|---|---|---|---|---|\n");
     bench_bundle("1,024 rows and 2,048 steps", (Bundle){bytes, length});
     bench_bundle("its rows alone", (Bundle){bytes, without_steps((const char *)bytes)});
+}
+
+/* One call of a bundle */
+
+typedef struct {
+    char text[65536 + 64];
+    size_t length;
+    int rows;
+} Text;
+
+static void add_line(Text *t, const char *line) {
+    size_t length = strlen(line);
+    check(t->length + length < sizeof t->text, "the bundle is too long");
+    memcpy(t->text + t->length, line, length + 1);
+    t->length += length;
+}
+
+/* Adds a row; its number. */
+static int add_row(Text *t, int kind, int a, int b, int c) {
+    char line[64];
+    snprintf(line, sizeof line, "%d %d %d %d\n", kind, a, b, c);
+    if (t->length == 0) add_line(t, "kind a b c\n");
+    add_line(t, line);
+    return t->rows++;
+}
+
+/* A path and its way back. */
+typedef struct {
+    int path, back;
+} Pair;
+
+/* child::NAME */
+static Pair add_child(Text *t, int parent, int name) {
+    int self = add_row(t, 2, 0, 0, name);
+    return (Pair){add_row(t, 2, 1, 0, name), add_row(t, 4, self, parent, 0)};
+}
+
+static Pair compose(Text *t, Pair p, Pair q) {
+    return (Pair){add_row(t, 4, p.path, q.path, 0), add_row(t, 4, q.back, p.back, 0)};
+}
+
+/* levels compositions, each of the one before with itself: 2^levels leaves */
+static Pair doubled(Text *t, int levels) {
+    Pair p = add_child(t, add_row(t, 2, 2, 2, 0), 1);
+    for (int i = 0; i < levels; i++) p = compose(t, p, p);
+    return p;
+}
+
+/* a composition of count steps, no two the same, put together two by two */
+static Pair balanced(Text *t, int parent, int first, int count) {
+    if (count == 1) return add_child(t, parent, first);
+    Pair p = balanced(t, parent, first, count / 2);
+    return compose(t, p, balanced(t, parent, first + count / 2, count - count / 2));
+}
+
+static double read_us(const Text *t, double *median) {
+    Timing side = {.call = run_read};
+    Bundle bundle = {(uint8_t *)t->text, t->length};
+    measure(&side, 1, &bundle);
+    *median = median_us(&side);
+    return min_us(&side);
+}
+
+/* One of the calls by which two bundles differ. */
+static void print_difference(const char *what, const Text *with, const Text *without, int calls) {
+    double median[2], min[2] = {read_us(without, &median[0]), read_us(with, &median[1])};
+    printf("| %s | %.3f | %.3f |\n", what, (min[1] - min[0]) / calls, (median[1] - median[0]) / calls);
+}
+
+/* A step by rule 59, r <= r[some w], beside the same rows with no step. */
+static void bench_way_back(const char *what, Text *t, Pair p) {
+    enum { STEPS = 2048 };
+    static Text with;
+    char line[64];
+    int inside = add_row(t, 11, p.back, add_row(t, 0, 0, 0, 0), 0);
+    int right = add_row(t, 5, p.path, add_row(t, 8, inside, 0, 0), 0);
+    add_line(t, "rule left right first second\n");
+    with = *t;
+    snprintf(line, sizeof line, "59 %d %d 0 0\n", p.path, right);
+    for (int i = 0; i < STEPS; i++) add_line(&with, line);
+    print_difference(what, &with, t, STEPS);
+}
+
+static void bench_calls(void) {
+    enum { ROWS = 1024, LAST = 24 };
+    static Text fewer, full, deep, wide;
+    printf("\nOne call of a bundle, in microseconds:\n\n| call | min | median |\n|---|---|---|\n");
+    for (int i = 0; i < ROWS; i++) {
+        if (i < ROWS - LAST) add_row(&fewer, 2, 1, 0, i + 1);
+        add_row(&full, 2, 1, 0, i + 1);
+    }
+    add_line(&fewer, "rule left right first second\n");
+    add_line(&full, "rule left right first second\n");
+    print_difference("a term, the last 24 of 1,024 rows", &full, &fewer, LAST);
+    bench_way_back("a step by rule 59, 27 compositions, each of the one before with itself: 2^27 leaves", &deep,
+                   doubled(&deep, 27));
+    bench_way_back("a step by rule 59, 128 steps of a path, no two the same", &wide,
+                   balanced(&wide, add_row(&wide, 2, 2, 2, 0), 1, 128));
 }
 
 /* Documents */
@@ -420,6 +519,7 @@ static void bench_visits(const Document *d) {
 int main(int argc, char **argv) {
     check(argc == 2, "usage: bench BUNDLE");
     bench_read(argv[1]);
+    bench_calls();
     static Document documents[2], shapes[3];
     make_nested(&documents[0]);
     make_flat(&documents[1]);

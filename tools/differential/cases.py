@@ -9,14 +9,14 @@ import re
 import sys
 from collections import namedtuple
 
-from rules import (AXES, AXIS_LETTERS, DEEPEST, FORMS, KINDS, MOST_ROWS, MOST_STEPS, NAMED, PATH_LETTERS, ROOT,
-                   TEST_LETTERS, VOID, Book, Term, below, condition, fill, inclusion, looser_forms, match, match_both,
-                   step)
+from rules import (AXES, AXIS_LETTERS, DEEPEST, FORMS, KINDS, MISTAKES, MOST_ROWS, MOST_STEPS, NAMED, OPPOSITE,
+                   PATH_LETTERS, ROOT, TEST_LETTERS, VOID, WAY_BACK, Book, Term, below, condition, fill, inclusion,
+                   looser_forms, match, match_both, some, step, way_back)
 
 MOST_BYTES, MOST_NODES, MOST_NUMBERS, MOST_MARKS, MOST_LIMIT = 65536, 512, 1539, 1024, 4294967295
 MOST_REPLACED, MOST_LISTED = 64, 100
 NAMES = [1, 2, 3, 65535]
-EDGES = [0, 1, 2, 3, 5, 6, 7, 10, 11, 12, 31, 32, 33, 58, 59, 511, 512, 513, 1023, 1024, 1025, 2047, 2048, 2049,
+EDGES = [0, 1, 2, 3, 5, 6, 7, 10, 11, 12, 31, 32, 33, 58, 59, 60, 511, 512, 513, 1023, 1024, 1025, 2047, 2048, 2049,
          65534, 65535]
 FORMS_WITH_PREMISES = [form for form in FORMS if form[2]]
 CONDITIONED = (8, 10, 22, 23, 26, 58)
@@ -166,9 +166,32 @@ class Session:
                     return place + 1
         return self.axiom(statement, letters)
 
+    def reversible(self, depth):
+        """A path that has a way back."""
+        rng = self.rng
+        if depth == 0 or rng.random() < 0.3:
+            return step(rng.choice(list(OPPOSITE)), self.test())
+        left, kind = self.reversible(depth - 1), rng.choice(["union", "composition", "composition", "filter"])
+        return Term(kind, left, self.qualifier(depth - 1) if kind == "filter" else self.reversible(depth - 1))
+
+    def derive_way_back(self, near_misses):
+        """A step by the rule of the way back, or nearly one."""
+        rng = self.rng
+        path = self.reversible(3) if rng.random() < 0.7 else self.any_term(True)
+        back = way_back(path, rng.choice(MISTAKES) if rng.random() < near_misses else None) or way_back(path, "admit")
+        if rng.random() < near_misses / 2:
+            back = self.altered(back)
+        said = [path, path[some(back)]]
+        if rng.random() < near_misses / 4:
+            other = self.any_term(True)[some(back)]
+            said = rng.choice([said[::-1], [path, path], [path, path[~some(back)]], [path, other]])
+        self.say(WAY_BACK, said, (rng.randrange(2), 0) if rng.random() < near_misses / 8 else ())
+
     def derive(self, near_misses=0.35):
         """A step by a random form of a rule, or nearly one."""
         rng = self.rng
+        if rng.random() < 0.08:
+            return self.derive_way_back(near_misses)
         letters, part, new = {}, None, None
         if rng.random() >= near_misses:
             form = rng.choice(FORMS if rng.random() < 0.6 else FORMS_WITH_PREMISES)
@@ -207,7 +230,7 @@ class Session:
         numbers = [n or 0 for n in numbers]
         for _ in range(self.rng.choice([1, 1, 2])):
             place = self.rng.randrange(5)
-            held = len(self.book.rows) if place in (1, 2) else 58 if place == 0 else len(self.book.steps)
+            held = len(self.book.rows) if place in (1, 2) else 59 if place == 0 else len(self.book.steps)
             numbers[place] = self.rng.choice([self.rng.randrange(held + 2), self.rng.choice(EDGES), numbers[place] ^ 1])
         if self.rng.random() < 0.2:
             place = self.rng.choice([1, 3])

@@ -149,7 +149,8 @@ def table():
 
 
 FORMS = [(rule, conclusion, premises) for rule, conclusions, premises in table() for conclusion in conclusions]
-PREMISES = {50: 0} | {rule: len(premises) for rule, _, premises in FORMS}
+WAY_BACK = 59
+PREMISES = {50: 0, WAY_BACK: 0} | {rule: len(premises) for rule, _, premises in FORMS}
 
 ATTRIBUTE = 11
 AXIS_BELOW = {(a, a) for a in range(12)} | {
@@ -176,6 +177,42 @@ def condition(rule, letters):
     if rule == 58:
         return letters["a"] != ATTRIBUTE
     return True
+
+
+OPPOSITE = {0: 0, 1: 2, 3: 4, 5: 6, 7: 8, 8: 7}
+# what a wrong way back may take for the axes that have none
+WRONG_OPPOSITE = {2: 1, 4: 3, 6: 5, 9: 10, 10: 9, 11: 2}
+MISTAKES = ("order", "union", "filter", "axis", "star", "test", "admit")
+
+
+def way_back(path, mistake=None, made=None):
+    """The path's way back, nothing where it has none; with a mistake, if one is asked for."""
+    made = {} if made is None else made
+    if path not in made:
+        made[path] = way_back_new(path, mistake, made)
+    return made[path]
+
+
+def way_back_new(path, mistake, made):
+    if path.kind == "step":
+        axis, test = path.args
+        back = OPPOSITE.get(axis, WRONG_OPPOSITE.get(axis) if mistake == "admit" else None)
+        if back is None:
+            return None
+        if mistake == "axis":
+            back = {2: 4, 4: 2, 6: 4, 8: 10, 7: 9}.get(back, 5)
+        return step(0, NODE if mistake == "test" else test) / step(back, STAR if mistake == "star" else NODE)
+    if path.kind in ("union", "composition"):
+        p, q = (way_back(x, mistake, made) for x in path.args)
+        if p is None or q is None:
+            return None
+        if path.kind == "union":
+            return q | p if mistake == "union" else p | q
+        return p / q if mistake == "order" else q / p
+    if path.kind == "filter":
+        p = way_back(path.args[0], mistake, made)
+        return p if p is None or mistake == "filter" else step(0, NODE)[path.args[1]] / p
+    return step(0, NODE) if mistake == "admit" else None
 
 
 def match(pattern, term, letters):
@@ -312,6 +349,10 @@ class Book:
 
 
 def yields(rule, conclusion, premises):
+    if rule == WAY_BACK:
+        left, right = conclusion
+        back = way_back(left) if left.is_path() else None
+        return back is not None and right is left[some(back)]
     for number, pattern, patterns in FORMS:
         letters = {}
         if (number == rule and match_both(pattern, conclusion, letters)

@@ -82,7 +82,7 @@ class Tally:
         for call in ("term", "step", "select", "replace", "line", "read"):
             numbers = sorted((number, count) for (word, number), count in self.answers.items() if word == call)
             print(f"  {call}: " + ", ".join(f"{count} answered {number}" for number, count in numbers))
-        print("  accepted steps by rule: " + ", ".join(f"{rule}: {self.rules[rule]}" for rule in range(1, 59)))
+        print("  accepted steps by rule: " + ", ".join(f"{rule}: {self.rules[rule]}" for rule in range(1, 60)))
 
 
 def predicted(case, printed):

@@ -170,7 +170,7 @@ def must_print(expected):
     kind, n = expected
     if kind == "refused":
         return f"17 {n}\n".encode()
-    lines = "".join(f"{rule} {n if rule == 8 else 0}\n" for rule in range(1, 59))
+    lines = "".join(f"{rule} {n if rule == 8 else 0}\n" for rule in range(1, 60))
     return f"rule uses\n{lines}0 {n}\n".encode()
 
 

@@ -13,7 +13,7 @@ bad-field = 2
 abbrev pub too-deep : ℕ
 too-deep = 3
 
--- rule not 1 to 58
+-- rule not 1 to 59
 abbrev pub no-rule : ℕ
 no-rule = 4
 

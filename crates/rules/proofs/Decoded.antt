@@ -12,7 +12,7 @@ use Rattle.common.proofs.Reflect.{le-or-lt}
 use Rattle.common.specs.Lists.{allOf}
 use Rattle.rules.specs.Form.{Form, Rule}
 use Rattle.rules.specs.RuleTable.{rules}
-use Rattle.rules.specs.Yields.{maxRule, formsIn, formsOf, firstCount, premiseCount}
+use Rattle.rules.specs.Yields.{tableRules, formsIn, formsOf, firstCount, premiseCount}
 use Rattle.rules.specs.code.Pattern.{pathLetter, qualifierLetter, axisLetter, testLetter, nameLetter}
 use Rattle.rules.specs.code.Pattern.{axisPattern, testPattern, namePattern, pathPattern, claimPattern}
 use Rattle.rules.specs.code.Pattern.{FormPattern, formPattern, formPatterns}
@@ -46,28 +46,30 @@ same-below f g (suc k) n q h =
     (λ l. same-below f g k n (tail-eq-of-cons-eq q) l)
     (le-or-lt k n)
 
-decoded : valuesBelow tabled (suc maxRule) ≡ valuesBelow ruled (suc maxRule)
+decoded : valuesBelow tabled (suc tableRules) ≡ valuesBelow ruled (suc tableRules)
 unfolding valuesBelow rules formsOf formsIn premiseCount firstCount formPattern claimPattern pathPattern axisPattern
     testPattern namePattern pathLetter qualifierLetter axisLetter testLetter nameLetter ruleForms ruleAt formsFrom formAt premisesAt
     conditionsOf conditionOf decode patternAt unpacked firstPattern formPatterns ruleTable
 decoded = refl
 
-no-forms : (n : ℕ) (rs : List Rule) → T (allOf (λ r. leb (r .number) maxRule) rs) → maxRule < n → formsIn rs n ≡ []
+no-forms : (n : ℕ) (rs : List Rule) → T (allOf (λ r. leb (r .number) tableRules) rs) → tableRules < n →
+    formsIn rs n ≡ []
 unfolding allOf formsIn
 no-forms n [] t h = refl
 no-forms n (r ∷ rs) t h =
-    let u = and-yes (leb (r .number) maxRule) (allOf (λ r. leb (r .number) maxRule) rs) t in
-    let l : r .number ≤ maxRule = leb-yes (u .0) in
+    let u = and-yes (leb (r .number) tableRules) (allOf (λ r. leb (r .number) tableRules) rs) t in
+    let l : r .number ≤ tableRules = leb-yes (u .0) in
     rw (ne-eqb (r .number) n (λ e. omega arith)) (no-forms n rs (u .1) h)
 
 -- past the last rule
-none-known : (n : ℕ) → maxRule < n → tabled n ≡ ruled n
+none-known : (n : ℕ) → tableRules < n → tabled n ≡ ruled n
 unfolding ruleForms ruleAt formsFrom formsOf premiseCount firstCount allOf rules
-none-known n h = rw (lt-ltb maxRule n h, no-forms n rules tt h)
+none-known n h = rw (lt-ltb tableRules n h, no-forms n rules tt h)
 
 known : (n : ℕ) → tabled n ≡ ruled n
 known n =
-    ⊎-elim (λ h. none-known n h) (λ h. same-below tabled ruled (suc maxRule) n decoded h) (le-or-lt (suc maxRule) n)
+    ⊎-elim (λ h. none-known n h) (λ h. same-below tabled ruled (suc tableRules) n decoded h)
+    (le-or-lt (suc tableRules) n)
 
 pub forms-known : (n : ℕ) → ruleForms ruleTable n ≡ map (formPattern n) (formsOf n)
 forms-known n = ap (λ k. k .forms) (known n)

@@ -5,13 +5,17 @@ use mathlib.Core.Bool.{Bool, true, false, _||_}
 use mathlib.Core.List.{List, [], _∷_}
 use native.Mathlib.Omega.{arith}
 use lib.ListN.{take}
+use borrow.Author.Tests.{ne-eqb}
+use Rattle.common.proofs.Reflect.{or-false}
 use Rattle.terms.specs.Row.{Row}
 use Rattle.common.specs.Lists.{anyOf}
-use Rattle.rules.specs.Yields.{premiseCount}
+use Rattle.rules.specs.RuleTable.{rules}
+use Rattle.rules.specs.Yields.{formsIn, formsOf, wayBackRule, firstCount, premiseCount}
 use Rattle.rules.specs.code.Pattern.{FormPattern}
 use Rattle.rules.specs.code.Encode.{ruleTable}
 use Rattle.rules.specs.code.Unpack.{Entry, formAt, formsFrom, ruleAt, ruleForms}
-use Rattle.rules.specs.code.RowYields.{Sides, formYields, rowYields}
+use Rattle.rules.specs.code.RowWayBack.{isWithBack}
+use Rattle.rules.specs.code.RowYields.{Sides, formYields, formsYield, wayBackYields, rowYields}
 use Rattle.rules.proofs.Decoded.{forms-known, premises-known}
 
 module _ (f : FormPattern → Bool) (t : List ℕ) (count n₀ place : ℕ) where
@@ -42,9 +46,23 @@ module _ (f : FormPattern → Bool) (t : List ℕ) (count n₀ place : ℕ) wher
 pub rule-way : (rs : List Row) (s : Sides) (ss : List Sides) (n : ℕ) {t : List ℕ} {f : Entry} {r : Bool}
     → t ≡ ruleTable → f ≡ ruleAt t n
     → r ≡ anyOf (formYields rs s (take (f .third) ss)) (formsFrom t (f .third) (f .second) (f .first))
-    → r ≡ rowYields rs n s (take (premiseCount n) ss)
-unfolding rowYields ruleForms
+    → r ≡ formsYield rs n s (take (premiseCount n) ss)
+unfolding formsYield ruleForms
 rule-way rs s ss n {t} e q p =
     let known = ap (λ t. ruleAt t n .third) e ∙ premises-known n in
     let forms = ap (λ t. ruleForms t n) e ∙ forms-known n in
     (rw q at p) ∙ ap₂ (λ k ws. anyOf (formYields rs s (take k ss)) ws) known forms
+
+-- the rule that is none of the table's has no form and no premise
+pub way-back-way : (rs : List Row) (s : Sides) (ss : List Sides) (n : ℕ) {r : Bool} → n ≡ wayBackRule →
+    r ≡ isWithBack rs (s .left) (s .right)
+    → r ≡ rowYields rs n s (take (premiseCount n) ss)
+unfolding rowYields formsYield wayBackYields anyOf premiseCount firstCount formsOf formsIn rules
+way-back-way rs s ss n e q = q ∙ ap (λ n. rowYields rs n s (take (premiseCount n) ss)) (sym e)
+
+-- another rule is the table's
+pub other-rule-way : (rs : List Row) (s : Sides) (ss : List Sides) (n : ℕ) {r : Bool} → ¬ (n ≡ wayBackRule) →
+    r ≡ formsYield rs n s ss
+    → r ≡ rowYields rs n s ss
+unfolding rowYields wayBackYields
+other-rule-way rs s ss n h q = q ∙ sym (rw (ne-eqb n wayBackRule h) (or-false (formsYield rs n s ss)))

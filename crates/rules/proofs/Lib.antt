@@ -2,6 +2,7 @@ pub mod RuleSound
 pub mod Orders
 pub mod Rules
 pub mod AxisRules
+pub mod WayBackSound
 pub mod Sound
 mod AxisOrder
 mod Decoded
@@ -9,6 +10,8 @@ mod FormSearch
 mod Agreement
 mod Letters
 mod RowForms
+mod RowWayBack
+mod WayBackRows
 pub mod RowYields
 mod Matching
 mod Conditions

@@ -25,7 +25,8 @@ use Rattle.rules.specs.Order.{axisPairs, isPair, axisBelow, testBelow}
 use Rattle.common.proofs.Entries.{_&_}
 
 -- what is true of every pair of a list is true of each
-pair-at : (P : ℕ → ℕ → Type 0) (es : List (ℕ × ℕ)) → Every (λ (e : ℕ × ℕ). P (e .0) (e .1)) es → (a b : ℕ) → T (isPair es a b) → P a b
+pub pair-at : (P : ℕ → ℕ → Type 0) (es : List (ℕ × ℕ)) → Every (λ (e : ℕ × ℕ). P (e .0) (e .1)) es → (a b : ℕ) →
+    T (isPair es a b) → P a b
 unfolding isPair
 pair-at P [] h a b t = absurd t
 pair-at P (e ∷ es) h a b t =

@@ -5,11 +5,12 @@ use mathlib.Core.Bool.{Bool, false, _&&_, _||_}
 use mathlib.Core.List.{List, [], _∷_, map, List·Memᴰ, head-eq-of-cons-eq, tail-eq-of-cons-eq, cons-ne-nil}
 use mathlib.Core.Logic.{_↔_, _⊎_, ⊎-elim}
 use native.Mathlib.Omega.{arith}
-use lib.Dec.{T, ltb}
+use lib.Dec.{T, ltb, eqb}
 use lib.ListN.{length, getD, replicate, List·getD-eq-default}
-use mir.Facts.{and-yes, yes-and}
+use mir.Facts.{and-yes, yes-and, eqb-yes, yes-eqb}
 use borrow.Author.Tests.{lt-leb}
 use Rattle.common.proofs.Reflect.{facts, true-iff, and-iff, or-via, le-or-lt}
+use Rattle.xpath.specs.Term.{Filter, some-of}
 use Rattle.terms.specs.Row.{Row, rowAt}
 use Rattle.terms.specs.Fields.{isPath, isQualifier, heldPath, heldQualifier}
 use Rattle.terms.specs.Terms.{pathAt, qualifierAt}
@@ -18,14 +19,19 @@ use Rattle.common.specs.Lists.{allOf, anyOf, Every}
 use Rattle.rules.specs.Form.{ClaimForm, _<=_, _=>_, Condition, a-below-b, N-below-M, b-from-3-to-10, N-a-name-or-star, N-not-node, a-not-attribute, Form}
 use Rattle.rules.specs.Claim.{Containment, Implication, says}
 use Rattle.rules.specs.Instance.{Letters, claimFor, meets}
-use Rattle.rules.specs.Yields.{formsOf, Yields}
+use Rattle.rules.specs.WayBack.{wayBack}
+use Rattle.rules.specs.Yields.{formsOf, FormYields, wayBackRule, WayBackYields, Yields}
 use Rattle.rules.specs.LettersRead.{claimForms}
 use Rattle.rules.specs.Decision.{settled, any-of-yes, yes-any-of}
 use Rattle.rules.specs.code.Pattern.{letterCount, claimPattern, formPattern}
-use Rattle.rules.specs.code.RowYields.{Sides, oneSort, saysOf, Match, suits, matchClaims, emptyMatch, numbersIn, matchForm, formYields, rowYields}
+use Rattle.rules.specs.code.RowYields.{Sides, oneSort, saysOf, Match, suits, matchClaims, emptyMatch}
+use Rattle.rules.specs.code.RowYields.{numbersIn, matchForm, formYields, formsYield, wayBackYields, rowYields}
+use Rattle.rules.specs.code.RowWayBack.{isWithBack}
 use Rattle.rules.proofs.Agreement.{IsClaim, AreClaims, claims-map, Sized, claims-sized, Agrees, match-claims-iff}
-use Rattle.rules.proofs.Letters.{Means, means-small, means-one, lettersOf, value-means}
+use Rattle.rules.proofs.Letters.{Means, means-small, means-one, lettersOf, value-means, held-path}
+use Rattle.rules.proofs.Letters.{held-qualifier}
 use Rattle.rules.proofs.RowForms.{path-instance, qualifier-instance}
+use Rattle.rules.proofs.WayBackRows.{with-back-iff}
 
 pub says-paths : (rs : List Row) (l r : ℕ) → T (heldPath rs l) → says rs l r ≡ Containment (pathAt rs l) (pathAt rs r)
 unfolding says heldPath
@@ -151,7 +157,8 @@ module _ {rs : List Row} (built : Built rs) (n : ℕ) (s : Sides) (ss : List Sid
   conditions-same : (cs : List Condition) (m : Match) → allOf (meets (numbersIn (m .value))) cs ≡ allOf (meets (lettersOf rs (m .value))) cs
   conditions-same cs m = all-of-same (meets (numbersIn (m .value))) (meets (lettersOf rs (m .value))) (numbers-meet rs m) cs
 
-  form-yields : {w : Form} → List·Memᴰ w (formsOf n) → T (formYields rs s ss (formPattern n w)) → Yields n (saysOf rs s) (map (saysOf rs) ss)
+  form-yields : {w : Form} → List·Memᴰ w (formsOf n) → T (formYields rs s ss (formPattern n w)) →
+      FormYields n (saysOf rs s) (map (saysOf rs) ss)
   unfolding formYields matchForm formPattern matchClaims
   form-yields {w} i t =
       let m : Match = matched rs (claimForms w) (s ∷ ss) in
@@ -166,7 +173,7 @@ module _ {rs : List Row} (built : Built rs) (n : ℕ) (s : Sides) (ss : List Sid
         premises = tail-eq-of-cons-eq q;
       }
 
-  yields-form : (y : Yields n (saysOf rs s) (map (saysOf rs) ss)) → T (formYields rs s ss (formPattern n (y .form)))
+  yields-form : (y : FormYields n (saysOf rs s) (map (saysOf rs) ss)) → T (formYields rs s ss (formPattern n (y .form)))
   unfolding formYields matchForm formPattern matchClaims
   yields-form y =
       let w : Form = y .form in
@@ -176,17 +183,90 @@ module _ {rs : List Row} (built : Built rs) (n : ℕ) (s : Sides) (ss : List Sid
       let p = settled n (y .of-rule) (y .letters) (lettersOf rs (m .value)) (q ∙ sym (matched-says built (claimForms w) (s ∷ ss) (sort, sorts) f)) in
       yes-and (m .fits) (allOf (meets (numbersIn (m .value))) (w .conditions)) f (subst T (p ∙ sym (conditions-same (w .conditions) m)) (y .conditions))
 
+no-entries : {A : Type 0} (xs : List A) → length xs ≡ 0 → xs ≡ []
+no-entries [] e = refl
+no-entries (x ∷ xs) e = absurd (omega arith)
+
 any-of-map : {A B : Type 0} (f : B → Bool) (g : A → B) (xs : List A) → anyOf f (map g xs) ≡ anyOf (λ x. f (g x)) xs
 unfolding anyOf
 any-of-map f g [] = refl
 any-of-map f g (x ∷ xs) = ap (λ b. f (g x) || b) (any-of-map f g xs)
+
+module _ {rs : List Row} (built : Built rs) (n : ℕ) (s : Sides) (ss : List Sides) (sort : T (oneSort rs s))
+    (sorts : Every (λ s. T (oneSort rs s)) ss) where
+  forms-yield-iff : T (formsYield rs n s ss) ↔ FormYields n (saysOf rs s) (map (saysOf rs) ss)
+  unfolding formsYield
+  forms-yield-iff =
+      let q = any-of-map (formYields rs s ss) (formPattern n) (formsOf n) in (
+        λ t. let (w, i, u) = any-of-yes (λ w. formYields rs s ss (formPattern n w)) (formsOf n)
+            (subst T q t) in form-yields built n s ss sort sorts i u,
+        λ y. subst T (sym q) (yes-any-of (λ w. formYields rs s ss (formPattern n w)) (formsOf n) (y .of-rule)
+            (yields-form built n s ss sort sorts y)),
+      )
+
+module _ {rs : List Row} (built : Built rs) (n : ℕ) (s : Sides) (ss : List Sides) (sort : T (oneSort rs s)) where
+  -- the rows of a step that the way back yields are paths
+  paths-yield : T (heldPath rs (s .left)) → T (heldPath rs (s .right)) → n ≡ wayBackRule → ss ≡ [] →
+      T (isWithBack rs (s .left) (s .right)) →
+      WayBackYields n (saysOf rs s) (map (saysOf rs) ss)
+  paths-yield l r e none t =
+      let (w, back, q) = with-back-iff built (s .left) (s .right) (held-path rs (s .left) l)
+      (held-path rs (s .right) r) .0 t in
+      record {
+        rule = e;
+        path = pathAt rs (s .left);
+        back = w;
+        is-way-back = back;
+        conclusion = ap (Containment (pathAt rs (s .left))) q ∙ sym (says-paths rs (s .left) (s .right) l);
+        premises = sym (ap (map (saysOf rs)) none);
+      }
+
+  no-qualifiers : T (heldQualifier rs (s .right)) → ¬ (T (isWithBack rs (s .left) (s .right)))
+  unfolding isWithBack
+  no-qualifiers h t =
+      let r = held-qualifier rs (s .right) h in
+      let u = simp facts at t in
+      absurd (omega (arith, r .1 .0, u .0 .0 .0))
+
+  yields-paths : (y : WayBackYields n (saysOf rs s) (map (saysOf rs) ss)) → T (isWithBack rs (s .left) (s .right))
+  yields-paths y =
+      ⊎-elim
+      (λ (l, r).
+      let c = y .conclusion ∙ says-paths rs (s .left) (s .right) l in
+      let left : y .path ≡ pathAt rs (s .left) = cc in
+      let right : Filter (y .path) (some-of (y .back)) ≡ pathAt rs (s .right) = cc in
+      with-back-iff built (s .left) (s .right) (held-path rs (s .left) l) (held-path rs (s .right) r) .1
+      (y .back, sym (ap wayBack left) ∙ y .is-way-back, sym (ap (λ p. Filter p (some-of (y .back))) left) ∙ right))
+      (λ (l, r).
+      let c = y .conclusion ∙ says-qualifiers rs (s .left) (s .right) l in
+      let z : _≡_ {A = ℕ} 0 1 = cc in
+      absurd (omega arith))
+      (sort-of rs s sort)
+
+  none-said : (ts : List Sides) → [] ≡ map (saysOf rs) ts → length ts ≡ 0
+  none-said [] q = refl
+  none-said (t ∷ ts) q = absurd (cons-ne-nil _ _ (sym q))
+
+  way-back-iff : T (wayBackYields rs n s ss) ↔ WayBackYields n (saysOf rs s) (map (saysOf rs) ss)
+  unfolding wayBackYields
+  way-back-iff = (
+    λ t.
+        let (e, r) = and-yes (eqb n wayBackRule) (eqb (length ss) 0 && isWithBack rs (s .left) (s .right)) t in
+        let (z, u) = and-yes (eqb (length ss) 0) (isWithBack rs (s .left) (s .right)) r in
+        ⊎-elim
+        (λ (l, r). paths-yield l r (eqb-yes e) (no-entries ss (eqb-yes z)) u)
+        (λ (l, r). absurd (no-qualifiers r u))
+        (sort-of rs s sort),
+    λ y.
+        yes-and (eqb n wayBackRule) (eqb (length ss) 0 && isWithBack rs (s .left) (s .right)) (yes-eqb (y .rule))
+        (yes-and (eqb (length ss) 0) (isWithBack rs (s .left) (s .right)) (yes-eqb (none-said ss (y .premises)))
+        (yields-paths y)),
+  )
 
 -- for a step whose rows are held and of one sort, from premises that are such steps too
 pub row-yields-iff : {rs : List Row} → Built rs → (n : ℕ) (s : Sides) (ss : List Sides) → T (oneSort rs s) → Every (λ s. T (oneSort rs s)) ss →
     T (rowYields rs n s ss) ↔ Yields n (saysOf rs s) (map (saysOf rs) ss)
 unfolding rowYields
 row-yields-iff {rs} built n s ss sort sorts =
-    let q = any-of-map (formYields rs s ss) (formPattern n) (formsOf n) in (
-      λ t. let (w, i, u) = any-of-yes (λ w. formYields rs s ss (formPattern n w)) (formsOf n) (subst T q t) in form-yields built n s ss sort sorts i u,
-      λ y. subst T (sym q) (yes-any-of (λ w. formYields rs s ss (formPattern n w)) (formsOf n) (y .of-rule) (yields-form built n s ss sort sorts y)),
-    )
+    or-via (formsYield rs n s ss) (wayBackYields rs n s ss)
+    (forms-yield-iff built n s ss sort sorts) (way-back-iff built n s ss sort)

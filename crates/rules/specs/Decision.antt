@@ -1,21 +1,23 @@
 -- Whether a rule yields a step is decided: `yields-dec`, at the end. Assumes nothing.
 use Prim.Native.Nat.{ℕ}
 use mathlib.Core.Path.{_≡_, refl, sym, _∙_, subst, subst₂, ap, ap₂}
-use mathlib.Core.Bool.{Bool, true, false, cond, _&&_}
+use mathlib.Core.Bool.{Bool, true, false, cond, _&&_, _||_}
 use mathlib.Core.List.{List, [], _∷_, map, List·Memᴰ, List·Memᴰ·head, List·Memᴰ·tail, List·Memᴰ·not-nil, List·Memᴰ·cases-cons, head-eq-of-cons-eq, tail-eq-of-cons-eq}
 use mathlib.Core.Logic.{inl, inr, ⊎-elim, ite}
+use mathlib.Core.Option.{Option, none, some}
 use native.Mathlib.Decide.{ℕ-discrete}
 use lib.Dec.{T, eqb}
-use mir.Facts.{and-yes, yes-and, or-yes}
-use Rattle.xpath.specs.Term.{Path-discrete, Qualifier-discrete}
+use mir.Facts.{and-yes, yes-and, or-yes, eqb-yes, yes-eqb}
+use Rattle.xpath.specs.Term.{Path, Path-discrete, Qualifier-discrete, Filter, some-of}
 use Rattle.common.proofs.Reflect.{yes-or}
 use Rattle.common.specs.Lists.{allOf, anyOf}
 use Rattle.rules.specs.Order.{axisPairs, isPair, axisBelow, testBelow}
 use Rattle.rules.specs.Form.{Form, Rule}
 use Rattle.rules.specs.RuleTable.{rules}
-use Rattle.rules.specs.Claim.{Claim, Claim-discrete}
+use Rattle.rules.specs.Claim.{Claim, Claim-discrete, Containment, Implication}
 use Rattle.rules.specs.Instance.{Letters, axisFor, testFor, pathFor, claimFor, meets}
-use Rattle.rules.specs.Yields.{formsIn, formsOf, Yields}
+use Rattle.rules.specs.WayBack.{opposites, besideIn, opposite, joined, wayBack}
+use Rattle.rules.specs.Yields.{formsIn, formsOf, FormYields, wayBackRule, wayBackClaim, WayBackYields, Yields}
 use Rattle.rules.specs.LettersRead.{readPath, readClaim, readClaims, claimForms, lettersIn}
 
 unfoldable pub sameClaims : List Claim → List Claim → Bool
@@ -30,7 +32,7 @@ fits cs w =
     let e = lettersIn w cs in
     allOf (meets e) (w .conditions) && sameClaims (map (claimFor e) (claimForms w)) cs
 
--- the test: a form of rule n fits; to unfold it is to unfold all that it computes with
+-- the test of the table's rules: a form of rule n fits; to unfold it is to unfold all that it computes with
 unfoldable pub someFormFits : ℕ → Claim → List Claim → Bool
 unfolding anyOf fits sameClaims readClaims readClaim readPath formsOf formsIn rules allOf meets axisBelow isPair axisPairs testBelow claimFor pathFor axisFor testFor ℕ-discrete
 someFormFits n c cs = anyOf (fits (c ∷ cs)) (formsOf n)
@@ -122,9 +124,9 @@ all-of-yes f (y ∷ ys) t m =
     let r = and-yes (f y) (allOf f ys) t in
     ⊎-elim (λ e. rw e (r .0)) (λ m. all-of-yes f ys (r .1) m) (List·Memᴰ·cases-cons m)
 
-pub yielded-yes : (n : ℕ) (c : Claim) (cs : List Claim) → T (someFormFits n c cs) → Yields n c cs
+form-yes : (n : ℕ) (c : Claim) (cs : List Claim) → T (someFormFits n c cs) → FormYields n c cs
 unfolding someFormFits
-yielded-yes n c cs t =
+form-yes n c cs t =
     let (w, m, f) = any-of-yes (fits (c ∷ cs)) (formsOf n) t in
     let e : Letters = lettersIn w (c ∷ cs) in
     let r = and-yes (allOf (meets e) (w .conditions)) (sameClaims (map (claimFor e) (claimForms w)) (c ∷ cs)) f in
@@ -141,12 +143,74 @@ said-fits w e q t =
     (subst T (sym (ap (λ s. s .met) q)) t)
     (subst (λ bs. T (sameClaims bs cs)) (sym (ap (λ s. s .claims) q)) (yes-same cs))
 
-pub yes-yielded : (n : ℕ) (c : Claim) (cs : List Claim) → Yields n c cs → T (someFormFits n c cs)
+yes-form : (n : ℕ) (c : Claim) (cs : List Claim) → FormYields n c cs → T (someFormFits n c cs)
 unfolding someFormFits
-yes-yielded n c cs y =
+yes-form n c cs y =
     yes-any-of (fits (c ∷ cs)) (formsOf n) (y .of-rule)
     (subst₂ (λ c cs. T (fits (c ∷ cs) (y .form))) (y .conclusion) (y .premises)
     (said-fits (y .form) (y .letters) (recovered n (y .of-rule) (y .letters)) (y .conditions)))
+
+-- what the rule that is none of the table's says of p and its way back v is that p is contained in q, from no premise
+unfoldable pub saysBack : (p q : Path) → List Claim → Option Path → Bool
+saysBack p q cs none = false
+saysBack p q cs (some v) = sameClaims (wayBackClaim p v ∷ []) (Containment p q ∷ cs)
+
+unfoldable pub wayBackFits : ℕ → Claim → List Claim → Bool
+wayBackFits n (Containment p q) cs = eqb n wayBackRule && saysBack p q cs (wayBack p)
+wayBackFits n (Implication f g) cs = false
+
+said-back : (n : ℕ) (p q : Path) (cs : List Claim) (o : Option Path) → wayBack p ≡ o → n ≡ wayBackRule →
+    T (saysBack p q cs o) →
+    WayBackYields n (Containment p q) cs
+unfolding saysBack
+said-back n p q cs none e h t = absurd t
+said-back n p q cs (some v) e h t =
+    let s = same-yes (wayBackClaim p v ∷ []) (Containment p q ∷ cs) t in
+    record {
+      rule = h;
+      path = p;
+      back = v;
+      is-way-back = e;
+      conclusion = head-eq-of-cons-eq s;
+      premises = tail-eq-of-cons-eq s;
+    }
+
+back-yes : (n : ℕ) (c : Claim) (cs : List Claim) → T (wayBackFits n c cs) → WayBackYields n c cs
+unfolding wayBackFits
+back-yes n (Implication f g) cs t = absurd t
+back-yes n (Containment p q) cs t =
+    let r = and-yes (eqb n wayBackRule) (saysBack p q cs (wayBack p)) t in
+    said-back n p q cs (wayBack p) refl (eqb-yes (r .0)) (r .1)
+
+back-said : (r w : Path) (o : Option Path) → o ≡ some w → T (saysBack r (Filter r (some-of w)) [] o)
+unfolding saysBack
+back-said r w o e = rw e (yes-same (wayBackClaim r w ∷ []))
+
+yes-back : (n : ℕ) (c : Claim) (cs : List Claim) → WayBackYields n c cs → T (wayBackFits n c cs)
+unfolding wayBackFits
+yes-back n c cs y =
+    let r : Path = y .path in
+    let w : Path = y .back in
+    subst₂ (λ c cs. T (wayBackFits n c cs)) (y .conclusion) (y .premises)
+    (yes-and (eqb n wayBackRule) (saysBack r (Filter r (some-of w)) [] (wayBack r)) (yes-eqb (y .rule))
+    (back-said r w (wayBack r) (y .is-way-back)))
+
+-- the test of all rules: a form fits, or the way back; to unfold it is to unfold all that it computes with
+unfoldable pub ruleFits : ℕ → Claim → List Claim → Bool
+unfolding someFormFits wayBackFits saysBack wayBack joined opposite besideIn opposites
+ruleFits n c cs = someFormFits n c cs || wayBackFits n c cs
+
+pub yielded-yes : (n : ℕ) (c : Claim) (cs : List Claim) → T (ruleFits n c cs) → Yields n c cs
+unfolding ruleFits
+yielded-yes n c cs t =
+    ⊎-elim (λ u. inl (form-yes n c cs u)) (λ u. inr (back-yes n c cs u))
+    (or-yes (someFormFits n c cs) (wayBackFits n c cs) t)
+
+pub yes-yielded : (n : ℕ) (c : Claim) (cs : List Claim) → Yields n c cs → T (ruleFits n c cs)
+unfolding ruleFits
+yes-yielded n c cs y =
+    yes-or (someFormFits n c cs) (wayBackFits n c cs)
+    (⊎-elim (λ f. inl (yes-form n c cs f)) (λ b. inr (yes-back n c cs b)) y)
 
 abbrev decided : {A : Type 0} (b : Bool) → (T b → A) → (A → T b) → Dec A
 decided true f g = yes (f tt)
@@ -154,4 +218,4 @@ decided false f g = no g
 
 -- rule n yields a step that says c, from premises that say cs, or it doesn't
 unfoldable pub yields-dec : (n : ℕ) (c : Claim) (cs : List Claim) → Dec (Yields n c cs)
-yields-dec n c cs = decided (someFormFits n c cs) (yielded-yes n c cs) (yes-yielded n c cs)
+yields-dec n c cs = decided (ruleFits n c cs) (yielded-yes n c cs) (yes-yielded n c cs)

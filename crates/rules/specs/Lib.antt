@@ -4,6 +4,7 @@ pub mod Notation
 pub mod RuleTable
 pub mod Claim
 pub mod Instance
+pub mod WayBack
 pub mod Yields
 pub mod LettersRead
 pub mod Decision

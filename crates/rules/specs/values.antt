@@ -4,3 +4,4 @@ pub mod RuleTen
 pub mod NearMisses
 pub mod Mistakes
 pub mod TableCases
+pub mod WayBackCases

@@ -29,8 +29,8 @@ ghost use Rattle.rules.specs.code.RowYields.{sides, check, bind, suits, 
 ghost use Rattle.rules.specs.code.RowYields.{numbersIn, formYields};
 ghost use Rattle.rules.specs.code.MatchTypes.{sidesIn, matchOf, entryOf};
 
-// The last rule.
-pub const MAX_RULE: u16 = 58;
+// The last rule of the table.
+const TABLE_RULES: u16 = 58;
 
 // How many letters there are: p q r s, f g h, a b, N and its name, M and its name.
 const LETTER_COUNT: usize = 13;
@@ -107,11 +107,11 @@ fn entry_at(table: &[u64], i: usize) -> Entry
     unpacked(0)
 }
 
-// The entry of a rule, zeros where there is no such rule.
+// The entry of a rule, zeros where the table has no such rule.
 pub fn rule_at(table: &[u64], rule: u16) -> Entry
     ensures { λ r. ⌜ entryOf r ≡ ruleAt (now (table .entry)) rule ⌝ }
 {
-    if MAX_RULE < rule {
+    if TABLE_RULES < rule {
         return Entry(0, 0, 0, 0);
     }
     entry_at(table, wide(rule))

@@ -8,7 +8,7 @@ ghost use Rattle.rules.specs.Order.{isPair, axisBelow, testBelow};
 ghost use Rattle.rules.specs.code.MatchTypes.{pairsOf};
 
 // Whether (a, b) is one of the pairs.
-fn is_pair(pairs: &[[u16; 2]], a: u16, b: u16) -> bool
+pub fn is_pair(pairs: &[[u16; 2]], a: u16, b: u16) -> bool
     ensures { λ r. ⌜ r ≡ isPair (pairsOf (now (pairs .entry))) a b ⌝ }
 {
     let mut i: usize = 0;

@@ -5,7 +5,7 @@ fn main() {
     tally_reports::print_list(b"");
     tally_reports::print_list(b"one\n");
     tally_reports::print_list(b"three\none\none");
-    // Rules 1, 57 and 58, the last by one step twice; a bundle of 1,024 rows and 2,048 steps.
+    // Rules 1, 57, 58, by one step twice, and 59; a bundle of 1,024 rows and 2,048 steps.
     tally_reports::print_list(b"high_rules\n");
     tally_reports::print_list(b"full\n");
     // A refused bundle, an empty file, a directory, a file of 65,537 bytes.

@@ -54,7 +54,7 @@ impl Book {
 
     pub fn step(&mut self, step: Step) -> Answer {
         let [rule, left, right, first, second] = step;
-        if !(1..=58).contains(&rule) {
+        if !(1..=59).contains(&rule) {
             return (4, 0);
         }
         let Some(l) = self.terms.get(left as usize) else { return (5, 1) };

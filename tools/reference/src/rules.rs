@@ -1,6 +1,7 @@
 //! The rules in 01's own notation, their patterns, and whether a rule yields a step.
 
 use crate::term::{Axis, Term, Test, AXES};
+use std::collections::{HashMap, HashSet};
 use std::rc::Rc;
 use std::sync::OnceLock;
 
@@ -106,6 +107,87 @@ fn test_below(n: Test, m: Test) -> bool {
         || matches!((n, m), (Test::Name(_), Test::AnyElement) | (Test::Target(_), Test::Instruction))
 }
 
+/// The rule of T-07: r <= r[some w], w being r's way back.
+pub const WAY_BACK: u16 = 59;
+
+/// The axis that leads back, of those that T-07 names.
+fn opposite(axis: Axis) -> Option<Axis> {
+    use Axis::*;
+    match axis {
+        SelfNode => Some(SelfNode),
+        Child => Some(Parent),
+        Descendant => Some(Ancestor),
+        DescendantOrSelf => Some(AncestorOrSelf),
+        FollowingSibling => Some(PrecedingSibling),
+        PrecedingSibling => Some(FollowingSibling),
+        _ => None,
+    }
+}
+
+/// The ways back that are made, by the address of the path: what stands in a term many times is reversed once.
+type Made = HashMap<*const Term, Option<Rc<Term>>>;
+
+/// The way back of a path: for a::N self::N, then the opposite axis with node(); for p/q that of q, then that of p; for
+/// p|q the union of both, p's first; for p[f] .[f], then that of p.
+fn way_back(path: &Rc<Term>, made: &mut Made) -> Option<Rc<Term>> {
+    if let Some(known) = made.get(&Rc::as_ptr(path)) {
+        return known.clone();
+    }
+    let step = |axis, test| Rc::new(Term::Step(axis, test));
+    let then = |p, q| Some(Rc::new(Term::Composition(p, q)));
+    let back = match &**path {
+        Term::Step(axis, test) => {
+            opposite(*axis).and_then(|axis| then(step(Axis::SelfNode, *test), step(axis, Test::AnyNode)))
+        }
+        Term::Composition(p, q) => match (way_back(q, made), way_back(p, made)) {
+            (Some(q), Some(p)) => then(q, p),
+            _ => None,
+        },
+        Term::Union(p, q) => match (way_back(p, made), way_back(q, made)) {
+            (Some(p), Some(q)) => Some(Rc::new(Term::Union(p, q))),
+            _ => None,
+        },
+        Term::Filter(p, f) => way_back(p, made).and_then(|p| {
+            let here = step(Axis::SelfNode, Test::AnyNode);
+            then(Rc::new(Term::Filter(here, f.clone())), p)
+        }),
+        _ => None,
+    };
+    made.insert(Rc::as_ptr(path), back.clone());
+    back
+}
+
+/// Whether two terms are equal; the pairs that were found equal are not compared again.
+fn same(x: &Rc<Term>, y: &Rc<Term>, equal: &mut HashSet<(*const Term, *const Term)>) -> bool {
+    if Rc::ptr_eq(x, y) || equal.contains(&(Rc::as_ptr(x), Rc::as_ptr(y))) {
+        return true;
+    }
+    use Term::*;
+    let is_same = match (&**x, &**y) {
+        (Union(a, b), Union(c, d))
+        | (Composition(a, b), Composition(c, d))
+        | (Filter(a, b), Filter(c, d))
+        | (And(a, b), And(c, d))
+        | (Or(a, b), Or(c, d))
+        | (Inclusion(a, b), Inclusion(c, d)) => same(a, c, equal) && same(b, d, equal),
+        (Not(a), Not(b)) => same(a, b, equal),
+        (Void, Void) | (Root, Root) | (True, True) | (False, False) => true,
+        (Step(a, n), Step(b, m)) => a == b && n == m,
+        _ => false,
+    };
+    if is_same {
+        equal.insert((Rc::as_ptr(x), Rc::as_ptr(y)));
+    }
+    is_same
+}
+
+/// Whether the step says r <= r[some w], w being r's way back.
+fn says_way_back((left, right): Says) -> bool {
+    let Some(back) = way_back(left, &mut Made::new()) else { return false };
+    let some = Rc::new(Term::Not(Rc::new(Term::Inclusion(back, Rc::new(Term::Void)))));
+    same(right, &Rc::new(Term::Filter(left.clone(), some)), &mut HashSet::new())
+}
+
 /// What a step says: its left term and its right one.
 pub type Says<'t> = (&'t Rc<Term>, &'t Rc<Term>);
 
@@ -116,6 +198,9 @@ pub fn premises(rule: u16) -> usize {
 
 /// Whether the rule yields a step that says `conclusion`, from as many premises as it has.
 pub fn yields<'t>(rule: u16, conclusion: Says<'t>, premises: [Option<Says<'t>>; 2]) -> bool {
+    if rule == WAY_BACK {
+        return says_way_back(conclusion);
+    }
     forms()[rule as usize].iter().any(|form| {
         let mut letters = Letters::default();
         form.conclusion.is_said(conclusion, &mut letters)
@@ -137,7 +222,7 @@ struct Form {
 fn forms() -> &'static [Vec<Form>] {
     static FORMS: OnceLock<Vec<Vec<Form>>> = OnceLock::new();
     FORMS.get_or_init(|| {
-        let mut forms: Vec<Vec<Form>> = (0..=58).map(|_| Vec::new()).collect();
+        let mut forms: Vec<Vec<Form>> = (0..=WAY_BACK).map(|_| Vec::new()).collect();
         for (rule, conclusion, premises) in RULES {
             for conclusion in Statement::directions(conclusion) {
                 let premises = premises.iter().flat_map(|p| Statement::directions(p)).collect();

@@ -12,7 +12,7 @@ use std::io::Read;
 use std::os::unix::ffi::OsStrExt;
 
 const MOST_NAMES: usize = 64;
-const RULES: usize = 58;
+const RULES: usize = 59;
 
 pub fn tally(list: &[u8]) -> String {
     let mut names: Vec<&[u8]> = list.split(|&b| b == b'\n').collect();

@@ -112,7 +112,7 @@ fn refused_steps() {
         book.term(row);
     }
     assert_eq!(book.step([0, 9, 9, 9, 9]), (4, 0));
-    assert_eq!(book.step([59, 0, 0, 0, 0]), (4, 0));
+    assert_eq!(book.step([60, 0, 0, 0, 0]), (4, 0));
     assert_eq!(book.step([8, 3, 3, 0, 0]), (5, 1));
     assert_eq!(book.step([8, 0, 3, 0, 0]), (5, 2));
     assert_eq!(book.step([8, 0, 2, 0, 0]), (5, 2));
@@ -240,7 +240,7 @@ fn damaged_bundles() {
     assert_eq!(answer(&format!("{steps}rule left right first second\n")), (10, 5));
     assert_eq!(answer(&format!("{steps}2 0 0 0 0")), (10, 5));
     assert_eq!(answer(&format!("{steps}\n")), (10, 5));
-    let (_, book) = read(format!("{steps}59 0 0 0 0\n").as_bytes());
+    let (_, book) = read(format!("{steps}60 0 0 0 0\n").as_bytes());
     assert!(book.steps.is_empty());
     assert_eq!(audit(&vec![b'0'; MOST_BYTES + 1]), "answer line steps left right\n10 0 0 0 0\n");
     assert_eq!(audit(&vec![b'0'; MOST_BYTES]), "answer line steps left right\n10 1 0 0 0\n");
@@ -316,7 +316,7 @@ fn tally_files(name: &str) -> String {
 fn tally_counts_accepted_bundles() {
     let place = tally_files("counts");
     let counted = |uses: u32| {
-        let lines: String = (1..=58).map(|rule| format!("{rule} {}\n", if rule == 8 { uses } else { 0 })).collect();
+        let lines: String = (1..=59).map(|rule| format!("{rule} {}\n", if rule == 8 { uses } else { 0 })).collect();
         format!("rule uses\n{lines}0 {uses}\n")
     };
     let one = format!("{place}/one\n");

@@ -50,7 +50,7 @@ unfolding
     heldPath heldQualifier isPath isQualifier nesting nestings entriesFrom nestingBy operandNesting
     find sameRow stepAnswer stepAnswerBy sameSort badSide premiseOk badPremise claimOf premisesOf
     isYielded says termAt terms termBy asPath asQualifier premiseCount firstCount formsOf formsIn
-    rules decide yields-dec decision.someFormFits
+    rules decide yields-dec decision.ruleFits
 seenFrom b cs = shown plainBook b cs
 
 -- the calls, made in order on the book b, get these answers, and after each the book is as it was
@@ -180,10 +180,10 @@ oneStep = book fiveRows (books.step 8 0 1 0 0 ∷ [])
 
 steps-refused :
     Refused oneStep
-    ((step 0 0 1 0 0, answer 4 0) ∷ (step 59 0 1 0 0, answer 4 0) ∷ (step 65535 0 1 0 0, answer 4 0)
+    ((step 0 0 1 0 0, answer 4 0) ∷ (step 60 0 1 0 0, answer 4 0) ∷ (step 65535 0 1 0 0, answer 4 0)
     -- 4 and 5; 4 and 6; 4, 5 and 6
-    ∷ (step 59 9 1 0 0, answer 4 0) ∷ (step 59 0 1 1 0, answer 4 0) ∷ (step 0 0 1 1 0, answer 4 0)
-    ∷ (step 59 9 9 9 9, answer 4 0)
+    ∷ (step 60 9 1 0 0, answer 4 0) ∷ (step 60 0 1 1 0, answer 4 0) ∷ (step 0 0 1 1 0, answer 4 0)
+    ∷ (step 60 9 9 9 9, answer 4 0)
     -- 5 on the left, on the right, on the right for its sort, and at the first of two
     ∷ (step 8 5 1 0 0, answer 5 1) ∷ (step 8 0 5 0 0, answer 5 2) ∷ (step 8 0 2 0 0, answer 5 2)
     ∷ (step 8 2 0 0 0, answer 5 2)
@@ -204,7 +204,7 @@ steps-refused :
     ∷ (step 8 1 0 0 0, answer 7 0) ∷ (step 4 0 3 1 0, answer 7 0) ∷ (step 3 0 1 1 1, answer 7 0)
     ∷ (step 14 2 4 0 0, answer 7 0)
     -- the first rule and the last
-    ∷ (step 1 0 1 0 0, answer 7 0) ∷ (step 58 0 1 0 0, answer 7 0)
+    ∷ (step 1 0 1 0 0, answer 7 0) ∷ (step 59 0 1 0 0, answer 7 0)
     -- rule 50 has no premise and yields nothing
     ∷ (step 50 0 1 0 0, answer 7 0) ∷ (step 50 0 0 0 0, answer 7 0) ∷ (step 50 0 1 1 0, answer 6 1)
     ∷ (step 50 0 1 0 1, answer 6 2)
@@ -233,6 +233,23 @@ targets-seen :
 unfolding seenFrom
 targets-seen = refl
 
+-- child::2, its way back self::2/parent::node() in row 3, and child::2[some of that] in row 7
+abbrev wayBackRows : List Row
+wayBackRows =
+    row 2 1 0 2 ∷ row 2 0 0 2 ∷ row 2 2 2 0 ∷ row 4 1 2 0 ∷ row 0 0 0 0 ∷ row 11 3 4 0 ∷ row 8 5 0 0 ∷ row 5 0 6 0 ∷ []
+
+-- rule 59 has no premise; another right side, the other direction and a qualifier get 7, a right side of the other
+-- sort 5
+way-back-steps :
+    map (λ o. o .answer)
+    (seenFrom (book wayBackRows [])
+    (step 59 0 7 1 0 ∷ step 59 0 7 0 1 ∷ step 59 0 3 0 0 ∷ step 59 0 0 0 0 ∷ step 59 7 0 0 0 ∷ step 59 6 6 0 0
+    ∷ step 59 0 6 0 0 ∷ step 59 0 7 0 0 ∷ step 59 0 7 1 0 ∷ step 59 0 7 0 0 ∷ step 60 0 7 0 0 ∷ []))
+    ≡ answer 6 1 ∷ answer 6 2 ∷ answer 7 0 ∷ answer 7 0 ∷ answer 7 0 ∷ answer 7 0 ∷ answer 5 2
+    ∷ answer 0 1 ∷ answer 6 1 ∷ answer 0 2 ∷ answer 4 0 ∷ []
+unfolding seenFrom
+way-back-steps = refl
+
 -- n steps, each child::2 <= descendant::*
 abbrev stepsAlike : ℕ → List books.Step
 stepsAlike n = replicate n (books.step 8 0 1 0 0)
@@ -250,7 +267,7 @@ full-steps-refused :
     Refused (book fiveRows (stepsAlike 2048))
     ((step 2 0 0 0 0, answer 13 0) ∷ (step 8 0 1 0 0, answer 13 0) ∷ (step 5 0 3 2048 0, answer 13 0)
     -- 4 and 13; 5 and 13; 6 and 13; 7 and 13
-    ∷ (step 59 0 1 0 0, answer 4 0) ∷ (step 8 5 1 0 0, answer 5 1) ∷ (step 2 0 0 1 0, answer 6 1)
+    ∷ (step 60 0 1 0 0, answer 4 0) ∷ (step 8 5 1 0 0, answer 5 1) ∷ (step 2 0 0 1 0, answer 6 1)
     ∷ (step 5 0 3 2049 0, answer 6 1) ∷ (step 8 1 0 0 0, answer 7 0)
     ∷ [])
 unfolding seenFrom

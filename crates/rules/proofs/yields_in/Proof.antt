@@ -1,4 +1,4 @@
--- The forms from the rule's first one on are the rule's. Assumes nothing.
+-- The way back, or the forms from the rule's first one on, which are the rule's. Assumes nothing.
 use mathlib.Core.Path.{_≡_, sym, _∙_, ap, ap₂}
 use mathlib.Core.Bool.{Bool}
 use mathlib.Core.List.{List, [], _∷_}
@@ -6,7 +6,7 @@ use borrow.Author.Needs.{needs}
 use Rattle.terms.specs.Row.{tableOf}
 use Rattle.rules.specs.code.RowYields.{sides}
 use Rattle.rules.specs.code.MatchTypes.{sidesIn}
-use Rattle.rules.proofs.FormSearch.{rule-way}
+use Rattle.rules.proofs.FormSearch.{rule-way, way-back-way, other-rule-way}
 use Rattle.rules.proofs.yields_in.Statement.{statement}
 use Rattle.rules.proofs.yields_in.Tie as tie
 
@@ -16,12 +16,27 @@ rule-at-requires c κs = search needs
 some-form-yields-requires : tie.Need-some-form-yields-requires
 some-form-yields-requires c κs = search needs
 
+is-with-back-requires : tie.Need-is-with-back-requires
+is-with-back-requires c κs = search needs
+
 returns : tie.Need-returns
 returns c =
     let a = c .before .before .before .before .args in
-    λ e. rule-way (tableOf (a .rows .now)) (sides (a .left) (a .right)) (sidesIn (a .first) ∷ sidesIn (a .second) ∷ [])
-    (a .rule) e
-    (c .before .rule-at .ensures) (c .some-form-yields .ensures)
+    λ e. way-back-way (tableOf (a .rows .now)) (sides (a .left) (a .right))
+    (sidesIn (a .first) ∷ sidesIn (a .second) ∷ [])
+    (a .rule) (c .before .if1 .taken) (c .is-with-back .ensures)
+
+returns-2 : tie.Need-returns-2
+returns-2 c =
+    let d = c .before .before in
+    let a = d .before .before .before .args in
+    let rs = tableOf (a .rows .now) in
+    let s = sides (a .left) (a .right) in
+    let ss = sidesIn (a .first) ∷ sidesIn (a .second) ∷ [] in
+    λ e. other-rule-way rs s _ (a .rule) (d .if1 .left)
+    (rule-way rs s ss (a .rule) e (c .before .rule-at .ensures) (c .some-form-yields .ensures))
 
 pub yields-in-spec : {M : Type 1} → statement M
-yields-in-spec = tie.close (tie.spec rule-at-requires some-form-yields-requires returns)
+yields-in-spec =
+    tie.close
+    (tie.spec is-with-back-requires returns rule-at-requires some-form-yields-requires returns-2)

@@ -10,7 +10,8 @@ use Rattle.terms.specs.Fields.{heldPath, heldQualifier}
 use Rattle.common.specs.Lists.{allOf, anyOf}
 use Rattle.rules.specs.Claim.{Claim, says}
 use Rattle.rules.specs.Instance.{Letters, meets}
-use Rattle.rules.specs.Yields.{formsOf}
+use Rattle.rules.specs.Yields.{formsOf, wayBackRule}
+use Rattle.rules.specs.code.RowWayBack.{isWithBack}
 use Rattle.rules.specs.code.Pattern.{Pattern, number, letter, row-of, letterCount, firstQualifierLetter, firstAxisLetter, axisLetter, testLetter, nameLetter, ClaimPattern, FormPattern, formPattern}
 
 -- the rows that a step is about
@@ -95,5 +96,13 @@ unfoldable pub formYields : List Row → Sides → List Sides → FormPattern �
 formYields rs s ss w = let m = matchForm rs s ss w in m .fits && allOf (meets (numbersIn (m .value))) (w .conditions)
 
 -- a form of rule n yields a step about s, from steps about ss
+unfoldable pub formsYield : List Row → ℕ → Sides → List Sides → Bool
+formsYield rs n s ss = anyOf (formYields rs s ss) (map (formPattern n) (formsOf n))
+
+-- the rule that is none of the table's does
+unfoldable pub wayBackYields : List Row → ℕ → Sides → List Sides → Bool
+wayBackYields rs n s ss = eqb n wayBackRule && (eqb (length ss) 0 && isWithBack rs (s .left) (s .right))
+
+-- rule n does
 unfoldable pub rowYields : List Row → ℕ → Sides → List Sides → Bool
-rowYields rs n s ss = anyOf (formYields rs s ss) (map (formPattern n) (formsOf n))
+rowYields rs n s ss = formsYield rs n s ss || wayBackYields rs n s ss

@@ -6,7 +6,7 @@ use lib.Dec.{ltb}
 use lib.ListN.{getD, take}
 use Rattle.rules.specs.Form.{Condition}
 use Rattle.rules.specs.Form.{a-below-b, N-below-M, b-from-3-to-10, N-a-name-or-star, N-not-node, a-not-attribute}
-use Rattle.rules.specs.Yields.{maxRule}
+use Rattle.rules.specs.Yields.{tableRules}
 use Rattle.rules.specs.code.Pattern.{Pattern, number, letter, row-of, ClaimPattern, FormPattern}
 use Rattle.rules.specs.code.Encode.{firstLetter, firstRow, patternDepth, firstPattern}
 
@@ -80,10 +80,10 @@ module _ (t : List ℕ) where
   formsFrom count zero i = []
   formsFrom count (suc n) i = formAt count i ∷ formsFrom count n (i + 2)
 
-  -- the entry of rule n: the place of its first form, how many forms it has, how many premises; zeros where there is no such
-  -- rule
+  -- the entry of rule n: the place of its first form, how many forms it has, how many premises; zeros where the table
+  -- has no such rule
   unfoldable pub ruleAt : ℕ → Entry
-  ruleAt n = cond (ltb maxRule n) (record { first = 0; second = 0; third = 0; fourth = 0 }) (entryAt t n)
+  ruleAt n = cond (ltb tableRules n) (record { first = 0; second = 0; third = 0; fourth = 0 }) (entryAt t n)
 
   -- the forms of rule n
   unfoldable pub ruleForms : ℕ → List FormPattern

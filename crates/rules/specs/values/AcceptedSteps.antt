@@ -11,7 +11,7 @@ use Rattle.rules.specs.Claim.{Claim, Containment, Implication}
 use Rattle.common.specs.Lists.{allOf, anyOf}
 use Rattle.rules.specs.RuleTable.{rules}
 use Rattle.rules.specs.Yields.{Yields}
-use Rattle.rules.specs.Decision.{fits, someFormFits, yielded-yes, all-of-yes}
+use Rattle.rules.specs.Decision.{fits, someFormFits, ruleFits, yielded-yes, all-of-yes}
 
 -- a rule, what a step says, and what its premises say
 pub record Sample : Type 0 where
@@ -111,6 +111,21 @@ otherThanAttribute =
     ∷ preceding
     ∷ []
 
+-- rule 59 of a path and what is to be its way back
+abbrev pub wayBackOf : Path → Path → Sample
+wayBackOf u w = sample 59 (Containment u (Filter u (some-of w))) []
+
+-- of a step on axis a, with b for the opposite axis
+abbrev pub stepBackOf : ℕ → ℕ → Sample
+stepBackOf a b = wayBackOf (a ::N) (Composition (self ::N) (b ::node))
+
+-- of child::1, child::2
+abbrev pub p-back : Path
+p-back = Composition (AxisStep self name-test 1) (parent ::node)
+
+abbrev pub q-back : Path
+q-back = Composition (AxisStep self name-test 2) (parent ::node)
+
 unfoldable pub accepted : List Sample
 accepted =
     (sample 1 (Containment Void p) []
@@ -189,15 +204,26 @@ accepted =
     ++ map (λ a. sample 58 (Containment (a ::N) (Composition (a ::node) (self ::N))) []) otherThanAttribute
     ++ containments 58 (Composition (child ::node) (self ::target)) (child ::target)
     ++ endingsInNode
+    ++ (stepBackOf self self
+    ∷ stepBackOf child parent
+    ∷ stepBackOf descendant ancestor
+    ∷ stepBackOf descendant-or-self ancestor-or-self
+    ∷ stepBackOf following-sibling preceding-sibling
+    ∷ stepBackOf preceding-sibling following-sibling
+    ∷ wayBackOf (child ::text) (Composition (self ::text) (parent ::node))
+    ∷ wayBackOf (Composition p q) (Composition q-back p-back)
+    ∷ wayBackOf (Union p q) (Union p-back q-back)
+    ∷ wayBackOf (Filter p f) (Composition (Filter (self ::node) f) p-back)
+    ∷ [])
 
 abbrev pub sampleYielded : Sample → Bool
-sampleYielded x = someFormFits (x .rule) (x .claim) (x .premises)
+sampleYielded x = ruleFits (x .rule) (x .claim) (x .premises)
 
 abbrev pub SampleYields : Sample → Type 0
 SampleYields x = Yields (x .rule) (x .claim) (x .premises)
 
 pub accepted-yield : {x : Sample} → List·Memᴰ x accepted → SampleYields x
-unfolding accepted allOf someFormFits
+unfolding accepted allOf ruleFits
 accepted-yield {x} m = yielded-yes (x .rule) (x .claim) (x .premises) (all-of-yes sampleYielded accepted tt m)
 
 -- every form of the table fits a step of the list

@@ -13,12 +13,12 @@ use Rattle.rules.specs.Claim.{Claim, Containment, Implication}
 use Rattle.rules.specs.RuleTable.{rules}
 use Rattle.common.specs.Lists.{allOf}
 use Rattle.rules.specs.Yields.{formsIn, formsOf}
-use Rattle.rules.specs.Decision.{someFormFits, yes-yielded, all-of-yes}
+use Rattle.rules.specs.Decision.{ruleFits, yes-yielded, all-of-yes}
 use Rattle.rules.specs.values.AcceptedSteps.{Sample, sample, p, q, r, s, f, g, h, _::N, _::M, _::star, _::node}
-use Rattle.rules.specs.values.AcceptedSteps.{_::text, _::instruction, _::target, endingInNode, accepted}
-use Rattle.rules.specs.values.AcceptedSteps.{sampleYielded, SampleYields}
+use Rattle.rules.specs.values.AcceptedSteps.{_::text, _::instruction, _::target, endingInNode, wayBackOf}
+use Rattle.rules.specs.values.AcceptedSteps.{stepBackOf, p-back, q-back, accepted, sampleYielded, SampleYields}
 
--- there is no rule before 1 and none after 58, and rule 50 has no form
+-- the table has no rule before 1 and none after 58, and rule 50 has no form
 pub no-forms : AllRight (formsOf 0 is [] ∷ formsOf 50 is [] ∷ formsOf 59 is [] ∷ [])
 unfolding formsOf formsIn rules
 no-forms = refl
@@ -154,6 +154,56 @@ nearMisses =
     ∷ sample 37 (Containment (Filter (Composition p q) f) (Filter (Composition p q) f)) []
     ∷ sample 54 (Containment (Composition (ancestor-or-self ::node) (Composition (following-sibling ::node) (descendant-or-self ::N))) (following ::N)) []
     ∷ sample 55 (Containment (preceding ::N) (Composition (ancestor-or-self ::node) (Composition (preceding-sibling ::node) (descendant-or-self ::N)))) []
+    -- paths that have no way back: the other axes, root, void, and what is built from them
+    ∷ stepBackOf parent child
+    ∷ stepBackOf ancestor descendant
+    ∷ stepBackOf ancestor-or-self descendant-or-self
+    ∷ stepBackOf following preceding
+    ∷ stepBackOf preceding following
+    ∷ stepBackOf attribute parent
+    ∷ stepBackOf attribute attribute
+    ∷ stepBackOf 12 12
+    ∷ wayBackOf Root (self ::node)
+    ∷ wayBackOf Root (descendant-or-self ::node)
+    ∷ wayBackOf Void Void
+    ∷ wayBackOf Void (self ::node)
+    ∷ wayBackOf (Composition p Root) (Composition Root p-back)
+    ∷ wayBackOf (Union p Void) (Union p-back Void)
+    ∷ wayBackOf (Union p Void) p-back
+    ∷ wayBackOf (Filter (following ::N) f)
+    (Composition (Filter (self ::node) f) (Composition (self ::N) (preceding ::node)))
+    -- another axis than the opposite one, its test not node(), the test of the step left out
+    ∷ stepBackOf child child
+    ∷ stepBackOf child ancestor
+    ∷ stepBackOf descendant parent
+    ∷ stepBackOf descendant ancestor-or-self
+    ∷ stepBackOf descendant-or-self ancestor
+    ∷ stepBackOf following-sibling following-sibling
+    ∷ stepBackOf following-sibling preceding
+    ∷ wayBackOf p (Composition (AxisStep self name-test 1) (parent ::star))
+    ∷ wayBackOf p (parent ::node)
+    ∷ wayBackOf p (Composition (self ::node) (parent ::node))
+    ∷ wayBackOf p (Composition (self ::star) (parent ::node))
+    ∷ wayBackOf (self ::N) (self ::N)
+    -- the order of p and q kept; a union swapped; a filter left out, last, or on p; grouped otherwise
+    ∷ wayBackOf (Composition p q) (Composition p-back q-back)
+    ∷ wayBackOf (Union p q) (Union q-back p-back)
+    ∷ wayBackOf (Union p q) (Composition p-back q-back)
+    ∷ wayBackOf (Filter p f) p-back
+    ∷ wayBackOf (Filter p f) (Composition (Filter (self ::star) f) p-back)
+    ∷ wayBackOf (Filter p f) (Composition p-back (Filter (self ::node) f))
+    ∷ wayBackOf (Filter p f) (Filter p-back f)
+    ∷ wayBackOf (Filter p f) (Composition (Filter (self ::node) g) p-back)
+    ∷ wayBackOf (Composition (Composition p q) p) (Composition (Composition p-back q-back) p-back)
+    -- another path, no filter, another filter, the other direction
+    ∷ sample 59 (Containment p (Filter q (some-of p-back))) []
+    ∷ sample 59 (Containment p p) []
+    ∷ sample 59 (Containment p (Filter p (In p-back Void))) []
+    ∷ sample 59 (Containment p (Filter p (Not (In p-back p-back)))) []
+    ∷ sample 59 (Containment (Filter p (some-of p-back)) p) []
+    ∷ sample 59 (Implication f f) []
+    ∷ sample 58 (Containment p (Filter p (some-of p-back))) []
+    ∷ sample 60 (Containment p (Filter p (some-of p-back))) []
     -- b isn't from 3 to 10
     ∷ (rule10With parent ++ rule10With child ++ rule10With self ++ rule10With attribute)
 
@@ -164,7 +214,7 @@ refused : (x : Sample) → T (sampleRefused x) → ¬ (SampleYields x)
 refused x t y = T-not (sampleYielded x) t (yes-yielded (x .rule) (x .claim) (x .premises) y)
 
 pub near-misses-refused : {x : Sample} → List·Memᴰ x nearMisses → ¬ (SampleYields x)
-unfolding nearMisses allOf someFormFits
+unfolding nearMisses allOf ruleFits
 near-misses-refused {x} m = refused x (all-of-yes sampleRefused nearMisses tt m)
 
 -- Premises missing, one too many, or in the other order.
@@ -178,7 +228,7 @@ unfoldable pub withOtherPremises : Sample → List Sample
 withOtherPremises x = map (λ cs. sample (x .rule) (x .claim) cs) (otherPremises (x .premises))
 
 pub other-premises-refused : {x : Sample} → List·Memᴰ x accepted → {y : Sample} → List·Memᴰ y (withOtherPremises x) → ¬ (SampleYields y)
-unfolding accepted withOtherPremises otherPremises allOf someFormFits
+unfolding accepted withOtherPremises otherPremises allOf ruleFits
 other-premises-refused {x} m {y} k = refused y (all-of-yes sampleRefused (withOtherPremises x) (all-of-yes (λ x. allOf sampleRefused (withOtherPremises x)) accepted tt m) k)
 
 -- A letter with two values: another name in place of one name or target.
@@ -232,5 +282,5 @@ lettersCompared x =
     allOf (λ e. cond (eqb (occurrences (e .0) (sampleRenamings x)) 1) (sampleYielded (e .1)) (sampleRefused (e .1))) (sampleRenamings x)
 
 pub letters-compared : T (allOf lettersCompared accepted)
-unfolding lettersCompared occurrences sampleRenamings premiseRenamings claimRenamings renamings accepted allOf someFormFits
+unfolding lettersCompared occurrences sampleRenamings premiseRenamings claimRenamings renamings accepted allOf ruleFits
 letters-compared = tt

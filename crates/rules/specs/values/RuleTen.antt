@@ -3,6 +3,7 @@ use Prim.Native.Nat.{ℕ}
 use mathlib.Core.Path.{refl}
 use mathlib.Core.Bool.{Bool, true, not, _&&_}
 use mathlib.Core.List.{[], _∷_, List·Memᴰ, List·Memᴰ·head, List·Memᴰ·tail}
+use mathlib.Core.Logic.{inl}
 use lib.Dec.{T, leb}
 use mir.Facts.{yes-and}
 use Rattle.common.specs.Axes.{descendant, preceding}
@@ -53,14 +54,14 @@ tests n m TestLetter.M = m
 ending-yields : (t : ℕ) → List·Memᴰ (rule10Form (test t)) (formsOf 10) → EndingYields t
 unfolding allOf meets claimFor pathFor axisFor testFor
 ending-yields t i u v x y n m c =
-    record {
+    inl (record {
       form = rule10Form (test t);
       of-rule = i;
       letters = record { path = paths u v; qualifier = λ _. True; axis = axes x y; test = tests n m };
       conditions = yes-and (leb descendant y && leb y preceding) true c tt;
       conclusion = refl;
       premises = refl;
-    }
+    })
 
 -- 01's rule 10: all that it yields is yielded
 pub star-ending-yields : EndingYields star-test

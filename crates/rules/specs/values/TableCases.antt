@@ -70,7 +70,7 @@ pub tests-above :
 unfolding listBelow testBelow
 tests-above = refl
 
--- the rules are 1 to 58, in order
+-- the rules of the table are 1 to 58, in order; rule 59 is none of them
 pub rule-numbers : AllRight (map (λ r. r .number) rules is listBelow 59 (leb 1) ∷ [])
 unfolding rules listBelow
 rule-numbers = refl

@@ -102,8 +102,8 @@ reports :
     ∷ audited (rows ++ "12 0 0 0\n" ++ stepLines ++ "8 0 1 0 0\n") is reportBy 1 4 0 0 0
     ∷ audited (rows ++ "2 12 0 2\n" ++ stepLines) is reportBy 2 4 0 0 0
     ∷ audited (rows ++ "2 1 0 2\n") is reportBy 12 4 0 0 0
-    -- a refused step: rule 59, a row that is not held, a premise where there is none, what the rule does not yield
-    ∷ audited (rows ++ stepLines ++ "59 0 1 0 0\n") is reportBy 4 5 0 0 0
+    -- a refused step: rule 60, a row that is not held, a premise where there is none, what the rule does not yield
+    ∷ audited (rows ++ stepLines ++ "60 0 1 0 0\n") is reportBy 4 5 0 0 0
     ∷ audited (rows ++ stepLines ++ "8 0 2 0 0\n") is reportBy 5 5 0 0 0
     ∷ audited (rows ++ stepLines ++ "8 0 1 1 0\n") is reportBy 6 5 0 0 0
     ∷ audited (example ++ "8 1 0 0 0\n8 0 1 0 0\n") is reportBy 7 6 0 0 0
@@ -120,7 +120,7 @@ unfolding ascii report reading linesRead rowsRead stepsRead rowNames stepNames r
     fieldOk heldPath heldQualifier isPath isQualifier nesting nestings entriesFrom nestingBy operandNesting
     find sameRow stepAnswer stepAnswerBy sameSort badSide premiseOk badPremise claimOf premisesOf isYielded
     says termAt terms termBy asPath asQualifier premiseCount firstCount formsOf formsIn rules decide
-    yields-dec decision.someFormFits
+    yields-dec decision.ruleFits
 reports = refl
 
 -- what read answers is the number of steps, whatever the number of rows; a refused reading leaves a fresh session, also where rows or
@@ -136,5 +136,5 @@ unfolding ascii reading linesRead rowsRead stepsRead rowNames stepNames rowOfLin
     heldPath heldQualifier isPath isQualifier nesting nestings entriesFrom nestingBy operandNesting find
     sameRow stepAnswer stepAnswerBy sameSort badSide premiseOk badPremise claimOf premisesOf isYielded says
     termAt terms termBy asPath asQualifier premiseCount firstCount formsOf formsIn rules decide yields-dec
-    decision.someFormFits
+    decision.ruleFits
 readings = (refl, refl)

@@ -1,15 +1,15 @@
--- Past the last rule there is none. Assumes nothing.
+-- Past the last rule of the table there is none. Assumes nothing.
 use mathlib.Core.Path.{sym, _∙_, ap}
 use borrow.Author.Needs.{needs}
 use borrow.Author.Tests.{lt-ltb, le-ltb}
-use Rattle.rules.specs.Yields.{maxRule}
+use Rattle.rules.specs.Yields.{tableRules}
 use Rattle.rules.specs.code.Unpack.{entryAt, ruleAt}
 use Rattle.rules.proofs.matcher.rule_at.Statement.{statement}
 use Rattle.rules.proofs.matcher.rule_at.Tie as tie
 
 returns : tie.Need-returns
 unfolding ruleAt
-returns c = rw (lt-ltb maxRule (c .before .before .args .rule) (c .if1 .taken))
+returns c = rw (lt-ltb tableRules (c .before .before .args .rule) (c .if1 .taken))
 
 wide-requires : tie.Need-wide-requires
 wide-requires c κs = search needs
@@ -21,7 +21,7 @@ returns-2 : tie.Need-returns-2
 unfolding ruleAt
 returns-2 c =
     let a = c .before .before .before .before .args in
-    rw (le-ltb maxRule (a .rule) (c .before .before .if1 .left))
+    rw (le-ltb tableRules (a .rule) (c .before .before .if1 .left))
     (c .entry-at .ensures ∙ ap (entryAt (a .table .now)) (c .before .wide .ensures))
 
 pub rule-at-spec : {M : Type 1} → statement M
