@@ -29,6 +29,7 @@ enum spinebriar_answer {
     SPINEBRIAR_STEPS_FULL = 13,
     SPINEBRIAR_SHORT_MARKS = 14,
     SPINEBRIAR_LIMIT_PASSED = 15,
+    SPINEBRIAR_SHORT_BUFFER = 16, /* the call write's */
     SPINEBRIAR_BAD_NAME = 17, /* the program tally's */
     SPINEBRIAR_BAD_LISTS = 25, /* 25 and 26 are the call replace's */
     SPINEBRIAR_NOT_COVERED = 26
@@ -54,6 +55,7 @@ static inline const char *spinebriar_answer_text(uint16_t answer)
     case SPINEBRIAR_STEPS_FULL: return "the session holds 2,048 steps already";
     case SPINEBRIAR_SHORT_MARKS: return "the marks are shorter than the document";
     case SPINEBRIAR_LIMIT_PASSED: return "more visits are needed than the limit";
+    case SPINEBRIAR_SHORT_BUFFER: return "the buffer is shorter than the bundle";
     case SPINEBRIAR_BAD_NAME: return "a 65th name, or a file that can't be opened";
     case SPINEBRIAR_BAD_LISTS: return "more than 64 old or new rows, or not as many steps as old rows";
     case SPINEBRIAR_NOT_COVERED: return "an old row whose step doesn't say that it is contained in a new row";

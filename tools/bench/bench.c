@@ -1,7 +1,7 @@
-/* Measures the proved read against the reference's on one bundle, and the proved selection against libxml2's XPath with compiled
- * expressions on a document nested 500 levels and on a flat one: on a tree that stands already, and with the parsing of the document's
- * text. Then the longest time of one visit. After the bundle, one term call and one step call by rule 59. Prints tables in
- * Markdown. run.sh builds and runs it. */
+/* Measures the proved read and write against the reference's on one bundle, and the proved selection against libxml2's
+ * XPath with compiled expressions on a document nested 500 levels and on a flat one: on a tree that stands already, and
+ * with the parsing of the document's text. Then the longest time of one visit. After the bundle, one term call and one
+ * step call by rule 59. Prints tables in Markdown. run.sh builds and runs it. */
 
 #include "spinebriar.h"
 #include <libxml/parser.h>
@@ -17,8 +17,13 @@
 uint16_t bench_select(const uint16_t *rows, size_t row_numbers, uint16_t row, const uint16_t *document,
                       size_t document_numbers, uint16_t context, uint32_t limit, uint8_t *marks, size_t room);
 
+size_t bench_write(uint8_t *out, size_t room, const uint16_t *rows, size_t row_numbers, size_t row_count,
+                   const uint16_t *steps, size_t step_numbers, size_t step_count);
+
 /* tools/reference/src/c.rs */
 uint16_t reference_read(const uint8_t *bytes, size_t length);
+void *reference_held(const uint8_t *bytes, size_t length);
+uint64_t reference_write(const void *book, uint8_t *out, size_t room);
 void *reference_book(const uint16_t *rows, size_t count);
 uint16_t reference_select(const void *book, uint16_t row, const uint16_t *document, size_t nodes, uint16_t context,
                           uint32_t limit, uint8_t *marks);
@@ -108,6 +113,64 @@ static void bench_bundle(const char *what, Bundle bundle) {
     print_timings(&sides[0], &sides[1]);
 }
 
+/* write: the numbers of the bundle's lines, and a buffer for each side */
+
+enum { ROW_NUMBERS = 4 * 1024, STEP_NUMBERS = 5 * 2048, ROOM = 65536 };
+
+typedef struct {
+    Bundle bundle;
+    const void *book;
+    uint16_t rows[ROW_NUMBERS], steps[STEP_NUMBERS];
+    size_t row_numbers, step_numbers;
+    uint8_t *theirs, *ours;
+} Held;
+
+static void run_reference_write(const void *of) {
+    const Held *held = of;
+    size_t length = reference_write(held->book, held->theirs, ROOM);
+    check(length == held->bundle.length, "the reference writes another length");
+}
+
+static void run_write(const void *of) {
+    const Held *held = of;
+    size_t length = bench_write(held->ours, ROOM, held->rows, held->row_numbers, held->row_numbers / 4, held->steps,
+                                held->step_numbers, held->step_numbers / 5);
+    check(length == held->bundle.length, "another length is written");
+}
+
+/* The numbers of the lines from `at` up to `end`. */
+static size_t numbers_of(const char *at, const char *end, uint16_t *numbers, size_t most) {
+    size_t count = 0;
+    for (char *next; at < end; at = next) {
+        unsigned long n = strtoul(at, &next, 10);
+        if (next == at) break;
+        check(count < most, "too many numbers in the bundle");
+        numbers[count++] = (uint16_t)n;
+    }
+    return count;
+}
+
+static size_t without_steps(const char *text);
+
+static void bench_write_bundle(Bundle bundle) {
+    static Held held;
+    static uint8_t theirs[ROOM], ours[ROOM];
+    const char *text = (const char *)bundle.bytes, *steps = text + without_steps(text);
+    held = (Held){.bundle = bundle, .theirs = theirs, .ours = ours};
+    held.book = reference_held(bundle.bytes, bundle.length);
+    held.row_numbers = numbers_of(strchr(text, '\n') + 1, steps, held.rows, ROW_NUMBERS);
+    held.step_numbers = numbers_of(steps, text + bundle.length, held.steps, STEP_NUMBERS);
+    Timing sides[2] = {{.call = run_reference_write}, {.call = run_write}};
+    measure(sides, 2, &held);
+    check(memcmp(theirs, bundle.bytes, bundle.length) == 0, "the reference writes other bytes");
+    check(memcmp(ours, bundle.bytes, bundle.length) == 0, "other bytes are written");
+    printf("\nWriting it, in microseconds:\n\n");
+    printf("| bundle | reference min | median | ours min | median | ratio of min | of median |\n");
+    printf("|---|---|---|---|---|---|---|\n");
+    printf("| 1,024 rows and 2,048 steps, %zu bytes |", bundle.length);
+    print_timings(&sides[0], &sides[1]);
+}
+
 /* The length up to the end of the second names line. */
 static size_t without_steps(const char *text) {
     static const char names[] = "rule left right first second\n";
@@ -126,6 +189,7 @@ static void bench_read(const char *file) {
     printf("| bundle | reference min | median | ours min | median | ratio of min | of median |\n|---|---|---|---|---|---|---|\n");
     bench_bundle("1,024 rows and 2,048 steps", (Bundle){bytes, length});
     bench_bundle("its rows alone", (Bundle){bytes, without_steps((const char *)bytes)});
+    bench_write_bundle((Bundle){bytes, length});
 }
 
 /* One call of a bundle */

@@ -1,6 +1,6 @@
 #!/bin/sh
-# The benchmark: the proved read against tools/reference on a full bundle, the proved selection against libxml2. Prints tables; a
-# ratio above 1 says that ours is slower.
+# The benchmark: the proved read and write against tools/reference on a full bundle, the proved selection against
+# libxml2. Prints tables; a ratio above 1 says that ours is slower.
 #
 #     tools/bench/run.sh [SEED]
 #

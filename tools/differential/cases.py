@@ -2,6 +2,7 @@
 documents and selects, full tables, and damaged text.
 
     python3 cases.py full-bundle SEED     prints a bundle of 1,024 rows and 2,048 steps
+    python3 cases.py longest-bundle       prints the longest bundle that is accepted
 """
 
 import random
@@ -308,6 +309,12 @@ class Session:
         self.call("new", new[:MOST_LISTED])
         self.call("replace", steps, is_covered(book, old, new[:MOST_LISTED], steps))
 
+    def write(self):
+        needed = len(bundle_text(self.book.rows, self.book.steps))
+        edges = [needed, needed, needed - 1, needed + 1, MOST_BYTES, MOST_BYTES - 1, 0]
+        room = self.rng.choice([*edges, self.rng.randrange(2 * needed)])
+        self.call("write", (room,), needed <= room)
+
     def random_call(self):
         n = self.rng.random()
         if self.rng.random() < 0.06:
@@ -320,8 +327,10 @@ class Session:
             self.altered_step(self.rng.choice(self.book.steps))
         elif n < 0.7:
             self.document()
-        elif n < 0.98:
+        elif n < 0.95:
             self.select()
+        elif n < 0.98:
+            self.write()
         else:
             self.deep_term()
 
@@ -370,6 +379,11 @@ def is_covered(book, old, new, steps):
 
 def text_of(lines):
     return "".join(line + "\n" for line in lines).encode()
+
+
+def bundle_text(rows, steps):
+    rows, steps = ([" ".join(map(str, numbers)) for numbers in lines] for lines in (rows, steps))
+    return text_of(["kind a b c", *rows, "rule left right first second", *steps])
 
 
 def document(rng, nodes):
@@ -459,7 +473,7 @@ def with_low_limits(text):
 def resized(rng, text):
     """The text made as long as the longest input, or a byte or more longer, by its last term or step over and over."""
     size = MOST_BYTES + rng.choice([0, 0, 1, 1, 2, 5000])
-    others = (b"select", b"document", b"old", b"new", b"replace")
+    others = (b"select", b"document", b"old", b"new", b"replace", b"write")
     line = next((line for line in reversed(text.splitlines(True)) if not line.startswith(others)), b"\n")
     return (text + line * (size // len(line) + 1))[:size - 1] + rng.choice([b"\n", b"0"])
 
@@ -473,6 +487,7 @@ def replay_case(rng):
     if rng.random() < 0.01:
         session.fill_tables()
         session.select()
+        session.write()
     text, kind = session.text(), rng.random()
     if kind < 0.72 and len(text) <= MOST_BYTES:
         return Case("replay", text, session.accepted())
@@ -511,7 +526,21 @@ def full_bundle(seed):
     return session.bundle()
 
 
+def longest_bundle():
+    """A bundle of 58,281 bytes, the most that a bundle can have that is accepted."""
+    last = range(1001, 1006)
+    rows = [(2, 10, 0, 10000 + number) for number in range(1001)] + [(11, 1000, 1000, 0)]
+    rows += [(10, row, row, 0) for row in last[:-1]] + [(10, x, y, 0) for x in last for y in last if x != y]
+    steps = [(2, 1001, 1001, 0, 0)]
+    for row, premise, end in (1002, 1, 10), (1003, 10, 100), (1004, 100, 1000), (1005, 1000, MOST_STEPS):
+        steps += [(21, row, 1001, premise, premise)] * (end - len(steps))
+    return bundle_text(rows[:MOST_ROWS], steps)
+
+
 if __name__ == "__main__":
-    if len(sys.argv) != 3 or sys.argv[1] != "full-bundle":
+    if sys.argv[1:] == ["longest-bundle"]:
+        sys.stdout.buffer.write(longest_bundle())
+    elif len(sys.argv) == 3 and sys.argv[1] == "full-bundle":
+        sys.stdout.buffer.write(full_bundle(int(sys.argv[2])))
+    else:
         sys.exit(__doc__)
-    sys.stdout.buffer.write(full_bundle(int(sys.argv[2])))

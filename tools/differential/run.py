@@ -51,6 +51,23 @@ def difference(case, expected, printed):
     sys.stdout.buffer.write(case.input[:4000] + (b"\n.." if len(case.input) > 4000 else b""))
 
 
+# Lines for which replay prints nothing.
+SILENT = ([b"document"], [b"old"], [b"new"])
+
+
+def answers_of(text, printed):
+    """The first word of each answer that replay prints; the lines of a bundle that a write prints are left out."""
+    calls = [words for words in map(bytes.split, text.split(b"\n")) if words[:1] not in SILENT]
+    numbers, at = [], 0
+    while at < len(printed):
+        end = printed.find(b"\n", at)
+        number, value = (printed[at:end].split() + [b"0"])[:2]
+        is_write = len(numbers) < len(calls) and calls[len(numbers)][:1] == [b"write"]
+        numbers.append(number)
+        at = end + 1 + (int(value) if is_write and number == b"0" else 0)
+    return numbers
+
+
 class Tally:
     """What ran: cases by program, answers by call and number, accepted steps by rule."""
 
@@ -67,10 +84,10 @@ class Tally:
                 steps = lines[lines.index(b"rule left right first second") + 1:-1]
                 self.rules.update(int(line.split()[0]) for line in steps)
             return
-        answers = [line.split()[0] for line in printed.splitlines()]
+        answers = answers_of(case.input, printed)
         if answers and answers[-1] == b"10":
             self.answers["line", int(answers.pop())] += 1
-        calls = [words for words in map(bytes.split, lines) if words[:1] not in ([b"document"], [b"old"], [b"new"])]
+        calls = [words for words in map(bytes.split, lines) if words[:1] not in SILENT]
         for words, number in zip(calls, map(int, answers)):
             self.answers[words[0].decode(), number] += 1
             if words[0] == b"step" and number == 0:
@@ -79,7 +96,7 @@ class Tally:
     def report(self, seed):
         print(f"seed {seed}: {sum(self.cases.values())} cases ran, no difference "
               f"({', '.join(f'{count} {program}' for program, count in sorted(self.cases.items()))})")
-        for call in ("term", "step", "select", "replace", "line", "read"):
+        for call in ("term", "step", "select", "replace", "write", "line", "read"):
             numbers = sorted((number, count) for (word, number), count in self.answers.items() if word == call)
             print(f"  {call}: " + ", ".join(f"{count} answered {number}" for number, count in numbers))
         print("  accepted steps by rule: " + ", ".join(f"{rule}: {self.rules[rule]}" for rule in range(1, 60)))
@@ -89,7 +106,7 @@ def predicted(case, printed):
     """Whether the generator's own book accepts the same calls as the reference."""
     if case.program == "audit":
         return printed.split()[5] == b"0"
-    numbers = [line.split()[0] for line in printed.splitlines()]
+    numbers = answers_of(case.input, printed)
     return len(numbers) == len(case.accepted) and all(
         expected is None or expected == (number == b"0") for expected, number in zip(case.accepted, numbers))
 

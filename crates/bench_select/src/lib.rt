@@ -1,8 +1,9 @@
-// Select for a benchmark in C, on rows that the caller lends.
+// Select and write for a benchmark in C, on rows and steps that the caller lends.
 ghost use mathlib.Core.Path.{_≡_};
 ghost use lib.ListN.{length};
 ghost use Rattle.terms.specs.Row.{tableOf};
 ghost use Rattle.calls.specs.SelectCall.{selectAnswer, selectBuffer};
+ghost use Rattle.bundles.specs.code.TextPut.{heldText, TextWritten};
 
 // The number of the answer; the marks are written as `Session::select` writes them.
 #[no_mangle]
@@ -19,4 +20,19 @@ pub extern "C" fn bench_select(
 {
     let answer = calls::select_on(rows, row, document, context, limit, marks);
     answer.number()
+}
+
+// The length of the bundle of the first n rows and m steps; its bytes are written as `Session::write` writes them.
+#[no_mangle]
+pub extern "C" fn bench_write<'a>(
+    out: &mut [u8],
+    rows: &'a [u16],
+    n: usize,
+    steps: &'a [u16],
+    m: usize,
+) -> usize
+    ensures { λ r. ⌜ TextWritten (now (out .entry)) 0 (heldText n (now (rows .entry)) m (now (steps .entry))) r
+        (now (out .exit)) ⌝ }
+{
+    bundles::write_tables(out, 0, rows, n, steps, m)
 }

@@ -9,6 +9,7 @@ pub mod Premises
 pub mod Runs
 pub mod Cases
 pub mod Reached
+pub mod RowAdded
 pub mod Yielded
 pub mod ByTerms
 pub mod RuleUses

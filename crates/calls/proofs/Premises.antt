@@ -6,7 +6,7 @@ use mathlib.Core.List.{List, [], _∷_, map}
 use native.Mathlib.Omega.{arith}
 use lib.Dec.{leb}
 use lib.ListN.{length, getD, take}
-use borrow.Author.Tests.{leb-true, leb-false, le-leb, not-false}
+use borrow.Author.Tests.{eqb-true, leb-true, leb-false, le-leb, not-false}
 use Rattle.terms.specs.Row.{Row}
 use Rattle.common.specs.Lists.{Every}
 use Rattle.rules.specs.Yields.{premiseCount}
@@ -51,6 +51,11 @@ needed-held ps i e =
     let h : i - 1 < length ps = omega (arith, leb-true 1 i (r .0), leb-true i (length ps) (r .1)) in
     (i - 1, h, refl)
 
+fits : (needed : Bool) (held i : ℕ) → premiseOk needed held i ≡ true → i ≤ held
+unfolding premiseOk
+fits true held i e = leb-true i held (and-both (leb 1 i) (leb i held) e .1)
+fits false held i e = omega (arith, eqb-true i 0 e)
+
 -- the premises that a rule with k premises takes
 premises-by : (ps : List Step) (k i j : ℕ) → premiseOk (leb 1 k) (length ps) i ≡ true → premiseOk (leb 2 k) (length ps) j ≡ true
     → Every (HeldIn ps) (map (stepNumbered ps) (take k (i ∷ j ∷ [])))
@@ -70,3 +75,12 @@ premises-held ps p h =
     let a = no-place (not (premiseOk (leb 1 k) (length ps) (p .first))) 0 _ h in
     let b = no-place (not (premiseOk (leb 2 k) (length ps) (p .second))) 1 _ (a .1) in
     premises-by ps k (p .first) (p .second) (not-false _ (a .0)) (not-false _ (b .0))
+
+-- an accepted step's premises are numbers of held steps, or 0
+pub premise-fits : (held : ℕ) (p : Step) → badPremise held p ≤ 0 → (p .first ≤ held) × (p .second ≤ held)
+unfolding badPremise
+premise-fits held p h =
+    let k = premiseCount (p .rule) in
+    let a = no-place (not (premiseOk (leb 1 k) held (p .first))) 0 _ h in
+    let b = no-place (not (premiseOk (leb 2 k) held (p .second))) 1 _ (a .1) in
+    (fits (leb 1 k) held (p .first) (not-false _ (a .0)), fits (leb 2 k) held (p .second) (not-false _ (b .0)))

@@ -40,7 +40,7 @@ module _ (rs : List Row) (r : Row) (p : Step) (held : SidesHeld rs p) where
   grown : length (rs ++ (r ∷ [])) ≡ length rs + 1
   grown = length-append rs (r ∷ [])
 
-  sides-stay : SidesHeld (rs ++ (r ∷ [])) p
+  pub sides-stay : SidesHeld (rs ++ (r ∷ [])) p
   unfolding sameSort
   sides-stay =
       record {
@@ -49,7 +49,7 @@ module _ (rs : List Row) (r : Row) (p : Step) (held : SidesHeld rs p) where
         one-sort = rw (row-stays rs r (p .left) (held .left), row-stays rs r (p .right) (held .right)) (held .one-sort);
       }
 
-  claim-stays : claimOf (rs ++ (r ∷ [])) p ≡ claimOf rs p
+  pub claim-stays : claimOf (rs ++ (r ∷ [])) p ≡ claimOf rs p
   unfolding claimOf says
   claim-stays =
       rw (row-stays rs r (p .left) (held .left), term-stays rs (r ∷ []) (p .left) (held .left), term-stays rs (r ∷ []) (p .right) (held .right))

@@ -1,11 +1,11 @@
 -- The answer of a step call, test by test. Assumes nothing.
 use Prim.Native.Nat.{ℕ, _+_, _≤_, _<_}
-use mathlib.Core.Path.{_≡_}
-use mathlib.Core.Bool.{Bool, true, false, not, _||_}
+use mathlib.Core.Path.{_≡_, refl, sym}
+use mathlib.Core.Bool.{Bool, true, false, not, _||_, false≢true}
 use native.Mathlib.Omega.{arith}
 use lib.Dec.{leb, ltb, eqb}
 use lib.ListN.{length}
-use borrow.Author.Tests.{lt-ltb, le-ltb, le-leb, lt-leb, ltb-false, leb-false, not-false}
+use borrow.Author.Tests.{lt-ltb, le-ltb, le-leb, lt-leb, ltb-false, leb-false, eqb-false, not-false}
 use Rattle.rules.specs.Yields.{maxRule}
 use Rattle.calls.specs.Book.{Step, maxSteps, Book, answer}
 use Rattle.calls.specs.Refusals as refusals
@@ -40,8 +40,13 @@ module _ (y : Bool) (b : Book) (p : Step) where
         unfolding stepAnswerBy
         step-held h l = rw (rule, ← is-i, le-ltb 0 i sides, ← is-n, ← is-j, le-ltb 0 j premises, h, lt-leb maxSteps n l)
 
+neither : (a b : Bool) → (a || b) ≡ false → (a ≡ false) × (b ≡ false)
+neither true b e = absurd (false≢true (sym e))
+neither false b e = (refl, e)
+
 -- where the answer is 0, no refusal applies
 pub record StepAccepted (y : Bool) (b : Book) (p : Step) : Type 0 where
+  pub rule : (1 ≤ p .rule) × (p .rule ≤ maxRule)
   pub sides : badSide (b .rows) p ≤ 0
   pub premises : badPremise (length (b .steps)) p ≤ 0
   pub yielded : y ≡ true
@@ -55,7 +60,10 @@ step-accepted y b p e =
     let t₃ = test-failed (ltb 0 (badPremise (length (b .steps)) p)) _ _ (omega arith) (t₂ .1) in
     let t₄ = test-failed (not y) _ _ (omega arith) (t₃ .1) in
     let t₅ = test-failed (leb maxSteps (length (b .steps))) _ _ (omega arith) (t₄ .1) in
+    let (not-zero, not-above) = neither (eqb (p .rule) 0) (ltb maxRule (p .rule)) (t₁ .0) in
+    let some-rule : ¬ (p .rule ≡ 0) = eqb-false (p .rule) 0 not-zero in
     record {
+      rule = (omega (arith, some-rule), ltb-false maxRule (p .rule) not-above);
       sides = ltb-false _ _ (t₂ .0);
       premises = ltb-false _ _ (t₃ .0);
       yielded = not-false y (t₄ .0);

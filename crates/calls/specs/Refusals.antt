@@ -61,6 +61,10 @@ short-marks = 14
 abbrev pub limit-passed : ℕ
 limit-passed = 15
 
+-- the buffer shorter than the bundle: the length needed
+abbrev pub short-buffer : ℕ
+short-buffer = 16
+
 -- a 65th name, or a file that can't be opened
 abbrev pub bad-name : ℕ
 bad-name = 17

@@ -50,6 +50,8 @@ pub const SHORT_MARKS: u16 = 14;
 
 pub const LIMIT_PASSED: u16 = 15;
 
+pub const SHORT_BUFFER: u16 = 16;
+
 pub const BAD_NAME: u16 = 17;
 
 pub const BAD_LISTS: u16 = 25;

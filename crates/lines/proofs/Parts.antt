@@ -58,7 +58,7 @@ next-behind w r f = by-cut (cutting newline r)
         rw (ap lines text ∙ lines-at (w ++ space ∷ l) t (free-append newline w (space ∷ l) f (refl, h)), ap lines e ∙ lines-at l t h)
 
 -- there is always a part
-parts-some : (xs : List ℕ) → (w : List ℕ) × (ws : List (List ℕ)) × (parts xs ≡ w ∷ ws)
+pub parts-some : (xs : List ℕ) → (w : List ℕ) × (ws : List (List ℕ)) × (parts xs ≡ w ∷ ws)
 parts-some xs = by-cut (cutting space xs)
   where
     by-cut : Cutting space xs → (w : List ℕ) × (ws : List (List ℕ)) × (parts xs ≡ w ∷ ws)

@@ -15,7 +15,7 @@ pub const NEWLINE: u8 = 10;
 
 pub const SPACE: u8 = 32;
 
-const DIGIT_0: u8 = 48;
+pub const DIGIT_0: u8 = 48;
 
 const DIGIT_9: u8 = 57;
 

@@ -18,7 +18,7 @@ use Rattle.script.specs.declared.CallLine.{CallLine}
 use Rattle.lines.proofs.SameBytes.{same-bytes}
 use Rattle.lines.specs.Number.{numbersUpTo}
 use Rattle.script.specs.Command.{Command, termBytes, stepBytes, selectBytes, documentBytes, freshBytes, oldBytes}
-use Rattle.script.specs.Command.{newBytes, replaceBytes, named, commandOf}
+use Rattle.script.specs.Command.{newBytes, replaceBytes, writeBytes, named, commandOf}
 use Rattle.script.specs.code.CommandRead.{noNumbers, callLine, countOf, marksOf, commandIn, CallMet}
 use Rattle.script.proofs.Calls.{no-numbers-size, no-call, is-call}
 
@@ -88,6 +88,7 @@ module _ (xs : List ℕ) (at : ℕ)
     (no-empty-new : startsWith (newBytes ++ newline ∷ []) (drop at xs) ≡ false)
     (no-replace : startsWith (replaceBytes ++ space ∷ []) (drop at xs) ≡ false)
     (no-empty-replace : startsWith (replaceBytes ++ newline ∷ []) (drop at xs) ≡ false)
+    (no-write : startsWith (writeBytes ++ space ∷ []) (drop at xs) ≡ false)
   where
     -- the text does not start with a word and the byte e, though its first part is that word
     not-so : {A : Type 0} (w y r : List ℕ) (e : ℕ) → drop at xs ≡ w ++ e ∷ r → startsWith (y ++ e ∷ []) (drop at xs) ≡ false → startsWith (y ++ e ∷ []) (y ++ e ∷ r) ≡ true → w ≡ y → A
@@ -108,7 +109,8 @@ module _ (xs : List ℕ) (at : ℕ)
             (by-word w freshBytes _ _ (not-so w freshBytes r newline t no-fresh refl)
             (by-word w oldBytes _ _ (not-so w oldBytes r newline t no-empty-old refl)
             (by-word w newBytes _ _ (not-so w newBytes r newline t no-empty-new refl)
-            (by-word w replaceBytes _ _ (not-so w replaceBytes r newline t no-empty-replace refl) refl)))))))
+            (by-word w replaceBytes _ _ (not-so w replaceBytes r newline t no-empty-replace refl)
+            (by-word w writeBytes _ _ (λ i. refl) refl))))))))
         by-part (part-before w r t f g) =
             ap (λ u. firstParts commandOf (lines u)) t ∙ before-space commandOf w r f g
             ∙ first-none (λ ws. commandOf (w ∷ ws)) (λ p ps.
@@ -119,4 +121,5 @@ module _ (xs : List ℕ) (at : ℕ)
             (by-word w freshBytes _ _ (λ i. refl)
             (by-word w oldBytes _ _ (not-so w oldBytes r space t no-old refl)
             (by-word w newBytes _ _ (not-so w newBytes r space t no-new refl)
-            (by-word w replaceBytes _ _ (not-so w replaceBytes r space t no-replace refl) refl)))))))) (lines r)
+            (by-word w replaceBytes _ _ (not-so w replaceBytes r space t no-replace refl)
+            (by-word w writeBytes _ _ (not-so w writeBytes r space t no-write refl) refl))))))))) (lines r)

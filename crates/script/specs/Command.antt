@@ -20,6 +20,7 @@ pub data Word : Type 0 where
   new : Word
   replace : Word
   fresh : Word
+  write : Word
 
 pub record Command : Type 0 where
   pub word : Word
@@ -52,12 +53,19 @@ replaceBytes = ascii "replace"
 abbrev pub freshBytes : List ℕ
 freshBytes = ascii "fresh"
 
+abbrev pub writeBytes : List ℕ
+writeBytes = ascii "write"
+
 -- the largest limit of visits, and the longest marks buffer
 abbrev pub maxLimit : ℕ
 maxLimit = 4294967295
 
 abbrev pub maxMarks : ℕ
 maxMarks = 1024
+
+-- the longest buffer of a write
+abbrev pub maxRoom : ℕ
+maxRoom = 65536
 
 -- one node more than a select takes, three numbers a node
 abbrev pub maxNumbers : ℕ
@@ -93,4 +101,5 @@ commandOf (w ∷ ws) =
     (cond (sameBytes w freshBytes) (named fresh (numbersUpTo [] ws))
     (cond (sameBytes w oldBytes) (named old (atMost maxListed (allNumbers ws)))
     (cond (sameBytes w newBytes) (named new (atMost maxListed (allNumbers ws)))
-    (cond (sameBytes w replaceBytes) (named replace (atMost maxListed (allNumbers ws))) none)))))))
+    (cond (sameBytes w replaceBytes) (named replace (atMost maxListed (allNumbers ws)))
+    (cond (sameBytes w writeBytes) (named write (numbersUpTo (maxRoom ∷ []) ws)) none))))))))

@@ -2,11 +2,12 @@
 use calls::Step;
 use terms::Row;
 ghost use mathlib.Core.Path.{_≡_};
+ghost use mathlib.Core.List.{[], _∷_};
 ghost use lib.ListN.{length};
 ghost use Rattle.lines.specs.Number.{numbersUpTo, lineNumbers};
 ghost use Rattle.calls.specs.code.Tables.{rowWidth, stepWidth};
-ghost use Rattle.script.specs.Command.{term, step, select};
-ghost use Rattle.script.specs.Command.{allNumbers, atMost, selectBounds, named, commandOf};
+ghost use Rattle.script.specs.Command.{term, step, select, write};
+ghost use Rattle.script.specs.Command.{maxRoom, allNumbers, atMost, selectBounds, named, commandOf};
 ghost use Rattle.script.specs.code.CommandRead.{noNumbers, wordOf, mostOf, listCall, callLine};
 ghost use Rattle.script.specs.code.CommandRead.{NoOtherWord, CallMet};
 
@@ -14,6 +15,9 @@ const MAX_LIMIT: u32 = 4294967295;
 
 // The length of the longest marks buffer.
 pub const MAX_MARKS: usize = 1024;
+
+// The length of the longest buffer of a write.
+pub const MAX_ROOM: usize = common::MAX_BYTES;
 
 // The numbers of the longest document, three a node: one node more than a select takes.
 pub const MAX_NUMBERS: usize = 3 * (xpath::MAX_NODES + 1);
@@ -29,8 +33,8 @@ pub struct SelectCall {
     pub marks: usize,
 }
 
-// The call of a line; `Document`, `Old`, `New` and `Replace` say how many numbers it lists, and `Other` that the line
-// is no call.
+// The call of a line; `Document`, `Old`, `New` and `Replace` say how many numbers it lists, `Write` how long its buffer is,
+// and `Other` that the line is no call.
 pub enum Call {
     Term(Row),
     Step(Step),
@@ -40,6 +44,7 @@ pub enum Call {
     Old(usize),
     New(usize),
     Replace(usize),
+    Write(usize),
     Other,
 }
 
@@ -134,6 +139,16 @@ fn select_call(bytes: &[u8], at: usize) -> CallLine
         marks: marks.value as usize,
     };
     call_line(Call::Select(call), marks.next)
+}
+
+fn write_call(bytes: &[u8], at: usize) -> CallLine
+    ensures { λ r. ⌜ CallMet (λ ws. named write (numbersUpTo (maxRoom ∷ []) ws)) (now (bytes .entry)) at r ⌝ }
+{
+    let room = lines::number_at(bytes, at, lines::NEWLINE, MAX_ROOM as u32);
+    if !room.ok {
+        return other(bytes);
+    }
+    call_line(Call::Write(room.value as usize), room.next)
 }
 
 // The most numbers of such a line.
@@ -237,6 +252,9 @@ pub fn call_at(bytes: &[u8], at: usize) -> CallLine
     }
     if lines::is_line(bytes, at, b"fresh") {
         return call_line(Call::Fresh, at + 6);
+    }
+    if lines::starts_with(bytes, at, b"write ") {
+        return write_call(bytes, at + 6);
     }
     list_at(bytes, at)
 }

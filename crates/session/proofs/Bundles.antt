@@ -16,26 +16,30 @@ use Rattle.lines.proofs.Cutting.{lines-at}
 use Rattle.lines.proofs.Written.{line-reads-back}
 use Rattle.session.specs.declared.session.Session.{Session}
 use Rattle.session.specs.declared.read.ReadResult.{ReadResult}
+use Rattle.session.specs.declared.write.WriteAnswer.{WriteAnswer}
 use Rattle.calls.specs.Book.{Step, answer}
 use Rattle.calls.specs.Runs.{done, then}
 use Rattle.calls.specs.Calls.{step, CallSeen}
 use Rattle.calls.specs.code.Tables.{rowWidth}
 use Rattle.session.specs.View.{view, freshSession, rowNumbers, stepNumbers}
-use Rattle.session.specs.Bundle.{rowNames, stepNames, rowText, rowsText, stepsText, bundleText}
+use Rattle.bundles.specs.Bundle.{rowNames, stepNames, rowText, rowsText, stepsText, bundleText}
 use Rattle.calls.specs.Promises.{rowStepAnswer}
 use Rattle.session.specs.Reading.{Reading, stepsRead, rowsRead, linesRead, reading}
 use Rattle.session.specs.Promises.{CallRelation, SelectRelation, Met, CallsMade, SelectMet}
 use Rattle.session.specs.ReadCall.{ReadMet}
+use Rattle.session.specs.WriteCall.{sessionText, WriteRelation, WriteMet}
 use Rattle.session.specs.ReadDemand.{IsAccepted, callsOf, RowFits, StepFits, ReadDemand}
-use Rattle.calls.proofs.Runs.{run-map}
+use Rattle.calls.proofs.Runs.{run-map, run-append}
 use Rattle.session.proofs.Demand3.{CallsKept, SelectsKept}
 use Rattle.session.proofs.LineCalls.{row-names-free, step-names-free}
 use Rattle.session.proofs.LinesRead.{names-read, row-held, step-held}
 use Rattle.session.proofs.ReadByRows.{reading-by-rows}
 use Rattle.session.proofs.ReadCalls.{is-line, read-accepted, read-refused}
 use Rattle.session.proofs.Simulation.{fresh-kept}
+use Rattle.session.proofs.Sorted.{Sorted, every-append, calls-sorted}
 use Rattle.session.proofs.StepsAdded.{calls-added}
 use Rattle.session.proofs.Views.{fresh-view}
+use Rattle.session.proofs.Written.{written-text, written-where-room, sorted-short, read-text}
 
 -- the second names line is no term line
 no-row-in-names : numbersOf rowWidth (line stepNames true) ≡ none
@@ -95,11 +99,24 @@ well-written rs ps os u rows steps run taken =
     let held : length (view u .steps) ≡ length ps = omega arith in
     reading-by-rows (bundleText rs ps) ∙ rw (text, first-names-are) (rows-written freshSession 2 rs ps os u rows steps run taken ∙ ap (λ n. record { answer = answer 0 n; session = u }) held)
 
--- where read and the calls meet their promises, and calls that meet them can be made
-pub read-demand-by : (Selected : SelectRelation) (Called : CallRelation) (Read : List ℕ → ReadResult → Type 0)
+-- what term and step calls leave, as text, reads back
+sorted-reads-back : {s : Session} → Sorted s → reading (sessionText s) ≡ allRead s
+sorted-reads-back {s} o =
+    let run = run-append (o .rows-made) (o .steps-made) in
+    let taken = every-append IsAccepted (o .rows-seen) (o .steps-seen) (o .rows-accepted) (o .steps-accepted) in
+    ap (λ b. reading (bundleText (b .rows) (b .steps))) (o .held)
+    ∙ well-written (o .rows) (o .steps) _ s (o .rows-fit) (o .steps-fit) run taken
+    ∙ ap (λ b. record { answer = answer 0 (length (b .steps)); session = s }) (sym (o .held))
+
+-- where read, write and the calls meet their promises, and calls that meet them can be made
+pub read-demand-by : (Selected : SelectRelation) (Called : CallRelation) (Read : List ℕ → ReadResult
+    → Type 0) (Write : WriteRelation)
     → SelectsKept Selected SelectMet → CallsKept Called Met → CallsKept Met Called
-    → ((bytes : List ℕ) (t : ReadResult) → Read bytes t → ReadMet bytes t) → ReadDemand Selected Called Read
-read-demand-by Selected Called Read select-tied call-tied met-called read-tied =
+    → ((bytes : List ℕ) (t : ReadResult) → Read bytes t → ReadMet bytes t)
+    → ((s : Session) (buffer : List ℕ) (w : WriteAnswer) (left : List ℕ) → Write s buffer w left
+    → WriteMet s buffer w left)
+    → ReadDemand Selected Called Read Write
+read-demand-by Selected Called Read Write select-tied call-tied met-called read-tied write-tied =
     record {
       accepted = λ bytes t m. read-accepted Selected Called select-tied met-called bytes t (read-tied bytes t m);
       refused = λ bytes t m. read-refused bytes t (read-tied bytes t m);
@@ -107,4 +124,17 @@ read-demand-by Selected Called Read select-tied call-tied met-called read-tied =
           let same = well-written rs ps os s rows steps (run-map call-tied run) taken in
           let met = read-tied _ t m in
           (met .answer ∙ ap (λ r. r .answer) same, met .session ∙ ap (λ r. r .session) same);
+      written-reads-back = λ cs os s run fits buffer left w m e t r.
+          let text = written-text s buffer w left (write-tied s buffer w left m) e in
+          let same = ap reading text ∙ sorted-reads-back (calls-sorted (run-map call-tied run) fits) in
+          let met = read-tied _ t r in
+          (met .answer ∙ ap (λ r. r .answer) same, met .session ∙ ap (λ r. r .session) same);
+      same-bytes = λ bytes t r e buffer left w m taken.
+          let read = read-accepted Selected Called select-tied met-called bytes t (read-tied bytes t r) e in
+          written-text (t .session) buffer w left (write-tied (t .session) buffer w left m) taken
+          ∙ read-text bytes (read .rows) (read .steps) (read .seen) (t .session) (read .bundle)
+          (run-map call-tied (read .made)) (read .all-accepted);
+      always-room = λ cs os s run fits buffer left w m room.
+          let short = sorted-short (calls-sorted (run-map call-tied run) fits) in
+          written-where-room s buffer w left (write-tied s buffer w left m) (omega (arith, short, room));
     }

@@ -15,4 +15,7 @@ pub mod ReadMade
 pub mod Audited
 pub mod StepsAdded
 pub mod ReadCalls
+pub mod Sorted
+pub mod Written
 pub mod Bundles
+pub mod Held

@@ -25,7 +25,7 @@ use Rattle.session.specs.View.{view, stepNumbers, freshSession}
 use Rattle.calls.specs.code.Answers.{termAnswerOf, stepAnswerOf}
 use Rattle.calls.specs.Promises.{rowStepAnswer}
 use Rattle.session.specs.Promises.{TermPlaced}
-use Rattle.session.specs.Bundle.{rowNames, stepNames, rowOfNumbers, stepOfNumbers}
+use Rattle.bundles.specs.Bundle.{rowNames, stepNames, rowOfNumbers, stepOfNumbers}
 use Rattle.calls.specs.Refusals.{wrong-form}
 use Rattle.session.specs.Reading.{refusedAt, stepsRead, rowsRead}
 use Rattle.session.specs.ReadCall.{holding}

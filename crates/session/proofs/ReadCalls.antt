@@ -20,7 +20,7 @@ use Rattle.calls.specs.Calls.{term, step, CallSeen}
 use Rattle.session.specs.View.{view, freshSession, withRow, withStep}
 use Rattle.calls.specs.Promises.{rowStepAnswer}
 use Rattle.session.specs.Promises.{CallRelation, SelectRelation, session, Met, CallsMade, SelectMet}
-use Rattle.session.specs.Bundle.{rowNames, stepNames, rowOfLine, stepOfLine}
+use Rattle.bundles.specs.Bundle.{rowNames, stepNames, rowOfLine, stepOfLine}
 use Rattle.calls.specs.Refusals.{wrong-form}
 use Rattle.session.specs.Reading.{Reading, refusedAt, stepsRead, rowsRead, linesRead}
 use Rattle.session.specs.ReadCall.{readAnswerOf, ReadMet}

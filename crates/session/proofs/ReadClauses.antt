@@ -1,10 +1,11 @@
--- Each clause of what is demanded of read, written out once more: without one of them this fails. Assumes nothing.
-use Prim.Native.Nat.{ℕ}
-use mathlib.Core.Path.{_≡_}
+-- Each clause of what is demanded of read and write, written out once more: without one of them this fails. Assumes
+-- nothing.
+use Prim.Native.Nat.{ℕ, _≤_}
+use mathlib.Core.Path.{_≡_, subst, _∙_}
 use mathlib.Core.Bool.{true}
 use mathlib.Core.List.{List, _∷_, _++_, map}
 use mathlib.Core.Option.{some}
-use lib.ListN.{length}
+use lib.ListN.{length, take}
 use Rattle.terms.specs.Row.{Row}
 use Rattle.common.specs.Lists.{Every}
 use Rattle.lines.specs.Line.{line, lines}
@@ -14,12 +15,14 @@ use Rattle.calls.specs.Runs.{Run}
 use Rattle.calls.specs.Calls.{Call, term, step, CallSeen}
 use Rattle.session.specs.declared.session.Session.{Session}
 use Rattle.session.specs.declared.read.ReadResult.{ReadResult}
+use Rattle.session.specs.declared.write.WriteAnswer.{WriteAnswer}
 use Rattle.session.specs.View.{view, freshSession, rowNumbers, stepNumbers}
 use Rattle.session.specs.Promises.{CallRelation, SelectRelation}
-use Rattle.session.specs.Bundle.{rowNames, stepNames, rowOfLine, stepOfLine, bundleText}
+use Rattle.bundles.specs.Bundle.{rowNames, stepNames, rowOfLine, stepOfLine, bundleText}
 use Rattle.session.specs.ReadCall.{readAnswerOf}
 use Rattle.session.specs.Demand3.{Demand3}
-use Rattle.session.specs.ReadDemand.{ReadAccepted, ReadDemand}
+use Rattle.session.specs.WriteCall.{writeAnswerOf, WriteRelation}
+use Rattle.session.specs.ReadDemand.{TermOrStep, ReadAccepted, ReadDemand}
 
 abbrev bundleCalls : List Row → List Step → List Call
 bundleCalls rs ps = map term rs ++ map step ps
@@ -28,7 +31,7 @@ abbrev AllAccepted : List CallSeen → Type 0
 AllAccepted os = Every (λ o. o .answer .number ≡ 0) os
 
 module _ (Selected : SelectRelation) (Called : CallRelation) (Read : List ℕ → ReadResult → Type 0)
-    (demand : ReadDemand Selected Called Read)
+    (Write : WriteRelation) (demand : ReadDemand Selected Called Read Write)
   where
     module _ (bytes : List ℕ) (t : ReadResult) (is-read : Read bytes t) where
       pub leaves-fresh : ¬ (readAnswerOf (t .answer) .number ≡ 0) → t .session ≡ freshSession
@@ -64,3 +67,29 @@ module _ (Selected : SelectRelation) (Called : CallRelation) (Read : List ℕ �
         → (t : ReadResult) → Read (bundleText rs ps) t
         → (readAnswerOf (t .answer) ≡ answer 0 (length ps)) × (t .session ≡ s)
     text-read = demand .reads-back
+
+    -- a write call that is accepted, and the text that it leaves
+    abbrev Filed : Session → (text : List ℕ) → Type 0
+    Filed s text = (buffer : List ℕ) × (left : List ℕ) × (w : WriteAnswer) × Write s buffer w left
+        × (writeAnswerOf w .number ≡ 0) × (text ≡ take (writeAnswerOf w .value) left)
+
+    abbrev AllFit16 : List Call → Type 0
+    AllFit16 cs = Every TermOrStep cs
+
+    pub filed-read : (cs : List Call) (os : List CallSeen) (s : Session) → Run view Called freshSession cs os s
+        → AllFit16 cs
+        → (text : List ℕ) → Filed s text → (t : ReadResult) → Read text t
+        → (readAnswerOf (t .answer) ≡ answer 0 (length (view s .steps))) × (t .session ≡ s)
+    filed-read cs os s run fits text (buffer, left, w, m, e, is) t r =
+        demand .written-reads-back cs os s run fits buffer left w m e t (subst (λ bytes. Read bytes t) is r)
+
+    pub read-filed : (bytes : List ℕ) (t : ReadResult) → Read bytes t → readAnswerOf (t .answer) .number ≡ 0
+        → (text : List ℕ) → Filed (t .session) text → text ≡ bytes
+    read-filed bytes t r e text (buffer, left, w, m, taken, is) = is
+        ∙ demand .same-bytes bytes t r e buffer left w m taken
+
+    pub room-for-all : (cs : List Call) (os : List CallSeen) (s : Session) → Run view Called freshSession cs os s
+        → AllFit16 cs
+        → (buffer left : List ℕ) (w : WriteAnswer) → Write s buffer w left → 65536 ≤ length buffer
+        → writeAnswerOf w .number ≡ 0
+    room-for-all = demand .always-room

@@ -14,7 +14,7 @@ use Rattle.session.specs.declared.read.RowsEnd.{RowsEnd}
 use Rattle.session.specs.declared.read.StepsEnd.{StepsEnd}
 use Rattle.calls.specs.Book.{answer, accepted}
 use Rattle.session.specs.View.{freshSession}
-use Rattle.session.specs.Bundle.{rowNames}
+use Rattle.bundles.specs.Bundle.{rowNames}
 use Rattle.calls.specs.Promises.{rowStepAnswer}
 use Rattle.calls.specs.Refusals.{wrong-form}
 use Rattle.session.specs.Reading.{refusedAt, stepsRead, rowsRead, linesRead, reading}

@@ -1,8 +1,10 @@
 -- What the contracts in the source say of each call, as the toolchain reads them off it, and demand 3 of them. Assumes nothing.
 use Prim.Native.Nat.{ℕ, zero, suc}
 use mathlib.Core.Path.{_≡_, refl, sym, subst, _∙_}
+use mathlib.Core.Bool.{Bool, true, false, cond}
 use mathlib.Core.List.{List, []}
 use native.Mathlib.Omega.{arith}
+use lib.Dec.{leb}
 use borrow.Author.Tests.{ne-eqb}
 use denote.Ref.{RefT, now}
 use lib.ListN.{length}
@@ -22,8 +24,12 @@ use Rattle.session.specs.Promises.{sessionAnswer, session, Met, SelectMe
 use Rattle.session.specs.Demand3.{DemandThree}
 use Rattle.session.specs.declared.read.ReadAnswer.{ReadAnswer}
 use Rattle.session.specs.declared.read.ReadAnswer.the-variants as ReadCases
+use Rattle.session.specs.declared.write.WriteAnswer.{WriteAnswer}
+use Rattle.session.specs.declared.write.WriteAnswer.the-variants as WriteCases
+use Rattle.calls.specs.Refusals.{short-buffer}
 use Rattle.session.specs.Reading.{reading}
 use Rattle.session.specs.ReadCall.{readAnswerOf, isHeld, ReadMet}
+use Rattle.session.specs.WriteCall.{sessionText, writeAnswer, writeBuffer, writeAnswerOf, WriteMet}
 use Rattle.session.specs.ReadDemand.{ReadDemand}
 use Rattle.session.specs.ReplaceDemand.{ReplaceMet, ReplaceDemand}
 use Rattle.replacing.specs.declared.ReplaceAnswer.{ReplaceAnswer}
@@ -39,6 +45,7 @@ use Rattle.session.proofs.session.Session.step.Reads as step-reads
 use Rattle.session.proofs.session.Session.select.Reads as select-reads
 use Rattle.session.proofs.session.Session.read.Reads as read-reads
 use Rattle.session.proofs.session.Session.replace.Reads as replace-reads
+use Rattle.session.proofs.session.Session.write.Reads as write-reads
 
 -- `Session::new` gives the session r
 pub data New : Session → Type 0 where
@@ -69,6 +76,11 @@ pub data Replaced : Session → (old new by : List ℕ) → ReplaceAnswer → Ty
   replace-called : (κs : _) (a : _) (r : _) (x : _) → replace-reads.Post κs a r x
       → Replaced (a .0) (now (a .1 .0)) (now (a .1 .1 .0)) (now (a .1 .1 .1 .0)) r
 
+-- `Session::write` on a session with a buffer has the answer r and leaves bytes
+pub data Write : Session → List ℕ → WriteAnswer → List ℕ → Type 0 where
+  write-called : (κs : _) (a : _) (r : _) (x : _) → write-reads.Post κs a r x
+      → Write (a .0) (now (a .1 .0)) r (now (x .1 .0))
+
 -- the contracts promise what the specifications say, word for word
 pub new-tied : (s : Session) → New s → s ≡ freshSession
 new-tied s (new-called κs a r x m) = m
@@ -85,6 +97,10 @@ read-tied bytes t (read-called κs a r x m) = m
 
 pub replace-tied : ReplacesKept Replaced ReplaceMet
 replace-tied s old new by t (replace-called κs a r x m) = m
+
+pub write-tied : (s : Session) (buffer : List ℕ) (w : WriteAnswer) (left : List ℕ) → Write s buffer w left
+    → WriteMet s buffer w left
+write-tied s buffer w left (write-called κs a r x m) = m
 
 -- and no more: a call that meets what they say can be made
 met-called : CallsKept Met Called
@@ -112,7 +128,7 @@ pub calls-exist : (s : Session) (cs : List Call) → (os : List CallSeen) × (t 
 calls-exist =
     run-exists view Called (λ s c. (sessionAnswer s c, next session s c, met-called s c _ _ (made session s c)))
 
--- and so can every select, every read, and every replace
+-- and so can every select, every read, every replace and every write
 abbrev lent : {A : Type 0} → A → RefT A
 lent x = record { ptr = (0, 0); name = 0; now = x }
 
@@ -138,9 +154,6 @@ reads-exist bytes =
     let t : ReadResult = record { answer = o; session = reading bytes .session } in
     (t, read-called ([], tt) (lent bytes, tt) t (lent bytes, tt) (record { answer = e; variant = f; session = refl }))
 
-pub read-demand : ReadDemand Selected Called Read
-read-demand = read-demand-by Selected Called Read select-tied call-tied met-called read-tied
-
 pub replaces-exist : (s : Session) (old new by : List ℕ) → (t : ReplaceAnswer) × Replaced s old new by t
 replaces-exist s old new by =
     let (t, e) = replace-case (view s) old new by in (
@@ -151,3 +164,20 @@ replaces-exist s old new by =
 
 pub replace-demand : ReplaceDemand Replaced New Called
 replace-demand = replace-demand-by Replaced replace-tied New Called new-tied call-tied
+
+write-case : (text : List ℕ) (room : ℕ) → (w : WriteAnswer) × (writeAnswerOf w ≡ writeAnswer text room)
+write-case text room = by-test (leb (length text) room)
+  where
+    by-test : (b : Bool) → (w : WriteAnswer) ×
+        (writeAnswerOf w ≡ cond b (answer 0 (length text)) (answer short-buffer (length text)))
+    by-test true = (WriteCases.Written (length text), refl)
+    by-test false = (WriteCases.TooShort (length text), refl)
+
+pub writes-exist : (s : Session) (buffer : List ℕ) → (w : WriteAnswer) × (left : List ℕ) × Write s buffer w left
+writes-exist s buffer =
+    let (w, e) = write-case (sessionText s) (length buffer) in
+    let left = writeBuffer (sessionText s) buffer in
+    (w, left, write-called ([], tt) (s, (lent buffer, tt)) w (s, (lent left, tt)) (record { answer = e; bytes = refl }))
+
+pub read-demand : ReadDemand Selected Called Read Write
+read-demand = read-demand-by Selected Called Read Write select-tied call-tied met-called read-tied write-tied

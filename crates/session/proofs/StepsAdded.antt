@@ -1,46 +1,50 @@
--- How many steps accepted calls add. Assumes nothing.
+-- What accepted calls add. Assumes nothing.
 use Prim.Native.Nat.{_+_}
-use mathlib.Core.Path.{_≡_, refl, sym, ap, _∙_}
-use mathlib.Core.List.{List, [], _∷_, _++_, map}
-use native.Mathlib.Omega.{arith}
+use mathlib.Core.Path.{_≡_, sym, ap, _∙_}
+use mathlib.Core.List.{List, [], _∷_, _++_, map, append-assoc, append-nil}
 use lib.ListN.{length, length-append}
 use Rattle.terms.specs.Row.{Row}
 use Rattle.common.specs.Lists.{Every}
 use Rattle.session.specs.declared.session.Session.{Session}
-use Rattle.calls.specs.Book.{Step, Answer}
-use Rattle.calls.specs.TermCall.{termAnswer}
+use Rattle.calls.specs.Book.{Step, book, Answer}
 use Rattle.calls.specs.Runs.{done, then}
-use Rattle.calls.specs.Calls.{term, step, CallSeen, bookWith}
+use Rattle.calls.specs.Calls.{Call, term, step, CallSeen, bookWith}
 use Rattle.session.specs.View.{view}
 use Rattle.session.specs.Promises.{Met, CallsMade}
 use Rattle.session.specs.ReadDemand.{IsAccepted, callsOf}
-use Rattle.calls.proofs.Accepted.{if-accepted, by-accepted}
+use Rattle.calls.proofs.Accepted.{if-accepted}
 use Rattle.session.proofs.Simulation.{Kept, call-follows, kept-on}
 
--- an accepted step call adds one step, and a term call none
-step-adds : {s t : Session} {p : Step} {a : Answer} → Kept s → Met s (step p) a t → a .number ≡ 0 → length (view t .steps) ≡ length (view s .steps) + 1
-step-adds {s} {p = p} {a = a} k m e =
+-- what an accepted call makes of the book, the session holds after it
+call-adds : {s t : Session} {c : Call} {a : Answer} → Kept s → Met s c a t → a .number ≡ 0
+    → view t ≡ bookWith (view s) c
+call-adds {s} {c = c} {a = a} k m e =
     let f = call-follows k m in
-    ap (λ b. length (b .steps)) (f .held ∙ sym (if-accepted a _ (f .answer) (bookWith (view s) (step p)) (view s) e))
-    ∙ length-append (view s .steps) (p ∷ [])
+    f .held ∙ sym (if-accepted a _ (f .answer) (bookWith (view s) c) (view s) e)
 
-row-adds-none : {s t : Session} {r : Row} {a : Answer} → Kept s → Met s (term r) a t → length (view t .steps) ≡ length (view s .steps)
-row-adds-none {s} {r = r} k m =
-    ap (λ b. length (b .steps)) (call-follows k m .held)
-    ∙ by-accepted (λ b. length (b .steps) ≡ length (view s .steps)) (termAnswer (view s .rows) r) (bookWith (view s) (term r)) (view s) (λ e. refl) refl
+steps-held : (s : Session) (ps : List Step) (os : List CallSeen) (u : Session) → Kept s
+    → CallsMade s (map step ps) os u → Every IsAccepted os
+    → view u ≡ book (view s .rows) (view s .steps ++ ps)
+steps-held s [] os u k done taken = ap (book (view s .rows)) (sym (append-nil (view s .steps)))
+steps-held s (p ∷ ps) os u k (then {os = rest} m run) taken =
+    let later = steps-held _ ps rest u (kept-on k m) run (taken .1) in
+    let here = call-adds k m (taken .0) in
+    later ∙ ap (λ b. book (b .rows) (b .steps ++ ps)) here
+    ∙ ap (book (view s .rows)) (append-assoc (view s .steps) (p ∷ []) ps)
 
-steps-added : (s : Session) (ps : List Step) (os : List CallSeen) (u : Session) → Kept s → CallsMade s (map step ps) os u → Every IsAccepted os
-    → length (view u .steps) ≡ length (view s .steps) + length ps
-steps-added s [] os u k done taken = omega arith
-steps-added s (p ∷ ps) os u k (then {os = rest} m run) taken =
-    let later = steps-added _ ps rest u (kept-on k m) run (taken .1) in
-    let here = step-adds k m (taken .0) in
-    omega arith
+-- the rows and the steps are put behind those held
+pub calls-held : (s : Session) (rs : List Row) (ps : List Step) (os : List CallSeen) (u : Session) → Kept s
+    → CallsMade s (callsOf rs ps) os u → Every IsAccepted os
+    → view u ≡ book (view s .rows ++ rs) (view s .steps ++ ps)
+calls-held s [] ps os u k run taken =
+    steps-held s ps os u k run taken ∙ ap (λ rs. book rs (view s .steps ++ ps)) (sym (append-nil (view s .rows)))
+calls-held s (r ∷ rs) ps os u k (then {os = rest} m run) taken =
+    let later = calls-held _ rs ps rest u (kept-on k m) run (taken .1) in
+    let here = call-adds k m (taken .0) in
+    later ∙ ap (λ b. book (b .rows ++ rs) (b .steps ++ ps)) here
+    ∙ ap (λ qs. book qs (view s .steps ++ ps)) (append-assoc (view s .rows) (r ∷ []) rs)
 
 pub calls-added : (s : Session) (rs : List Row) (ps : List Step) (os : List CallSeen) (u : Session) → Kept s → CallsMade s (callsOf rs ps) os u → Every IsAccepted os
     → length (view u .steps) ≡ length (view s .steps) + length ps
-calls-added s [] ps os u k run taken = steps-added s ps os u k run taken
-calls-added s (r ∷ rs) ps os u k (then {os = rest} m run) taken =
-    let later = calls-added _ rs ps rest u (kept-on k m) run (taken .1) in
-    let here = row-adds-none k m in
-    omega arith
+calls-added s rs ps os u k run taken =
+    ap (λ b. length (b .steps)) (calls-held s rs ps os u k run taken) ∙ length-append (view s .steps) ps

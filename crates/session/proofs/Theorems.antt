@@ -1,5 +1,5 @@
--- All that is proved of the calls, as one list. `New`, `Called`, `Selected`, `Read` and `Replaced` (in Source) say of a
--- call what its contract in the source does. Assumes nothing.
+-- All that is proved of the calls, as one list. `New`, `Called`, `Selected`, `Read`, `Replaced` and `Write` (in Source) say
+-- of a call what its contract in the source does. Assumes nothing.
 use Prim.Native.Nat.{ℕ}
 use mathlib.Core.Path.{_≡_}
 use mathlib.Core.List.{List, map}
@@ -26,24 +26,27 @@ use Rattle.calls.proofs.SelectLaws.{limit-suffices, marks-same-elsewhere}
 use Rattle.calls.specs.Calls.{Call, CallSeen}
 use Rattle.session.specs.declared.session.Session.{Session}
 use Rattle.session.specs.declared.read.ReadResult.{ReadResult}
+use Rattle.session.specs.declared.write.WriteAnswer.{WriteAnswer}
 use Rattle.session.specs.View.{view, freshSession}
 use Rattle.session.specs.Promises.{Met, SelectMet, AnswersByTerms}
 use Rattle.session.specs.Demand3.{DemandThree}
 use Rattle.session.specs.Reading.{reading}
 use Rattle.session.specs.ReadCall.{ReadMet}
+use Rattle.session.specs.WriteCall.{WriteMet}
 use Rattle.session.specs.ReadDemand.{ReadDemand}
 use Rattle.session.specs.ReplaceDemand.{ReplaceMet, ReplaceDemand}
 use Rattle.replacing.specs.declared.ReplaceAnswer.{ReplaceAnswer}
 use Rattle.session.specs.Audit.{report}
 use Rattle.session.proofs.Simulation as simulation
 use Rattle.session.proofs.Source as source
-use Rattle.session.proofs.Source.{New, Called, Selected, Read, Replaced}
+use Rattle.session.proofs.Source.{New, Called, Selected, Read, Replaced, Write}
 use Rattle.session.proofs.session.Session.new.Reads as new-reads
 use Rattle.session.proofs.session.Session.term.Reads as term-reads
 use Rattle.session.proofs.session.Session.step.Reads as step-reads
 use Rattle.session.proofs.session.Session.select.Reads as select-reads
 use Rattle.session.proofs.session.Session.read.Reads as read-reads
 use Rattle.session.proofs.session.Session.replace.Reads as replace-reads
+use Rattle.session.proofs.session.Session.write.Reads as write-reads
 use Rattle.session.proofs.report.audit.Reads as audit-reads
 use Rattle.session.proofs.c.spinebriar_read.Reads as c-reads
 
@@ -55,6 +58,7 @@ pub record Theorems : Type 0 where
   pub select-takes : (κs : _) (a : _) → select-reads.Pre κs a
   pub read-takes : (κs : _) (a : _) → read-reads.Pre κs a
   pub replace-takes : (κs : _) (a : _) → replace-reads.Pre κs a
+  pub write-takes : (κs : _) (a : _) → write-reads.Pre κs a
   pub audit-takes : (κs : _) (a : _) → audit-reads.Pre κs a
   pub c-takes : (κs : _) (a : _) → c-reads.Pre κs a
   -- `Session::new` gives a session without rows and steps
@@ -72,25 +76,32 @@ pub record Theorems : Type 0 where
   -- replace answers the first refusal that applies, or accepts
   pub replace : (s : Session) (old new by : List ℕ) (t : ReplaceAnswer)
       → Replaced s old new by t → ReplaceMet s old new by t
+  -- write answers 0 with the length and leaves the bundle's text at the buffer's start, or 16 with the length needed and
+  -- the buffer as it was
+  pub write : (s : Session) (buffer : List ℕ) (w : WriteAnswer) (left : List ℕ) → Write s buffer w left
+      → WriteMet s buffer w left
   -- what the program audit prints is the report of the bytes, and what the C call answers is the number that read gives
   pub audit : (κs : _) (a : _) (r : _) (s : _) → audit-reads.Post κs a r s → r ≡ report (now (a .0))
   pub c-read : (κs : _) (a : _) (r : _) (s : _) → c-reads.Post κs a r s → r ≡ reading (now (a .0)) .answer .number
   -- demand 3: after every list of calls from a fresh session all is as in the plain book, what is held is true on every
   -- document, and select marks by it
   pub demand3 : DemandThree Selected New Called
-  -- what is demanded of read: it accepts just the bundles whose calls are all accepted, and demand 3 holds of the calls
-  pub read-demand : ReadDemand Selected Called Read
+  -- what is demanded of read and write: read accepts just the bundles whose calls are all accepted, and demand 3 holds
+  -- of the calls; what is written of a session that term and step calls lead to reads back as that session, and what is
+  -- read is written again as the same bytes
+  pub read-demand : ReadDemand Selected Called Read Write
   -- a whole set replaced: after every list of calls from a fresh session, each node that any path of a covered list
   -- selects is selected by some new one, from the same node of every document; an accepted replace is a case of it
   pub replace-demand : ReplaceDemand Replaced New Called
   -- a fresh session can be made as the contracts have it, and on every session every list of calls; so can every
-  -- select, every read and every replace
+  -- select, every read, every replace and every write
   pub new-exists : New freshSession
   pub calls-exist : (s : Session) (cs : List Call) → (os : List CallSeen) × (t : Session) × Run view Called s cs os t
   pub selects-exist : (s : Session) (row : ℕ) (xs : List ℕ) (x limit : ℕ) (buffer : List ℕ)
       → (t : SelectAnswer) × (left : List ℕ) × Selected s row xs x limit buffer t left
   pub reads-exist : (bytes : List ℕ) → (t : ReadResult) × Read bytes t
   pub replaces-exist : (s : Session) (old new by : List ℕ) → (t : ReplaceAnswer) × Replaced s old new by t
+  pub writes-exist : (s : Session) (buffer : List ℕ) → (w : WriteAnswer) × (left : List ℕ) × Write s buffer w left
   -- a select call on a path of k steps, with a limit of at least the bound, is never answered 15; two accepted calls of
   -- one step of a path, on lent numbers that differ in the name of one node, mark every other node alike
   pub limit-suffices : LimitSuffices
@@ -118,6 +129,7 @@ theorems =
       select-takes = λ κs a. tt;
       read-takes = λ κs a. tt;
       replace-takes = λ κs a. tt;
+      write-takes = λ κs a. tt;
       audit-takes = λ κs a. tt;
       c-takes = λ κs a. tt;
       new = source.new-tied;
@@ -126,6 +138,7 @@ theorems =
       select = source.select-tied;
       read = source.read-tied;
       replace = source.replace-tied;
+      write = source.write-tied;
       audit = λ κs a r s m. m;
       c-read = λ κs a r s m. m;
       demand3 = source.demand3;
@@ -136,6 +149,7 @@ theorems =
       selects-exist = source.selects-exist;
       reads-exist = source.reads-exist;
       replaces-exist = source.replaces-exist;
+      writes-exist = source.writes-exist;
       limit-suffices = limit-suffices;
       marks-same-elsewhere = marks-same-elsewhere;
       chain-visits = chain-visits;

@@ -1,8 +1,8 @@
 pub mod View
 pub mod Promises
-pub mod Bundle
 pub mod Reading
 pub mod ReadCall
+pub mod WriteCall
 pub mod Audit
 pub mod Demand3
 pub mod ReadDemand

@@ -1,23 +1,26 @@
--- What demand 3 says of the call read. Assumes nothing.
-use Prim.Native.Nat.{ℕ}
+-- What demand 3 says of the calls read and write. Assumes nothing.
+use Prim.Native.Nat.{ℕ, _≤_}
 use mathlib.Core.Path.{_≡_}
 use mathlib.Core.Bool.{true}
 use mathlib.Core.List.{List, _∷_, _++_, map}
 use mathlib.Core.Option.{some}
 use Rattle.terms.specs.Row.{Row}
 use Rattle.common.specs.Lists.{Every}
-use lib.ListN.{length}
+use lib.ListN.{length, take}
 use Rattle.lines.specs.Line.{Line, line, lines}
 use Rattle.lines.specs.Written.{AllFit}
 use Rattle.session.specs.declared.session.Session.{Session}
 use Rattle.session.specs.declared.read.ReadResult.{ReadResult}
+use Rattle.session.specs.declared.write.WriteAnswer.{WriteAnswer}
 use Rattle.calls.specs.Book.{Step, answer}
 use Rattle.calls.specs.Calls.{Call, term, step, CallSeen}
 use Rattle.calls.specs.Runs.{Run}
 use Rattle.session.specs.View.{view, freshSession, rowNumbers, stepNumbers}
 use Rattle.session.specs.Promises.{CallRelation, SelectRelation}
-use Rattle.session.specs.Bundle.{rowNames, stepNames, rowOfLine, stepOfLine, bundleText}
+use Rattle.bundles.specs.Bundle.{rowNames, stepNames, rowOfLine, stepOfLine, bundleText}
 use Rattle.session.specs.ReadCall.{readAnswerOf}
+use Rattle.session.specs.WriteCall.{writeAnswerOf, WriteRelation}
+use Rattle.session.specs.Audit.{maxBytes}
 use Rattle.session.specs.Demand3.{Demand3}
 
 abbrev pub IsAccepted : CallSeen → Type 0
@@ -42,6 +45,11 @@ RowFits r = AllFit (rowNumbers r)
 abbrev pub StepFits : Step → Type 0
 StepFits p = AllFit (stepNumbers p)
 
+-- a term or a step call of such numbers
+pub data TermOrStep : Call → Type 0 where
+  term-fits : (r : Row) → RowFits r → TermOrStep (term r)
+  step-fits : (p : Step) → StepFits p → TermOrStep (step p)
+
 -- `Selected` and `Called` as in demand 3
 module _ (Selected : SelectRelation) (Called : CallRelation) where
   -- an accepted reading of the bytes with the result t: the calls of the lines were made from a fresh session, all were
@@ -56,8 +64,9 @@ module _ (Selected : SelectRelation) (Called : CallRelation) where
     pub count : readAnswerOf (t .answer) ≡ answer 0 (length steps)
     pub demand : Demand3 Selected (callsOf rows steps) seen (t .session)
 
-  -- `Read bytes t`: `Session::read` on the bytes has the result t
-  pub record ReadDemand (Read : List ℕ → ReadResult → Type 0) : Type 0 where
+  -- `Read bytes t`: `Session::read` on the bytes has the result t; `Write s buffer w left`: `Session::write` on the
+  -- session s answers w and leaves the bytes `left` of the buffer
+  pub record ReadDemand (Read : List ℕ → ReadResult → Type 0) (Write : WriteRelation) : Type 0 where
     -- read accepts only bundles, makes their calls, and demand 3 holds of them
     pub accepted : (bytes : List ℕ) (t : ReadResult) → Read bytes t
         → readAnswerOf (t .answer) .number ≡ 0 → ReadAccepted bytes t
@@ -71,3 +80,19 @@ module _ (Selected : SelectRelation) (Called : CallRelation) where
         → Run view Called freshSession (callsOf rs ps) os s → Every IsAccepted os
         → (t : ReadResult) → Read (bundleText rs ps) t
         → (readAnswerOf (t .answer) ≡ answer 0 (length ps)) × (t .session ≡ s)
+    -- reading what was written of a session that term and step calls lead to gives 0, the number of steps, and that
+    -- very session
+    pub written-reads-back : (cs : List Call) (os : List CallSeen) (s : Session)
+        → Run view Called freshSession cs os s → Every TermOrStep cs
+        → (buffer left : List ℕ) (w : WriteAnswer) → Write s buffer w left → writeAnswerOf w .number ≡ 0
+        → (t : ReadResult) → Read (take (writeAnswerOf w .value) left) t
+        → (readAnswerOf (t .answer) ≡ answer 0 (length (view s .steps))) × (t .session ≡ s)
+    -- what read accepted and is written again is the same bytes
+    pub same-bytes : (bytes : List ℕ) (t : ReadResult) → Read bytes t → readAnswerOf (t .answer) .number ≡ 0
+        → (buffer left : List ℕ) (w : WriteAnswer) → Write (t .session) buffer w left → writeAnswerOf w .number ≡ 0
+        → take (writeAnswerOf w .value) left ≡ bytes
+    -- a buffer as long as the longest text that audit takes has room for every session that term and step calls lead to
+    pub always-room : (cs : List Call) (os : List CallSeen) (s : Session)
+        → Run view Called freshSession cs os s → Every TermOrStep cs
+        → (buffer left : List ℕ) (w : WriteAnswer) → Write s buffer w left → maxBytes ≤ length buffer
+        → writeAnswerOf w .number ≡ 0

@@ -11,7 +11,7 @@ use Rattle.calls.specs.Refusals.{wrong-form}
 use Rattle.calls.specs.TermCall.{termAnswer}
 use Rattle.calls.specs.StepCall.{stepAnswer}
 use Rattle.session.specs.View.{view, freshSession, withRow, withStep}
-use Rattle.session.specs.Bundle.{rowNames, stepNames, rowOfLine, stepOfLine}
+use Rattle.bundles.specs.Bundle.{rowNames, stepNames, rowOfLine, stepOfLine}
 
 -- what a reading answers, and the session that it leaves
 pub record Reading : Type 0 where

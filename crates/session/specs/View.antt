@@ -7,6 +7,7 @@ use Rattle.terms.specs.Row.{Row, maxRows}
 use Rattle.session.specs.declared.session.Session.{Session}
 use Rattle.calls.specs.Book.{Step, maxSteps, Book, book}
 use Rattle.calls.specs.code.Tables.{rowWidth, stepWidth, rowsCounted, stepsCounted, firstRows, firstSteps}
+pub use Rattle.bundles.specs.Bundle.{rowNumbers, stepNumbers}
 
 -- how many rows and steps are held
 abbrev pub rowsHeld : Session → ℕ
@@ -21,13 +22,6 @@ view s = book (firstRows (s .«row_count») (s .rows)) (firstSteps (s .«step_co
 -- the fresh session of document 01: no row and no step
 unfoldable pub freshSession : Session
 freshSession = record { rows = replicate (rowWidth * maxRows) 0; «row_count» = 0; steps = replicate (stepWidth * maxSteps) 0; «step_count» = 0 }
-
--- the numbers of a row and of a step, in order
-abbrev pub rowNumbers : Row → List ℕ
-rowNumbers r = r .kind ∷ r .a ∷ r .b ∷ r .c ∷ []
-
-abbrev pub stepNumbers : Step → List ℕ
-stepNumbers p = p .rule ∷ p .left ∷ p .right ∷ p .first ∷ p .second ∷ []
 
 -- the session with a row, or a step, after those held
 unfoldable pub withRow : Session → Row → Session

@@ -1,2 +1,3 @@
 pub mod BundleCases
 pub mod AuditCases
+pub mod WriteCases

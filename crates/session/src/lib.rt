@@ -1,9 +1,10 @@
-// A session of terms and steps, the calls on it, the reading of bundles, and what a host in C calls.
+// A session of terms and steps, the calls on it, the reading and writing of bundles, and what a host in C calls.
 mod c;
 mod read;
 mod replace;
 mod report;
 mod session;
+mod write;
 
 pub use calls::SelectAnswer;
 pub use calls::StepAnswer;
@@ -16,3 +17,4 @@ pub use report::audit;
 pub use session::Session;
 pub use session::StepResult;
 pub use session::TermResult;
+pub use write::WriteAnswer;

@@ -4,6 +4,10 @@ use crate::session::no_rows;
 use crate::session::no_steps;
 use crate::session::put_step;
 use crate::session::term_in_place;
+use bundles::ROW_NAMES;
+use bundles::ROW_NAMES_LENGTH;
+use bundles::STEP_NAMES;
+use bundles::STEP_NAMES_LENGTH;
 use calls::Step;
 use calls::WRONG_FORM;
 use terms::Row;
@@ -15,18 +19,9 @@ ghost use Rattle.lines.specs.Line.{lines, firstIs};
 ghost use Rattle.calls.specs.Book.{maxSteps, accepted};
 ghost use Rattle.calls.specs.code.Tables.{rowWidth, stepWidth};
 ghost use Rattle.session.specs.View.{freshSession};
-ghost use Rattle.session.specs.Bundle.{rowNames, stepNames};
+ghost use Rattle.bundles.specs.Bundle.{rowNames, stepNames};
 ghost use Rattle.session.specs.Reading.{refusedAt};
 ghost use Rattle.session.specs.ReadCall.{readAnswerOf, isHeld, readingOf, ReadMet, RowsReadMet, StepsReadMet};
-
-// The names lines of a bundle.
-const ROW_NAMES: [u8; ROW_NAMES_LENGTH] = *b"kind a b c";
-
-const ROW_NAMES_LENGTH: usize = 10;
-
-const STEP_NAMES: [u8; STEP_NAMES_LENGTH] = *b"rule left right first second";
-
-const STEP_NAMES_LENGTH: usize = 28;
 
 // The answer of a read call: how many steps are held, or the number of the refusal and the refused line.
 pub enum ReadAnswer {

@@ -2,19 +2,20 @@
 -- Assumes nothing.
 use Prim.Native.Nat.{ℕ, _≤_}
 use mathlib.Core.Path.{_≡_, refl, sym, ap, subst, _∙_}
-use mathlib.Core.Bool.{Bool, true, false, cond, not, _&&_, _||_, false≢true}
+use mathlib.Core.Bool.{Bool, true, false, cond, not, _&&_, false≢true}
 use mathlib.Core.List.{List, [], _∷_, _++_}
 use native.Mathlib.Omega.{arith}
-use lib.Dec.{leb, ltb, eqb}
+use lib.Dec.{leb}
 use lib.ListN.{length}
-use borrow.Author.Tests.{eqb-true, eqb-false, ltb-false}
+use borrow.Author.Tests.{eqb-true}
 use Rattle.common.specs.Lists.{Every}
 use Rattle.rules.specs.Yields.{maxRule}
 use Rattle.calls.specs.Book.{Step, maxSteps, Book, emptyBook, accepted}
-use Rattle.calls.specs.StepCall.{stepAnswerBy, stepAnswer}
+use Rattle.calls.specs.StepCall.{isYielded, stepAnswer}
 use Rattle.calls.specs.Runs.{next, final}
 use Rattle.calls.specs.Calls.{Call, term, step, bookAnswer, bookWith, plainBook}
-use Rattle.calls.proofs.Accepted.{by-accepted, test-failed}
+use Rattle.calls.proofs.Accepted.{by-accepted}
+use Rattle.calls.proofs.StepJudged.{step-accepted}
 use Rattle.calls.proofs.Tables.{few-steps}
 use Rattle.session.specs.declared.session.Session.{Session}
 use Rattle.session.specs.View.{view}
@@ -28,10 +29,6 @@ use Rattle.tallies.specs.Count.{File, isAccepted, countedSteps}
 abbrev pub RuleHeld : Step → Type 0
 RuleHeld p = (1 ≤ p .rule) × (p .rule ≤ maxRule)
 
-neither : (a b : Bool) → (a || b) ≡ false → (a ≡ false) × (b ≡ false)
-neither true b e = absurd (false≢true (sym e))
-neither false b e = (refl, e)
-
 second : (a b : Bool) → (a && b) ≡ true → b ≡ true
 second true b e = e
 second false b e = absurd (false≢true e)
@@ -42,12 +39,8 @@ and-last P (y ∷ ys) x h g = (h .0, and-last P ys x (h .1) g)
 
 -- a step that no refusal applies to isn't refused with 4
 accepted-rule : (b : Book) (p : Step) → stepAnswer b p .number ≡ 0 → RuleHeld p
-unfolding stepAnswer stepAnswerBy
-accepted-rule b p e =
-    let no-refusal = test-failed (eqb (p .rule) 0 || ltb maxRule (p .rule)) _ _ (omega arith) e .0 in
-    let (not-zero, not-above) = neither (eqb (p .rule) 0) (ltb maxRule (p .rule)) no-refusal in
-    let some-rule : ¬ (p .rule ≡ 0) = eqb-false (p .rule) 0 not-zero in
-    (omega arith, ltb-false maxRule (p .rule) not-above)
+unfolding stepAnswer
+accepted-rule b p e = step-accepted (isYielded b p) b p e .rule
 
 -- an accepted call keeps it, so calls do
 abbrev RulesHeld : Book → Type 0

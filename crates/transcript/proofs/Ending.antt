@@ -26,6 +26,7 @@ taken-by-word style (CallCases.New n) ns = refl
 taken-by-word style (CallCases.Replace n) ns = refl
 taken-by-word style (CallCases.Select q) ns = refl
 taken-by-word style CallCases.Fresh ns = refl
+taken-by-word style (CallCases.Write n) ns = refl
 taken-by-word style CallCases.Other ns = refl
 
 by-first-line : (style : Style) (n : ℕ) (ls : List Line) → ¬ (ls ≡ [])

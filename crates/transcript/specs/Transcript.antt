@@ -4,14 +4,19 @@ use mathlib.Core.Bool.{Bool, true, false, cond}
 use mathlib.Core.List.{List, [], _∷_}
 use mathlib.Core.Option.{Option, none, some}
 use Rattle.lines.specs.Line.{Line, partsRead}
-use Rattle.script.specs.Command.{Word, term, step, select, document, old, new, replace, fresh, Command, commandOf}
+use Rattle.script.specs.Command.{Word, term, step, select, document, old, new, replace, fresh, write}
+use Rattle.script.specs.Command.{Command, commandOf}
 use Rattle.transcript.specs.declared.Style.{Style}
 use Rattle.transcript.specs.declared.Style.the-variants.{Answers, Nodes}
 
--- where answers are printed, a script has one session
+-- where answers are printed, a script has one session; where nodes are, no bundle is printed
 abbrev pub freshTaken : Style → Bool
 freshTaken Answers = false
 freshTaken Nodes = true
+
+abbrev pub writeTaken : Style → Bool
+writeTaken Answers = true
+writeTaken Nodes = false
 
 abbrev pub wordTaken : Style → Word → Bool
 wordTaken s term = true
@@ -22,6 +27,7 @@ wordTaken s old = true
 wordTaken s new = true
 wordTaken s replace = true
 wordTaken s fresh = freshTaken s
+wordTaken s write = writeTaken s
 
 -- a line that is no command is never taken
 abbrev pub isTaken : Style → Option Command → Bool

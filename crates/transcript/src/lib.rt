@@ -10,19 +10,20 @@ ghost use mathlib.Core.List.{[]};
 ghost use Prim.Native.Nat.{_≤_};
 ghost use lib.ListN.{length};
 ghost use Rattle.lines.specs.Line.{lines};
-ghost use Rattle.script.specs.Command.{maxMarks};
+ghost use Rattle.script.specs.Command.{maxMarks, maxRoom};
 ghost use Rattle.script.specs.code.CommandRead.{commandIn, marksOf};
 ghost use Rattle.transcript.specs.Transcript.{isTaken, endingLine};
 
-// What the lent marks hold before a select.
+// What the lent marks hold before a select, and a lent buffer before a write.
 const FILL: u8 = 7;
 
 // Longer than the longest line: a word, two numbers, and 512 nodes of at most three digits.
 const LINE: usize = 4096;
 
-// What is printed. `Answers`: `NUMBER VALUE` for each call but document, old and new, and after an accepted select the
-// marked nodes; a script has one session, so `fresh` is no call. `Nodes`: the marked nodes of each accepted select, and
-// `refused NUMBER VALUE` for what is refused; `fresh` starts a new session.
+// What is printed. `Answers`: `NUMBER VALUE` for each call but document, old and new, after an accepted select the marked
+// nodes, and after an accepted write the bundle's lines; a script has one session, so `fresh` is no call. `Nodes`: the
+// marked nodes of each accepted select, and `refused NUMBER VALUE` for what is refused; `fresh` starts a new session, and
+// `write` is no call.
 pub enum Style {
     Answers,
     Nodes,
@@ -187,6 +188,31 @@ fn replace(s: Session, old: NumberList, new: NumberList, by: NumberList, style: 
     print(style, answer.number(), answer.value() as u64);
 }
 
+fn filled_room() -> [u8; script::MAX_ROOM]
+    ensures { λ r. ⌜ maxRoom ≡ length r ⌝ }
+{
+    [FILL; script::MAX_ROOM]
+}
+
+// The bundle's own lines, behind the answer.
+fn write_into(s: Session, out: &mut [u8]) {
+    let answer = s.write(out);
+    let number = answer.number();
+    let value = answer.value();
+    print(Style::Answers, number, value as u64);
+    if number == 0 {
+        if value <= out.len() {
+            io::write_all(1, &out[..value]);
+        }
+    }
+}
+
+fn write(s: Session, room: usize) {
+    let mut buffer = filled_room();
+    let size = calls::clamp(room, script::MAX_ROOM);
+    write_into(s, &mut buffer[..size]);
+}
+
 // Whether a style takes the call.
 fn is_taken(call: Call, style: Style) -> bool
     ensures { λ r. ⌜ r ≡ isTaken style (commandIn call []) ⌝ }
@@ -203,6 +229,10 @@ fn is_taken(call: Call, style: Style) -> bool
         Call::Old(_) => true,
         Call::New(_) => true,
         Call::Replace(_) => true,
+        Call::Write(_) => match style {
+            Style::Answers => true,
+            Style::Nodes => false,
+        },
         Call::Other => false,
     }
 }
@@ -251,6 +281,10 @@ fn make(s: Session, lent: Lent, read: CallLine, style: Style) -> Session
         }
         Call::Replace(n) => {
             replace(s, lent.old, lent.new, list_of(numbers, n), style);
+            s
+        }
+        Call::Write(room) => {
+            write(s, room);
             s
         }
         Call::Fresh => Session::new(),

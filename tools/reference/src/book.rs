@@ -22,6 +22,7 @@ pub const MOST_REPLACED: usize = 64;
 #[derive(Default)]
 pub struct Book {
     numbers: HashMap<Row, usize>,
+    pub rows: Vec<Row>,
     terms: Vec<Rc<Term>>,
     nestings: Vec<u32>,
     pub steps: Vec<Step>,
@@ -49,6 +50,7 @@ impl Book {
         self.terms.push(Rc::new(self.term_of(row)));
         self.nestings.push(nesting);
         self.numbers.insert(row, number);
+        self.rows.push(row);
         (0, number as u64)
     }
 

@@ -1,4 +1,4 @@
-//! Bundles: lines of numbers, and the call read.
+//! Bundles: lines of numbers, and the calls read and write.
 
 use crate::book::Book;
 use crate::Answer;
@@ -42,6 +42,30 @@ pub fn read(bytes: &[u8]) -> (Answer, Book) {
     match calls(bytes, &mut book) {
         Ok(()) => ((0, book.steps.len() as u64), book),
         Err(refusal) => (refusal, Book::default()),
+    }
+}
+
+/// The book's bundle.
+fn text(book: &Book) -> Vec<u8> {
+    let line = |numbers: &[u16]| numbers.iter().map(u16::to_string).collect::<Vec<_>>().join(" ");
+    let names = |names: &[u8]| String::from_utf8(names.to_vec()).unwrap();
+    let mut lines = vec![names(TERM_NAMES)];
+    lines.extend(book.rows.iter().map(|row| line(row)));
+    lines.push(names(STEP_NAMES));
+    lines.extend(book.steps.iter().map(|step| line(step)));
+    lines.into_iter().flat_map(|line| (line + "\n").into_bytes()).collect()
+}
+
+/// Writes the book's bundle from byte 0 on; 16 with the length needed where it doesn't fit.
+pub fn write(book: &Book, out: &mut [u8]) -> Answer {
+    let text = text(book);
+    let length = text.len() as u64;
+    match out.get_mut(..text.len()) {
+        Some(place) => {
+            place.copy_from_slice(&text);
+            (0, length)
+        }
+        None => (16, length),
     }
 }
 

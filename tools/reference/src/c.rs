@@ -1,7 +1,7 @@
 //! What the benchmark calls from C.
 
 use crate::book::Book;
-use crate::bundle::read;
+use crate::bundle::{read, write};
 use std::slice::{from_raw_parts, from_raw_parts_mut};
 
 /// read: the number alone.
@@ -11,6 +11,26 @@ use std::slice::{from_raw_parts, from_raw_parts_mut};
 #[no_mangle]
 pub unsafe extern "C" fn reference_read(bytes: *const u8, length: usize) -> u16 {
     read(from_raw_parts(bytes, length)).0 .0
+}
+
+/// The book of an accepted bundle.
+///
+/// # Safety
+/// `bytes` points to `length` bytes.
+#[no_mangle]
+pub unsafe extern "C" fn reference_held(bytes: *const u8, length: usize) -> *mut Book {
+    let ((number, _), book) = read(from_raw_parts(bytes, length));
+    assert_eq!(number, 0, "the bundle is refused");
+    Box::into_raw(Box::new(book))
+}
+
+/// write: the value alone.
+///
+/// # Safety
+/// `book` comes from `reference_held`; `out` points to `room` bytes.
+#[no_mangle]
+pub unsafe extern "C" fn reference_write(book: *const Book, out: *mut u8, room: usize) -> u64 {
+    write(&*book, from_raw_parts_mut(out, room)).1
 }
 
 /// A book with these rows, four numbers a row.

@@ -5,14 +5,14 @@
 //! that lacks its newline is of another form; empty input prints nothing.
 
 use crate::book::Book;
-use crate::bundle::{lines, number, read};
+use crate::bundle::{lines, number, read, write};
 
 pub const MOST_BYTES: usize = 65536;
 const MOST_NUMBERS: usize = 1539;
 const MOST_MARKS: u64 = 1024;
 /// The numbers of an `old`, `new` or `replace` line.
 const MOST_LISTED: usize = 100;
-/// What the marks buffer holds before a select.
+/// What the marks buffer holds before a select, and the lent buffer before a write.
 const FILL: u8 = 7;
 
 /// The heading, and answer, refused line or 0, steps held, the last step's rows.
@@ -82,6 +82,12 @@ impl Run {
                 let mut marks = vec![FILL; number(marks, MOST_MARKS)? as usize];
                 let answer = self.book.select(small(row)?, &self.document, small(context)?, limit, &mut marks);
                 return Some(format!("{} {}{}\n", answer.0, answer.1, marked(answer.0, &marks)));
+            }
+            [b"write", room] => {
+                let mut out = vec![FILL; number(room, MOST_BYTES as u64)? as usize];
+                let (number, value) = write(&self.book, &mut out);
+                let bundle = if number == 0 { &out[..value as usize] } else { b"" };
+                return Some(format!("{number} {value}\n{}", String::from_utf8_lossy(bundle)));
             }
             _ => return None,
         };

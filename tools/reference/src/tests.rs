@@ -1,7 +1,7 @@
 //! 01's examples, log cases, limits and refusals.
 
 use crate::book::Book;
-use crate::bundle::read;
+use crate::bundle::{read, write};
 use crate::programs::{audit, replay, MOST_BYTES};
 use crate::tally::tally;
 
@@ -247,6 +247,32 @@ fn damaged_bundles() {
 }
 
 /// The mistakes that 01 rules out, each as a step that its rule doesn't yield.
+#[test]
+fn write_gives_the_bundle_back() {
+    let calls = "term 2 1 0 2\nterm 2 3 1 0\nstep 8 0 1 0 0\n";
+    let length = EXAMPLE.len();
+    for room in [length, length + 1, MOST_BYTES] {
+        let printed = format!("0 0\n0 1\n0 1\n0 {length}\n{EXAMPLE}");
+        assert_eq!(replay(format!("{calls}write {room}\n").as_bytes()), printed);
+    }
+    for room in [0, length - 1] {
+        assert_eq!(last(&format!("{calls}write {room}\n")), format!("16 {length}"));
+    }
+    assert_eq!(last(&format!("write {}\n", MOST_BYTES + 1)), "10 1");
+}
+
+#[test]
+fn write_leaves_other_bytes() {
+    let (_, book) = read(EXAMPLE.as_bytes());
+    let length = EXAMPLE.len();
+    let mut out = vec![7; length + 2];
+    assert_eq!(write(&book, &mut out), (0, length as u64));
+    assert_eq!(out, [EXAMPLE.as_bytes(), &[7, 7]].concat());
+    let mut short = vec![7; length - 1];
+    assert_eq!(write(&book, &mut short), (16, length as u64));
+    assert_eq!(short, vec![7; length - 1]);
+}
+
 #[test]
 fn mistakes_ruled_out() {
     // 25 from "not f => g": p[true and true] <= V

@@ -11,7 +11,7 @@ use Rattle.lines.proofs.Cutting.{lacks}
 use Rattle.lines.proofs.Start.{starts}
 use Rattle.script.specs.declared.Call.the-variants as CallCases
 use Rattle.script.specs.Command.{termBytes, stepBytes, selectBytes, documentBytes, freshBytes}
-use Rattle.script.specs.Command.{atMost, named, commandOf}
+use Rattle.script.specs.Command.{writeBytes, atMost, named, commandOf}
 use Rattle.script.proofs.Words.{word-and-numbers, word-alone}
 use Rattle.script.proofs.call_at.Statement.{statement}
 use Rattle.script.proofs.call_at.Tie as tie
@@ -202,10 +202,47 @@ returns-6 c =
     (word-alone freshBytes refl refl (a .bytes .now) (a .at) CallCases.Fresh _ refl refl refl refl
     (sym (c .before .before .is-line2 .ensures) ∙ c .before .if6 .taken))
 
+slice-aggregate-starts-with-5 : tie.Need-slice-aggregate-starts-with-5
+slice-aggregate-starts-with-5 c = search needs
+
+starts-with-requires-5 : tie.Need-starts-with-requires-5
+starts-with-requires-5 c κs = search needs
+
+add-write-call : tie.Need-add-write-call
+unfolding ascii
+add-write-call c =
+    let at-6 = c .before .before .before in
+    let at-5 = at-6 .before .before .before in
+    let at-4 = at-5 .before .before .before in
+    let at-3 = at-4 .before .before .before in
+    let at-2 = at-3 .before .before .before in
+    let at-1 = at-2 .before .before .before in
+    let a = at-1 .before .before .before .before .args in
+    let told = sym (c .before .starts-with5 .ensures) ∙ c .if7 .taken in
+    let start = starts (writeBytes ++ space ∷ []) (a .bytes .now) (a .at) told in
+    omega (arith, start .inside (omega arith), at-1 .before .before .before .before .good .0)
+
+write-call-requires : tie.Need-write-call-requires
+write-call-requires c κs = search needs
+
+returns-7 : tie.Need-returns-7
+unfolding ascii lacks commandOf sameBytes
+returns-7 c =
+    let at-6 = c .before .before .before .before in
+    let at-5 = at-6 .before .before .before in
+    let at-4 = at-5 .before .before .before in
+    let at-3 = at-4 .before .before .before in
+    let at-2 = at-3 .before .before .before in
+    let at-1 = at-2 .before .before .before in
+    let a = at-1 .before .before .before .before .args in
+    let told = sym (c .before .before .starts-with5 .ensures) ∙ c .before .if7 .taken in
+    word-and-numbers writeBytes refl refl (a .bytes .now) (a .at) _ (λ ws. refl) told _ (c .write-call .ensures)
+
 list-at-requires : tie.Need-list-at-requires
 unfolding ascii
 list-at-requires c κs =
-    let at-6 = c in
+    let at-7 = c in
+    let at-6 = at-7 .before .before .before in
     let at-5 = at-6 .before .before .before in
     let at-4 = at-5 .before .before .before in
     let at-3 = at-4 .before .before .before in
@@ -218,10 +255,11 @@ list-at-requires c κs =
       no-document = sym (at-4 .before .starts-with4 .ensures) ∙ at-4 .if4 .left;
       no-empty-document = sym (at-5 .before .is-line .ensures) ∙ at-5 .if5 .left;
       no-fresh = sym (at-6 .before .is-line2 .ensures) ∙ at-6 .if6 .left;
+      no-write = sym (at-7 .before .starts-with5 .ensures) ∙ at-7 .if7 .left;
     }
 
-returns-7 : tie.Need-returns-7
-returns-7 c = c .list-at .ensures
+returns-8 : tie.Need-returns-8
+returns-8 c = c .list-at .ensures
 
 pub call-at-spec : {M : Type 1} → statement M
 call-at-spec =
@@ -257,5 +295,10 @@ call-at-spec =
     add-call-line-2
     call-line-requires-2
     returns-6
+    slice-aggregate-starts-with-5
+    starts-with-requires-5
+    add-write-call
+    write-call-requires
+    returns-7
     list-at-requires
-    returns-7)
+    returns-8)

@@ -226,7 +226,8 @@ returns-7 c =
     (sym (at-3 .before .starts-with2 .ensures) ∙ at-3 .if3 .left)
     (sym (at-4 .before .is-line2 .ensures) ∙ at-4 .if4 .left)
     (sym (at-5 .before .starts-with3 .ensures) ∙ at-5 .if5 .left)
-    (sym (at-6 .before .is-line3 .ensures) ∙ at-6 .if6 .left))
+    (sym (at-6 .before .is-line3 .ensures) ∙ at-6 .if6 .left)
+    (start .pre .no-write))
 
 pub list-at-spec : {M : Type 1} → statement M
 list-at-spec =

@@ -13,8 +13,8 @@ use Rattle.script.specs.declared.CallLine.{CallLine}
 use Rattle.script.specs.declared.Listed.{Listed}
 use Rattle.script.specs.declared.Listed.the-variants as ListedCases
 use Rattle.script.specs.Command.{Word, Command, command, term, step, select, document, old, new, replace, fresh}
-use Rattle.script.specs.Command.{maxMarks, maxNumbers, maxListed}
-use Rattle.script.specs.Command.{termBytes, stepBytes, selectBytes, documentBytes, freshBytes}
+use Rattle.script.specs.Command.{write, maxMarks, maxNumbers, maxListed}
+use Rattle.script.specs.Command.{termBytes, stepBytes, selectBytes, documentBytes, freshBytes, writeBytes}
 
 unfoldable pub noNumbers : List ℕ
 noNumbers = replicate maxNumbers 0
@@ -52,6 +52,7 @@ countOf (CallCases.New n) = n
 countOf (CallCases.Replace n) = n
 countOf (CallCases.Select q) = 0
 countOf CallCases.Fresh = 0
+countOf (CallCases.Write n) = 0
 countOf CallCases.Other = 0
 
 -- the length of the marks that a call asks for
@@ -64,6 +65,7 @@ marksOf (CallCases.New n) = 0
 marksOf (CallCases.Replace n) = 0
 marksOf (CallCases.Select q) = q .marks
 marksOf CallCases.Fresh = 0
+marksOf (CallCases.Write n) = 0
 marksOf CallCases.Other = 0
 
 -- the command of a call, whose listed numbers are the first of ns
@@ -76,6 +78,7 @@ commandIn (CallCases.New n) ns = some (command new (take n ns))
 commandIn (CallCases.Replace n) ns = some (command replace (take n ns))
 commandIn (CallCases.Select q) ns = some (command select (q .row ∷ q .context ∷ q .limit ∷ q .marks ∷ []))
 commandIn CallCases.Fresh ns = some (command fresh [])
+commandIn (CallCases.Write n) ns = some (command write (n ∷ []))
 commandIn CallCases.Other ns = none
 
 -- the line that starts at `at` of the text xs, read by its parts: which call it is, its numbers and zeros after them, and where the next
@@ -90,7 +93,7 @@ pub record CallMet (read : List (List ℕ) → Option Command) (xs : List ℕ) (
   pub further : min (at + 1) (length xs) ≤ r .next
   pub inside : r .next ≤ length xs
 
--- the line that starts at `at` begins with no word of a term, a step, a select, a document or a fresh start
+-- the line that starts at `at` begins with no word of a term, a step, a select, a document, a fresh start or a write
 pub record NoOtherWord (xs : List ℕ) (at : ℕ) : Type 0 where
   pub no-term : startsWith (termBytes ++ space ∷ []) (drop at xs) ≡ false
   pub no-step : startsWith (stepBytes ++ space ∷ []) (drop at xs) ≡ false
@@ -98,3 +101,4 @@ pub record NoOtherWord (xs : List ℕ) (at : ℕ) : Type 0 where
   pub no-document : startsWith (documentBytes ++ space ∷ []) (drop at xs) ≡ false
   pub no-empty-document : startsWith (documentBytes ++ newline ∷ []) (drop at xs) ≡ false
   pub no-fresh : startsWith (freshBytes ++ newline ∷ []) (drop at xs) ≡ false
+  pub no-write : startsWith (writeBytes ++ space ∷ []) (drop at xs) ≡ false

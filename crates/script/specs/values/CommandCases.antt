@@ -10,7 +10,7 @@ use Rattle.lines.specs.Ascii.{ascii}
 use Rattle.lines.specs.Line.{inFirstLine, lines, inFirstPart, parts, sameBytes}
 use Rattle.lines.specs.Number.{isDigit, areDigits, isDecimal, appendDigits, numbersUpTo}
 use Rattle.lines.specs.code.NumbersRead.{firstParts}
-use Rattle.script.specs.Command.{Command, command, term, step, select, document, old, new, replace, fresh}
+use Rattle.script.specs.Command.{Command, command, term, step, select, document, old, new, replace, fresh, write}
 use Rattle.script.specs.Command.{documentBytes, oldBytes, newBytes, replaceBytes, atMost, named, commandOf}
 
 -- the command of a text's first line
@@ -31,6 +31,8 @@ pub commands :
     ∷ first "new\n" is some (command new [])
     ∷ first "replace 1 2\n" is some (command replace (1 ∷ 2 ∷ []))
     ∷ first "replace\n" is some (command replace [])
+    ∷ first "write 0\n" is some (command write (0 ∷ []))
+    ∷ first "write 65536\n" is some (command write (65536 ∷ []))
     ∷ [])
 unfolding ascii commandOf named atMost firstParts lines inFirstLine parts inFirstPart sameBytes numbersUpTo Option·elim
     isDecimal areDigits isDigit appendDigits
@@ -72,6 +74,11 @@ pub no-commands :
     ∷ first "new 65536\n" is none
     ∷ first "replace 1 \n" is none
     ∷ first "olds 1\n" is none
+    -- a write with 65537, with no number, with two, with a space at its end
+    ∷ first "write 65537\n" is none
+    ∷ first "write\n" is none
+    ∷ first "write 1 1\n" is none
+    ∷ first "write 1 \n" is none
     ∷ [])
 unfolding ascii commandOf named atMost firstParts lines inFirstLine parts inFirstPart sameBytes numbersUpTo Option·elim
     isDecimal areDigits isDigit appendDigits

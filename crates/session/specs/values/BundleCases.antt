@@ -23,7 +23,7 @@ use Rattle.calls.specs.TermCall.{termAnswer}
 use Rattle.calls.specs.StepCall.{sameSort, badSide, premiseOk, badPremise, claimOf, premisesOf, stepAnswerBy, isYielded, stepAnswer}
 use Rattle.calls.specs.code.Tables.{stepsOf}
 use Rattle.session.specs.View.{view, freshSession, withRow, withStep}
-use Rattle.session.specs.Bundle.{rowNames, stepNames, rowOfLine, stepOfLine}
+use Rattle.bundles.specs.Bundle.{rowNames, stepNames, rowOfLine, stepOfLine}
 use Rattle.session.specs.Reading.{stepsRead, rowsRead, linesRead, reading}
 use Rattle.session.specs.Audit.{reportBy, report}
 

@@ -28,7 +28,7 @@ use Rattle.calls.specs.StepCall.{stepAnswerBy, isYielded, stepAnswer}
 use Rattle.calls.specs.code.Tables.{stepsOf}
 use Rattle.calls.specs.Uses.{usesOf}
 use Rattle.session.specs.View.{view, freshSession, withRow, withStep}
-use Rattle.session.specs.Bundle.{rowNames, stepNames, rowOfLine, stepOfLine}
+use Rattle.bundles.specs.Bundle.{rowNames, stepNames, rowOfLine, stepOfLine}
 use Rattle.session.specs.Reading.{stepsRead, rowsRead, linesRead, reading}
 use Rattle.tallies.specs.NameList.{isBadName, listAnswer}
 use Rattle.tallies.specs.Count.{File, file, isAccepted, countedSteps, uses, total, eachFrom, eachRule, sum}

@@ -36,6 +36,12 @@ list-of-requires c κs = search needs
 replace-requires : tie.Need-replace-requires
 replace-requires c κs = search needs
 
+enum-known-call-5 : tie.Need-enum-known-call-5
+enum-known-call-5 c = search needs
+
+write-requires : tie.Need-write-requires
+write-requires c κs = search needs
+
 enum-told : tie.Need-enum-told
 enum-told c = search needs
 
@@ -60,6 +66,9 @@ returns-5 c = search needs
 returns-6 : tie.Need-returns-6
 returns-6 c = search needs
 
+returns-7 : tie.Need-returns-7
+returns-7 c = search needs
+
 pub make-spec : {M : Type 1} → statement M
 make-spec =
     tie.close
@@ -73,6 +82,8 @@ make-spec =
     enum-known-call-4
     list-of-requires
     replace-requires
+    enum-known-call-5
+    write-requires
     enum-told
     new-requires
     returns
@@ -80,4 +91,5 @@ make-spec =
     returns-3
     returns-4
     returns-5
-    returns-6)
+    returns-6
+    returns-7)

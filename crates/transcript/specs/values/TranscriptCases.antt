@@ -28,8 +28,10 @@ pub endings :
     ∷ ends Answers "old 0\nnew 1\nreplace 1\nold\nnew\nreplace\nreplaces\n" is 7
     -- the first of two lines that are not taken
     ∷ ends Answers "document\n\nfresh\n" is 2
-    -- `fresh`, where nodes are printed; and a word that is none
+    ∷ ends Answers "write 0\nwrite 65537\n" is 2
+    -- `fresh`, where nodes are printed; a word that is none there, and one that is none at all
     ∷ ends Nodes "document\nfresh\n" is 0
+    ∷ ends Nodes "fresh\nwrite 0\n" is 2
     ∷ ends Nodes "document\nfresh\nfreshly\n" is 3
     ∷ [])
 unfolding endingLine ascii commandOf named atMost numbersUpTo lines inFirstLine parts inFirstPart sameBytes Option·elim

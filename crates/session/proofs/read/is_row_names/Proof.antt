@@ -3,7 +3,7 @@ use mathlib.Core.Path.{_∙_}
 use borrow.Author.Needs.{needs}
 use Rattle.lines.proofs.Start.{starts-with-line}
 use Rattle.lines.specs.Ascii.{ascii}
-use Rattle.session.specs.Bundle.{rowNames}
+use Rattle.bundles.specs.Bundle.{rowNames}
 use Rattle.session.proofs.LineCalls.{row-names-free}
 use Rattle.session.proofs.read.is_row_names.Statement.{statement}
 use Rattle.session.proofs.read.is_row_names.Tie as tie

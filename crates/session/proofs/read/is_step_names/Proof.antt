@@ -3,7 +3,7 @@ use mathlib.Core.Path.{_∙_}
 use borrow.Author.Needs.{needs}
 use Rattle.lines.proofs.Start.{starts-with-line}
 use Rattle.lines.specs.Ascii.{ascii}
-use Rattle.session.specs.Bundle.{stepNames}
+use Rattle.bundles.specs.Bundle.{stepNames}
 use Rattle.session.proofs.LineCalls.{step-names-free}
 use Rattle.session.proofs.read.is_step_names.Statement.{statement}
 use Rattle.session.proofs.read.is_step_names.Tie as tie

@@ -10,7 +10,6 @@ use Rattle.lines.specs.Number.{numbersOf}
 use Rattle.lines.specs.Written.{lineText}
 use Rattle.calls.specs.Book.{Step, step}
 use Rattle.calls.specs.code.Tables.{rowWidth, stepWidth}
-use Rattle.session.specs.View.{rowNumbers, stepNumbers}
 
 -- the names lines of document 01: the first stands before the term lines, the second before the step lines
 unfoldable pub rowNames : List ℕ
@@ -32,6 +31,13 @@ rowOfLine l = Option·map rowOfNumbers (numbersOf rowWidth l)
 
 unfoldable pub stepOfLine : Line → Option Step
 stepOfLine l = Option·map stepOfNumbers (numbersOf stepWidth l)
+
+-- the numbers of a row and of a step, in order
+abbrev pub rowNumbers : Row → List ℕ
+rowNumbers r = r .kind ∷ r .a ∷ r .b ∷ r .c ∷ []
+
+abbrev pub stepNumbers : Step → List ℕ
+stepNumbers p = p .rule ∷ p .left ∷ p .right ∷ p .first ∷ p .second ∷ []
 
 -- the line of a row, and of a step
 abbrev pub rowText : Row → List ℕ

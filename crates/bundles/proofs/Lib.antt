@@ -1,0 +1,5 @@
+pub mod Decimals
+pub mod Putting
+pub mod Tables
+pub mod Lengths
+pub mod Spelling

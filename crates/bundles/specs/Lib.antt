@@ -1,0 +1,3 @@
+pub mod Bundle
+pub mod code
+pub mod values

@@ -1,0 +1,44 @@
+-- What write answers and leaves, by computation. Assumes nothing.
+use mathlib.Core.Path.{_≡_, refl}
+use mathlib.Core.List.{[], _∷_}
+use lib.ListN.{length, replicate}
+use Rattle.common.specs.values.Expected.{_is_, AllRight}
+use Rattle.terms.specs.Row.{tableOf}
+use Rattle.lines.specs.Ascii.{ascii}
+use Rattle.lines.specs.Written.{digitsOf, decimal, lineText}
+use Rattle.calls.specs.Book.{answer}
+use Rattle.calls.specs.code.Tables.{stepsOf}
+use Rattle.bundles.specs.Bundle.{rowNames, stepNames, rowsText, stepsText, bundleText}
+use Rattle.session.specs.View.{view, freshSession}
+use Rattle.session.specs.WriteCall.{sessionText, writeAnswer, writeBuffer}
+
+-- a text of three bytes, and buffers that are longer, as long, a byte shorter, and empty
+answers :
+    AllRight
+    (writeAnswer (ascii "ab\n") 4 is answer 0 3
+    ∷ writeAnswer (ascii "ab\n") 3 is answer 0 3
+    ∷ writeAnswer (ascii "ab\n") 2 is answer 16 3
+    ∷ writeAnswer (ascii "ab\n") 0 is answer 16 3
+    ∷ [])
+unfolding ascii
+answers = refl
+
+buffers :
+    AllRight
+    (writeBuffer (ascii "ab\n") (7 ∷ 8 ∷ 9 ∷ 6 ∷ 5 ∷ []) is (97 ∷ 98 ∷ 10 ∷ 6 ∷ 5 ∷ [])
+    ∷ writeBuffer (ascii "ab\n") (7 ∷ 8 ∷ 9 ∷ []) is (97 ∷ 98 ∷ 10 ∷ [])
+    ∷ writeBuffer (ascii "ab\n") (7 ∷ 8 ∷ []) is (7 ∷ 8 ∷ [])
+    ∷ writeBuffer (ascii "ab\n") [] is []
+    ∷ [])
+unfolding ascii
+buffers = refl
+
+-- a fresh session; and one whose counts are above the limits, which are then read as the limits
+fresh-text : sessionText freshSession ≡ ascii "kind a b c\nrule left right first second\n"
+unfolding view freshSession tableOf stepsOf bundleText rowNames stepNames rowsText stepsText ascii
+fresh-text = refl
+
+full-length : length (sessionText
+    (record { rows = replicate 4096 0; «row_count» = 1025; steps = replicate 10240 0; «step_count» = 2049 })) ≡ 28712
+unfolding view tableOf stepsOf bundleText rowNames stepNames rowsText stepsText lineText decimal digitsOf ascii
+full-length = refl
