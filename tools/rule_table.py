@@ -174,10 +174,12 @@ CHANGES = [
     }, ['attribute']),
 ]
 AXES += [axis for _, _, _, axes in CHANGES for axis in axes]
-# the last rule of the table, and the rule that is none of the table's, with its request's words
+# the last rule of the table, and rule 59, which is none of the table's, with its request's words
 TABLE_RULES, WAY_BACK_RULE = 58, 59
 WAY_BACK = ('T-07', ["Rule 59: r <= r[some w], w being r's way back; other paths get 7.",
-                     'For a::N it is self::N, then the opposite axis with node().', '4 is now for a rule not 1 to 59.'])
+                     'For a::N it is self::N, then the opposite axis with node().',
+                     'For p/q it is the way back of q, then that of p.', "For p|q it is the union of both, p's first.",
+                     'For p[f] it is .[f], then that of p.', '4 is now for a rule not 1 to 59.'])
 BACK_AXES = re.compile(r'the way back of a path built from axes ([\d, and]+) by composition, union and filter')
 OPPOSITE = {'self': 'self', 'child': 'parent', 'descendant': 'ancestor', 'descendant-or-self': 'ancestor-or-self',
             'following-sibling': 'preceding-sibling', 'preceding-sibling': 'following-sibling'}
@@ -573,7 +575,7 @@ def main():
               compare('opposite axes of 02 and of way_back.rt', opposites,
                       opposites_of(way_back, 'OPPOSITES'), opposites)]
     if number_of(way_back, 'WAY_BACK_RULE') != WAY_BACK_RULE:
-        raise SystemExit('way_back.rt: the rule that is none of the table\'s is another one')
+        raise SystemExit('way_back.rt: rule 59 has another number')
     print('rules %d to %d; written out by hand: 3 for =>, 22, 23, 53, 55, and the phrases of the side conditions' % (forms[0][0], forms[-1][0]))
     print('rule %d is none of the table\'s: %s' % (WAY_BACK_RULE, WAY_BACK[0]))
     for request, _, rules, axes in CHANGES:

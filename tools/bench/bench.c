@@ -1,7 +1,7 @@
 /* Measures the proved read and write against the reference's on one bundle, and the proved selection against libxml2's
  * XPath with compiled expressions on a document nested 500 levels and on a flat one: on a tree that stands already, and
  * with the parsing of the document's text. Then the longest time of one visit. After the bundle, one term call and one
- * step call by rule 59. Prints tables in Markdown. run.sh builds and runs it. */
+ * step call by rules 2 and 59. Prints tables in Markdown. run.sh builds and runs it. */
 
 #include "spinebriar.h"
 #include <libxml/parser.h>
@@ -256,26 +256,31 @@ static double read_us(const Text *t, double *median) {
 /* One of the calls by which two bundles differ. */
 static void print_difference(const char *what, const Text *with, const Text *without, int calls) {
     double median[2], min[2] = {read_us(without, &median[0]), read_us(with, &median[1])};
-    printf("| %s | %.3f | %.3f |\n", what, (min[1] - min[0]) / calls, (median[1] - median[0]) / calls);
+    printf("| %s | %.2f | %.2f |\n", what, (min[1] - min[0]) / calls, (median[1] - median[0]) / calls);
 }
 
-/* A step by rule 59, r <= r[some w], beside the same rows with no step. */
-static void bench_way_back(const char *what, Text *t, Pair p) {
+/* A step from no premise, beside the same rows with no step. */
+static void bench_step(const char *what, Text *t, int rule, int left, int right) {
     enum { STEPS = 2048 };
     static Text with;
     char line[64];
-    int inside = add_row(t, 11, p.back, add_row(t, 0, 0, 0, 0), 0);
-    int right = add_row(t, 5, p.path, add_row(t, 8, inside, 0, 0), 0);
     add_line(t, "rule left right first second\n");
     with = *t;
-    snprintf(line, sizeof line, "59 %d %d 0 0\n", p.path, right);
+    snprintf(line, sizeof line, "%d %d %d 0 0\n", rule, left, right);
     for (int i = 0; i < STEPS; i++) add_line(&with, line);
     print_difference(what, &with, t, STEPS);
 }
 
+/* A step by rule 59: r <= r[some w]. */
+static void bench_way_back(const char *what, Text *t, Pair p) {
+    int inside = add_row(t, 11, p.back, add_row(t, 0, 0, 0, 0), 0);
+    int right = add_row(t, 5, p.path, add_row(t, 8, inside, 0, 0), 0);
+    bench_step(what, t, 59, p.path, right);
+}
+
 static void bench_calls(void) {
-    enum { ROWS = 1024, LAST = 24 };
-    static Text fewer, full, deep, wide;
+    enum { ROWS = 1024, LAST = 256 };
+    static Text fewer, full, same, deep, wide;
     printf("\nOne call of a bundle, in microseconds:\n\n| call | min | median |\n|---|---|---|\n");
     for (int i = 0; i < ROWS; i++) {
         if (i < ROWS - LAST) add_row(&fewer, 2, 1, 0, i + 1);
@@ -283,10 +288,12 @@ static void bench_calls(void) {
     }
     add_line(&fewer, "rule left right first second\n");
     add_line(&full, "rule left right first second\n");
-    print_difference("a term, the last 24 of 1,024 rows", &full, &fewer, LAST);
-    bench_way_back("a step by rule 59, 27 compositions, each of the one before with itself: 2^27 leaves", &deep,
-                   doubled(&deep, 27));
-    bench_way_back("a step by rule 59, 128 steps of a path, no two the same", &wide,
+    print_difference("a term, the last 256 of 1,024 rows", &full, &fewer, LAST);
+    int row = add_row(&same, 2, 1, 0, 1);
+    bench_step("a step by rule 2", &same, 2, row, row);
+    bench_way_back("a step by rule 59 of 27 compositions, each of the one before with itself: 2^27 leaves, 62 rows",
+                   &deep, doubled(&deep, 27));
+    bench_way_back("a step by rule 59 of a path of 128 steps, no two the same: 643 rows", &wide,
                    balanced(&wide, add_row(&wide, 2, 2, 2, 0), 1, 128));
 }
 

@@ -7,7 +7,7 @@ use native.Mathlib.Omega.{arith}
 use lib.Dec.{ltb}
 use lib.ListN.{length, length-append}
 use borrow.Author.Tests.{lt-ltb, le-ltb, ltb-true, ltb-false}
-use Rattle.lines.specs.Number.{digit0, maxNumber}
+use Rattle.lines.specs.Number.{digit0}
 use Rattle.lines.specs.Written.{digitsOf, decimal}
 
 -- the most digits that are looked at don't matter, where they are enough

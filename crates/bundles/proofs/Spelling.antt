@@ -1,20 +1,21 @@
 -- A number has one spelling, and so have a line and a text: what is read, written again, is the same bytes. Assumes
 -- nothing.
-use Prim.Native.Nat.{ℕ, suc, _+_, _*_, _/_, _%_, _-_, _≤_, _<_}
-use mathlib.Core.Path.{_≡_, refl, sym, ap, ap₂, subst, _∙_}
+use Prim.Native.Nat.{ℕ, suc, _+_, _/_, _%_, _-_, _<_}
+use mathlib.Core.Path.{_≡_, refl, sym, ap, ap₂, _∙_}
 use mathlib.Core.Bool.{Bool, true, false, cond, not, _&&_, false≢true}
 use mathlib.Core.List.{List, [], _∷_, _++_, map, append-assoc, append-nil}
 use mathlib.Core.Option.{Option, none, some, Option·elim, Option·map, Option·some-injective, Option·none-ne-some}
 use native.Mathlib.Omega.{arith}
-use lib.Dec.{leb, ltb, eqb}
+use lib.Dec.{leb, eqb}
 use lib.ListN.{length, replicate, length-replicate}
-use borrow.Author.Tests.{leb-true, eqb-true, eqb-false, not-true}
+use borrow.Author.Tests.{eqb-true, eqb-false, not-true}
 use Rattle.terms.specs.Row.{Row}
 use Rattle.lines.specs.Line.{newline, space, Line, line, inFirstLine, lines, inFirstPart, parts}
-use Rattle.lines.specs.Number.{digit0, digit9, maxNumber, isDigit, areDigits, isDecimal, appendDigit, appendDigits}
+use Rattle.lines.specs.Number.{digit0, maxNumber, isDigit, areDigits, isDecimal, appendDigit, appendDigits}
 use Rattle.lines.specs.Number.{numberUpTo, numbersUpTo, numbersOf}
 use Rattle.lines.specs.Written.{decimal, lineText}
 use Rattle.lines.proofs.Parts.{parts-some}
+use Rattle.lines.proofs.Scan.{digit-range}
 use Rattle.calls.specs.Book.{Step}
 use Rattle.bundles.specs.Bundle.{rowOfNumbers, stepOfNumbers, rowOfLine, stepOfLine, rowNumbers, stepNumbers}
 use Rattle.bundles.specs.Bundle.{rowText, stepText, rowsText, stepsText}
@@ -23,10 +24,6 @@ use Rattle.bundles.proofs.Decimals.{one-digit, more-digits}
 both : (a b : Bool) → (a && b) ≡ true → (a ≡ true) × (b ≡ true)
 both true b e = (refl, e)
 both false b e = absurd (false≢true e)
-
-digit-range : (x : ℕ) → isDigit x ≡ true → (digit0 ≤ x) × (x ≤ digit9)
-unfolding isDigit
-digit-range x e = let (l, r) = both (leb digit0 x) (leb x digit9) e in (leb-true digit0 x l, leb-true x digit9 r)
 
 -- one more digit behind a number that isn't 0
 digit-behind : (n x : ℕ) → 0 < n → isDigit x ≡ true → decimal (appendDigit n x) ≡ decimal n ++ x ∷ []

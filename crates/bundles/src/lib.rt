@@ -44,7 +44,8 @@ fn lines_length(numbers: &[u16]) -> usize
     size
 }
 
-// Puts a byte at `at`. It gives the position after what it puts, and so do all that follow.
+// Puts a byte at `at`. It gives the position after what it puts, and so do `put_number`, `put_lines`, `put_names` and
+// `put_bundle`.
 fn put_byte(out: &mut [u8], at: usize, b: u8) -> usize
     requires { ⌜ at < length (now out) ⌝ }
     ensures { λ r. ⌜ Put (now (out .entry)) at (b ∷ []) r (now (out .exit)) ⌝ }

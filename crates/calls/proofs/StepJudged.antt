@@ -40,7 +40,7 @@ module _ (y : Bool) (b : Book) (p : Step) where
         unfolding stepAnswerBy
         step-held h l = rw (rule, ← is-i, le-ltb 0 i sides, ← is-n, ← is-j, le-ltb 0 j premises, h, lt-leb maxSteps n l)
 
-neither : (a b : Bool) → (a || b) ≡ false → (a ≡ false) × (b ≡ false)
+pub neither : (a b : Bool) → (a || b) ≡ false → (a ≡ false) × (b ≡ false)
 neither true b e = absurd (false≢true (sym e))
 neither false b e = (refl, e)
 

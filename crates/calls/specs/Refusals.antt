@@ -1,4 +1,4 @@
--- The refusals of document 01, each number by one name. Assumes nothing.
+-- The refusals of documents 01 and 02, each number by one name. Assumes nothing.
 use Prim.Native.Nat.{ℕ}
 
 -- kind above 11

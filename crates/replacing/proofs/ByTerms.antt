@@ -1,6 +1,6 @@
 -- Where the book's laws hold, a row is replaced by a step just where the step says so of their terms, since two held
 -- paths that are the same term are one row. Assumes nothing.
-use Prim.Native.Nat.{ℕ, _-_, _≤_, _<_}
+use Prim.Native.Nat.{ℕ, _-_, _≤_}
 use mathlib.Core.Path.{_≡_, refl, sym, ap, subst, _∙_}
 use mathlib.Core.Bool.{Bool, true, false, cond, _&&_}
 use mathlib.Core.List.{List, [], _∷_}
@@ -10,15 +10,13 @@ use lib.Dec.{T, leb, ltb, eqb, leb→le}
 use lib.ListN.{length}
 use mir.Facts.{and-yes, yes-and, or-yes, eqb-yes, yes-eqb, yes-leb}
 use Rattle.common.specs.Lists.{anyOf}
-use Rattle.common.proofs.Reflect.{facts, eq-iff, yes-or, true-iff}
+use Rattle.common.proofs.Reflect.{eq-iff, yes-or, true-iff}
 use Rattle.xpath.specs.Term.{Path}
 use Rattle.terms.specs.Row.{Row, rowAt}
 use Rattle.terms.specs.Fields.{isPath, heldPath}
-use Rattle.terms.specs.Terms.{ofPath, pathAt}
-use Rattle.terms.specs.AcceptedRows.{Built}
-use Rattle.terms.proofs.Terms.{path-term}
-use Rattle.terms.proofs.Built.{built-terms-differ}
+use Rattle.terms.specs.Terms.{pathAt}
 use Rattle.rules.specs.Claim.{Containment}
+use Rattle.rules.proofs.Letters.{held-path, same-path}
 use Rattle.rules.proofs.RowYields.{says-paths}
 use Rattle.calls.specs.Book.{Step, Book}
 use Rattle.calls.specs.StepCall.{sameSort, stepNumbered, claimOf}
@@ -79,13 +77,6 @@ module _ (rs : List Row) where
       (and-yes (ltb (p .left) (length rs)) (isPath (rowAt rs (p .left))) t .1) in
       path-held rs (p .right) (held .right) (rw left at (held .one-sort))
 
-  same-path : Built rs → (i j : ℕ) → T (heldPath rs i) → T (heldPath rs j) → pathAt rs i ≡ pathAt rs j → i ≡ j
-  unfolding heldPath isPath
-  same-path built i j s t e =
-      let (g, k) = simp facts at s in
-      let (h, l) = simp facts at t in
-      built-terms-differ built i j g h (path-term rs i k ∙ ap ofPath e ∙ sym (path-term rs j l))
-
 module _ (b : Book) (laws : BookLaws b) (new : List ℕ) (old i : ℕ) where
   abbrev saying : Step
   saying = stepNumbered (b .steps) i
@@ -125,9 +116,13 @@ module _ (b : Book) (laws : BookLaws b) (new : List ℕ) (old i : ℕ) where
       let sides : SidesHeld (b .rows) saying = laws .sides (i - 1) (omega arith) in
       let (is-path, from, to) = containment-sides (b .rows) (saying .left) (saying .right) _ _ (says .2) in
       let left = path-held (b .rows) (saying .left) (sides .left) is-path in
-      let same-left = same-path (b .rows) (laws .built) (saying .left) old left path from in
+      let right = right-path (b .rows) saying sides left in
+      let same-left : saying .left ≡ old =
+      same-path (laws .built) (saying .left) old (held-path (b .rows) (saying .left) left) (held-path (b .rows) old path)
+      from in
       let same-right : saying .right ≡ n =
-      same-path (b .rows) (laws .built) (saying .right) n (right-path (b .rows) saying sides left) held to in
+      same-path (laws .built) (saying .right) n (held-path (b .rows) (saying .right) right) (held-path (b .rows) n held)
+      to in
       yes-and (isHeldStep (b .steps) i) (says-from && isIn new (saying .right))
       (yes-and (leb 1 i) (leb i (length (b .steps))) (yes-leb lower) (yes-leb upper))
       (yes-and says-from (isIn new (saying .right))

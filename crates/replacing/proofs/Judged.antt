@@ -16,14 +16,11 @@ use Rattle.common.proofs.Search.{first-not-yet, first-found, none-iff}
 use Rattle.common.proofs.Reflect.{true-iff, all-yes, yes-all}
 use Rattle.calls.specs.Book.{Book, Answer, answer}
 use Rattle.calls.specs.Refusals.{bad-lists, not-covered}
+use Rattle.calls.proofs.StepJudged.{neither}
 use Rattle.replacing.specs.declared.ReplaceAnswer.{ReplaceAnswer}
 use Rattle.replacing.specs.declared.ReplaceAnswer.the-variants as ReplaceCases
 use Rattle.replacing.specs.Covered.{isReplacedAt, isCovered}
 use Rattle.replacing.specs.ReplaceCall.{maxList, areBadLists, firstUncovered, replaceAnswer, replaceAnswerOf}
-
-neither : (a b : Bool) → (a || b) ≡ false → (a ≡ false) × (b ≡ false)
-neither true b e = let z : _≡_ {A = ℕ} 0 1 = cc in absurd (omega arith)
-neither false b e = (refl, e)
 
 -- lists that are not refused
 module _ (old new by : List ℕ) (fit : areBadLists old new by ≡ false) where

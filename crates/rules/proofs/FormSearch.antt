@@ -53,7 +53,7 @@ rule-way rs s ss n {t} e q p =
     let forms = ap (λ t. ruleForms t n) e ∙ forms-known n in
     (rw q at p) ∙ ap₂ (λ k ws. anyOf (formYields rs s (take k ss)) ws) known forms
 
--- the rule that is none of the table's has no form and no premise
+-- rule 59 has no form and no premise
 pub way-back-way : (rs : List Row) (s : Sides) (ss : List Sides) (n : ℕ) {r : Bool} → n ≡ wayBackRule →
     r ≡ isWithBack rs (s .left) (s .right)
     → r ≡ rowYields rs n s (take (premiseCount n) ss)

@@ -102,18 +102,24 @@ module _ (rs : List Row) where
 
 -- held rows with the same term are one row
 module _ {rs : List Row} (built : Built rs) where
+  pub same-path : (v w : ℕ) → (v < length rs) × (rowAt rs v .kind ≤ 5) → (w < length rs) × (rowAt rs w .kind ≤ 5) →
+      pathAt rs v ≡ pathAt rs w → v ≡ w
+  same-path v w (g, k) (h, l) e =
+      built-terms-differ built v w g h (path-term rs v k ∙ ap ofPath e ∙ sym (path-term rs w l))
+
+  pub same-qualifier : (v w : ℕ) → (v < length rs) × ((6 ≤ rowAt rs v .kind) × (rowAt rs v .kind ≤ maxKind)) →
+      (w < length rs) × ((6 ≤ rowAt rs w .kind) × (rowAt rs w .kind ≤ maxKind)) →
+      qualifierAt rs v ≡ qualifierAt rs w → v ≡ w
+  same-qualifier v w (g, (k, l)) (h, (m, n)) e =
+      built-terms-differ built v w g h (qualifier-term rs v k l ∙ ap ofQualifier e ∙ sym (qualifier-term rs w m n))
+
   pub means-one : (e : Letters) (k v w : ℕ) → Means rs e k v → Means rs e k w → v ≡ w
   unfolding Means
   means-one e k v w s t = by (meant e k) s t
     where
       by : (m : Meant) → Stands rs m v → Stands rs m w → v ≡ w
-      by (a-path t) p q =
-          let g = held-path rs v (p .0) in
-          let h = held-path rs w (q .0) in
-          built-terms-differ built v w (g .0) (h .0) (path-term rs v (g .1) ∙ ap ofPath (sym (p .1) ∙ q .1) ∙ sym (path-term rs w (h .1)))
+      by (a-path t) p q = same-path v w (held-path rs v (p .0)) (held-path rs w (q .0)) (sym (p .1) ∙ q .1)
       by (a-qualifier t) p q =
-          let g = held-qualifier rs v (p .0) in
-          let h = held-qualifier rs w (q .0) in
-          built-terms-differ built v w (g .0) (h .0) (qualifier-term rs v (g .1 .0) (g .1 .1) ∙ ap ofQualifier (sym (p .1) ∙ q .1) ∙ sym (qualifier-term rs w (h .1 .0) (h .1 .1)))
+          same-qualifier v w (held-qualifier rs v (p .0)) (held-qualifier rs w (q .0)) (sym (p .1) ∙ q .1)
       by (a-number n) p q = sym p ∙ q
       by nothing p q = absurd p

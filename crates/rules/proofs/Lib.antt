@@ -8,7 +8,7 @@ mod AxisOrder
 mod Decoded
 mod FormSearch
 mod Agreement
-mod Letters
+pub mod Letters
 mod RowForms
 mod RowWayBack
 mod WayBackRows

@@ -1,12 +1,12 @@
 -- One level of the way back on row numbers, and the ways through the code that finds it. Assumes nothing.
 use Prim.Native.Nat.{ℕ, zero, suc, _+_, _<_, _≤_}
 use mathlib.Core.Path.{_≡_, refl, sym, _∙_, ap, ap₂, subst, subst₂}
-use mathlib.Core.Bool.{Bool, true, false, _&&_, _||_}
+use mathlib.Core.Bool.{Bool, true, false, _&&_, _||_, false≢true}
 use mathlib.Core.List.{List, [], _∷_}
 use mathlib.Core.Logic.{⊎-elim}
 use native.Mathlib.Omega.{arith}
 use lib.Dec.{eqb, ltb}
-use lib.ListN.{length, getD, set, take, replicate, length-take, List·getD-eq-default}
+use lib.ListN.{length, getD, set, take, replicate, length-take, length-set, List·getD-eq-default}
 use lib.Seq.{set-out, getD-take, getD-set-same, getD-set-other}
 use borrow.Author.Tests.{eqb-true, ne-eqb, lt-ltb, le-ltb}
 use Rattle.common.proofs.Reflect.{eq-or-ne, le-or-lt, and-true, and-false}
@@ -47,6 +47,22 @@ module _ (xs : List ℕ) (i j : ℕ) where
 
   pub set-there : {at k : ℕ} → at ≡ i → k ≡ j → set xs at (k + 1) ≡ set xs i (suc j)
   set-there {at} {k} e f = let h : k + 1 ≡ suc j = omega arith in ap₂ (set xs) e h
+
+  pub note-there : {ys : List ℕ} → ys ≡ set xs i (suc j) → i < length ys → getD ys i 0 ≡ suc j
+  note-there {ys} q l =
+      let same : length ys ≡ length xs = ap length q ∙ length-set xs i (suc j) in
+      ap (λ ys. getD ys i 0) q ∙ getD-set-same xs i (suc j) 0 (omega arith)
+
+-- where no operand has a way back, a step alone can have one
+step-alone : (b₂ b₃ b₄ b₅ : Bool) (k : ℕ) →
+    getD (false ∷ false ∷ b₂ ∷ (b₃ && false) ∷ (b₄ && false) ∷ (b₅ && false) ∷ []) k false ≡ true → k ≡ 2
+step-alone b₂ b₃ b₄ b₅ zero q = absurd (false≢true q)
+step-alone b₂ b₃ b₄ b₅ (suc zero) q = absurd (false≢true q)
+step-alone b₂ b₃ b₄ b₅ (suc (suc zero)) q = refl
+step-alone b₂ b₃ b₄ b₅ (suc (suc (suc zero))) q = absurd (false≢true (sym (and-false b₃) ∙ q))
+step-alone b₂ b₃ b₄ b₅ (suc (suc (suc (suc zero)))) q = absurd (false≢true (sym (and-false b₄) ∙ q))
+step-alone b₂ b₃ b₄ b₅ (suc (suc (suc (suc (suc zero))))) q = absurd (false≢true (sym (and-false b₅) ∙ q))
+step-alone b₂ b₃ b₄ b₅ (suc (suc (suc (suc (suc (suc k)))))) q = absurd (false≢true q)
 
 module _ (rs : List Row) where
   -- the test for operands of row i
@@ -168,34 +184,51 @@ module _ (rs : List Row) where
 
   pub is-noted : (xs : List ℕ) (i j : ℕ) → Noted rs xs → true ≡ eqb (getD xs i 0) (suc j) → BackFound rs i j true xs
   unfolding Noted
-  is-noted xs i j s e = record { answer = sym (s i j (eqb-true (getD xs i 0) (suc j) (sym e))); noted = s }
+  is-noted xs i j s e =
+      let there : getD xs i 0 ≡ suc j = eqb-true (getD xs i 0) (suc j) (sym e) in
+      record { answer = sym (s i j there); noted = s; found-noted = λ q n l. there }
 
-  -- what is seen of rows i and j
+  -- r is what is seen of rows i and j
   abbrev Seen : ℕ → ℕ → Reversal → Type 0
-  Seen i j r =
-      isBack rs i j
-      ≡ (r .fits
-      && (r .ends
-      || operandBack i (r .first .left) (r .first .right) && operandBack i (r .second .left) (r .second .right)))
+  Seen i j r = Reverses rs (rowAt rs i) (rowAt rs j) r
 
   pub seen-of : (i j k m : ℕ) (x y : Row) (r : Reversal) → k ≡ i → x ≡ rowAt rs k → m ≡ j → y ≡ rowAt rs m →
       Reverses rs x y r → Seen i j r
-  unfolding Reverses
   seen-of i j k m x y r e ex f ey seen =
-      back-level i j ∙ ap₂ (isBackBy rs (operandBack i)) (sym (ex ∙ ap (rowAt rs) e)) (sym (ey ∙ ap (rowAt rs) f))
-      ∙ seen (operandBack i)
+      subst₂ (λ (x y : Row). Reverses rs x y r) (ex ∙ ap (rowAt rs) e) (ey ∙ ap (rowAt rs) f) seen
 
   -- The ways of the search, after what is seen of rows i and j.
   module _ (i j : ℕ) (r : Reversal) (seen : Seen i j r) (xs : List ℕ) (noted : Noted rs xs) where
+    level : isBack rs i j
+        ≡ (r .fits
+        && (r .ends
+        || operandBack i (r .first .left) (r .first .right) && operandBack i (r .second .left) (r .second .right)))
+    unfolding Reverses
+    level = back-level i j ∙ seen (operandBack i)
+
     not-back : isBack rs i j ≡ false → BackFound rs i j false xs
-    not-back e = record { answer = sym e; noted = noted }
+    not-back e = record { answer = sym e; noted = noted; found-noted = λ q n l. absurd (false≢true q) }
 
     pub unfit : r .fits ≡ false → BackFound rs i j false xs
-    unfit f = not-back (seen ∙ rw f refl)
+    unfit f = not-back (level ∙ rw f refl)
 
     module _ (f : r .fits ≡ true) where
+      -- what fits whatever its operands are is a step
+      ended-step : r .ends ≡ true → rowAt rs i .kind ≡ 2
+      unfolding Reverses isBackBy
+      ended-step e =
+          let y : Row = rowAt rs j in
+          let q : isBackBy rs (λ p q. false) (rowAt rs i) y ≡ true = seen (λ p q. false) ∙ rw (f, e) refl in
+          step-alone (isStepBack rs (rowAt rs i) y) (eqb (y .kind) 3) (eqb (y .kind) 4) (isFilterBack rs (rowAt rs i) y)
+          (rowAt rs i .kind) q
+
       pub ended : r .ends ≡ true → BackFound rs i j true xs
-      ended e = record { answer = sym (seen ∙ rw (f, e) refl); noted = noted }
+      ended e =
+          record {
+            answer = sym (level ∙ rw (f, e) refl);
+            noted = noted;
+            found-noted = λ q n l. absurd (n (ended-step e));
+          }
 
       module _ (e : r .ends ≡ false) where
         -- the tests of the two operands
@@ -206,7 +239,7 @@ module _ (rs : List Row) where
         secondBack = operandBack i (r .second .left) (r .second .right)
 
         operands : isBack rs i j ≡ (firstBack && secondBack)
-        operands = seen ∙ rw (f, e) refl
+        operands = level ∙ rw (f, e) refl
 
         pub first-late : i ≤ r .first .left → BackFound rs i j false xs
         first-late h = not-back (operands ∙ rw (le-ltb (r .first .left) i h) refl)
@@ -232,7 +265,11 @@ module _ (rs : List Row) where
             pub both-found : a ≡ true → b ≡ true → {ys : List ℕ} → ys ≡ set xs i (suc j) → BackFound rs i j true ys
             both-found m n q =
                 let is-back : isBack rs i j ≡ true = operands ∙ ap₂ _&&_ (first-is ∙ m) (second-is ∙ n) in
-                record { answer = sym is-back; noted = subst (Noted rs) (sym q) (note-keeps xs i j noted is-back) }
+                record {
+                  answer = sym is-back;
+                  noted = subst (Noted rs) (sym q) (note-keeps xs i j noted is-back);
+                  found-noted = λ _ _ l. note-there xs i j q l;
+                }
 
   -- What is seen of the rows of a step.
   module _ (left right : ℕ) {k₁ k₂ k₃ k₄ : ℕ} {y f g v : Row} (e₁ : k₁ ≡ right) (y-is : y ≡ rowAt rs k₁)

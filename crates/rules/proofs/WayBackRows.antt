@@ -19,20 +19,21 @@ use Rattle.terms.specs.AcceptedRows.{Built}
 use Rattle.terms.proofs.ByKind.{Kind, void-kind, root-kind, step-kind, union-kind, composition-kind, filter-kind}
 use Rattle.terms.proofs.ByKind.{true-kind, false-kind, not-kind, and-kind, or-kind, in-kind, kind-of, kindOf}
 use Rattle.terms.proofs.Terms.{path-term, qualifier-term}
-use Rattle.terms.proofs.Built.{FieldLaw, built-row, built-term, built-kind, built-terms-differ}
+use Rattle.terms.proofs.Built.{FieldLaw, built-row, built-term, built-kind}
 use Rattle.rules.specs.Order.{isPair}
-use Rattle.rules.specs.WayBack.{opposites, besideIn, opposite, stepBack, filterBack, joined, wayBack}
+use Rattle.rules.specs.WayBack.{opposites, lookup, opposite, stepBack, filterBack, joined, wayBack}
 use Rattle.rules.specs.code.RowWayBack.{isStep, isStepBack, isFilterBack, backByKind, isBackBy, isBack}
 use Rattle.rules.specs.code.RowWayBack.{isWithBack}
 use Rattle.rules.proofs.Orders.{pair-at}
-use Rattle.rules.proofs.WayBackSound.{beside-pair, joined-some}
+use Rattle.rules.proofs.Letters.{same-path, same-qualifier}
+use Rattle.rules.proofs.WayBackSound.{lookup-pair, joined-some}
 use Rattle.rules.proofs.RowWayBack.{operandBack, back-level, kind-is}
 
 opposite-iff : (a b : ℕ) → T (isPair opposites a b) ↔ (opposite a ≡ some b)
-unfolding opposite besideIn opposites
+unfolding opposite lookup opposites
 opposite-iff a b = (
   pair-at (λ a b. opposite a ≡ some b) opposites (refl & refl & refl & refl & refl & refl & tt) a b,
-  beside-pair opposites a b,
+  lookup-pair opposites a b,
 )
 
 module _ {rs : List Row} (built : Built rs) where
@@ -94,14 +95,6 @@ module _ {rs : List Row} (built : Built rs) where
   qualifier-kind : (i : ℕ) → QualifierRow i → {f : Qualifier} → qualifierAt rs i ≡ f →
       rowAt rs i .kind ≡ kindOf (ofQualifier f)
   qualifier-kind i (h, (l, m)) e = sym (built-kind built i h) ∙ ap kindOf (qualifier-term rs i l m ∙ ap ofQualifier e)
-
-  same-path : (i j : ℕ) → PathRow i → PathRow j → pathAt rs i ≡ pathAt rs j → i ≡ j
-  same-path i j (h, l) (g, m) e =
-      built-terms-differ built i j h g (path-term rs i l ∙ ap ofPath e ∙ sym (path-term rs j m))
-
-  same-qualifier : (i j : ℕ) → QualifierRow i → QualifierRow j → qualifierAt rs i ≡ qualifierAt rs j → i ≡ j
-  same-qualifier i j (h, (l, m)) (g, (n, o)) e =
-      built-terms-differ built i j h g (qualifier-term rs i l m ∙ ap ofQualifier e ∙ sym (qualifier-term rs j n o))
 
   is-step-iff : (i : ℕ) → PathRow i → (a t c : ℕ) → T (isStep rs i a t c) ↔ (pathAt rs i ≡ AxisStep a t c)
   unfolding isStep sameRow kindOf
@@ -281,8 +274,8 @@ module _ {rs : List Row} (built : Built rs) where
               let fields = sym (filter-at (y .a) (a .0) kind) ∙ first in
               let self : pathAt rs (z .a) ≡ AxisStep 0 2 0 = cc in
               let of : qualifierAt rs (z .b) ≡ qualifierAt rs (x .b) = cc in
-              let same : z .b ≡ x .b = same-qualifier (z .b) (x .b) (omega (arith, lb .0, a .0), (lb .1, lb .2)) hf
-              of in
+              let same : z .b ≡ x .b = same-qualifier built (z .b) (x .b) (omega (arith, lb .0, a .0), (lb .1, lb .2))
+              hf of in
               yes-and (isFilterBack rs x y) (operandBack rs i (x .a) (y .b))
               (yes-and (eqb (y .kind) 4) (eqb (z .kind) 5 && eqb (z .b) (x .b) && isStep rs (z .a) 0 2 0) (yes-eqb c)
               (yes-and (eqb (z .kind) 5 && eqb (z .b) (x .b)) (isStep rs (z .a) 0 2 0)
@@ -370,7 +363,7 @@ module _ {rs : List Row} (built : Built rs) where
             let (lp, lf) = fields-of-kind r (g .0) 5 k in
             let parts = q ∙ filter-at r (g .0) k in
             let path : pathAt rs (y .a) ≡ pathAt rs l = sym (cc) in
-            let same : y .a ≡ l = same-path (y .a) l (omega (arith, lp .0, g .0), lp .1) h path in
+            let same : y .a ≡ l = same-path built (y .a) l (omega (arith, lp .0, g .0), lp .1) h path in
             let hf : QualifierRow (y .b) = (omega (arith, lf .0, g .0), (lf .1, lf .2)) in
             let some-is : qualifierAt rs (y .b) ≡ Not (In w Void) = sym (cc) in
             let k₁ : f .kind ≡ 8 = qualifier-kind (y .b) hf some-is in

@@ -17,20 +17,20 @@ use Rattle.xpath.specs.Term.{Path, Void, Root, AxisStep, Union, Composition, Fi
 use Rattle.xpath.specs.Axis.{principal, passes}
 use Rattle.xpath.proofs.Facts.{Selects, OnAxis}
 use Rattle.rules.specs.Order.{isPair}
-use Rattle.rules.specs.WayBack.{opposites, besideIn, opposite, stepBack, filterBack, joined, wayBack}
+use Rattle.rules.specs.WayBack.{opposites, lookup, opposite, stepBack, filterBack, joined, wayBack}
 use Rattle.rules.specs.Claim.{Claim}
 use Rattle.rules.specs.Yields.{WayBackYields}
 use Rattle.rules.proofs.RuleSound.{Means}
 use Rattle.rules.proofs.Orders.{pair-at, same-test}
 
--- an axis and the one beside it are one of the pairs
-pub beside-pair : (es : List (ℕ × ℕ)) (a b : ℕ) → besideIn es a ≡ some b → T (isPair es a b)
-unfolding besideIn isPair
-beside-pair [] a b q = absurd (Option·none-ne-some b q)
-beside-pair (e ∷ es) a b q =
-    yes-or (eqb (e .0) a && eqb (e .1) b) (isPair es a b) (by (eqb (e .0) a) q (beside-pair es a b))
+-- an axis and the one that is found for it are one of the pairs
+pub lookup-pair : (es : List (ℕ × ℕ)) (a b : ℕ) → lookup es a ≡ some b → T (isPair es a b)
+unfolding lookup isPair
+lookup-pair [] a b q = absurd (Option·none-ne-some b q)
+lookup-pair (e ∷ es) a b q =
+    yes-or (eqb (e .0) a && eqb (e .1) b) (isPair es a b) (by (eqb (e .0) a) q (lookup-pair es a b))
   where
-    by : (t : Bool) → cond t (some (e .1)) (besideIn es a) ≡ some b → (besideIn es a ≡ some b → T (isPair es a b)) →
+    by : (t : Bool) → cond t (some (e .1)) (lookup es a) ≡ some b → (lookup es a ≡ some b → T (isPair es a b)) →
         T (t && eqb (e .1) b) ⊎ T (isPair es a b)
     by true q h = inl (yes-eqb (Option·some-injective (e .1) b q))
     by false q h = inr (h q)
@@ -63,7 +63,7 @@ module _ (d : Document) where
 
   opposite-leads : (a b : ℕ) → opposite a ≡ some b → Leads a b
   unfolding opposite
-  opposite-leads a b e = pair-at Leads opposites opposites-lead a b (beside-pair opposites a b e)
+  opposite-leads a b e = pair-at Leads opposites opposites-lead a b (lookup-pair opposites a b e)
 
   pub back-selects : (p v : Path) → wayBack p ≡ some v → (x y : ℕ) → x < length d → y < length d →
       Selects d p x y → Selects d v y x

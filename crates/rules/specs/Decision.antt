@@ -16,7 +16,7 @@ use Rattle.rules.specs.Form.{Form, Rule}
 use Rattle.rules.specs.RuleTable.{rules}
 use Rattle.rules.specs.Claim.{Claim, Claim-discrete, Containment, Implication}
 use Rattle.rules.specs.Instance.{Letters, axisFor, testFor, pathFor, claimFor, meets}
-use Rattle.rules.specs.WayBack.{opposites, besideIn, opposite, joined, wayBack}
+use Rattle.rules.specs.WayBack.{opposites, lookup, opposite, joined, wayBack}
 use Rattle.rules.specs.Yields.{formsIn, formsOf, FormYields, wayBackRule, wayBackClaim, WayBackYields, Yields}
 use Rattle.rules.specs.LettersRead.{readPath, readClaim, readClaims, claimForms, lettersIn}
 
@@ -150,7 +150,7 @@ yes-form n c cs y =
     (subst₂ (λ c cs. T (fits (c ∷ cs) (y .form))) (y .conclusion) (y .premises)
     (said-fits (y .form) (y .letters) (recovered n (y .of-rule) (y .letters)) (y .conditions)))
 
--- what the rule that is none of the table's says of p and its way back v is that p is contained in q, from no premise
+-- what rule 59 says of p and its way back v is that p is contained in q, from no premise
 unfoldable pub saysBack : (p q : Path) → List Claim → Option Path → Bool
 saysBack p q cs none = false
 saysBack p q cs (some v) = sameClaims (wayBackClaim p v ∷ []) (Containment p q ∷ cs)
@@ -197,7 +197,7 @@ yes-back n c cs y =
 
 -- the test of all rules: a form fits, or the way back; to unfold it is to unfold all that it computes with
 unfoldable pub ruleFits : ℕ → Claim → List Claim → Bool
-unfolding someFormFits wayBackFits saysBack wayBack joined opposite besideIn opposites
+unfolding someFormFits wayBackFits saysBack wayBack joined opposite lookup opposites
 ruleFits n c cs = someFormFits n c cs || wayBackFits n c cs
 
 pub yielded-yes : (n : ℕ) (c : Claim) (cs : List Claim) → T (ruleFits n c cs) → Yields n c cs

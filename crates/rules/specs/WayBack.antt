@@ -22,12 +22,12 @@ opposites =
     ∷ []
 
 -- the second axis of the pair whose first one is a
-unfoldable pub besideIn : List (ℕ × ℕ) → ℕ → Option ℕ
-besideIn [] a = none
-besideIn (e ∷ es) a = cond (eqb (e .0) a) (some (e .1)) (besideIn es a)
+unfoldable pub lookup : List (ℕ × ℕ) → ℕ → Option ℕ
+lookup [] a = none
+lookup (e ∷ es) a = cond (eqb (e .0) a) (some (e .1)) (lookup es a)
 
 unfoldable pub opposite : ℕ → Option ℕ
-opposite a = besideIn opposites a
+opposite a = lookup opposites a
 
 -- self::N, then axis b with node()
 abbrev pub stepBack : (axis test name : ℕ) → Path

@@ -33,15 +33,15 @@ pub record FormYields (n : ℕ) (c : Claim) (cs : List Claim) : Type 0 where
   pub conclusion : claimFor letters (form .conclusion) ≡ c
   pub premises : map (claimFor letters) (form .premises) ≡ cs
 
--- the rule that is none of the table's
+-- rule 59, which the table doesn't have
 abbrev pub wayBackRule : ℕ
 wayBackRule = 59
 
--- what that rule says of r and its way back w: r <= r[some w]
+-- what rule 59 says of r and its way back w: r <= r[some w]
 abbrev pub wayBackClaim : Path → Path → Claim
 wayBackClaim r w = Containment r (Filter r (some-of w))
 
--- it yields such a claim, from no premise
+-- rule 59 yields such a claim, from no premise
 pub record WayBackYields (n : ℕ) (c : Claim) (cs : List Claim) : Type 0 where
   pub rule : n ≡ wayBackRule
   pub path : Path
@@ -71,7 +71,7 @@ unfoldable pub firstCount : List Form → ℕ
 firstCount [] = 0
 firstCount (w ∷ ws) = length (w .premises)
 
--- how many premises rule n has; the one that is none of the table's has none
+-- how many premises rule n has; rule 59 has none
 unfoldable pub premiseCount : ℕ → ℕ
 premiseCount n = firstCount (formsOf n)
 

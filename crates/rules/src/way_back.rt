@@ -20,7 +20,7 @@ ghost use Rattle.rules.specs.WayBack.{opposites};
 ghost use Rattle.rules.specs.code.RowWayBack.{isStep, isStepBack, isFilterBack, isWithBack, Noted, BackFound};
 ghost use Rattle.rules.specs.code.MatchTypes.{Reverses};
 
-// The rule that is none of the table's.
+// Rule 59, which the table doesn't have.
 pub const WAY_BACK_RULE: u16 = 59;
 
 // The axes of paths that have a way back, each with its opposite axis.
@@ -73,7 +73,7 @@ fn is_step_back(rows: &[u16], x: Row, y: Row) -> bool
     and(y.kind == row_kind::COMPOSITION, and(test, opposite))
 }
 
-// Whether y is .[f], then a path, for x, whose filter is f.
+// Whether y is .[f], then a path, for x, whose qualifier is f.
 fn is_filter_back(rows: &[u16], x: Row, y: Row) -> bool
     ensures { λ r. ⌜ r ≡ isFilterBack (tableOf (now (rows .entry))) (rowOf x) (rowOf y) ⌝ }
 {
@@ -104,7 +104,7 @@ fn reversal_of(rows: &[u16], x: Row, y: Row) -> Reversal
             fits: y.kind == row_kind::COMPOSITION,
             ends: false,
             first: Sides { left: q, right: v },
-            second: Sides { left: p, right: w },
+            second: Sides { left: p, right: w }, // p's is last
         },
         row_kind::FILTER => Reversal {
             fits: is_filter_back(rows, x, y),

@@ -33,8 +33,8 @@ pub struct SelectCall {
     pub marks: usize,
 }
 
-// The call of a line; `Document`, `Old`, `New` and `Replace` say how many numbers it lists, `Write` how long its buffer is,
-// and `Other` that the line is no call.
+// The call of a line; `Document`, `Old`, `New` and `Replace` say how many numbers it lists, `Write` how long its buffer
+// is, and `Other` that the line is no call.
 pub enum Call {
     Term(Row),
     Step(Step),

@@ -39,7 +39,7 @@ use Rattle.session.proofs.Simulation.{fresh-kept}
 use Rattle.session.proofs.Sorted.{Sorted, every-append, calls-sorted}
 use Rattle.session.proofs.StepsAdded.{calls-added}
 use Rattle.session.proofs.Views.{fresh-view}
-use Rattle.session.proofs.Written.{written-text, written-where-room, sorted-short, read-text}
+use Rattle.session.proofs.Written.{written-text, written-where-room, sorted-taken, read-text}
 
 -- the second names line is no term line
 no-row-in-names : numbersOf rowWidth (line stepNames true) ≡ none
@@ -135,6 +135,6 @@ read-demand-by Selected Called Read Write select-tied call-tied met-called read-
           ∙ read-text bytes (read .rows) (read .steps) (read .seen) (t .session) (read .bundle)
           (run-map call-tied (read .made)) (read .all-accepted);
       always-room = λ cs os s run fits buffer left w m room.
-          let short = sorted-short (calls-sorted (run-map call-tied run) fits) in
+          let short = sorted-taken (calls-sorted (run-map call-tied run) fits) in
           written-where-room s buffer w left (write-tied s buffer w left m) (omega (arith, short, room));
     }

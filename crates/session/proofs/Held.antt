@@ -1,13 +1,9 @@
--- What a proof has at exit of a `Writer` that was passed by value. Each function that takes one cites this. A struct
--- of other fields needs another list of `slots` and another choice for each field, and nothing else.
+-- What the proof of `append` has at exit of its `Writer`, which was passed by value.
 --     slots            the struct's fields, as places of a signature of one lifetime
 --     held, held-goes  of a choice for each field: what is had of the struct at exit (`Denote/Triple/Walked.antt`'s
 -- `Stay`), and the law for it, from the fields' laws
---     writer-stay      the borrow is still owned, at its last list.        writer-goes      the law for it
 --     writer-gave      the body has given the borrow up for good, as by passing it on to a callee, and has only what
 -- says its last list.        writer-gave-goes      the law for it
---     writer-spent     the result names the struct's lifetime: nothing is said of a last list.
--- writer-spent-goes      the law for it
 -- The laws take `Given`. The rest assumes nothing.
 use mathlib.Core.Path.{refl}
 use mathlib.Core.List.{List, [], _∷_}
@@ -17,12 +13,11 @@ use prog.Wp.{Heap}
 use ghost.Atoms.{Atoms}
 use types.Kit.{Given}
 use denote.Builtin.{u8, usize}
-use denote.Exit.{Kept, yes, no}
-use denote.Signature.{Slot, plain, mutSlice, mutSliceOf, namedLft}
+use denote.Exit.{Kept, yes}
+use denote.Signature.{Slot, plain, mutSlice, namedLft}
 use denote.Signature.Struct.{structAt}
-use denote.Triple.Walked.{Stay, Fields, stay-none, stay-slice, gave-slice, stay-dropped, stay-struct-at}
-use denote.Triple.Walked.{stay-declared, Goes, FieldsGo, goes-none, goes-slice, goes-gave-slice, goes-spent-slice}
-use denote.Triple.Walked.{goes-struct-at, goes-declared}
+use denote.Triple.Walked.{Stay, Fields, stay-none, gave-slice, stay-struct-at, stay-declared}
+use denote.Triple.Walked.{Goes, FieldsGo, goes-none, goes-gave-slice, goes-struct-at, goes-declared}
 use Rattle.session.specs.declared.write.Writer.{Writer}
 use Rattle.session.proofs.write.Writer as T
 
@@ -41,23 +36,11 @@ held k hs = stay-declared (structAt name (named 0 ∷ []) slots) k
     (stay-struct-at name (named 0 ∷ []) slots k hs) Writer (λ κs. T.the-type (namedLft 1 0 tt κs) .to)
     (λ κs. T.the-type (namedLft 1 0 tt κs) .to-one)
 
-abbrev stays : Fields slots yes
-stays = (stay-slice (0 ∷ []) tt (plain (λ _. u8)), (stay-none (λ _. usize) yes, tt))
-
 abbrev gives : Fields slots yes
 gives = (gave-slice (0 ∷ []) tt (plain (λ _. u8)), (stay-none (λ _. usize) yes, tt))
 
-abbrev spends : Fields slots no
-spends = (stay-dropped (mutSliceOf (0 ∷ []) tt (plain (λ _. u8))) no, (stay-none (λ _. usize) no, tt))
-
-abbrev pub writer-stay : Stay WriterS yes
-writer-stay = held yes stays
-
 abbrev pub writer-gave : Stay WriterS yes
 writer-gave = held yes gives
-
-abbrev pub writer-spent : Stay WriterS no
-writer-spent = held no spends
 
 module _ {M : Type 1} (𝓤 : URA M) (H : Heap 𝓤) (A : Atoms 𝓤) (W : Given 𝓤 H A) where
   pub held-goes : (k : Kept) (hs : Fields slots k) → FieldsGo 𝓤 H A W 1 slots k hs
@@ -68,16 +51,6 @@ module _ {M : Type 1} (𝓤 : URA M) (H : Heap 𝓤) (A : Atoms 𝓤) (W : Given
       (λ κs. T.the-type (namedLft 1 0 tt κs) .to-one)
       (goes-struct-at 𝓤 H A W 1 name (named 0 ∷ []) slots k hs gs)
 
-  pub writer-goes : Goes 𝓤 H A W 1 WriterS yes writer-stay
-  writer-goes = held-goes yes stays
-      (goes-slice 𝓤 H A W 1 0 tt (plain (λ _. u8)), (goes-none 𝓤 H A W 1 (λ _. usize) yes (λ κs x f. refl), tt))
-
   pub writer-gave-goes : Goes 𝓤 H A W 1 WriterS yes writer-gave
   writer-gave-goes = held-goes yes gives
       (goes-gave-slice 𝓤 H A W 1 0 tt (plain (λ _. u8)), (goes-none 𝓤 H A W 1 (λ _. usize) yes (λ κs x f. refl), tt))
-
-  pub writer-spent-goes : Goes 𝓤 H A W 1 WriterS no writer-spent
-  writer-spent-goes = held-goes no spends (
-    goes-spent-slice 𝓤 H A W 1 (0 ∷ []) tt (plain (λ _. u8)),
-    (goes-none 𝓤 H A W 1 (λ _. usize) no (λ κs x f. refl), tt),
-  )

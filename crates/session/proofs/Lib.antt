@@ -2,6 +2,7 @@ pub mod Theorems
 pub mod Source
 pub mod Clauses
 pub mod ReadClauses
+pub mod ReplaceClauses
 pub mod Views
 pub mod Simulation
 pub mod Demand3

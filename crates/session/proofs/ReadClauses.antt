@@ -1,11 +1,14 @@
 -- Each clause of what is demanded of read and write, written out once more: without one of them this fails. Assumes
 -- nothing.
-use Prim.Native.Nat.{ℕ, _≤_}
-use mathlib.Core.Path.{_≡_, subst, _∙_}
-use mathlib.Core.Bool.{true}
+use Prim.Native.Nat.{ℕ, _≤_, _<_}
+use mathlib.Core.Path.{_≡_, refl, sym, ap, subst, _∙_}
+use mathlib.Core.Bool.{Bool, true, false, cond}
 use mathlib.Core.List.{List, _∷_, _++_, map}
 use mathlib.Core.Option.{some}
-use lib.ListN.{length, take}
+use native.Mathlib.Omega.{arith}
+use lib.Dec.{leb}
+use lib.ListN.{length, take, drop}
+use borrow.Author.Tests.{leb-true, leb-false}
 use Rattle.terms.specs.Row.{Row}
 use Rattle.common.specs.Lists.{Every}
 use Rattle.lines.specs.Line.{line, lines}
@@ -21,7 +24,7 @@ use Rattle.session.specs.Promises.{CallRelation, SelectRelation}
 use Rattle.bundles.specs.Bundle.{rowNames, stepNames, rowOfLine, stepOfLine, bundleText}
 use Rattle.session.specs.ReadCall.{readAnswerOf}
 use Rattle.session.specs.Demand3.{Demand3}
-use Rattle.session.specs.WriteCall.{writeAnswerOf, WriteRelation}
+use Rattle.session.specs.WriteCall.{sessionText, writeAnswerOf, WriteRelation, WriteMet}
 use Rattle.session.specs.ReadDemand.{TermOrStep, ReadAccepted, ReadDemand}
 
 abbrev bundleCalls : List Row → List Step → List Call
@@ -93,3 +96,32 @@ module _ (Selected : SelectRelation) (Called : CallRelation) (Read : List ℕ �
         → (buffer left : List ℕ) (w : WriteAnswer) → Write s buffer w left → 65536 ≤ length buffer
         → writeAnswerOf w .number ≡ 0
     room-for-all = demand .always-room
+
+-- what a write call promises of the session's bundle and every byte of the buffer
+module _ (s : Session) (buffer : List ℕ) (w : WriteAnswer) (left : List ℕ) (met : WriteMet s buffer w left) where
+  abbrev size : ℕ
+  size = length (sessionText s)
+
+  abbrev Told : Bool → Type 0
+  Told b = writeAnswerOf w ≡ cond b (answer 0 size) (answer 16 size)
+
+  abbrev Left : Bool → Type 0
+  Left b = left ≡ cond b (sessionText s ++ drop size buffer) buffer
+
+  pub text-left : writeAnswerOf w .number ≡ 0
+      → (size ≤ length buffer) × (writeAnswerOf w ≡ answer 0 size) × (left ≡ sessionText s ++ drop size buffer)
+  text-left e = by-test (leb size (length buffer)) refl (met .answer) (met .bytes)
+    where
+      by-test : (b : Bool) → leb size (length buffer) ≡ b → Told b → Left b
+          → (size ≤ length buffer) × (writeAnswerOf w ≡ answer 0 size) × (left ≡ sessionText s ++ drop size buffer)
+      by-test true fits told bytes = (leb-true size (length buffer) fits, told, bytes)
+      by-test false fits told bytes = absurd (omega (arith, sym (ap (λ a. a .number) told) ∙ e))
+
+  pub buffer-left : ¬ (writeAnswerOf w .number ≡ 0)
+      → (length buffer < size) × (writeAnswerOf w ≡ answer 16 size) × (left ≡ buffer)
+  buffer-left f = by-test (leb size (length buffer)) refl (met .answer) (met .bytes)
+    where
+      by-test : (b : Bool) → leb size (length buffer) ≡ b → Told b → Left b
+          → (length buffer < size) × (writeAnswerOf w ≡ answer 16 size) × (left ≡ buffer)
+      by-test true fits told bytes = absurd (f (ap (λ a. a .number) told))
+      by-test false fits told bytes = (leb-false size (length buffer) fits, told, bytes)

@@ -171,7 +171,7 @@ write-case text room = by-test (leb (length text) room)
     by-test : (b : Bool) → (w : WriteAnswer) ×
         (writeAnswerOf w ≡ cond b (answer 0 (length text)) (answer short-buffer (length text)))
     by-test true = (WriteCases.Written (length text), refl)
-    by-test false = (WriteCases.TooShort (length text), refl)
+    by-test false = (WriteCases.ShortBuffer (length text), refl)
 
 pub writes-exist : (s : Session) (buffer : List ℕ) → (w : WriteAnswer) × (left : List ℕ) × Write s buffer w left
 writes-exist s buffer =

@@ -51,7 +51,7 @@ module _ (s : Session) (buffer : List ℕ) (w : WriteAnswer) (left : List ℕ) (
   written-where-room h = ap (λ a. a .number) (m .answer) ∙ rw (le-leb (length (sessionText s)) (length buffer) h)
 
 -- 40 + 15 * 1024 + 23 * 2048 is 62,504
-pub sorted-short : {s : Session} → Sorted s → length (sessionText s) ≤ maxBytes
+pub sorted-short : {s : Session} → Sorted s → length (sessionText s) ≤ 62504
 sorted-short {s} o =
     let k = o .kept in
     let text = ap (λ b. length (bundleText (b .rows) (b .steps))) (o .held) in
@@ -59,6 +59,10 @@ sorted-short {s} o =
     let steps = ap (λ b. length (b .steps)) (o .held) in
     let short = bundle-short (o .rows) (o .steps) (o .rows-short) (o .steps-short) in
     omega (arith, text, rows, steps, short, rows-count s (k .size), steps-count s (k .size))
+
+-- so a program takes it
+pub sorted-taken : {s : Session} → Sorted s → length (sessionText s) ≤ maxBytes
+sorted-taken o = let short = sorted-short o in omega (arith, short)
 
 -- a bundle has one text
 bundle-spelled : (bytes : List ℕ) (rs : List Row) (ps : List Step) → IsBundle (lines bytes) rs ps
@@ -100,7 +104,7 @@ module _ (s : Session) (buffer : List ℕ) (size : ℕ) (left : List ℕ)
   from-zero : 0 + length (sessionText s) ≡ length (sessionText s)
   from-zero = omega arith
 
-  pub write-refused : length buffer < size → WriteMet s buffer (WriteCases.TooShort size) left
+  pub write-refused : length buffer < size → WriteMet s buffer (WriteCases.ShortBuffer size) left
   write-refused h =
       let short = lt-leb (length (sessionText s)) (length buffer) (omega (arith, m .length-told)) in
       record { answer = rw short (ap (answer short-buffer) (m .length-told)); bytes = m .bytes ∙ rw (from-zero, short) }

@@ -1,4 +1,4 @@
--- What demand 3 says of the calls read and write. Assumes nothing.
+-- What is demanded of the calls read and write, with demand 3 of the calls that read makes. Assumes nothing.
 use Prim.Native.Nat.{ℕ, _≤_}
 use mathlib.Core.Path.{_≡_}
 use mathlib.Core.Bool.{true}

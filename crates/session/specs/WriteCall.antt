@@ -28,7 +28,7 @@ writeBuffer text buffer = cond (leb (length text) (length buffer)) (text ++ drop
 
 abbrev pub writeAnswerOf : WriteAnswer → Answer
 writeAnswerOf (WriteCases.Written n) = answer 0 n
-writeAnswerOf (WriteCases.TooShort n) = answer short-buffer n
+writeAnswerOf (WriteCases.ShortBuffer n) = answer short-buffer n
 
 -- what may be said of a write call: the session, the buffer, the answer, and the bytes that it leaves
 abbrev pub WriteRelation : Type 1

@@ -7,7 +7,7 @@ ghost use Rattle.session.specs.WriteCall.{sessionText, writeAnswerOf, Wr
 // The answer of a write call: how many bytes were written, or how many are needed.
 pub enum WriteAnswer {
     Written(usize),
-    TooShort(usize),
+    ShortBuffer(usize),
 }
 
 // What lines are appended to: a caller's buffer, and the position of the next line.
@@ -51,7 +51,7 @@ impl WriteAnswer {
     {
         match self {
             WriteAnswer::Written(_) => 0,
-            WriteAnswer::TooShort(_) => calls::SHORT_BUFFER,
+            WriteAnswer::ShortBuffer(_) => calls::SHORT_BUFFER,
         }
     }
 
@@ -60,7 +60,7 @@ impl WriteAnswer {
     {
         match self {
             WriteAnswer::Written(n) => n,
-            WriteAnswer::TooShort(n) => n,
+            WriteAnswer::ShortBuffer(n) => n,
         }
     }
 }
@@ -73,7 +73,7 @@ impl Session {
         let room = out.len();
         let size = write_lines(out, self);
         if room < size {
-            return WriteAnswer::TooShort(size);
+            return WriteAnswer::ShortBuffer(size);
         }
         WriteAnswer::Written(size)
     }

@@ -20,10 +20,10 @@ const FILL: u8 = 7;
 // Longer than the longest line: a word, two numbers, and 512 nodes of at most three digits.
 const LINE: usize = 4096;
 
-// What is printed. `Answers`: `NUMBER VALUE` for each call but document, old and new, after an accepted select the marked
-// nodes, and after an accepted write the bundle's lines; a script has one session, so `fresh` is no call. `Nodes`: the
-// marked nodes of each accepted select, and `refused NUMBER VALUE` for what is refused; `fresh` starts a new session, and
-// `write` is no call.
+// What is printed. `Answers`: `NUMBER VALUE` for each call but document, old and new, after an accepted select the
+// marked nodes, and after an accepted write the bundle's lines; a script has one session, so `fresh` is no call.
+// `Nodes`: the marked nodes of each accepted select, and `refused NUMBER VALUE` for what is refused; `fresh` starts a
+// new session, and `write` is no call.
 pub enum Style {
     Answers,
     Nodes,

@@ -51,6 +51,7 @@ pub accepted :
     -- new rows that are not held, or qualifiers, before and after the one that is needed
     ∷ replace (0 ∷ []) (9 ∷ 2 ∷ 1 ∷ []) (1 ∷ []) is answer 0 0
     ∷ replace (0 ∷ []) (1 ∷ 9 ∷ 2 ∷ []) (1 ∷ []) is answer 0 0
+    ∷ replace (0 ∷ []) (replicate 63 9 ++ (1 ∷ [])) (1 ∷ []) is answer 0 0
     -- 64 of each
     ∷ replace (replicate 64 0) (replicate 64 1) (replicate 64 1) is answer 0 0
     ∷ replace (replicate 64 0) (1 ∷ []) (replicate 64 1) is answer 0 0
@@ -59,6 +60,15 @@ pub accepted :
 unfolding replaceAnswer areBadLists firstUncovered firstBelow isReplacedAt isReplaced isHeldStep isIn anyOf heldPath
     isPath Option·elim
 accepted = refl
+
+-- rows past those held are not looked at: a right row that is not held may be in the new list
+pub not-held :
+    AllRight
+    (replaceAnswer (book (row 2 1 0 1 ∷ []) (step 8 0 9 0 0 ∷ [])) (0 ∷ []) (9 ∷ []) (1 ∷ []) is answer 0 0
+    ∷ [])
+unfolding replaceAnswer areBadLists firstUncovered firstBelow isReplacedAt isReplaced isHeldStep isIn anyOf heldPath
+    isPath Option·elim
+not-held = refl
 
 pub bad-lists :
     AllRight
@@ -137,7 +147,7 @@ paths = refl
 abbrev twoChildren : Document
 twoChildren = rootNode ∷ node 1 0 1 ∷ node 1 0 2 ∷ []
 
--- a node is lost by the second path of two, and where there is no new path
+-- a node is lost by the second path of two, and where there is no new path, from the root and from another node
 pub second-lost : IsFalse (NoneLost (AxisStep 1 0 1 ∷ AxisStep 1 0 2 ∷ []) (AxisStep 1 0 1 ∷ AxisStep 3 0 1 ∷ []))
 unfolding IsFalse
 second-lost claim =
@@ -146,3 +156,7 @@ second-lost claim =
 pub all-lost : IsFalse (NoneLost (AxisStep 1 0 1 ∷ []) [])
 unfolding IsFalse
 all-lost claim = claim twoChildren tt 0 (omega arith) 1 .0 tt
+
+pub lost-elsewhere : IsFalse (NoneLost (AxisStep 0 0 1 ∷ []) [])
+unfolding IsFalse
+lost-elsewhere claim = claim twoChildren tt 1 (omega arith) 1 .0 tt

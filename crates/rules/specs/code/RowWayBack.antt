@@ -1,10 +1,10 @@
 -- The way back, judged on row numbers: no term is expanded. Assumes nothing.
-use Prim.Native.Nat.{ℕ, suc}
+use Prim.Native.Nat.{ℕ, suc, _<_}
 use mathlib.Core.Path.{_≡_}
 use mathlib.Core.Bool.{Bool, true, false, _&&_}
 use mathlib.Core.List.{List, [], _∷_}
 use lib.Dec.{eqb}
-use lib.ListN.{getD}
+use lib.ListN.{length, getD}
 use Rattle.common.specs.Axes.{self}
 use Rattle.common.specs.NodeTests.{node-test}
 use Rattle.common.specs.RowKinds.{void-row, step-row, union-row, composition-row, filter-row, not-row, inclusion-row}
@@ -28,7 +28,7 @@ module _ (rs : List Row) where
       eqb (y .kind) composition-row
       && (isStep (y .a) self (x .b) (x .c) && (isPair opposites (x .a) (z .a) && isStep (y .b) (z .a) node-test 0))
 
-  -- y is .[f], then a path, for x, whose filter is f
+  -- y is .[f], then a path, for x, whose qualifier is f
   unfoldable pub isFilterBack : Row → Row → Bool
   isFilterBack x y =
       let z = rowAt rs (y .a) in
@@ -74,7 +74,8 @@ module _ (rs : List Row) where
   unfoldable pub Noted : List ℕ → Type 0
   Noted xs = (i j : ℕ) → getD xs i 0 ≡ suc j → isBack i j ≡ true
 
-  -- whether row j is the way back of row i, and what is noted then
+  -- whether row j is the way back of row i, and what is noted then: what is found of a path other than a step is
   pub record BackFound (i j : ℕ) (found : Bool) (xs : List ℕ) : Type 0 where
     pub answer : found ≡ isBack i j
     pub noted : Noted xs
+    pub found-noted : found ≡ true → ¬ (rowAt rs i .kind ≡ step-row) → i < length xs → getD xs i 0 ≡ suc j

@@ -99,7 +99,7 @@ formYields rs s ss w = let m = matchForm rs s ss w in m .fits && allOf (meets (n
 unfoldable pub formsYield : List Row → ℕ → Sides → List Sides → Bool
 formsYield rs n s ss = anyOf (formYields rs s ss) (map (formPattern n) (formsOf n))
 
--- the rule that is none of the table's does
+-- rule 59 does
 unfoldable pub wayBackYields : List Row → ℕ → Sides → List Sides → Bool
 wayBackYields rs n s ss = eqb n wayBackRule && (eqb (length ss) 0 && isWithBack rs (s .left) (s .right))
 

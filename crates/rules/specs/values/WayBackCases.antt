@@ -1,11 +1,15 @@
--- Ways back, by computation, with the papers' numbers. Assumes nothing.
+-- Ways back and rule 59, with the papers' numbers. Assumes nothing.
 use Prim.Native.Nat.{ℕ}
 use mathlib.Core.Path.{_≡_, refl}
-use mathlib.Core.List.{[], _∷_}
+use mathlib.Core.List.{List, [], _∷_, List·Memᴰ·not-nil}
+use mathlib.Core.Logic.{inr, ⊎-elim}
 use mathlib.Core.Option.{Option, none, some}
 use Rattle.common.specs.values.Expected.{_is_, AllRight}
-use Rattle.xpath.specs.Term.{Path, Qualifier, Void, Root, AxisStep, Union, Composition, Filter}
-use Rattle.rules.specs.WayBack.{opposites, besideIn, opposite, joined, wayBack}
+use Rattle.xpath.specs.Term.{Path, Qualifier, Void, Root, AxisStep, Union, Composition, Filter, Not, In}
+use Rattle.rules.specs.RuleTable.{rules}
+use Rattle.rules.specs.Claim.{Claim, Containment}
+use Rattle.rules.specs.WayBack.{opposites, lookup, opposite, joined, wayBack}
+use Rattle.rules.specs.Yields.{formsIn, formsOf, FormYields, WayBackYields, Yields}
 
 -- for every test N: self::N, then the opposite axis with node(); the other axes have none
 pub steps-back :
@@ -25,7 +29,7 @@ pub steps-back :
     ∷ wayBack (AxisStep 11 t c) is none
     ∷ wayBack (AxisStep 12 t c) is none
     ∷ [])
-unfolding wayBack opposite besideIn opposites
+unfolding wayBack opposite lookup opposites
 steps-back t c = refl
 
 -- where v and w are the ways back of p and q, those of p|q, p/q and p[f]
@@ -55,3 +59,18 @@ none-back v w f = (
 pub others-back : AllRight (wayBack Void is none ∷ wayBack Root is none ∷ [])
 unfolding wayBack
 others-back = refl
+
+-- for every path r that has a way back w, rule 59 yields r <= r[some w] from no premise
+pub way-back-yielded : (r w : Path) → wayBack r ≡ some w → Yields 59 (Containment r (Filter r (Not (In w Void)))) []
+way-back-yielded r w e =
+    inr (record { rule = refl; path = r; back = w; is-way-back = e; conclusion = refl; premises = refl })
+
+-- and it yields nothing else
+pub way-back-alone : (c : Claim) (cs : List Claim) → Yields 59 c cs →
+    (r : Path) × (w : Path) × (wayBack r ≡ some w) × (Containment r (Filter r (Not (In w Void))) ≡ c) × ([] ≡ cs)
+unfolding formsOf formsIn rules
+way-back-alone c cs y =
+    ⊎-elim
+    (λ (f : FormYields 59 c cs). absurd (List·Memᴰ·not-nil (f .of-rule)))
+    (λ (b : WayBackYields 59 c cs). (b .path, b .back, b .is-way-back, b .conclusion, b .premises))
+    y

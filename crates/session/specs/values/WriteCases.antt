@@ -1,16 +1,21 @@
--- What write answers and leaves, by computation. Assumes nothing.
+-- What write answers and leaves, by computation; and the calls whose sessions it is demanded of. Assumes nothing.
 use mathlib.Core.Path.{_≡_, refl}
 use mathlib.Core.List.{[], _∷_}
+use native.Mathlib.Omega.{arith}
 use lib.ListN.{length, replicate}
+use Rattle.common.specs.Lists.{Every}
 use Rattle.common.specs.values.Expected.{_is_, AllRight}
-use Rattle.terms.specs.Row.{tableOf}
+use Rattle.terms.specs.Row.{Row, row, tableOf}
 use Rattle.lines.specs.Ascii.{ascii}
 use Rattle.lines.specs.Written.{digitsOf, decimal, lineText}
-use Rattle.calls.specs.Book.{answer}
+use Rattle.calls.specs.Book as book
+use Rattle.calls.specs.Book.{Step, answer}
+use Rattle.calls.specs.Calls.{term, step}
 use Rattle.calls.specs.code.Tables.{stepsOf}
 use Rattle.bundles.specs.Bundle.{rowNames, stepNames, rowsText, stepsText, bundleText}
 use Rattle.session.specs.View.{view, freshSession}
 use Rattle.session.specs.WriteCall.{sessionText, writeAnswer, writeBuffer}
+use Rattle.session.specs.ReadDemand.{TermOrStep, term-fits, step-fits}
 
 -- a text of three bytes, and buffers that are longer, as long, a byte shorter, and empty
 answers :
@@ -22,6 +27,14 @@ answers :
     ∷ [])
 unfolding ascii
 answers = refl
+
+-- a text of a byte more than 65,536, and buffers of a byte less and as long
+large :
+    AllRight
+    (writeAnswer (replicate 65537 48) 65536 is answer 16 65537
+    ∷ writeAnswer (replicate 65537 48) 65537 is answer 0 65537
+    ∷ [])
+large = refl
 
 buffers :
     AllRight
@@ -42,3 +55,16 @@ full-length : length (sessionText
     (record { rows = replicate 4096 0; «row_count» = 1025; steps = replicate 10240 0; «step_count» = 2049 })) ≡ 28712
 unfolding view tableOf stepsOf bundleText rowNames stepNames rowsText stepsText lineText decimal digitsOf ascii
 full-length = refl
+
+-- calls of the largest numbers are among those that lead to what is written
+abbrev largestRow : Row
+largestRow = row 65535 65535 65535 65535
+
+abbrev largestStep : Step
+largestStep = book.step 65535 65535 65535 65535 65535
+
+largest : Every TermOrStep (term largestRow ∷ step largestStep ∷ [])
+largest = (
+  term-fits largestRow (omega arith, (omega arith, (omega arith, (omega arith, tt)))),
+  (step-fits largestStep (omega arith, (omega arith, (omega arith, (omega arith, (omega arith, tt))))), tt),
+)

@@ -33,6 +33,8 @@ pub endings :
     ∷ ends Nodes "document\nfresh\n" is 0
     ∷ ends Nodes "fresh\nwrite 0\n" is 2
     ∷ ends Nodes "document\nfresh\nfreshly\n" is 3
+    -- the lists of a replace, and it, where nodes are printed
+    ∷ ends Nodes "old\nnew\nreplace\n" is 0
     ∷ [])
 unfolding endingLine ascii commandOf named atMost numbersUpTo lines inFirstLine parts inFirstPart sameBytes Option·elim
     isDecimal areDigits isDigit appendDigits

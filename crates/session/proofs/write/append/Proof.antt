@@ -1,8 +1,8 @@
--- `writer::put` meets its contract: a walk of its MIR, by hand. The struct is taken apart, and the slice and the
--- number are passed to `put_at`, of which the proof knows only that it meets its contract.
+-- `append` meets its contract: a walk of its MIR, by hand. The struct is taken apart, and the slice, the number and the
+-- session are passed to `write_at`, of which the proof knows only that it meets its contract.
 -- The callee is called at the borrow's own lifetime, share and ghost name: the borrow is given up for good, no
--- lifetime is made, and nothing has to come back. What `put_at` says of the last list, under that name, is what
--- `put` says of `w.out` at exit (`Held.antt`'s `writer-gave`).
+-- lifetime is made, and nothing has to come back. What `write_at` says of the last list, under that name, is what
+-- `append` says of `w.out` at exit (`Held.antt`'s `writer-gave`).
 -- Assumes nothing.
 use mathlib.Core.Path.{_≡_, refl}
 use Prim.Native.Nat.{ℕ, _<_, _^_}
@@ -71,8 +71,8 @@ abbrev WriteAt : {M : Type 1} (𝓤 : URA M) (H : Heap 𝓤) (A : Atoms 𝓤) (m
 WriteAt 𝓤 H A mem run = tripleOf 𝓤 H A write-at.signature (write-at.spec 𝓤 H A mem run)
 
 module _ {M : Type 1} (𝓤 : URA M) (H : Heap 𝓤) (A : Atoms 𝓤) (W : Given 𝓤 H A) (mem : Memory
-    → SProp 𝓤) (run : Routine → Fun 𝓤) (κ : Lft) (q : Share) (b o : ℕ) (γ : GName) (ys : List ℕ) (n : ℕ) (t : Session)
-    (mt : Val) (n-fits : n < 2 ^ 64) where
+    → SProp 𝓤) (run : Routine → Fun 𝓤) (κ : Lft) (q : Share) (b o : ℕ) (γ : GName) (ys : List ℕ) (n : ℕ) (s : Session)
+    (ms : Val) (n-fits : n < 2 ^ 64) where
   abbrev α : NamedLft
   α = record { mir = named 0; lft = κ }
 
@@ -83,72 +83,72 @@ module _ {M : Type 1} (𝓤 : URA M) (H : Heap 𝓤) (A : Atoms 𝓤) (W : Given
   h = record { out = x; at = n }
 
   -- the machine values: the slice's pointer and count, and the struct's
-  abbrev s : Val
-  s = sliceVal (b, o) (length ys)
+  abbrev v : Val
+  v = sliceVal (b, o) (length ys)
 
   abbrev mach : Val
-  mach = vstruct (vcons s (vcons (vint w64 n) vnil))
+  mach = vstruct (vcons v (vcons (vint w64 n) vnil))
 
   abbrev Arg : Type 0
   Arg = Writer × (Session × Unit {0})
 
   abbrev a : Arg
-  a = (h, (t, tt))
+  a = (h, (s, tt))
 
   abbrev vals : List Val × (List Val × Unit {0})
-  vals = (mach ∷ [], (mt ∷ [], tt))
+  vals = (mach ∷ [], (ms ∷ [], tt))
 
   abbrev Post : Val → SProp 𝓤
   Post = walkOf 𝓤 H A append.ended stayed (append.clauses 𝓤 H A mem run) .post (((κ, tt), (q, tt), tt, a, vals), tt)
 
-  -- what `put_at`'s triple binds outside: the borrow's own lifetime, share and value
+  -- what `write_at`'s triple binds outside: the borrow's own lifetime, share and value
   abbrev to-write-at : WriteAt 𝓤 H A mem run .Ghost
-  to-write-at = (((κ, tt), (q, tt), tt, (x, (n, (t, tt))), (s ∷ [], (vint w64 n ∷ [], (mt ∷ [], tt)))), tt)
+  to-write-at = (((κ, tt), (q, tt), tt, (x, (n, (s, tt))), (v ∷ [], (vint w64 n ∷ [], (ms ∷ [], tt)))), tt)
 
   goes : ent 𝓤 (sep 𝓤 (sep 𝓤 (A .lft κ q) (sem 𝓤 H A ftrue))
-      (sep 𝓤 (sem 𝓤 H A (MutSlice (named 0) κ u8 .own x (s ∷ []))) (sem 𝓤 H A (P.the-row .own t (mt ∷ [])))))
+      (sep 𝓤 (sem 𝓤 H A (MutSlice (named 0) κ u8 .own x (v ∷ []))) (sem 𝓤 H A (P.the-row .own s (ms ∷ [])))))
       (WriteAt 𝓤 H A mem run .pre to-write-at)
   goes =
-      qed W ((‵ (flft κ q) ⊛ ‵ ftrue) ∷ ‵ (MutSlice (named 0) κ u8 .own x (s ∷ [])) ∷ ‵
-      (P.the-row .own t (mt ∷ [])) ∷ []) ∵
+      qed W ((‵ (flft κ q) ⊛ ‵ ftrue) ∷ ‵ (MutSlice (named 0) κ u8 .own x (v ∷ [])) ∷ ‵
+      (P.the-row .own s (ms ∷ [])) ∷ []) ∵
       nothing ! $ move ! (3 ∷ 0 ∷ []) $ fjoin ! $
       owned ! usize (Is usize) (uint-makes 𝓤 H A W w64) n _ (refl, n-fits) $ fjoin ! $ move ! (2 ∷ 0 ∷ []) $
       fjoin ! $
       move ! (1 ∷ 0 ∷ []) $ join ! $ frame ! $ done !
 
-  -- what `put` has of the struct's fields at exit, at their machine values
+  -- what `append` has of the struct's fields at exit, at their machine values
   abbrev had : List ℕ → List Val × (List Val × Unit {0}) → Fml
   had zs vss = fsep (finally u8 γ zs) (fsep (usize .own n (vss .1 .0)) ftrue)
 
-  exits : (r : ℕ) (w : Val) (zs : List ℕ) → TextWritten ys n (sessionText t) r zs → length zs ≡ length ys
+  exits : (r : ℕ) (w : Val) (zs : List ℕ) → TextWritten ys n (sessionText s) r zs → length zs ≡ length ys
       → ent 𝓤 (sep 𝓤 (sep 𝓤 (A .lft κ q) (sem 𝓤 H A ftrue))
       (sep 𝓤 (sem 𝓤 H A (finally u8 γ zs))
-      (sep 𝓤 (sem 𝓤 H A (usize .own r (w ∷ []))) (sem 𝓤 H A (P.the-row .own t (mt ∷ [])))))) (Post w)
+      (sep 𝓤 (sem 𝓤 H A (usize .own r (w ∷ []))) (sem 𝓤 H A (P.the-row .own s (ms ∷ [])))))) (Post w)
   exits r w zs e l =
       qed W ((‵ (flft κ q) ⊛ ‵ ftrue) ∷ ‵ (finally u8 γ zs) ∷ ‵ (usize .own r (w ∷ [])) ∷ ‵
-      (P.the-row .own t (mt ∷ [])) ∷ []) ∵
+      (P.the-row .own s (ms ∷ [])) ∷ []) ∵
       suffices ! _ (ends-at 𝓤 H A append.ended stayed (append.clauses 𝓤 H A mem run) W
       (((κ, tt), (q, tt), tt, a, vals), tt) w r ((zs, tt), (tt, tt)) ((l, (tt, tt)), (tt, tt))) $ says ! e $
       frame ! $
       nothing ! $ owned ! usize (Is usize) (uint-makes 𝓤 H A W w64) n _ (refl, n-fits) $ fjoin ! $
       move ! (1 ∷ 0 ∷ []) $ fjoin ! $
       use1 W (‵ (inStruct (MutSlice (named 0) κ u8 ∷ usize ∷ []) (mach ∷ []) (had zs)))
-      (makes 𝓤 H A W (MutSlice (named 0) κ u8 ∷ usize ∷ []) (had zs) (s ∷ [], (vint w64 n ∷ [], tt))) $
+      (makes 𝓤 H A W (MutSlice (named 0) κ u8 ∷ usize ∷ []) (had zs) (v ∷ [], (vint w64 n ∷ [], tt))) $
       nothing ! $ move ! (3 ∷ 0 ∷ []) $ fjoin ! $ move ! (1 ∷ 0 ∷ []) $ fjoin ! $ done !
 
   module _ (C : Calls 𝓤 H) (Λ : Loops 𝓤 H) (fm : FmC 𝓤 H (W .laws) C)
       (known : Triple 𝓤 (C #write·write-at) (WriteAt 𝓤 H A mem run)) where
-    walk : Is (T.the-row α) h (mach ∷ []) → Is P.the-row t (mt ∷ []) → Room u8 (length ys)
+    walk : Is (T.the-row α) h (mach ∷ []) → Is P.the-row s (ms ∷ []) → Room u8 (length ys)
         → ent 𝓤 (onEntry 𝓤 H A append.signature (κ, tt) (q, tt) a vals)
-        (WpFn 𝓤 H C Λ code.function (mach ∷ mt ∷ []) Post)
-    walk g is-t room =
+        (WpFn 𝓤 H C Λ code.function (mach ∷ ms ∷ []) Post)
+    walk g is-s room =
         qed W ((‵ (flft κ q) ⊛ ‵ ftrue) ∷ ‵
-        (owns (T.the-row α ∷ P.the-row ∷ []) a vals) ∷ []) ∵ enter ! C Λ code.function (mach ∷ mt ∷ []) _ $
+        (owns (T.the-row α ∷ P.the-row ∷ []) a vals) ∷ []) ∵ enter ! C Λ code.function (mach ∷ ms ∷ []) _ $
         alloc1 ! (λ l₀. alloc1 ! (λ l₁. alloc1 !
         (λ l₂. alloc1 ! (λ l₃. alloc1 ! (λ l₄. alloc1 ! (λ l₅. alloc0 ! $ params1 ! $
         pass1 ! (init ! 8 refl (LL.lawful (T.the-type α) (T′.the-laws α) 𝓤 H A W .typed h _ g .0)) $
-        pass1 ! (init ! 6 refl (LL.lawful P.the-type P′.the-laws 𝓤 H A W .typed t _ is-t .0)) $ pass0 ! $
-        -- [_5; …; _4; …; _3; …; _2; …; _1; …; room for _0; …; the token; what w and b own]
+        pass1 ! (init ! 6 refl (LL.lawful P.the-type P′.the-laws 𝓤 H A W .typed s _ is-s .0)) $ pass0 ! $
+        -- [_5; …; _4; …; _3; …; _2; …; _1; …; room for _0; …; the token; what w and s own]
         assigns ! (of-opd ! (load ! (from ! (fld ! refl (stop !))) (look-in ! 8 (sub ! 1 refl (whole !)))))
         (from ! (stop !)) (init ! 4 refl (tt, record { fits = n-fits })) $
         assigns ! (addr ! (from ! (fld ! refl
@@ -161,23 +161,23 @@ module _ {M : Type 1} (𝓤 : URA M) (H : Heap 𝓤) (A : Atoms 𝓤) (W : Given
         move ! (13 ∷ []) $ fsplit ! $ use1 W
         (given (mach ∷ [] ≡ mach ∷ []) (‵ (all-own (T.the-type α .parts) (T′.the-laws α) (x, (n, tt)))))
         (own-open 𝓤 H A W (T.the-type α) (T′.the-laws α) (x, (n, tt)) mach) $ learn ! (λ _. fsplit ! $
-        -- [what buf's borrow owns; what at owns; what b owns; _5; …; the token]
-        move ! (2 ∷ []) $ fsplit ! $ use1 W (‵ (P.the-row .own t (mt ∷ [])) ⊛ ‵ (P.the-row .own t (mt ∷ [])))
-        (LL.copy P.the-type P′.the-copy 𝓤 H A W .twice t (mt ∷ [])) $ split ! $
+        -- [what out's borrow owns; what at owns; what s owns; _5; …; the token]
+        move ! (2 ∷ []) $ fsplit ! $ use1 W (‵ (P.the-row .own s (ms ∷ [])) ⊛ ‵ (P.the-row .own s (ms ∷ [])))
+        (LL.copy P.the-type P′.the-copy 𝓤 H A W .twice s (ms ∷ [])) $ split ! $
         move ! (17 ∷ 3 ∷ 0 ∷ []) $ use3 W (raw (WriteAt 𝓤 H A mem run .pre to-write-at)) goes $
         calls-at ! fm (WriteAt 𝓤 H A mem run) known to-write-at
         (and-then ! (load ! (from ! (stop !)) (look ! 4 refl))
         (and-then ! (load ! (from ! (stop !)) (look ! 8 refl))
         (and-then ! (load ! (from ! (stop !)) (look ! 10 refl)) (no-more !)))) (λ w.
         use1 W (later (some (λ (r : ℕ). ((‵ (flft κ q) ⊛ ‵ ftrue) ⊛ ‵ (usize .own r (w ∷ []))) ⊛ raw
-        (ensured 𝓤 H A write-at.ended (write-at.clauses 𝓤 H A mem run) (κ, tt) (x, (n, (t, tt))) tt r))))
+        (ensured 𝓤 H A write-at.ended (write-at.clauses 𝓤 H A mem run) (κ, tt) (x, (n, (s, tt))) tt r))))
         (id⊢ 𝓤 _) $ await ! tt $ pick ! (λ r.
-        -- what `put_at` ensures, at some last list
+        -- what `write_at` ensures, at some last list
         split ! $ move ! (1 ∷ []) $ use1 W
         (some (λ (zs : List ℕ × (Unit {0} × (Unit {0} × Unit {0}))). ‵
-        (lasts write-at.ended (κ, tt) (x, (n, (t, tt))) zs) ⊛ raw
-        (fact 𝓤 (TextWritten ys n (sessionText t) r (zs .0))))) (id⊢ 𝓤 _) $ pick ! (λ zs.
-        split ! $ move ! (1 ∷ []) $ heard ! (TextWritten ys n (sessionText t) r (zs .0)) (λ e. fsplit ! $ fsplit ! $
+        (lasts write-at.ended (κ, tt) (x, (n, (s, tt))) zs) ⊛ raw
+        (fact 𝓤 (TextWritten ys n (sessionText s) r (zs .0))))) (id⊢ 𝓤 _) $ pick ! (λ zs.
+        split ! $ move ! (1 ∷ []) $ heard ! (TextWritten ys n (sessionText s) r (zs .0)) (λ e. fsplit ! $ fsplit ! $
         move ! (1 ∷ []) $ feqL ! (λ l.
         -- [the last list; …; the token and the result; …]
         move ! (2 ∷ []) $ split ! $ move ! (1 ∷ []) $ peeks ! usize (Is usize) (shows 𝓤 H A usize) r (w ∷ []) (λ is.

@@ -1,6 +1,6 @@
--- `Writer::at_start` meets its contract: a walk of its MIR, by hand. The borrow of the slice goes into the result as it
--- is, beside the number 0. The parameter is spent: the result names its lifetime, so nothing is had of it at exit, and
--- `buf .entry` is all that the contract can say. Assumes nothing.
+-- `at_start` meets its contract: a walk of its MIR, by hand. The borrow of the slice goes into the result as it is,
+-- beside the number 0. The parameter is spent: the result names its lifetime, so nothing is had of it at exit, and
+-- `out .entry` is all that the contract can say. Assumes nothing.
 use mathlib.Core.Path.{refl}
 use Prim.Native.Nat.{ℕ}
 use mathlib.Core.List.{[], _∷_, List}
@@ -39,12 +39,12 @@ use denote.Exit.{no}
 use Rattle.session.specs.declared.write.Writer.{Writer}
 use Rattle.session.proofs.write.Writer as T
 use Rattle.session.proofs.write.Writer.Laws as T′
-use Rattle.session.proofs.write.at_start.Key.{name as #write·writer}
-use Rattle.session.proofs.write.at_start as writer
+use Rattle.session.proofs.write.at_start.Key.{name as #write·at-start}
+use Rattle.session.proofs.write.at_start as at-start
 use Rattle.session.proofs.write.at_start.Statement as stated
 use Rattle.session.proofs.write.at_start.Code as code
 
-abbrev stayed : Stays (writer.ended .signature .params) (writer.ended .kept)
+abbrev stayed : Stays (at-start.ended .signature .params) (at-start.ended .kept)
 stayed = (stay-dropped (mutSliceOf (0 ∷ []) tt (plain (λ _. u8))) no, tt)
 
 module _ {M : Type 1} (𝓤 : URA M) (H : Heap 𝓤) (A : Atoms 𝓤) (W : Given 𝓤 H A) (mem : Memory
@@ -66,12 +66,13 @@ module _ {M : Type 1} (𝓤 : URA M) (H : Heap 𝓤) (A : Atoms 𝓤) (W : Given
   at = (v ∷ [], tt)
 
   abbrev Post : Val → SProp 𝓤
-  Post = walkOf 𝓤 H A writer.ended stayed (writer.clauses 𝓤 H A mem run) .post (((κ, tt), (q, tt), tt, (x, tt), at), tt)
+  Post = walkOf 𝓤 H A at-start.ended stayed (at-start.clauses 𝓤 H A mem run) .post
+      (((κ, tt), (q, tt), tt, (x, tt), at), tt)
 
-  exits : ent 𝓤 (onEntry 𝓤 H A writer.signature (κ, tt) (q, tt) (x, tt) at) (Post w)
+  exits : ent 𝓤 (onEntry 𝓤 H A at-start.signature (κ, tt) (q, tt) (x, tt) at) (Post w)
   exits =
       qed W ((‵ (flft κ q) ⊛ ‵ ftrue) ∷ ‵ (owns (MutSlice (named 0) κ u8 ∷ []) (x, tt) at) ∷ []) ∵
-      suffices ! _ (ends-at 𝓤 H A writer.ended stayed (writer.clauses 𝓤 H A mem run) W
+      suffices ! _ (ends-at 𝓤 H A at-start.ended stayed (at-start.clauses 𝓤 H A mem run) W
       (((κ, tt), (q, tt), tt, (x, tt), at), tt) w made (tt, tt) (tt, tt)) $ says ! (refl, refl) $
       frame ! $ fsplit ! $ nothing ! $ move ! (0 ∷ 2 ∷ []) $ fjoin ! $ frame ! $
       -- [what the slice's borrow owns]: with the number's fact it is what the struct owns (`Denote/Struct/Rest.antt`)
@@ -80,9 +81,9 @@ module _ {M : Type 1} (𝓤 : URA M) (H : Heap 𝓤) (A : Atoms 𝓤) (W : Given
 
   module _ (C : Calls 𝓤 H) (Λ : Loops 𝓤 H) where
     walk : Is (MutSlice (named 0) κ u8) x (v ∷ [])
-        → ent 𝓤 (onEntry 𝓤 H A writer.signature (κ, tt) (q, tt) (x, tt) at) (WpFn 𝓤 H C Λ code.function (v ∷ []) Post)
+        → ent 𝓤 (onEntry 𝓤 H A at-start.signature (κ, tt) (q, tt) (x, tt) at) (WpFn 𝓤 H C Λ code.function (v ∷ []) Post)
     walk p =
-        qed W (raw (onEntry 𝓤 H A writer.signature (κ, tt) (q, tt) (x, tt) at) ∷ []) ∵ enter ! C Λ code.function
+        qed W (raw (onEntry 𝓤 H A at-start.signature (κ, tt) (q, tt) (x, tt) at) ∷ []) ∵ enter ! C Λ code.function
         (v ∷ []) _ $
         alloc1 ! (λ l₀. alloc1 ! (λ l₁. alloc1 ! (λ l₂. alloc1 ! (λ l₃. alloc0 ! $ params1 ! $
         pass1 ! (init ! 4 refl (tt, (tt, (record { fits = p .0 .1 .0 }, tt)))) $ pass0 ! $
@@ -101,24 +102,24 @@ module _ {M : Type 1} (𝓤 : URA M) (H : Heap 𝓤) (A : Atoms 𝓤) (W : Given
 
 module _ {M : Type 1} (𝓤 : URA M) (H : Heap 𝓤) (A : Atoms 𝓤) (W : Given 𝓤 H A) (mem : Memory
     → SProp 𝓤) (run : Routine → Fun 𝓤) where
-  writer-walks : (C : Calls 𝓤 H) (Λ : Loops 𝓤 H)
-      → Walks 𝓤 H A writer.ended stayed (WpFn 𝓤 H C Λ code.function) (writer.clauses 𝓤 H A mem run)
-  writer-walks C Λ = walked 𝓤 H A writer.ended stayed (writer.clauses 𝓤 H A mem run) (WpFn 𝓤 H C Λ code.function)
+  at-start-walks : (C : Calls 𝓤 H) (Λ : Loops 𝓤 H)
+      → Walks 𝓤 H A at-start.ended stayed (WpFn 𝓤 H C Λ code.function) (at-start.clauses 𝓤 H A mem run)
+  at-start-walks C Λ = walked 𝓤 H A at-start.ended stayed (at-start.clauses 𝓤 H A mem run) (WpFn 𝓤 H C Λ code.function)
       (λ κs. (slice-vals, tt)) (λ κs. (mut-slice-tells (named 0) (κs .0) u8, tt))
       (λ κs qs bounds a g are. via 𝓤 _ (fst∗ 𝓤 _ (emp 𝓤)) (walk 𝓤 H A W mem run (κs .0) (qs .0) (a .0) C Λ (are .0)))
 
-writer-meets : {M : Type 1} (𝓤 : URA M) (H : Heap 𝓤) (A : Atoms 𝓤) → Given 𝓤 H A
+at-start-meets : {M : Type 1} (𝓤 : URA M) (H : Heap 𝓤) (A : Atoms 𝓤) → Given 𝓤 H A
     → (mem : Memory → SProp 𝓤) (run : Routine → Fun 𝓤) (𝓣 : Tables 𝓤 H)
-    → Meets 𝓤 H A writer.signature (WpFn 𝓤 H (𝓣 .C) (𝓣 .Λ) code.function) (writer.spec 𝓤 H A mem run)
-writer-meets 𝓤 H A W mem run 𝓣 =
-    walk-meets 𝓤 H A writer.ended stayed W (goes-spent-slice 𝓤 H A W 1 (0 ∷ []) tt (plain (λ _. u8)), tt)
-    (writer.clauses 𝓤 H A mem run)
+    → Meets 𝓤 H A at-start.signature (WpFn 𝓤 H (𝓣 .C) (𝓣 .Λ) code.function) (at-start.spec 𝓤 H A mem run)
+at-start-meets 𝓤 H A W mem run 𝓣 =
+    walk-meets 𝓤 H A at-start.ended stayed W (goes-spent-slice 𝓤 H A W 1 (0 ∷ []) tt (plain (λ _. u8)), tt)
+    (at-start.clauses 𝓤 H A mem run)
     (WpFn 𝓤 H (𝓣 .C) (𝓣 .Λ) code.function) (WpFn-mono 𝓤 H (W .laws) 𝓣 code.function)
-    (writer-walks 𝓤 H A W mem run (𝓣 .C) (𝓣 .Λ))
+    (at-start-walks 𝓤 H A W mem run (𝓣 .C) (𝓣 .Λ))
 
 pub at-start-spec : {M : Type 1} → stated.statement M
 unfolding code.routine tablesOf
 at-start-spec 𝓤 H 𝓜 𝓖 𝓡 =
-    entered 𝓤 H (tripleOf 𝓤 H (𝓖 .A) writer.signature (writer.spec 𝓤 H (𝓖 .A) (𝓜 .mem) (𝓡 .run)))
-    (tables 𝓤 H 𝓜 𝓡 code.env .C) (tables 𝓤 H 𝓜 𝓡 code.env .Λ) #write·writer code.function (code.unfolded 𝓤 H 𝓜 𝓡)
-    (writer-meets 𝓤 H (𝓖 .A) (givenOf 𝓤 H 𝓜 𝓖) (𝓜 .mem) (𝓡 .run) (tablesOf 𝓤 H 𝓜 (tables 𝓤 H 𝓜 𝓡 code.env)))
+    entered 𝓤 H (tripleOf 𝓤 H (𝓖 .A) at-start.signature (at-start.spec 𝓤 H (𝓖 .A) (𝓜 .mem) (𝓡 .run)))
+    (tables 𝓤 H 𝓜 𝓡 code.env .C) (tables 𝓤 H 𝓜 𝓡 code.env .Λ) #write·at-start code.function (code.unfolded 𝓤 H 𝓜 𝓡)
+    (at-start-meets 𝓤 H (𝓖 .A) (givenOf 𝓤 H 𝓜 𝓖) (𝓜 .mem) (𝓡 .run) (tablesOf 𝓤 H 𝓜 (tables 𝓤 H 𝓜 𝓡 code.env)))

@@ -1,6 +1,8 @@
--- Each is called at the borrow's own lifetime, share and ghost name: what the first two return is, by their
--- contracts, a record that is known whole, pointer and ghost name with it, so what `append` says of the last list is
--- said of `buf`'s. The borrow is given up for good (`gave-slice`).
+-- `write_lines` meets its contract: a walk of its MIR, by hand. It calls `at_start` and `append`, of which the proof
+-- knows only that they meet their contracts.
+-- Each is called at the borrow's own lifetime, share and ghost name: what `at_start` returns is, by its contract, a
+-- record that is known whole, pointer and ghost name with it, so what `append` says of the last list is said of
+-- `out`'s. The borrow is given up for good (`gave-slice`).
 -- Assumes nothing.
 use mathlib.Core.Path.{_≡_, refl, sym, _∙_, ap, subst}
 use Prim.Native.Nat.{ℕ}
@@ -50,10 +52,10 @@ use Rattle.session.proofs.session.Session as P
 use Rattle.session.proofs.session.Session.Laws as P′
 use Rattle.session.proofs.write.Writer as T
 use Rattle.session.proofs.write.Writer.Laws as T′
-use Rattle.session.proofs.write.at_start as writer
-use Rattle.session.proofs.write.at_start.Symbol as writer-def
-use Rattle.session.proofs.write.at_start.Symbol.{name as #write·writer}
-use Rattle.session.proofs.write.at_start.Met as writer-thm
+use Rattle.session.proofs.write.at_start as at-start
+use Rattle.session.proofs.write.at_start.Symbol as at-start-def
+use Rattle.session.proofs.write.at_start.Symbol.{name as #write·at-start}
+use Rattle.session.proofs.write.at_start.Met as at-start-thm
 use Rattle.session.proofs.write.append as append
 use Rattle.session.proofs.write.append.Symbol as append-def
 use Rattle.session.proofs.write.append.Symbol.{name as #write·append}
@@ -68,28 +70,28 @@ stayed = (gave-slice (0 ∷ []) tt (plain (λ _. u8)), (stay-none (λ _. P.the-r
 
 module _ {M : Type 1} (𝓤 : URA M) (H : Heap 𝓤) (A : Atoms 𝓤) (mem : Memory → SProp 𝓤) (run : Routine → Fun 𝓤) where
   abbrev Start : Contract 𝓤
-  Start = tripleOf 𝓤 H A writer.signature (writer.spec 𝓤 H A mem run)
+  Start = tripleOf 𝓤 H A at-start.signature (at-start.spec 𝓤 H A mem run)
 
   abbrev Append : Contract 𝓤
   Append = tripleOf 𝓤 H A append.signature (append.spec 𝓤 H A mem run)
 
-  writer-of : (κ : Lft) (x : RefT (List ℕ)) (r : Writer)
-      → ent 𝓤 (ensured 𝓤 H A writer.ended (writer.clauses 𝓤 H A mem run) (κ, tt) (x, tt) tt r)
+  start-of : (κ : Lft) (x : RefT (List ℕ)) (r : Writer)
+      → ent 𝓤 (ensured 𝓤 H A at-start.ended (at-start.clauses 𝓤 H A mem run) (κ, tt) (x, tt) tt r)
       (fact 𝓤 ((r .out ≡ x) × (r .at ≡ 0)))
-  writer-of κ x r = exE 𝓤 _ (λ ws. snd∗ 𝓤 (sem 𝓤 H A (lasts writer.ended (κ, tt) (x, tt) ws))
+  start-of κ x r = exE 𝓤 _ (λ ws. snd∗ 𝓤 (sem 𝓤 H A (lasts at-start.ended (κ, tt) (x, tt) ws))
       (fact 𝓤 ((r .out ≡ x) × (r .at ≡ 0))))
 
 module _ {M : Type 1} (𝓤 : URA M) (H : Heap 𝓤) (A : Atoms 𝓤) (W : Given 𝓤 H A) (mem : Memory
-    → SProp 𝓤) (run : Routine → Fun 𝓤) (κ : Lft) (q : Share) (b o : ℕ) (γ : GName) (ys : List ℕ) (t : Session)
-    (mt : Val) where
+    → SProp 𝓤) (run : Routine → Fun 𝓤) (κ : Lft) (q : Share) (b o : ℕ) (γ : GName) (ys : List ℕ) (s : Session)
+    (ms : Val) where
   abbrev α : NamedLft
   α = record { mir = named 0; lft = κ }
 
   abbrev x : RefT (List ℕ)
   x = record { ptr = (b, o); name = γ; now = ys }
 
-  abbrev s : Val
-  s = sliceVal (b, o) (length ys)
+  abbrev v : Val
+  v = sliceVal (b, o) (length ys)
 
   abbrev h₀ : Writer
   h₀ = record { out = x; at = 0 }
@@ -105,95 +107,95 @@ module _ {M : Type 1} (𝓤 : URA M) (H : Heap 𝓤) (A : Atoms 𝓤) (W : Given
   Arg = RefT (List ℕ) × (Session × Unit {0})
 
   abbrev a : Arg
-  a = (x, (t, tt))
+  a = (x, (s, tt))
 
   abbrev vals : List Val × (List Val × Unit {0})
-  vals = (s ∷ [], (mt ∷ [], tt))
+  vals = (v ∷ [], (ms ∷ [], tt))
 
   abbrev Post : Val → SProp 𝓤
   Post = walkOf 𝓤 H A write-lines.ended stayed (write-lines.clauses 𝓤 H A mem run) .post
       (((κ, tt), (q, tt), tt, a, vals), tt)
 
-  abbrev to-writer : Start 𝓤 H A mem run .Ghost
-  to-writer = (((κ, tt), (q, tt), tt, (x, tt), (s ∷ [], tt)), tt)
+  abbrev to-start : Start 𝓤 H A mem run .Ghost
+  to-start = (((κ, tt), (q, tt), tt, (x, tt), (v ∷ [], tt)), tt)
 
-  goes-writer : ent 𝓤 (sep 𝓤 (sep 𝓤 (A .lft κ q) (sem 𝓤 H A ftrue))
-      (sem 𝓤 H A (MutSlice (named 0) κ u8 .own x (s ∷ [])))) (Start 𝓤 H A mem run .pre to-writer)
-  goes-writer = qed W ((‵ (flft κ q) ⊛ ‵ ftrue) ∷ ‵ (MutSlice (named 0) κ u8 .own x (s ∷ [])) ∷ []) ∵ nothing ! $
+  goes-start : ent 𝓤 (sep 𝓤 (sep 𝓤 (A .lft κ q) (sem 𝓤 H A ftrue))
+      (sem 𝓤 H A (MutSlice (named 0) κ u8 .own x (v ∷ [])))) (Start 𝓤 H A mem run .pre to-start)
+  goes-start = qed W ((‵ (flft κ q) ⊛ ‵ ftrue) ∷ ‵ (MutSlice (named 0) κ u8 .own x (v ∷ [])) ∷ []) ∵ nothing ! $
       move ! (2 ∷ 0 ∷ []) $ fjoin ! $ move ! (1 ∷ 0 ∷ []) $ join ! $ frame ! $ done !
 
   abbrev to-append : Val → Append 𝓤 H A mem run .Ghost
-  to-append w = (((κ, tt), (q, tt), tt, (h₀, (t, tt)), (w ∷ [], (mt ∷ [], tt))), tt)
+  to-append w = (((κ, tt), (q, tt), tt, (h₀, (s, tt)), (w ∷ [], (ms ∷ [], tt))), tt)
 
   goes-append : (w : Val) → ent 𝓤
       (sep 𝓤 (sep 𝓤 (A .lft κ q) (sem 𝓤 H A ftrue))
-      (sep 𝓤 (sem 𝓤 H A (T.the-row α .own h₀ (w ∷ []))) (sem 𝓤 H A (P.the-row .own t (mt ∷ [])))))
+      (sep 𝓤 (sem 𝓤 H A (T.the-row α .own h₀ (w ∷ []))) (sem 𝓤 H A (P.the-row .own s (ms ∷ [])))))
       (Append 𝓤 H A mem run .pre (to-append w))
   goes-append w =
-      qed W ((‵ (flft κ q) ⊛ ‵ ftrue) ∷ ‵ (T.the-row α .own h₀ (w ∷ [])) ∷ ‵ (P.the-row .own t (mt ∷ [])) ∷ []) ∵
+      qed W ((‵ (flft κ q) ⊛ ‵ ftrue) ∷ ‵ (T.the-row α .own h₀ (w ∷ [])) ∷ ‵ (P.the-row .own s (ms ∷ [])) ∷ []) ∵
       nothing ! $ move ! (3 ∷ 0 ∷ []) $ fjoin ! $ move ! (2 ∷ 0 ∷ []) $ fjoin ! $ move ! (1 ∷ 0 ∷ []) $ join ! $
       frame ! $ done !
 
   abbrev Said : ℕ → List ℕ → Type 0
-  Said r zs = TextWritten ys 0 (sessionText t) r zs
+  Said r zs = TextWritten ys 0 (sessionText s) r zs
 
   exits : (r : ℕ) (w : Val) (zs : List ℕ) → Said r zs → length zs ≡ length ys
       → ent 𝓤 (sep 𝓤 (sep 𝓤 (A .lft κ q) (sem 𝓤 H A ftrue))
       (sep 𝓤 (sem 𝓤 H A (finally u8 γ zs))
-      (sep 𝓤 (sem 𝓤 H A (usize .own r (w ∷ []))) (sem 𝓤 H A (P.the-row .own t (mt ∷ [])))))) (Post w)
+      (sep 𝓤 (sem 𝓤 H A (usize .own r (w ∷ []))) (sem 𝓤 H A (P.the-row .own s (ms ∷ [])))))) (Post w)
   exits r w zs e l =
       qed W ((‵ (flft κ q) ⊛ ‵ ftrue) ∷ ‵ (finally u8 γ zs) ∷ ‵ (usize .own r (w ∷ [])) ∷ ‵
-      (P.the-row .own t (mt ∷ [])) ∷ []) ∵
+      (P.the-row .own s (ms ∷ [])) ∷ []) ∵
       suffices ! _ (ends-at 𝓤 H A write-lines.ended stayed (write-lines.clauses 𝓤 H A mem run) W
       (((κ, tt), (q, tt), tt, a, vals), tt) w r (zs, (tt, tt)) (l, (tt, tt))) $ says ! e $ frame ! $
       nothing ! $ move ! (3 ∷ 0 ∷ []) $ fjoin ! $ move ! (1 ∷ 0 ∷ []) $ fjoin ! $ done !
 
   module _ (C : Calls 𝓤 H) (Λ : Loops 𝓤 H) (fm : FmC 𝓤 H (W .laws) C)
-      (known-writer : Triple 𝓤 (C #write·writer) (Start 𝓤 H A mem run))
+      (known-start : Triple 𝓤 (C #write·at-start) (Start 𝓤 H A mem run))
       (known-append : Triple 𝓤 (C #write·append) (Append 𝓤 H A mem run)) where
-    walk : Room u8 (length ys) → Is P.the-row t (mt ∷ [])
+    walk : Room u8 (length ys) → Is P.the-row s (ms ∷ [])
         → ent 𝓤 (onEntry 𝓤 H A write-lines.signature (κ, tt) (q, tt) a vals)
-        (WpFn 𝓤 H C Λ code.function (s ∷ mt ∷ []) Post)
-    walk room is-t =
+        (WpFn 𝓤 H C Λ code.function (v ∷ ms ∷ []) Post)
+    walk room is-s =
         qed W ((‵ (flft κ q) ⊛ ‵ ftrue) ∷ ‵
-        (owns (MutSlice (named 0) κ u8 ∷ P.the-row ∷ []) a vals) ∷ []) ∵ enter ! C Λ code.function (s ∷ mt ∷ []) _ $
+        (owns (MutSlice (named 0) κ u8 ∷ P.the-row ∷ []) a vals) ∷ []) ∵ enter ! C Λ code.function (v ∷ ms ∷ []) _ $
         alloc1 ! (λ l₀. alloc1 ! (λ l₁. alloc1 !
         (λ l₂. alloc1 ! (λ l₃. alloc1 ! (λ l₄. alloc1 ! (λ l₅. alloc0 ! $ params1 ! $
         pass1 ! (init ! 8 refl (tt, (tt, (record { fits = room .0 }, tt)))) $
-        pass1 ! (init ! 6 refl (LL.lawful P.the-type P′.the-laws 𝓤 H A W .typed t _ is-t .0)) $ pass0 ! $
+        pass1 ! (init ! 6 refl (LL.lawful P.the-type P′.the-laws 𝓤 H A W .typed s _ is-s .0)) $ pass0 ! $
         assigns ! (addr ! (from ! (fld ! refl (hop ! (look-in ! 8 (sub ! 0 refl (whole !))) (stop !)))))
         (from ! (stop !)) (init ! 2 refl (tt, tt)) $
         assigns ! (agg ! (and-then ! (load ! (from ! (stop !)) (look ! 2 refl))
         (and-then ! (load ! (from ! (fld ! refl (stop !))) (look-in ! 8 (sub ! 1 refl (whole !)))) (no-more !))))
         (from ! (stop !)) (init ! 0 refl (tt, (tt, (record { fits = room .0 }, tt)))) $
-        -- `writer`
+        -- `at_start`
         move ! (13 ∷ []) $ fsplit ! $ move ! (14 ∷ 0 ∷ []) $
-        use2 W (raw (Start 𝓤 H A mem run .pre to-writer)) goes-writer $
-        calls-at ! fm (Start 𝓤 H A mem run) known-writer to-writer
+        use2 W (raw (Start 𝓤 H A mem run .pre to-start)) goes-start $
+        calls-at ! fm (Start 𝓤 H A mem run) known-start to-start
         (and-then ! (load ! (from ! (stop !)) (look ! 2 refl)) (no-more !)) (λ w₀.
         use1 W (later (some (λ (r : Writer). ((‵ (flft κ q) ⊛ ‵ ftrue) ⊛ ‵ (T.the-row α .own r (w₀ ∷ []))) ⊛ raw
-        (ensured 𝓤 H A writer.ended (writer.clauses 𝓤 H A mem run) (κ, tt) (x, tt) tt r)))) (id⊢ 𝓤 _) $
+        (ensured 𝓤 H A at-start.ended (at-start.clauses 𝓤 H A mem run) (κ, tt) (x, tt) tt r)))) (id⊢ 𝓤 _) $
         await ! tt $ pick ! (λ r₀.
         split ! $ move ! (1 ∷ []) $ use1 W (raw (fact 𝓤 ((r₀ .out ≡ x) × (r₀ .at ≡ 0))))
-        (writer-of 𝓤 H A mem run κ x r₀) $ heard ! ((r₀ .out ≡ x) × (r₀ .at ≡ 0)) (λ e₀.
+        (start-of 𝓤 H A mem run κ x r₀) $ heard ! ((r₀ .out ≡ x) × (r₀ .at ≡ 0)) (λ e₀.
         split ! $ rewrite ! 1 (λ (h : Writer). ‵ (T.the-row α .own h (w₀ ∷ [])))
         (λ i. record { out = e₀ .0 i; at = e₀ .1 i }) refl $
         move ! (1 ∷ []) $ peeks ! (T.the-row α) (Is (T.the-row α)) (shows 𝓤 H A (T.the-row α)) h₀ (w₀ ∷ [])
         (λ is₀. land ! (from ! (stop !)) (init ! 7 refl (typed h₀ w₀ is₀)) $
-        -- [what the writer owns; the token; what t owns; _5; …]
-        move ! (2 ∷ []) $ fsplit ! $ use1 W (‵ (P.the-row .own t (mt ∷ [])) ⊛ ‵ (P.the-row .own t (mt ∷ [])))
-        (LL.copy P.the-type P′.the-copy 𝓤 H A W .twice t (mt ∷ [])) $ split ! $
+        -- [what the writer owns; the token; what s owns; _5; …]
+        move ! (2 ∷ []) $ fsplit ! $ use1 W (‵ (P.the-row .own s (ms ∷ [])) ⊛ ‵ (P.the-row .own s (ms ∷ [])))
+        (LL.copy P.the-type P′.the-copy 𝓤 H A W .twice s (ms ∷ [])) $ split ! $
         -- `append`
         move ! (4 ∷ 3 ∷ 0 ∷ []) $ use3 W (raw (Append 𝓤 H A mem run .pre (to-append w₀))) (goes-append w₀) $
         calls-at ! fm (Append 𝓤 H A mem run) known-append (to-append w₀)
         (and-then ! (load ! (from ! (stop !)) (look ! 7 refl))
         (and-then ! (load ! (from ! (stop !)) (look ! 9 refl)) (no-more !))) (λ w.
         use1 W (later (some (λ (r : ℕ). ((‵ (flft κ q) ⊛ ‵ ftrue) ⊛ ‵ (usize .own r (w ∷ []))) ⊛ raw
-        (ensured 𝓤 H A append.ended (append.clauses 𝓤 H A mem run) (κ, tt) (h₀, (t, tt)) tt r)))) (id⊢ 𝓤 _) $
+        (ensured 𝓤 H A append.ended (append.clauses 𝓤 H A mem run) (κ, tt) (h₀, (s, tt)) tt r)))) (id⊢ 𝓤 _) $
         await ! tt $ pick ! (λ r.
         split ! $ move ! (1 ∷ []) $ use1 W
         (some (λ (zs : (List ℕ × Unit {0}) × (Unit {0} × Unit {0})). ‵
-        (lasts append.ended (κ, tt) (h₀, (t, tt)) zs) ⊛ raw (fact 𝓤 (Said r (zs .0 .0))))) (id⊢ 𝓤 _) $ pick ! (λ zs.
+        (lasts append.ended (κ, tt) (h₀, (s, tt)) zs) ⊛ raw (fact 𝓤 (Said r (zs .0 .0))))) (id⊢ 𝓤 _) $ pick ! (λ zs.
         split ! $ move ! (1 ∷ []) $ heard ! (Said r (zs .0 .0)) (λ e. fsplit ! $ fsplit ! $ fsplit ! $
         move ! (1 ∷ []) $ feqL ! (λ l.
         move ! (3 ∷ []) $ split ! $ move ! (1 ∷ []) $ peeks ! usize (Is usize) (shows 𝓤 H A usize) r (w ∷ []) (λ is.
@@ -207,27 +209,27 @@ module _ {M : Type 1} (𝓤 : URA M) (H : Heap 𝓤) (A : Atoms 𝓤) (W : Given
 module _ {M : Type 1} (𝓤 : URA M) (H : Heap 𝓤) (A : Atoms 𝓤) (W : Given 𝓤 H A) (mem : Memory
     → SProp 𝓤) (run : Routine → Fun 𝓤) where
   write-lines-walks : (C : Calls 𝓤 H) (Λ : Loops 𝓤 H) → FmC 𝓤 H (W .laws) C
-      → Triple 𝓤 (C #write·writer) (Start 𝓤 H A mem run) → Triple 𝓤 (C #write·append) (Append 𝓤 H A mem run)
+      → Triple 𝓤 (C #write·at-start) (Start 𝓤 H A mem run) → Triple 𝓤 (C #write·append) (Append 𝓤 H A mem run)
       → Walks 𝓤 H A write-lines.ended stayed (WpFn 𝓤 H C Λ code.function) (write-lines.clauses 𝓤 H A mem run)
-  write-lines-walks C Λ fm known-writer known-append =
+  write-lines-walks C Λ fm known-start known-append =
       walked 𝓤 H A write-lines.ended stayed (write-lines.clauses 𝓤 H A mem run) (WpFn 𝓤 H C Λ code.function)
       (λ κs. (slice-vals, (LL.vals P.the-type P′.the-laws, tt)))
       (λ κs. (mut-slice-tells (named 0) (κs .0) u8, (LL.tells P.the-type P′.the-laws, tt)))
       (λ κs qs bounds a g are. via 𝓤 _ (fst∗ 𝓤 _ (emp 𝓤))
       (walk 𝓤 H A W mem run (κs .0) (qs .0) (a .0 .ptr .0) (a .0 .ptr .1) (a .0 .name) (a .0 .now)
-      (a .1 .0) _ C Λ fm known-writer known-append (are .0 .0 .1) (are .1 .0)))
+      (a .1 .0) _ C Λ fm known-start known-append (are .0 .0 .1) (are .1 .0)))
 
 write-lines-meets : {M : Type 1} (𝓤 : URA M) (H : Heap 𝓤) (A : Atoms 𝓤) → Given 𝓤 H A
     → (mem : Memory → SProp 𝓤) (run : Routine → Fun 𝓤) (𝓣 : Tables 𝓤 H)
-    → Triple 𝓤 (𝓣 .C #write·writer) (Start 𝓤 H A mem run) → Triple 𝓤 (𝓣 .C #write·append) (Append 𝓤 H A mem run)
+    → Triple 𝓤 (𝓣 .C #write·at-start) (Start 𝓤 H A mem run) → Triple 𝓤 (𝓣 .C #write·append) (Append 𝓤 H A mem run)
     → Meets 𝓤 H A write-lines.signature (WpFn 𝓤 H (𝓣 .C) (𝓣 .Λ) code.function) (write-lines.spec 𝓤 H A mem run)
-write-lines-meets 𝓤 H A W mem run 𝓣 known-writer known-append =
+write-lines-meets 𝓤 H A W mem run 𝓣 known-start known-append =
     walk-meets 𝓤 H A write-lines.ended stayed W (
       goes-gave-slice 𝓤 H A W 1 0 tt (plain (λ _. u8)),
       (goes-none 𝓤 H A W 1 (λ _. P.the-row) yes (λ κs x f. refl), tt),
     ) (write-lines.clauses 𝓤 H A mem run)
     (WpFn 𝓤 H (𝓣 .C) (𝓣 .Λ) code.function) (WpFn-mono 𝓤 H (W .laws) 𝓣 code.function)
-    (write-lines-walks 𝓤 H A W mem run (𝓣 .C) (𝓣 .Λ) (fmOf 𝓤 H (W .laws) 𝓣) known-writer known-append)
+    (write-lines-walks 𝓤 H A W mem run (𝓣 .C) (𝓣 .Λ) (fmOf 𝓤 H (W .laws) 𝓣) known-start known-append)
 
 pub write-lines-spec : {M : Type 1} → stated.statement M
 unfolding code.routine tablesOf
@@ -236,7 +238,7 @@ write-lines-spec 𝓤 H 𝓜 𝓖 𝓡 =
     (tables 𝓤 H 𝓜 𝓡 code.env .C) (tables 𝓤 H 𝓜 𝓡 code.env .Λ) #write·write-lines code.function (code.unfolded 𝓤 H 𝓜 𝓡)
     (write-lines-meets 𝓤 H (𝓖 .A) (givenOf 𝓤 H 𝓜 𝓖) (𝓜 .mem) (𝓡 .run) (tablesOf 𝓤 H 𝓜 (tables 𝓤 H 𝓜 𝓡 code.env))
     (cited 𝓤 H (Start 𝓤 H (𝓖 .A) (𝓜 .mem)
-    (𝓡 .run)) 𝓜 𝓡 code.env #write·writer writer-def.routine code.calls-session·write·at-start
-    (writer-thm.met 𝓤 H 𝓜 𝓖 𝓡))
+    (𝓡 .run)) 𝓜 𝓡 code.env #write·at-start at-start-def.routine code.calls-session·write·at-start
+    (at-start-thm.met 𝓤 H 𝓜 𝓖 𝓡))
     (cited 𝓤 H (Append 𝓤 H (𝓖 .A) (𝓜 .mem)
     (𝓡 .run)) 𝓜 𝓡 code.env #write·append append-def.routine code.calls-session·write·append (append-thm.met 𝓤 H 𝓜 𝓖 𝓡)))
