@@ -1,19 +1,21 @@
 #!/usr/bin/env python3
-"""Holds the rule table of crate `rules` against the text of documents 01 and 02. Run it at the repository's root:
+"""Holds the rule table of crates `rules` and `matching` against the text of documents 01 and 02. Run it at the
+repository's root:
 
     tools/rule_table.py ../shared/01-scope.md ../shared/02-change-requests.md
-    tools/rule_table.py --constants > crates/rules/src/tables.rt
+    tools/rule_table.py --constants > crates/matching/src/tables.rt
 
-The second writes the code's constants from the specification, in the order in which specs/code/Encode.antt computes them.
+The second writes the code's constants from the specification, in the order in which
+crates/matching/specs/code/Encode.antt computes them.
 The first reads three things apart from each other, each with a grammar of its own, and compares them form by form, in
 order:
   1. the sentences of 01 under "Rules", with 01's binding: a filter, `/`, `|`; `not`, `and`, `or`; a rule that a request of 02 changes is
      read from CHANGES instead, a list of requests, each with the words of 02 that say so, which must stand in its text;
   2. crates/rules/specs/RuleTable.antt, with the fixities that specs/Form.antt and specs/Notation.antt declare;
-  3. the numbers of crates/rules/src/tables.rt.
+  3. the numbers of crates/matching/src/tables.rt.
 It compares the axis order in the same way: 01's sentence, specs/Order.antt, AXIS_PAIRS. Rule 59 is no pattern and none
 of the table's: of it the request's words are looked for, and the axes that have an opposite one are compared: 02's
-sentence, specs/WayBack.antt, OPPOSITES of crates/rules/src/way_back.rt.
+sentence, specs/WayBack.antt, OPPOSITES of crates/matching/src/way_back.rt.
 
 Read off 01's text: each rule's number, its conclusion, its premises in order, both directions of `=`, "the same from", and that
 `some p` and `.` stand for terms. Written out here by hand, so that a reader has to look at it: rule 3 for `=>`, rules 22 and 23 (the
@@ -558,7 +560,7 @@ def compare(what, left, right, found):
 
 
 def main():
-    specs, code, way_back = 'crates/rules/specs', 'crates/rules/src/tables.rt', 'crates/rules/src/way_back.rt'
+    specs, code, way_back = 'crates/rules/specs', 'crates/matching/src/tables.rt', 'crates/matching/src/way_back.rt'
     if sys.argv[1:] == ['--constants']:
         return print_constants(specs)
     if len(sys.argv) != 3:

@@ -18,10 +18,10 @@ use Rattle.terms.proofs.Built.{built-row}
 use Rattle.common.specs.Lists.{Every}
 use Rattle.xpath.specs.Term.{Path}
 use Rattle.rules.specs.Claim.{Containment, Implication, says}
-use Rattle.rules.specs.code.RowYields.{oneSort, saysOf}
+use Rattle.matching.specs.code.RowYields.{oneSort, saysOf}
 use Rattle.rules.specs.Yields.{maxRule, Yields}
 use Rattle.rules.specs.Decision.{yields-dec}
-use Rattle.rules.proofs.RowYields.{row-yields-iff}
+use Rattle.matching.proofs.RowYields.{row-yields-iff}
 use Rattle.calls.specs.Book.{Step, noStep, maxSteps, Book, Answer, answer}
 use Rattle.calls.specs.StepCall.{sameSort, badSide, badPremise, claimOf, premisesOf, stepAnswerBy, isYielded, stepAnswer}
 use Rattle.calls.specs.Calls.{Call, term, step, bookAnswer, rowAnswer, Reachable}

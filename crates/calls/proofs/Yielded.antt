@@ -3,7 +3,7 @@ use Prim.Native.Nat.{ℕ, zero, suc, _+_, _-_, _*_, _/_, _≤_, _<_}
 use mathlib.Core.Path.{_≡_, refl}
 use mathlib.Core.List.{List, [], _∷_, map}
 use lib.ListN.{length, getD, take}
-use Rattle.rules.specs.code.RowYields.{Sides}
+use Rattle.matching.specs.code.RowYields.{Sides}
 use Rattle.calls.specs.Book.{Step}
 use Rattle.calls.specs.StepCall.{stepNumbered}
 use Rattle.calls.specs.code.Tables.{stepsOf}

@@ -5,7 +5,7 @@ use mathlib.Core.Bool.{Bool}
 use mathlib.Core.List.{List, map}
 use lib.ListN.{length}
 use Rattle.terms.specs.Row.{Row}
-use Rattle.rules.specs.code.RowYields.{Sides, rowYields}
+use Rattle.matching.specs.code.RowYields.{Sides, rowYields}
 use Rattle.calls.specs.declared.SelectAnswer.{SelectAnswer}
 use Rattle.calls.specs.Book.{Step, Book, Answer}
 use Rattle.calls.specs.StepCall.{premisesOf, stepAnswerBy}

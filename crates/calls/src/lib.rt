@@ -1,5 +1,5 @@
 // The answers of the calls term, step and select, on lent rows and steps.
-use rules::Sides;
+use matching::Sides;
 use selection::Evaluated;
 use terms::Row;
 use xpath::DocumentCheck;
@@ -10,7 +10,7 @@ ghost use Rattle.terms.specs.Row.{rowAt, tableOf, maxRows};
 ghost use Rattle.terms.specs.Fields.{isPath};
 ghost use Rattle.terms.specs.code.RowTypes.{rowOf};
 ghost use Rattle.selection.specs.code.EvaluatedTypes.{answerOf};
-ghost use Rattle.rules.specs.code.MatchTypes.{sidesIn};
+ghost use Rattle.matching.specs.code.MatchTypes.{sidesIn};
 ghost use Rattle.calls.specs.Book.{maxSteps, book};
 ghost use Rattle.calls.specs.TermCall.{termAnswer};
 ghost use Rattle.calls.specs.StepCall.{sameSort, badSide, premiseOk, badPremise, stepNumbered};
@@ -257,7 +257,7 @@ fn premise_ok(needed: bool, held: usize, i: u16) -> bool
 fn bad_premise(held: usize, step: Step) -> u16
     ensures { λ r. ⌜ r ≡ badPremise held (stepOf step) ⌝ }
 {
-    let count = rules::premise_count(step.rule);
+    let count = matching::premise_count(step.rule);
     if !premise_ok(1 <= count, held, step.first) {
         return 1;
     }
@@ -273,7 +273,7 @@ fn is_yielded(rows: &[u16], steps: &[u16], step: Step) -> bool
 {
     let first = sides_of(steps, step.first);
     let second = sides_of(steps, step.second);
-    rules::yields(rows, step.rule, step.left, step.right, first, second)
+    matching::yields(rows, step.rule, step.left, step.right, first, second)
 }
 
 // The answer of a step call on the rows and steps: the first refusal that applies, or the new step's number.
@@ -281,7 +281,7 @@ fn step_answer(rows: &[u16], steps: &[u16], step: Step) -> StepAnswer
     requires { ⌜ length (stepsOf (now steps)) ≤ maxSteps ⌝ }
     ensures { λ r. ⌜ stepAnswerOf r ≡ rowStepAnswer (book (tableOf (now (rows .entry))) (stepsOf (now (steps .entry)))) (stepOf step) ⌝ }
 {
-    if common::or(step.rule == 0, rules::MAX_RULE < step.rule) {
+    if common::or(step.rule == 0, matching::MAX_RULE < step.rule) {
         return StepAnswer::NoRule;
     }
     let side = bad_side(rows, step);

@@ -16,8 +16,8 @@ use Rattle.terms.specs.Row.{Row, rowAt}
 use Rattle.terms.specs.Fields.{isPath, heldPath}
 use Rattle.terms.specs.Terms.{pathAt}
 use Rattle.rules.specs.Claim.{Containment}
-use Rattle.rules.proofs.Letters.{held-path, same-path}
-use Rattle.rules.proofs.RowYields.{says-paths}
+use Rattle.matching.proofs.Letters.{held-path, same-path}
+use Rattle.matching.proofs.RowYields.{says-paths}
 use Rattle.calls.specs.Book.{Step, Book}
 use Rattle.calls.specs.StepCall.{sameSort, stepNumbered, claimOf}
 use Rattle.calls.proofs.Premises.{SidesHeld}

@@ -4,14 +4,3 @@ pub mod Rules
 pub mod AxisRules
 pub mod WayBackSound
 pub mod Sound
-mod AxisOrder
-mod Decoded
-mod FormSearch
-mod Agreement
-pub mod Letters
-mod RowForms
-mod RowWayBack
-mod WayBackRows
-pub mod RowYields
-mod Matching
-mod Conditions

@@ -9,4 +9,3 @@ pub mod Yields
 pub mod LettersRead
 pub mod Decision
 pub mod values
-pub mod code

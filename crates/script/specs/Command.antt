@@ -10,17 +10,10 @@ use Rattle.lines.specs.Ascii.{ascii}
 use Rattle.lines.specs.Line.{sameBytes}
 use Rattle.lines.specs.Number.{maxNumber, numbersUpTo, lineNumbers}
 use Rattle.calls.specs.code.Tables.{rowWidth, stepWidth}
-
-pub data Word : Type 0 where
-  term : Word
-  step : Word
-  select : Word
-  document : Word
-  old : Word
-  new : Word
-  replace : Word
-  fresh : Word
-  write : Word
+use Rattle.script.specs.declared.Word.{Word}
+use Rattle.script.specs.declared.Word.the-variants.{Term, Step, Select, Document, Fresh, Old, New, Replace, Write}
+use Rattle.script.specs.declared.Shape.{Shape}
+use Rattle.script.specs.declared.Shape.the-variants.{Counted, Listed, Selection, Room}
 
 pub record Command : Type 0 where
   pub word : Word
@@ -28,33 +21,6 @@ pub record Command : Type 0 where
 
 abbrev pub command : Word → List ℕ → Command
 command w ns = record { word = w; numbers = ns }
-
-abbrev pub termBytes : List ℕ
-termBytes = ascii "term"
-
-abbrev pub stepBytes : List ℕ
-stepBytes = ascii "step"
-
-abbrev pub selectBytes : List ℕ
-selectBytes = ascii "select"
-
-abbrev pub documentBytes : List ℕ
-documentBytes = ascii "document"
-
-abbrev pub oldBytes : List ℕ
-oldBytes = ascii "old"
-
-abbrev pub newBytes : List ℕ
-newBytes = ascii "new"
-
-abbrev pub replaceBytes : List ℕ
-replaceBytes = ascii "replace"
-
-abbrev pub freshBytes : List ℕ
-freshBytes = ascii "fresh"
-
-abbrev pub writeBytes : List ℕ
-writeBytes = ascii "write"
 
 -- the largest limit of visits, and the longest marks buffer
 abbrev pub maxLimit : ℕ
@@ -75,6 +41,32 @@ maxNumbers = 3 * (maxNodes + 1)
 abbrev pub maxListed : ℕ
 maxListed = 100
 
+-- the words of lines
+unfoldable pub words : List (List ℕ × Word)
+words =
+    (ascii "term", Term)
+    ∷ (ascii "step", Step)
+    ∷ (ascii "select", Select)
+    ∷ (ascii "document", Document)
+    ∷ (ascii "fresh", Fresh)
+    ∷ (ascii "old", Old)
+    ∷ (ascii "new", New)
+    ∷ (ascii "replace", Replace)
+    ∷ (ascii "write", Write)
+    ∷ []
+
+-- what stands after a word
+unfoldable pub shapeOf : Word → Shape
+shapeOf Term = Counted rowWidth
+shapeOf Step = Counted stepWidth
+shapeOf Select = Selection
+shapeOf Document = Listed maxNumbers
+shapeOf Fresh = Counted 0
+shapeOf Old = Listed maxListed
+shapeOf New = Listed maxListed
+shapeOf Replace = Listed maxListed
+shapeOf Write = Room
+
 -- as many numbers as there are parts
 abbrev pub allNumbers : List (List ℕ) → Option (List ℕ)
 allNumbers ws = lineNumbers (length ws) ws
@@ -87,19 +79,28 @@ atMost most o = Option·elim o none (λ ns. cond (leb (length ns) most) (some ns
 abbrev pub selectBounds : List ℕ
 selectBounds = maxNumber ∷ maxNumber ∷ maxLimit ∷ maxMarks ∷ []
 
+-- the numbers that the parts after a word write
+abbrev pub numbersIn : Shape → List (List ℕ) → Option (List ℕ)
+numbersIn (Counted n) ws = lineNumbers n ws
+numbersIn (Listed most) ws = atMost most (allNumbers ws)
+numbersIn Selection ws = numbersUpTo selectBounds ws
+numbersIn Room ws = numbersUpTo (maxRoom ∷ []) ws
+
 unfoldable pub named : Word → Option (List ℕ) → Option Command
 named w o = Option·elim o none (λ ns. some (command w ns))
 
--- the command of a line's parts: the first part is its word, the others are its numbers
-unfoldable pub commandOf : List (List ℕ) → Option Command
-commandOf [] = none
-commandOf (w ∷ ws) =
-    cond (sameBytes w termBytes) (named term (lineNumbers rowWidth ws))
-    (cond (sameBytes w stepBytes) (named step (lineNumbers stepWidth ws))
-    (cond (sameBytes w selectBytes) (named select (numbersUpTo selectBounds ws))
-    (cond (sameBytes w documentBytes) (named document (atMost maxNumbers (allNumbers ws)))
-    (cond (sameBytes w freshBytes) (named fresh (numbersUpTo [] ws))
-    (cond (sameBytes w oldBytes) (named old (atMost maxListed (allNumbers ws)))
-    (cond (sameBytes w newBytes) (named new (atMost maxListed (allNumbers ws)))
-    (cond (sameBytes w replaceBytes) (named replace (atMost maxListed (allNumbers ws)))
-    (cond (sameBytes w writeBytes) (named write (numbersUpTo (maxRoom ∷ []) ws)) none))))))))
+abbrev pub wordCommand : Word → List (List ℕ) → Option Command
+wordCommand word ws = named word (numbersIn (shapeOf word) ws)
+
+-- the first word of a table that has these bytes
+unfoldable pub wordFor : List (List ℕ × Word) → List ℕ → Option Word
+wordFor [] xs = none
+wordFor (e ∷ es) xs = cond (sameBytes xs (e .0)) (some (e .1)) (wordFor es xs)
+
+-- the command of a line's parts, by a table: the first part is its word, the others are its numbers
+unfoldable pub commandBy : List (List ℕ × Word) → List (List ℕ) → Option Command
+commandBy es [] = none
+commandBy es (w ∷ ws) = Option·elim (wordFor es w) none (λ word. wordCommand word ws)
+
+abbrev pub commandOf : List (List ℕ) → Option Command
+commandOf ws = commandBy words ws

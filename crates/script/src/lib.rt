@@ -1,15 +1,13 @@
 // A line of a script as a call on a session: a word, and numbers after it, one space before each.
-use calls::Step;
-use terms::Row;
+use calls::STEP_WIDTH;
+use terms::ROW_WIDTH;
 ghost use mathlib.Core.Path.{_≡_};
-ghost use mathlib.Core.List.{[], _∷_};
-ghost use lib.ListN.{length};
-ghost use Rattle.lines.specs.Number.{numbersUpTo, lineNumbers};
-ghost use Rattle.calls.specs.code.Tables.{rowWidth, stepWidth};
-ghost use Rattle.script.specs.Command.{term, step, select, write};
-ghost use Rattle.script.specs.Command.{maxRoom, allNumbers, atMost, selectBounds, named, commandOf};
-ghost use Rattle.script.specs.code.CommandRead.{noNumbers, wordOf, mostOf, listCall, callLine};
-ghost use Rattle.script.specs.code.CommandRead.{NoOtherWord, CallMet};
+ghost use Prim.Native.Nat.{_≤_, _<_};
+ghost use lib.ListN.{length, getD};
+ghost use Rattle.lines.specs.code.NumbersRead.{maxCount};
+ghost use Rattle.script.specs.Command.{maxNumbers, words, shapeOf, wordCommand, commandOf};
+ghost use Rattle.script.specs.code.CommandRead.{noNumbers, sizeOnly, plainLine, noCall, CallMet};
+ghost use Rattle.script.specs.code.CommandRead.{standsAlone, Fits, noEntry, EntryMet};
 
 const MAX_LIMIT: u32 = 4294967295;
 
@@ -25,40 +23,76 @@ pub const MAX_NUMBERS: usize = 3 * (xpath::MAX_NODES + 1);
 // The most numbers of a line of old rows, of new rows, or of steps: more than a replace takes.
 pub const MAX_LISTED: usize = 100;
 
-// A select, and the length of the marks buffer that it is lent.
-pub struct SelectCall {
-    pub row: u16,
-    pub context: u16,
-    pub limit: u32,
-    pub marks: usize,
-}
-
-// The call of a line; `Document`, `Old`, `New` and `Replace` say how many numbers it lists, `Write` how long its buffer
-// is, and `Other` that the line is no call.
-pub enum Call {
-    Term(Row),
-    Step(Step),
-    Document(usize),
-    Select(SelectCall),
-    Fresh,
-    Old(usize),
-    New(usize),
-    Replace(usize),
-    Write(usize),
-    Other,
-}
-
-// What a line lists the numbers of.
-enum Listed {
+pub enum Word {
+    Term,
+    Step,
+    Select,
     Document,
+    Fresh,
     Old,
     New,
     Replace,
+    Write,
 }
 
-// A call, the numbers that it lists and zeros after them, and the position of the next line.
+// What stands after a word: so many numbers of 16 bits, a list of up to so many, the numbers of a select, or the length
+// of a buffer.
+pub enum Shape {
+    Counted(usize),
+    Listed(usize),
+    Selection,
+    Room,
+}
+
+// A word's bytes and spaces after them, how many bytes it has, which word it is, and what stands after it.
+pub struct Entry(pub [u8; WORD_WIDTH], pub usize, pub Word, pub Shape);
+
+// One byte more than the longest word has.
+const WORD_WIDTH: usize = 13;
+
+const WORD_COUNT: usize = 9;
+
+const WORDS: [Entry; WORD_COUNT] = [
+    Entry(*b"term         ", 4, Word::Term, Shape::Counted(ROW_WIDTH)),
+    Entry(*b"step         ", 4, Word::Step, Shape::Counted(STEP_WIDTH)),
+    Entry(*b"select       ", 6, Word::Select, Shape::Selection),
+    Entry(
+        *b"document     ",
+        8,
+        Word::Document,
+        Shape::Listed(MAX_NUMBERS),
+    ),
+    Entry(*b"fresh        ", 5, Word::Fresh, Shape::Counted(0)),
+    Entry(*b"old          ", 3, Word::Old, Shape::Listed(MAX_LISTED)),
+    Entry(*b"new          ", 3, Word::New, Shape::Listed(MAX_LISTED)),
+    Entry(
+        *b"replace      ",
+        7,
+        Word::Replace,
+        Shape::Listed(MAX_LISTED),
+    ),
+    Entry(*b"write        ", 5, Word::Write, Shape::Room),
+];
+
+// The numbers after a word, by its shape: `a` to `e` are those that are counted, in their order; `size` says how many
+// are listed; a select has its row in `a`, its context node in `b`, its limit, and in `size` the length of the marks
+// buffer that it is lent; and `size` is a buffer's length. The others are 0.
+pub struct Values {
+    pub a: u16,
+    pub b: u16,
+    pub c: u16,
+    pub d: u16,
+    pub e: u16,
+    pub limit: u32,
+    pub size: usize,
+}
+
+// A call: its word, the numbers after it, those that are listed and zeros after them, and the position of the next
+// line. A line that is no call is not `ok`, and has zeros and the text's length.
 pub struct CallLine {
-    pub call: Call,
+    pub ok: bool,
+    pub word: Word,
+    pub values: Values,
     pub numbers: [u16; MAX_NUMBERS],
     pub next: usize,
 }
@@ -69,117 +103,108 @@ fn no_numbers() -> [u16; MAX_NUMBERS]
     [0; MAX_NUMBERS]
 }
 
+fn size_only(size: usize) -> Values
+    ensures { λ r. ⌜ r ≡ sizeOnly size ⌝ }
+{
+    Values {
+        a: 0,
+        b: 0,
+        c: 0,
+        d: 0,
+        e: 0,
+        limit: 0,
+        size,
+    }
+}
+
 // A call that lists no numbers.
-fn call_line(call: Call, next: usize) -> CallLine
-    ensures { λ r. ⌜ r ≡ callLine call next ⌝ }
+fn plain_line(word: Word, values: Values, next: usize) -> CallLine
+    ensures { λ r. ⌜ r ≡ plainLine word values next ⌝ }
 {
     CallLine {
-        call,
+        ok: true,
+        word,
+        values,
         numbers: no_numbers(),
         next,
     }
 }
 
-fn other(bytes: &[u8]) -> CallLine
-    ensures { λ r. ⌜ r ≡ callLine Call.Other (length (now (bytes .entry))) ⌝ }
+fn no_call(bytes: &[u8]) -> CallLine
+    ensures { λ r. ⌜ r ≡ noCall (length (now (bytes .entry))) ⌝ }
 {
-    call_line(Call::Other, bytes.len())
+    CallLine {
+        ok: false,
+        word: Word::Term,
+        values: size_only(0),
+        numbers: no_numbers(),
+        next: bytes.len(),
+    }
 }
 
-// The numbers of a term at `at`, to the line's end.
-fn term_call(bytes: &[u8], at: usize) -> CallLine
-    ensures { λ r. ⌜ CallMet (λ ws. named term (lineNumbers rowWidth ws)) (now (bytes .entry)) at r ⌝ }
+// The call of a word and the numbers at `at`, `count` of them to the line's end.
+fn counted_call(bytes: &[u8], at: usize, word: Word, count: usize) -> CallLine
+    requires { ⌜ (shapeOf word ≡ Shape.Counted count) × (count ≤ maxCount) ⌝ }
+    ensures { λ r. ⌜ CallMet (wordCommand word) (now (bytes .entry)) at r ⌝ }
 {
-    let line = lines::numbers_line(bytes, at, terms::ROW_WIDTH);
+    let line = lines::numbers_line(bytes, at, count);
     if !line.ok {
-        return other(bytes);
+        return no_call(bytes);
     }
     let numbers = line.numbers;
-    let row = Row {
-        kind: numbers[0],
-        a: numbers[1],
-        b: numbers[2],
-        c: numbers[3],
+    let values = Values {
+        a: numbers[0],
+        b: numbers[1],
+        c: numbers[2],
+        d: numbers[3],
+        e: numbers[4],
+        limit: 0,
+        size: 0,
     };
-    call_line(Call::Term(row), line.next)
+    plain_line(word, values, line.next)
 }
 
-fn step_call(bytes: &[u8], at: usize) -> CallLine
-    ensures { λ r. ⌜ CallMet (λ ws. named step (lineNumbers stepWidth ws)) (now (bytes .entry)) at r ⌝ }
-{
-    let line = lines::numbers_line(bytes, at, calls::STEP_WIDTH);
-    if !line.ok {
-        return other(bytes);
-    }
-    let numbers = line.numbers;
-    let step = Step {
-        rule: numbers[0],
-        left: numbers[1],
-        right: numbers[2],
-        first: numbers[3],
-        second: numbers[4],
-    };
-    call_line(Call::Step(step), line.next)
-}
-
-fn select_call(bytes: &[u8], at: usize) -> CallLine
-    ensures { λ r. ⌜ CallMet (λ ws. named select (numbersUpTo selectBounds ws)) (now (bytes .entry)) at r ⌝ }
+// The same of the numbers of a select.
+fn selection_call(bytes: &[u8], at: usize, word: Word) -> CallLine
+    requires { ⌜ shapeOf word ≡ Shape.Selection ⌝ }
+    ensures { λ r. ⌜ CallMet (wordCommand word) (now (bytes .entry)) at r ⌝ }
 {
     let row = lines::number_at(bytes, at, lines::SPACE, lines::MAX_NUMBER);
     let context = lines::number_at(bytes, row.next, lines::SPACE, lines::MAX_NUMBER);
     let limit = lines::number_at(bytes, context.next, lines::SPACE, MAX_LIMIT);
     let marks = lines::number_at(bytes, limit.next, lines::NEWLINE, MAX_MARKS as u32);
     if !marks.ok {
-        return other(bytes);
+        return no_call(bytes);
     }
-    let call = SelectCall {
-        row: row.value as u16,
-        context: context.value as u16,
+    let values = Values {
+        a: row.value as u16,
+        b: context.value as u16,
+        c: 0,
+        d: 0,
+        e: 0,
         limit: limit.value,
-        marks: marks.value as usize,
+        size: marks.value as usize,
     };
-    call_line(Call::Select(call), marks.next)
+    plain_line(word, values, marks.next)
 }
 
-fn write_call(bytes: &[u8], at: usize) -> CallLine
-    ensures { λ r. ⌜ CallMet (λ ws. named write (numbersUpTo (maxRoom ∷ []) ws)) (now (bytes .entry)) at r ⌝ }
+// The same of the length of a buffer.
+fn room_call(bytes: &[u8], at: usize, word: Word) -> CallLine
+    requires { ⌜ shapeOf word ≡ Shape.Room ⌝ }
+    ensures { λ r. ⌜ CallMet (wordCommand word) (now (bytes .entry)) at r ⌝ }
 {
     let room = lines::number_at(bytes, at, lines::NEWLINE, MAX_ROOM as u32);
     if !room.ok {
-        return other(bytes);
+        return no_call(bytes);
     }
-    call_line(Call::Write(room.value as usize), room.next)
+    plain_line(word, size_only(room.value as usize), room.next)
 }
 
-// The most numbers of such a line.
-fn most_of(list: Listed) -> usize
-    ensures { λ r. ⌜ r ≡ mostOf list ⌝ }
+// The same of a list of up to `most` numbers.
+fn list_call(bytes: &[u8], at: usize, word: Word, most: usize) -> CallLine
+    requires { ⌜ (shapeOf word ≡ Shape.Listed most) × (most ≤ maxNumbers) ⌝ }
+    ensures { λ r. ⌜ CallMet (wordCommand word) (now (bytes .entry)) at r ⌝ }
 {
-    match list {
-        Listed::Document => MAX_NUMBERS,
-        Listed::Old => MAX_LISTED,
-        Listed::New => MAX_LISTED,
-        Listed::Replace => MAX_LISTED,
-    }
-}
-
-// The call of such a line with n numbers.
-fn list_of(list: Listed, n: usize) -> Call
-    ensures { λ r. ⌜ r ≡ listCall list n ⌝ }
-{
-    match list {
-        Listed::Document => Call::Document(n),
-        Listed::Old => Call::Old(n),
-        Listed::New => Call::New(n),
-        Listed::Replace => Call::Replace(n),
-    }
-}
-
-fn list_call(bytes: &[u8], at: usize, list: Listed) -> CallLine
-    ensures { λ r. ⌜ CallMet (λ ws. named (wordOf list) (atMost (mostOf list) (allNumbers ws)))
-        (now (bytes .entry)) at r ⌝ }
-{
-    let most = most_of(list);
     let mut numbers = no_numbers();
     let mut count = 0;
     let mut from = at;
@@ -188,12 +213,14 @@ fn list_call(bytes: &[u8], at: usize, list: Listed) -> CallLine
         if !more.ok {
             let last = lines::number_at(bytes, from, lines::NEWLINE, lines::MAX_NUMBER);
             if !last.ok {
-                return other(bytes);
+                return no_call(bytes);
             }
             numbers[count] = last.value as u16;
-            let call = list_of(list, count + 1);
+            let values = size_only(count + 1);
             return CallLine {
-                call,
+                ok: true,
+                word,
+                values,
                 numbers,
                 next: last.next,
             };
@@ -202,59 +229,64 @@ fn list_call(bytes: &[u8], at: usize, list: Listed) -> CallLine
         count += 1;
         from = more.next;
     }
-    other(bytes)
+    no_call(bytes)
 }
 
-// The call of the line at `at`, which begins with no word of another call.
-fn list_at(bytes: &[u8], at: usize) -> CallLine
-    requires { ⌜ NoOtherWord (now bytes) at ⌝ }
-    ensures { λ r. ⌜ CallMet commandOf (now (bytes .entry)) at r ⌝ }
+// The same of what stands after a word of a shape.
+fn shaped_call(bytes: &[u8], at: usize, word: Word, shape: Shape) -> CallLine
+    requires { ⌜ (shapeOf word ≡ shape) × Fits shape ⌝ }
+    ensures { λ r. ⌜ CallMet (wordCommand word) (now (bytes .entry)) at r ⌝ }
 {
-    if lines::starts_with(bytes, at, b"old ") {
-        return list_call(bytes, at + 4, Listed::Old);
+    match shape {
+        Shape::Counted(count) => counted_call(bytes, at, word, count),
+        Shape::Listed(most) => list_call(bytes, at, word, most),
+        Shape::Selection => selection_call(bytes, at, word),
+        Shape::Room => room_call(bytes, at, word),
     }
-    if lines::is_line(bytes, at, b"old") {
-        return call_line(Call::Old(0), at + 4);
+}
+
+// Whether a word of the shape may be all of its line.
+fn stands_alone(shape: Shape) -> bool
+    ensures { λ r. ⌜ r ≡ standsAlone shape ⌝ }
+{
+    match shape {
+        Shape::Counted(count) => count == 0,
+        Shape::Listed(_) => true,
+        Shape::Selection => false,
+        Shape::Room => false,
     }
-    if lines::starts_with(bytes, at, b"new ") {
-        return list_call(bytes, at + 4, Listed::New);
-    }
-    if lines::is_line(bytes, at, b"new") {
-        return call_line(Call::New(0), at + 4);
-    }
-    if lines::starts_with(bytes, at, b"replace ") {
-        return list_call(bytes, at + 8, Listed::Replace);
-    }
-    if lines::is_line(bytes, at, b"replace") {
-        return call_line(Call::Replace(0), at + 8);
-    }
-    other(bytes)
+}
+
+fn entry_at(i: usize) -> Entry
+    requires { ⌜ i < length words ⌝ }
+    ensures { λ r. ⌜ EntryMet (getD words i noEntry) r ⌝ }
+{
+    let words = WORDS;
+    words[i]
 }
 
 // The call of the line at `at`.
 pub fn call_at(bytes: &[u8], at: usize) -> CallLine
     ensures { λ r. ⌜ CallMet commandOf (now (bytes .entry)) at r ⌝ }
 {
-    if lines::starts_with(bytes, at, b"term ") {
-        return term_call(bytes, at + 5);
+    let mut i = 0;
+    while i < WORD_COUNT {
+        let entry = entry_at(i);
+        let padded = entry.0;
+        let size = entry.1;
+        let word = entry.2;
+        let shape = entry.3;
+        let end = size + 1;
+        if lines::starts_with(bytes, at, &padded[..end]) {
+            return shaped_call(bytes, at + end, word, shape);
+        }
+        if lines::is_line(bytes, at, &padded[..size]) {
+            if !stands_alone(shape) {
+                return no_call(bytes);
+            }
+            return plain_line(word, size_only(0), at + end);
+        }
+        i += 1;
     }
-    if lines::starts_with(bytes, at, b"step ") {
-        return step_call(bytes, at + 5);
-    }
-    if lines::starts_with(bytes, at, b"select ") {
-        return select_call(bytes, at + 7);
-    }
-    if lines::starts_with(bytes, at, b"document ") {
-        return list_call(bytes, at + 9, Listed::Document);
-    }
-    if lines::is_line(bytes, at, b"document") {
-        return call_line(Call::Document(0), at + 9);
-    }
-    if lines::is_line(bytes, at, b"fresh") {
-        return call_line(Call::Fresh, at + 6);
-    }
-    if lines::starts_with(bytes, at, b"write ") {
-        return write_call(bytes, at + 6);
-    }
-    list_at(bytes, at)
+    no_call(bytes)
 }

@@ -5,7 +5,7 @@ use mathlib.Core.Bool.{cond}
 use mathlib.Core.List.{List}
 use lib.ListN.{length}
 use borrow.Author.Tests.{lt-ltb, le-ltb}
-use Rattle.rules.specs.code.RowYields.{Sides}
+use Rattle.matching.specs.code.RowYields.{Sides}
 use Rattle.session.specs.declared.read.ReadResult.{ReadResult}
 use Rattle.calls.specs.Book.{answer, accepted}
 use Rattle.calls.specs.StepCall.{stepNumbered}

@@ -15,9 +15,9 @@ use Rattle.terms.specs.AcceptedRows.{Built}
 use Rattle.common.specs.Lists.{Every}
 use Rattle.rules.specs.Claim.{Claim, IsTrue}
 use Rattle.rules.specs.Yields.{Yields}
-use Rattle.rules.specs.code.RowYields.{Sides, oneSort, saysOf, rowYields}
+use Rattle.matching.specs.code.RowYields.{Sides, oneSort, saysOf, rowYields}
 use Rattle.rules.proofs.Sound.{yields-sound}
-use Rattle.rules.proofs.RowYields.{row-yields-iff}
+use Rattle.matching.proofs.RowYields.{row-yields-iff}
 use Rattle.calls.specs.declared.SelectAnswer.{SelectAnswer}
 use Rattle.calls.specs.Book.{Answer}
 use Rattle.calls.specs.Runs.{Run}

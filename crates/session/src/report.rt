@@ -1,10 +1,10 @@
 // The counts of a session's steps, and what the program audit prints of a bundle.
 use crate::session::Session;
-use rules::Sides;
+use matching::Sides;
 ghost use mathlib.Core.Path.{_≡_};
 ghost use mathlib.Core.Bool.{cond};
 ghost use lib.ListN.{length};
-ghost use Rattle.rules.specs.code.MatchTypes.{sidesIn};
+ghost use Rattle.matching.specs.code.MatchTypes.{sidesIn};
 ghost use Rattle.calls.specs.Book.{answer, accepted};
 ghost use Rattle.calls.specs.StepCall.{stepNumbered};
 ghost use Rattle.calls.specs.Uses.{usesOf};

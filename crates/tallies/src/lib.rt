@@ -14,7 +14,7 @@ pub const MAX_FILES: usize = 64;
 // The lines of a tally: one for each rule, and one for the total.
 pub const LINES: usize = RULES + 1;
 
-const RULES: usize = rules::MAX_RULE as usize;
+const RULES: usize = matching::MAX_RULE as usize;
 
 const MAX_COUNT: u64 = 18446744073709551615;
 

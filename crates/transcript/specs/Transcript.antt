@@ -4,7 +4,8 @@ use mathlib.Core.Bool.{Bool, true, false, cond}
 use mathlib.Core.List.{List, [], _∷_}
 use mathlib.Core.Option.{Option, none, some}
 use Rattle.lines.specs.Line.{Line, partsRead}
-use Rattle.script.specs.Command.{Word, term, step, select, document, old, new, replace, fresh, write}
+use Rattle.script.specs.declared.Word.{Word}
+use Rattle.script.specs.declared.Word.the-variants.{Term, Step, Select, Document, Fresh, Old, New, Replace, Write}
 use Rattle.script.specs.Command.{Command, commandOf}
 use Rattle.transcript.specs.declared.Style.{Style}
 use Rattle.transcript.specs.declared.Style.the-variants.{Answers, Nodes}
@@ -19,15 +20,15 @@ writeTaken Answers = true
 writeTaken Nodes = false
 
 abbrev pub wordTaken : Style → Word → Bool
-wordTaken s term = true
-wordTaken s step = true
-wordTaken s select = true
-wordTaken s document = true
-wordTaken s old = true
-wordTaken s new = true
-wordTaken s replace = true
-wordTaken s fresh = freshTaken s
-wordTaken s write = writeTaken s
+wordTaken s Term = true
+wordTaken s Step = true
+wordTaken s Select = true
+wordTaken s Document = true
+wordTaken s Old = true
+wordTaken s New = true
+wordTaken s Replace = true
+wordTaken s Fresh = freshTaken s
+wordTaken s Write = writeTaken s
 
 -- a line that is no command is never taken
 abbrev pub isTaken : Style → Option Command → Bool

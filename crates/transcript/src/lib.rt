@@ -1,18 +1,14 @@
 // Makes the calls of a script on a session, a call a line, and prints the answers in one of two styles.
-use calls::Step;
-use script::Call;
+use common::and;
 use script::CallLine;
-use script::SelectCall;
+use script::Values;
+use script::Word;
 use session::Session;
-use terms::Row;
 ghost use mathlib.Core.Path.{_≡_};
-ghost use mathlib.Core.List.{[]};
-ghost use Prim.Native.Nat.{_≤_};
 ghost use lib.ListN.{length};
 ghost use Rattle.lines.specs.Line.{lines};
 ghost use Rattle.script.specs.Command.{maxMarks, maxRoom};
-ghost use Rattle.script.specs.code.CommandRead.{commandIn, marksOf};
-ghost use Rattle.transcript.specs.Transcript.{isTaken, endingLine};
+ghost use Rattle.transcript.specs.Transcript.{wordTaken, endingLine};
 
 // What the lent marks hold before a select, and a lent buffer before a write.
 const FILL: u8 = 7;
@@ -111,15 +107,15 @@ fn print(style: Style, number: u16, value: u64) {
     }
 }
 
-fn term(s: Session, row: Row, style: Style) -> Session {
-    let made = s.term(row.kind, row.a, row.b, row.c);
+fn term(s: Session, v: Values, style: Style) -> Session {
+    let made = s.term(v.a, v.b, v.c, v.d);
     let answer = made.answer;
     print(style, answer.number(), answer.value() as u64);
     made.session
 }
 
-fn step(s: Session, p: Step, style: Style) -> Session {
-    let made = s.step(p.rule, p.left, p.right, p.first, p.second);
+fn step(s: Session, v: Values, style: Style) -> Session {
+    let made = s.step(v.a, v.b, v.c, v.d, v.e);
     let answer = made.answer;
     print(style, answer.number(), answer.value() as u64);
     made.session
@@ -142,8 +138,8 @@ fn put_marked(line: &mut [u8], used: usize, marks: &[u8]) -> usize {
     end
 }
 
-fn select_into(s: Session, document: &[u16], q: SelectCall, style: Style, marks: &mut [u8]) {
-    let answer = s.select(q.row, document, q.context, q.limit, marks);
+fn select_into(s: Session, document: &[u16], v: Values, style: Style, marks: &mut [u8]) {
+    let answer = s.select(v.a, document, v.b, v.limit, marks);
     let number = answer.number();
     let mut line = [0u8; LINE];
     let used = put_answer(&mut line, style, number, answer.value() as u64);
@@ -161,16 +157,14 @@ fn filled_marks() -> [u8; script::MAX_MARKS]
     [FILL; script::MAX_MARKS]
 }
 
-fn select(s: Session, document: NumberList, q: SelectCall, style: Style)
-    requires { ⌜ q .marks ≤ maxMarks ⌝ }
-{
+fn select(s: Session, document: NumberList, v: Values, style: Style) {
     let numbers = document.numbers;
     let mut buffer = filled_marks();
-    let size = q.marks;
+    let size = calls::clamp(v.size, script::MAX_MARKS);
     select_into(
         s,
         calls::front(&numbers, document.count),
-        q,
+        v,
         style,
         &mut buffer[..size],
     );
@@ -213,27 +207,26 @@ fn write(s: Session, room: usize) {
     write_into(s, &mut buffer[..size]);
 }
 
-// Whether a style takes the call.
-fn is_taken(call: Call, style: Style) -> bool
-    ensures { λ r. ⌜ r ≡ isTaken style (commandIn call []) ⌝ }
+// Whether a style takes the word.
+fn is_taken(word: Word, style: Style) -> bool
+    ensures { λ r. ⌜ r ≡ wordTaken style word ⌝ }
 {
-    match call {
-        Call::Term(_) => true,
-        Call::Step(_) => true,
-        Call::Document(_) => true,
-        Call::Select(_) => true,
-        Call::Fresh => match style {
+    match word {
+        Word::Term => true,
+        Word::Step => true,
+        Word::Select => true,
+        Word::Document => true,
+        Word::Fresh => match style {
             Style::Answers => false,
             Style::Nodes => true,
         },
-        Call::Old(_) => true,
-        Call::New(_) => true,
-        Call::Replace(_) => true,
-        Call::Write(_) => match style {
+        Word::Old => true,
+        Word::New => true,
+        Word::Replace => true,
+        Word::Write => match style {
             Style::Answers => true,
             Style::Nodes => false,
         },
-        Call::Other => false,
     }
 }
 
@@ -252,42 +245,43 @@ fn none_lent() -> Lent {
 
 // What is lent after a line.
 fn lent_after(lent: Lent, read: CallLine) -> Lent {
-    let call = read.call;
+    let word = read.word;
+    let values = read.values;
     let numbers = read.numbers;
+    let listed = list_of(numbers, values.size);
     let mut document = lent.document;
     let mut old = lent.old;
     let mut new = lent.new;
-    match call {
-        Call::Document(n) => document = list_of(numbers, n),
-        Call::Old(n) => old = list_of(numbers, n),
-        Call::New(n) => new = list_of(numbers, n),
+    match word {
+        Word::Document => document = listed,
+        Word::Old => old = listed,
+        Word::New => new = listed,
         _ => {}
     }
     Lent { document, old, new }
 }
 
 // Makes the call of a line and prints its answer; gives the session after it.
-fn make(s: Session, lent: Lent, read: CallLine, style: Style) -> Session
-    requires { ⌜ marksOf (read .call) ≤ maxMarks ⌝ }
-{
-    let call = read.call;
+fn make(s: Session, lent: Lent, read: CallLine, style: Style) -> Session {
+    let word = read.word;
+    let values = read.values;
     let numbers = read.numbers;
-    match call {
-        Call::Term(row) => term(s, row, style),
-        Call::Step(p) => step(s, p, style),
-        Call::Select(q) => {
-            select(s, lent.document, q, style);
+    match word {
+        Word::Term => term(s, values, style),
+        Word::Step => step(s, values, style),
+        Word::Select => {
+            select(s, lent.document, values, style);
             s
         }
-        Call::Replace(n) => {
-            replace(s, lent.old, lent.new, list_of(numbers, n), style);
+        Word::Replace => {
+            replace(s, lent.old, lent.new, list_of(numbers, values.size), style);
             s
         }
-        Call::Write(room) => {
-            write(s, room);
+        Word::Write => {
+            write(s, values.size);
             s
         }
-        Call::Fresh => Session::new(),
+        Word::Fresh => Session::new(),
         _ => s,
     }
 }
@@ -305,8 +299,8 @@ pub fn run(input: &[u8], style: Style) -> usize
     while at < input.len() {
         line += 1;
         let read = script::call_at(input, at);
-        let call = read.call;
-        if !is_taken(call, style) {
+        let word = read.word;
+        if !and(read.ok, is_taken(word, style)) {
             return line;
         }
         let after = make(s, lent, read, style);

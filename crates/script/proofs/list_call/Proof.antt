@@ -1,45 +1,33 @@
 -- `list_call` meets its contract. The loop's invariant: the line has the numbers so far and goes on at `from`.
 -- Assumes nothing.
-use Prim.Native.Nat.{_-_, _≤_, _<_}
-use mathlib.Core.Path.{_≡_, sym, ap, subst, _∙_}
+use Prim.Native.Nat.{_-_, _≤_}
+use mathlib.Core.Path.{_≡_, ap, _∙_}
 use native.Mathlib.Omega.{arith}
 use lib.ListN.{length, take, drop, length-set}
 use borrow.Author.Needs.{needs}
 use borrow.Author.Tests.{not-true, not-false}
 use Rattle.script.specs.Command.{maxNumbers}
-use Rattle.script.specs.code.CommandRead.{mostOf, noNumbers}
+use Rattle.script.specs.code.CommandRead.{noNumbers}
 use Rattle.script.proofs.Numbers.{SoFar, no-number-yet}
-use Rattle.script.proofs.Calls.{no-numbers-size, most-few}
+use Rattle.script.proofs.Calls.{no-numbers-size}
 use Rattle.script.proofs.Lists.{zeros-behind, number-put, last-put, no-number-there, no-room}
 use Rattle.script.proofs.list_call.Statement.{statement}
 use Rattle.script.proofs.list_call.Tie as tie
 
 abbrev Inv-loop : tie.InvT-loop
-Inv-loop bytes at list most numbers₀ count₀ from₀ numbers count from =
-    (most ≡ mostOf list) × (most ≤ maxNumbers) × (count ≤ most) × (length numbers ≡ maxNumbers)
-    × (drop count numbers ≡ drop count noNumbers) × SoFar bytes at from (take count numbers)
+Inv-loop bytes at word most numbers₀ count₀ from₀ numbers count from =
+    (count ≤ most) × (length numbers ≡ maxNumbers) × (drop count numbers ≡ drop count noNumbers)
+    × SoFar bytes at from (take count numbers)
 
 abbrev μ-loop : tie.MeasureT-loop
-μ-loop bytes at list most numbers₀ count₀ from₀ numbers count from = most - count
-
-most-of-requires : tie.Need-most-of-requires Inv-loop μ-loop
-most-of-requires c κs = search needs
+μ-loop bytes at word most numbers₀ count₀ from₀ numbers count from = most - count
 
 no-numbers-requires : tie.Need-no-numbers-requires Inv-loop μ-loop
 no-numbers-requires c κs = search needs
 
 loop-holds : tie.Need-loop-holds Inv-loop μ-loop
 loop-holds c =
-    let at-most = c .before in
-    let told = at-most .most-of .ensures in
-    let few = most-few (at-most .before .before .args .list) in (
-      told,
-      omega (arith, told, few),
-      omega arith,
-      ap length (c .no-numbers .ensures) ∙ no-numbers-size,
-      c .no-numbers .ensures,
-      no-number-yet _ _,
-    )
+    (omega arith, ap length (c .no-numbers .ensures) ∙ no-numbers-size, c .no-numbers .ensures, no-number-yet _ _)
 
 number-at-requires : tie.Need-number-at-requires Inv-loop μ-loop
 number-at-requires c κs = search needs
@@ -47,17 +35,18 @@ number-at-requires c κs = search needs
 number-at-requires-2 : tie.Need-number-at-requires-2 Inv-loop μ-loop
 number-at-requires-2 c κs = search needs
 
-other-requires : tie.Need-other-requires Inv-loop μ-loop
-other-requires c κs = search needs
+no-call-requires : tie.Need-no-call-requires Inv-loop μ-loop
+no-call-requires c κs = search needs
 
 returns : tie.Need-returns Inv-loop μ-loop
 returns c =
     let at-last = c .before .before .before in
     let at-more = at-last .before .before .before in
     let at-loop = at-more .before .before in
+    let s = at-loop .before .before .before in
     let l = at-loop .loop in
-    let list = at-loop .before .before .before .before .args .list in
-    no-number-there list _ _ _ (l .count) (l .numbers) (l .inv .3) (l .inv .4) (l .inv .5) _ (c .other .ensures)
+    no-number-there _ _ (s .pre .0) (s .pre .1) _ _ _ (l .count) (l .numbers) (l .inv .1) (l .inv .2) (l .inv .3)
+    _ (c .no-call .ensures)
     _ _ _ (at-more .number-at .ensures) (not-true _ (at-last .before .if1 .taken))
     _ _ _ (at-last .number-at2 .ensures) (not-true _ (c .before .if2 .taken))
 
@@ -70,11 +59,11 @@ mul-numbers c = omega arith
 array-write-numbers : tie.Need-array-write-numbers Inv-loop μ-loop
 array-write-numbers c = omega arith
 
-add-list-of : tie.Need-add-list-of Inv-loop μ-loop
-add-list-of c = omega arith
+add-size-only : tie.Need-add-size-only Inv-loop μ-loop
+add-size-only c = omega arith
 
-list-of-requires : tie.Need-list-of-requires Inv-loop μ-loop
-list-of-requires c κs = search needs
+size-only-requires : tie.Need-size-only-requires Inv-loop μ-loop
+size-only-requires c κs = search needs
 
 returns-2 : tie.Need-returns-2 Inv-loop μ-loop
 returns-2 c =
@@ -82,11 +71,11 @@ returns-2 c =
     let at-last = at-if .before .before in
     let at-test = at-last .before .before .before .before in
     let at-loop = at-test .before in
+    let s = at-loop .before .before .before in
     let l = at-loop .loop in
-    let list = at-loop .before .before .before .before .args .list in
-    let room = subst (λ m. l .count < m) (l .inv .0) (at-test .loop-test .taken) in
-    last-put list _ _ _ (l .count) (l .numbers) (l .inv .3) (l .inv .4) (l .inv .5) room _
-    _ _ (at-last .number-at2 .ensures) (not-false _ (at-if .if2 .left)) _ (c .list-of .ensures)
+    last-put _ _ (s .pre .0) (s .pre .1) _ _ _ (l .count) (l .numbers) (l .inv .1) (l .inv .2) (l .inv .3)
+    (at-test .loop-test .taken) _
+    _ _ (at-last .number-at2 .ensures) (not-false _ (at-if .if2 .left)) _ (c .size-only .ensures)
 
 cast-numbers-2 : tie.Need-cast-numbers-2 Inv-loop μ-loop
 cast-numbers-2 c = omega (arith, c .before .before .before .number-at .ensures .fits)
@@ -106,29 +95,28 @@ loop-less c = omega arith
 loop-again : tie.Need-loop-again Inv-loop μ-loop
 loop-again c =
     let at-more = c .before .before .before in
-    let at-loop = at-more .before .before in
+    let at-test = at-more .before in
+    let at-loop = at-test .before in
+    let s = at-loop .before .before .before in
     let l = at-loop .loop in
-    let list = at-loop .before .before .before .before .args .list in
-    let room = subst (λ m. l .count < m) (l .inv .0) (at-more .before .loop-test .taken) in (
-      l .inv .0,
-      l .inv .1,
+    let room = at-test .loop-test .taken in (
       omega arith,
-      length-set (l .numbers) (l .count) _ ∙ l .inv .3,
-      zeros-behind list _ _ _ (l .count) (l .numbers) (l .inv .3) (l .inv .4) (l .inv .5) room _,
-      number-put list _ _ _ (l .count) (l .numbers) (l .inv .3) (l .inv .4) (l .inv .5) room _
+      length-set (l .numbers) (l .count) _ ∙ l .inv .1,
+      zeros-behind _ _ (s .pre .0) (s .pre .1) _ _ _ (l .count) (l .numbers) (l .inv .1) (l .inv .2) (l .inv .3) room _,
+      number-put _ _ (s .pre .0) (s .pre .1) _ _ _ (l .count) (l .numbers) (l .inv .1) (l .inv .2) (l .inv .3) room _
           _ _ (at-more .number-at .ensures) (not-false _ (c .before .if1 .left)),
     )
 
-other-requires-2 : tie.Need-other-requires-2 Inv-loop μ-loop
-other-requires-2 c κs = search needs
+no-call-requires-2 : tie.Need-no-call-requires-2 Inv-loop μ-loop
+no-call-requires-2 c κs = search needs
 
 returns-3 : tie.Need-returns-3 Inv-loop μ-loop
 returns-3 c =
     let at-loop = c .before .before in
+    let s = at-loop .before .before .before in
     let l = at-loop .loop in
-    let list = at-loop .before .before .before .before .args .list in
-    no-room list _ _ _ (l .count) (l .numbers) (l .inv .3) (l .inv .4) (l .inv .5) _ (c .other2 .ensures)
-    (omega (arith, l .inv .0, l .inv .2, c .before .loop-test .left))
+    no-room _ _ (s .pre .0) (s .pre .1) _ _ _ (l .count) (l .numbers) (l .inv .1) (l .inv .2) (l .inv .3)
+    _ (c .no-call2 .ensures) (omega (arith, l .inv .0, c .before .loop-test .left))
 
 pub list-call-spec : {M : Type 1} → statement M
 list-call-spec =
@@ -136,18 +124,17 @@ list-call-spec =
     (tie.spec
     Inv-loop
     μ-loop
-    most-of-requires
     no-numbers-requires
     loop-holds
     number-at-requires
     number-at-requires-2
-    other-requires
+    no-call-requires
     returns
     cast-numbers
     mul-numbers
     array-write-numbers
-    add-list-of
-    list-of-requires
+    add-size-only
+    size-only-requires
     returns-2
     cast-numbers-2
     mul-numbers-2
@@ -155,5 +142,5 @@ list-call-spec =
     add-count
     loop-less
     loop-again
-    other-requires-2
+    no-call-requires-2
     returns-3)

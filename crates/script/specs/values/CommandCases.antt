@@ -10,8 +10,8 @@ use Rattle.lines.specs.Ascii.{ascii}
 use Rattle.lines.specs.Line.{inFirstLine, lines, inFirstPart, parts, sameBytes}
 use Rattle.lines.specs.Number.{isDigit, areDigits, isDecimal, appendDigits, numbersUpTo}
 use Rattle.lines.specs.code.NumbersRead.{firstParts}
-use Rattle.script.specs.Command.{Command, command, term, step, select, document, old, new, replace, fresh, write}
-use Rattle.script.specs.Command.{documentBytes, oldBytes, newBytes, replaceBytes, atMost, named, commandOf}
+use Rattle.script.specs.declared.Word.the-variants.{Term, Step, Select, Document, Fresh, Old, New, Replace, Write}
+use Rattle.script.specs.Command.{Command, command, words, shapeOf, atMost, named, wordFor, commandBy, commandOf}
 
 -- the command of a text's first line
 abbrev first : String → Option Command
@@ -19,23 +19,23 @@ first text = firstParts commandOf (lines (ascii text))
 
 pub commands :
     AllRight
-    (first "term 2 3 0 65535\n" is some (command term (2 ∷ 3 ∷ 0 ∷ 65535 ∷ []))
-    ∷ first "step 8 0 1 0 0\n" is some (command step (8 ∷ 0 ∷ 1 ∷ 0 ∷ 0 ∷ []))
-    ∷ first "select 4 0 4294967295 1024\n" is some (command select (4 ∷ 0 ∷ 4294967295 ∷ 1024 ∷ []))
-    ∷ first "document 0 0 7\n" is some (command document (0 ∷ 0 ∷ 7 ∷ []))
-    ∷ first "document\n" is some (command document [])
-    ∷ first "fresh\n" is some (command fresh [])
-    ∷ first "old 3\n" is some (command old (3 ∷ []))
-    ∷ first "old\n" is some (command old [])
-    ∷ first "new 0 65535 0\n" is some (command new (0 ∷ 65535 ∷ 0 ∷ []))
-    ∷ first "new\n" is some (command new [])
-    ∷ first "replace 1 2\n" is some (command replace (1 ∷ 2 ∷ []))
-    ∷ first "replace\n" is some (command replace [])
-    ∷ first "write 0\n" is some (command write (0 ∷ []))
-    ∷ first "write 65536\n" is some (command write (65536 ∷ []))
+    (first "term 2 3 0 65535\n" is some (command Term (2 ∷ 3 ∷ 0 ∷ 65535 ∷ []))
+    ∷ first "step 8 0 1 0 0\n" is some (command Step (8 ∷ 0 ∷ 1 ∷ 0 ∷ 0 ∷ []))
+    ∷ first "select 4 0 4294967295 1024\n" is some (command Select (4 ∷ 0 ∷ 4294967295 ∷ 1024 ∷ []))
+    ∷ first "document 0 0 7\n" is some (command Document (0 ∷ 0 ∷ 7 ∷ []))
+    ∷ first "document\n" is some (command Document [])
+    ∷ first "fresh\n" is some (command Fresh [])
+    ∷ first "old 3\n" is some (command Old (3 ∷ []))
+    ∷ first "old\n" is some (command Old [])
+    ∷ first "new 0 65535 0\n" is some (command New (0 ∷ 65535 ∷ 0 ∷ []))
+    ∷ first "new\n" is some (command New [])
+    ∷ first "replace 1 2\n" is some (command Replace (1 ∷ 2 ∷ []))
+    ∷ first "replace\n" is some (command Replace [])
+    ∷ first "write 0\n" is some (command Write (0 ∷ []))
+    ∷ first "write 65536\n" is some (command Write (65536 ∷ []))
     ∷ [])
-unfolding ascii commandOf named atMost firstParts lines inFirstLine parts inFirstPart sameBytes numbersUpTo Option·elim
-    isDecimal areDigits isDigit appendDigits
+unfolding ascii words wordFor shapeOf commandBy named atMost firstParts lines inFirstLine parts inFirstPart sameBytes
+    numbersUpTo Option·elim isDecimal areDigits isDigit appendDigits
 commands = refl
 
 pub no-commands :
@@ -80,25 +80,26 @@ pub no-commands :
     ∷ first "write 1 1\n" is none
     ∷ first "write 1 \n" is none
     ∷ [])
-unfolding ascii commandOf named atMost firstParts lines inFirstLine parts inFirstPart sameBytes numbersUpTo Option·elim
-    isDecimal areDigits isDigit appendDigits
+unfolding ascii words wordFor shapeOf commandBy named atMost firstParts lines inFirstLine parts inFirstPart sameBytes
+    numbersUpTo Option·elim isDecimal areDigits isDigit appendDigits
 no-commands = refl
 
 -- the parts of a list of n zeros
-abbrev zeros : List ℕ → ℕ → List (List ℕ)
-zeros word n = word ∷ replicate n (ascii "0")
+abbrev zeros : String → ℕ → List (List ℕ)
+zeros word n = ascii word ∷ replicate n (ascii "0")
 
 -- 1,539 numbers of a document, and 1,540; 100 of the other lists, and 101
 pub longest-lists :
     AllRight
-    (commandOf (zeros documentBytes 1539) is some (command document (replicate 1539 0))
-    ∷ commandOf (zeros documentBytes 1540) is none
-    ∷ commandOf (zeros oldBytes 100) is some (command old (replicate 100 0))
-    ∷ commandOf (zeros oldBytes 101) is none
-    ∷ commandOf (zeros newBytes 100) is some (command new (replicate 100 0))
-    ∷ commandOf (zeros newBytes 101) is none
-    ∷ commandOf (zeros replaceBytes 100) is some (command replace (replicate 100 0))
-    ∷ commandOf (zeros replaceBytes 101) is none
+    (commandOf (zeros "document" 1539) is some (command Document (replicate 1539 0))
+    ∷ commandOf (zeros "document" 1540) is none
+    ∷ commandOf (zeros "old" 100) is some (command Old (replicate 100 0))
+    ∷ commandOf (zeros "old" 101) is none
+    ∷ commandOf (zeros "new" 100) is some (command New (replicate 100 0))
+    ∷ commandOf (zeros "new" 101) is none
+    ∷ commandOf (zeros "replace" 100) is some (command Replace (replicate 100 0))
+    ∷ commandOf (zeros "replace" 101) is none
     ∷ [])
-unfolding ascii commandOf named atMost sameBytes numbersUpTo Option·elim isDecimal isDigit appendDigits
+unfolding ascii words wordFor shapeOf commandBy named atMost sameBytes numbersUpTo Option·elim isDecimal isDigit
+    appendDigits
 longest-lists = refl

@@ -37,37 +37,43 @@ call-at-requires c κs = search needs
 is-taken-requires : tie.Need-is-taken-requires Inv-loop μ-loop
 is-taken-requires c κs = search needs
 
+and-requires : tie.Need-and-requires Inv-loop μ-loop
+and-requires c κs = search needs
+
 returns : tie.Need-returns Inv-loop μ-loop
 returns c =
-    let at-read = c .before .before in
+    let at-taken = c .before .before in
+    let at-read = at-taken .before in
     let at-loop = at-read .before .before in
     let l = at-loop .loop in
     let a = at-loop .before .before .before .before .args in
     line-ends _ _ (a .input .now) (l .at) (at-read .before .loop-test .taken) _ (at-read .call-at .ensures)
-    _ (c .before .is-taken .ensures) (not-true _ (c .if1 .taken))
+    _ (at-taken .is-taken .ensures) _ (c .before .and .ensures) (not-true _ (c .if1 .taken))
     ∙ sym (l .inv .2)
 
 make-requires : tie.Need-make-requires Inv-loop μ-loop
-make-requires c κs = c .before .before .call-at .ensures .marks
+make-requires c κs = search needs
 
 lent-after-requires : tie.Need-lent-after-requires Inv-loop μ-loop
 lent-after-requires c κs = search needs
 
 loop-less : tie.Need-loop-less Inv-loop μ-loop
 loop-less c =
-    let read = c .before .before .before .before .call-at .ensures in
+    let at-if = c .before .before in
+    let read = at-if .before .before .before .call-at .ensures in
     omega (arith, read .further, read .inside)
 
 loop-again : tie.Need-loop-again Inv-loop μ-loop
 loop-again c =
     let at-if = c .before .before in
-    let at-read = at-if .before .before in
+    let at-taken = at-if .before .before in
+    let at-read = at-taken .before in
     let at-loop = at-read .before .before in
     let l = at-loop .loop in
     let a = at-loop .before .before .before .before .args in
     let read = at-read .call-at .ensures in
     let passed = line-passed _ _ (a .input .now) (l .at) (at-read .before .loop-test .taken) _ read
-    _ (at-if .before .is-taken .ensures) (not-false _ (at-if .if1 .left)) in
+    _ (at-taken .is-taken .ensures) _ (at-if .before .and .ensures) (not-false _ (at-if .if1 .left)) in
     (omega (arith, read .further), omega (arith, read .inside), l .inv .2 ∙ passed)
 
 returns-2 : tie.Need-returns-2 Inv-loop μ-loop
@@ -89,6 +95,7 @@ run-spec =
     add-line
     call-at-requires
     is-taken-requires
+    and-requires
     returns
     make-requires
     lent-after-requires

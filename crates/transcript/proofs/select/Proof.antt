@@ -9,6 +9,9 @@ use Rattle.transcript.proofs.select.Tie as tie
 filled-marks-requires : tie.Need-filled-marks-requires
 filled-marks-requires c κs = search needs
 
+clamp-requires : tie.Need-clamp-requires
+clamp-requires c κs = search needs
+
 slice-aggregate-front : tie.Need-slice-aggregate-front
 slice-aggregate-front c = search needs
 
@@ -20,8 +23,9 @@ array-borrow-prefix-buffer c = search needs
 
 slice-aggregate-select-into : tie.Need-slice-aggregate-select-into
 slice-aggregate-select-into c =
-    let at-marks = c .before .before .before in
-    sym (length-take-le (at-marks .before .before .args .q .marks) (at-marks .filled-marks .result) (omega arith))
+    let clamped = c .before .before .before in
+    sym (length-take-le (clamped .clamp .result) (clamped .before .filled-marks .result)
+    (omega (arith, clamped .clamp .ensures, clamped .before .filled-marks .ensures)))
 
 select-into-requires : tie.Need-select-into-requires
 select-into-requires c κs = search needs
@@ -34,6 +38,7 @@ select-spec =
     tie.close
     (tie.spec
     filled-marks-requires
+    clamp-requires
     slice-aggregate-front
     front-requires
     array-borrow-prefix-buffer

@@ -8,7 +8,7 @@ use Rattle.common.specs.values.Expected.{_is_, AllRight}
 use Rattle.lines.specs.Ascii.{ascii}
 use Rattle.lines.specs.Line.{inFirstLine, lines, inFirstPart, parts, sameBytes}
 use Rattle.lines.specs.Number.{isDigit, areDigits, isDecimal, appendDigits, numbersUpTo}
-use Rattle.script.specs.Command.{atMost, named, commandOf}
+use Rattle.script.specs.Command.{words, shapeOf, atMost, named, wordFor, commandBy}
 use Rattle.transcript.specs.declared.Style.{Style}
 use Rattle.transcript.specs.declared.Style.the-variants.{Answers, Nodes}
 use Rattle.transcript.specs.Transcript.{endingLine}
@@ -36,6 +36,6 @@ pub endings :
     -- the lists of a replace, and it, where nodes are printed
     ∷ ends Nodes "old\nnew\nreplace\n" is 0
     ∷ [])
-unfolding endingLine ascii commandOf named atMost numbersUpTo lines inFirstLine parts inFirstPart sameBytes Option·elim
-    isDecimal areDigits isDigit appendDigits
+unfolding endingLine ascii words shapeOf wordFor commandBy named atMost numbersUpTo lines inFirstLine parts
+    inFirstPart sameBytes Option·elim isDecimal areDigits isDigit appendDigits
 endings = refl

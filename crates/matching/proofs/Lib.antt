@@ -1,0 +1,11 @@
+mod AxisOrder
+mod Decoded
+mod FormSearch
+mod Agreement
+pub mod Letters
+mod RowForms
+mod RowWayBack
+mod WayBackRows
+pub mod RowYields
+mod Matching
+mod Conditions

@@ -1,0 +1,104 @@
+-- Each number's condition, and none for the others. Assumes nothing.
+use mathlib.Core.Path.{refl, ap}
+use borrow.Author.Needs.{needs}
+use Rattle.rules.specs.Form.{a-below-b, N-below-M, b-from-3-to-10, N-a-name-or-star, N-not-node, a-not-attribute}
+use Rattle.rules.specs.Instance.{meets}
+use Rattle.matching.specs.code.Pattern.{axisLetter, testLetter, nameLetter}
+use Rattle.matching.specs.code.Unpack.{conditionOf}
+use Rattle.matching.specs.code.RowYields.{numbersIn}
+use Rattle.matching.proofs.Conditions.{none-asked, one-asked}
+use Rattle.matching.proofs.matcher.meets_condition.Statement.{statement}
+use Rattle.matching.proofs.matcher.meets_condition.Tie as tie
+
+element-copy-out-a : tie.Need-element-copy-out-a
+element-copy-out-a c = search needs
+
+element-copy-out-b : tie.Need-element-copy-out-b
+element-copy-out-b c = search needs
+
+element-copy-out-test : tie.Need-element-copy-out-test
+element-copy-out-test c = search needs
+
+axis-below-requires : tie.Need-axis-below-requires
+axis-below-requires c κs = search needs
+
+element-copy-out-test-below : tie.Need-element-copy-out-test-below
+element-copy-out-test-below c = search needs
+
+element-copy-out-test-below-2 : tie.Need-element-copy-out-test-below-2
+element-copy-out-test-below-2 c = search needs
+
+element-copy-out-test-below-3 : tie.Need-element-copy-out-test-below-3
+element-copy-out-test-below-3 c = search needs
+
+test-below-requires : tie.Need-test-below-requires
+test-below-requires c κs = search needs
+
+and-requires : tie.Need-and-requires
+and-requires c κs = search needs
+
+or-requires : tie.Need-or-requires
+or-requires c κs = search needs
+
+returns : tie.Need-returns
+unfolding conditionOf meets numbersIn axisLetter
+returns c =
+    let a = c .before .before .before .before .before .args in
+    one-asked (a .t2 .value) (a .k) a-below-b (ap conditionOf (c .before .match .keys1)) (c .axis-below .ensures)
+
+returns-2 : tie.Need-returns-2
+unfolding conditionOf meets numbersIn testLetter nameLetter
+returns-2 c =
+    let a = c .before .before .before .before .before .before .before .before .args in
+    one-asked (a .t2 .value) (a .k) N-below-M (ap conditionOf (c .before .before .before .before .match .keys2)) (c .test-below .ensures)
+
+returns-3 : tie.Need-returns-3
+unfolding conditionOf meets numbersIn axisLetter
+returns-3 c =
+    let a = c .before .before .before .before .before .args in
+    one-asked (a .t2 .value) (a .k) b-from-3-to-10 (ap conditionOf (c .before .match .keys3)) (c .and .ensures)
+
+returns-4 : tie.Need-returns-4
+unfolding conditionOf meets numbersIn testLetter
+returns-4 c =
+    let a = c .before .before .before .before .before .args in
+    one-asked (a .t2 .value) (a .k) N-a-name-or-star (ap conditionOf (c .before .match .keys4)) (c .or .ensures)
+
+returns-5 : tie.Need-returns-5
+unfolding conditionOf meets numbersIn testLetter
+returns-5 c =
+    let a = c .before .before .before .before .args in
+    one-asked (a .t2 .value) (a .k) N-not-node (ap conditionOf (c .match .keys5)) refl
+
+returns-6 : tie.Need-returns-6
+unfolding conditionOf meets numbersIn axisLetter
+returns-6 c =
+    let a = c .before .before .before .before .args in
+    one-asked (a .t2 .value) (a .k) a-not-attribute (ap conditionOf (c .match .keys6)) refl
+
+returns-7 : tie.Need-returns-7
+returns-7 c =
+    let a = c .before .before .before .before .args in
+    none-asked (a .t2 .value) (a .k) (c .match .rest)
+
+pub meets-condition-spec : {M : Type 1} → statement M
+meets-condition-spec =
+    tie.close
+    (tie.spec
+    element-copy-out-a
+    element-copy-out-b
+    element-copy-out-test
+    axis-below-requires
+    element-copy-out-test-below
+    element-copy-out-test-below-2
+    element-copy-out-test-below-3
+    test-below-requires
+    and-requires
+    or-requires
+    returns
+    returns-2
+    returns-3
+    returns-4
+    returns-5
+    returns-6
+    returns-7)

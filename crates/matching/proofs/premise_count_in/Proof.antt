@@ -1,0 +1,18 @@
+-- The entry of the rule says it. Assumes nothing.
+use mathlib.Core.Path.{_∙_, ap}
+use borrow.Author.Needs.{needs}
+use Rattle.matching.specs.code.Unpack.{Entry, ruleAt}
+use Rattle.matching.proofs.Decoded.{premises-known}
+use Rattle.matching.proofs.premise_count_in.Statement.{statement}
+use Rattle.matching.proofs.premise_count_in.Tie as tie
+
+rule-at-requires : tie.Need-rule-at-requires
+rule-at-requires c κs = search needs
+
+returns : tie.Need-returns
+returns c =
+    let n = c .before .before .args .rule in
+    λ e. ap (λ (w : Entry). w .third) (c .rule-at .ensures) ∙ ap (λ t. ruleAt t n .third) e ∙ premises-known n
+
+pub premise-count-in-spec : {M : Type 1} → statement M
+premise-count-in-spec = tie.close (tie.spec rule-at-requires returns)

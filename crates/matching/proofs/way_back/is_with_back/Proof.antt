@@ -1,0 +1,103 @@
+-- The rows of a step as they are seen, and then the search, with nothing noted. Assumes nothing.
+use borrow.Author.Needs.{needs}
+use borrow.Author.Tests.{not-true, not-false}
+use Rattle.terms.specs.Row.{tableOf}
+use Rattle.matching.proofs.RowWayBack.{none-noted, other-rows-way, with-back-way}
+use Rattle.matching.proofs.way_back.is_with_back.Statement.{statement}
+use Rattle.matching.proofs.way_back.is_with_back.Tie as tie
+
+wide-requires : tie.Need-wide-requires
+wide-requires c κs = search needs
+
+row-at-requires : tie.Need-row-at-requires
+row-at-requires c κs = search needs
+
+wide-requires-2 : tie.Need-wide-requires-2
+wide-requires-2 c κs = search needs
+
+row-at-requires-2 : tie.Need-row-at-requires-2
+row-at-requires-2 c κs = search needs
+
+wide-requires-3 : tie.Need-wide-requires-3
+wide-requires-3 c κs = search needs
+
+row-at-requires-3 : tie.Need-row-at-requires-3
+row-at-requires-3 c κs = search needs
+
+wide-requires-4 : tie.Need-wide-requires-4
+wide-requires-4 c κs = search needs
+
+row-at-requires-4 : tie.Need-row-at-requires-4
+row-at-requires-4 c κs = search needs
+
+and-requires : tie.Need-and-requires
+and-requires c κs = search needs
+
+and-requires-2 : tie.Need-and-requires-2
+and-requires-2 c κs = search needs
+
+and-requires-3 : tie.Need-and-requires-3
+and-requires-3 c κs = search needs
+
+and-requires-4 : tie.Need-and-requires-4
+and-requires-4 c κs = search needs
+
+returns : tie.Need-returns
+returns c =
+    let c₄ = c .before .before .before .before in
+    let c₈ = c₄ .before .before .before .before in
+    let c₁₂ = c₈ .before .before .before .before in
+    let c₁₆ = c₁₂ .before .before .before .before in
+    let a = c₁₆ .before .before .before .args in
+    other-rows-way (tableOf (a .rows .now)) (a .left) (a .right)
+    (c₁₆ .before .wide .ensures) (c₁₆ .row-at .ensures) (c₁₂ .before .before .before .wide2 .ensures)
+    (c₁₂ .before .before .row-at2 .ensures)
+    (c₁₂ .before .wide3 .ensures) (c₁₂ .row-at3 .ensures) (c₈ .before .before .before .wide4 .ensures)
+    (c₈ .before .before .row-at4 .ensures)
+    (c₄ .before .before .before .and .ensures) (c₄ .and2 .ensures) (c .before .before .and3 .ensures)
+    (c .before .and4 .ensures)
+    (not-true _ (c .if1 .taken))
+
+slice-aggregate-is-back : tie.Need-slice-aggregate-is-back
+slice-aggregate-is-back c = search needs
+
+is-back-requires : tie.Need-is-back-requires
+is-back-requires c κs = none-noted _ 1024
+
+returns-2 : tie.Need-returns-2
+returns-2 c =
+    let c₄ = c .before .before .before .before in
+    let c₈ = c₄ .before .before .before .before in
+    let c₁₂ = c₈ .before .before .before .before in
+    let c₁₆ = c₁₂ .before .before .before .before in
+    let c₂₀ = c₁₆ .before .before .before .before in
+    let a = c₂₀ .before .before .args in
+    with-back-way (tableOf (a .rows .now)) (a .left) (a .right)
+    (c₂₀ .wide .ensures) (c₁₆ .before .before .before .row-at .ensures) (c₁₆ .before .before .wide2 .ensures)
+    (c₁₆ .before .row-at2 .ensures)
+    (c₁₆ .wide3 .ensures) (c₁₂ .before .before .before .row-at3 .ensures) (c₁₂ .before .before .wide4 .ensures)
+    (c₁₂ .before .row-at4 .ensures)
+    (c₈ .before .before .and .ensures) (c₄ .before .before .before .and2 .ensures) (c₄ .before .and3 .ensures)
+    (c₄ .and4 .ensures)
+    (not-false _ (c .before .before .before .if1 .left)) (c .before .is-back .ensures .answer)
+
+pub is-with-back-spec : {M : Type 1} → statement M
+is-with-back-spec =
+    tie.close
+    (tie.spec
+    wide-requires
+    row-at-requires
+    wide-requires-2
+    row-at-requires-2
+    wide-requires-3
+    row-at-requires-3
+    wide-requires-4
+    row-at-requires-4
+    and-requires
+    and-requires-2
+    and-requires-3
+    and-requires-4
+    returns
+    slice-aggregate-is-back
+    is-back-requires
+    returns-2)

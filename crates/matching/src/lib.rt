@@ -1,0 +1,69 @@
+// The step checker: whether a rule yields a step from its premises, judged on the rows' numbers.
+mod matcher;
+mod order;
+mod tables;
+mod way_back;
+
+pub use matcher::Sides;
+use matcher::rule_at;
+use matcher::some_form_yields;
+pub use order::axis_below;
+pub use order::test_below;
+pub use tables::TABLE;
+use way_back::WAY_BACK_RULE;
+use way_back::is_with_back;
+ghost use mathlib.Core.Path.{_≡_};
+ghost use mathlib.Core.List.{[], _∷_};
+ghost use lib.ListN.{take};
+ghost use Rattle.terms.specs.Row.{tableOf};
+ghost use Rattle.rules.specs.Yields.{premiseCount};
+ghost use Rattle.matching.specs.code.Encode.{ruleTable};
+ghost use Rattle.matching.specs.code.RowYields.{sides, rowYields};
+ghost use Rattle.matching.specs.code.MatchTypes.{sidesIn};
+
+// The last rule.
+pub const MAX_RULE: u16 = WAY_BACK_RULE;
+
+// How many premises a rule has, by the rule table; 0 where it has no such rule.
+pub fn premise_count_in(table: &[u64], rule: u16) -> u16
+    ensures { λ r. ⌜ (now (table .entry) ≡ ruleTable → r ≡ premiseCount rule) ⌝ }
+{
+    rule_at(table, rule).2
+}
+
+pub fn premise_count(rule: u16) -> u16
+    ensures { λ r. ⌜ r ≡ premiseCount rule ⌝ }
+{
+    let table = TABLE;
+    premise_count_in(&table, rule)
+}
+
+// Whether the rule, by the rule table or by the way back, yields the step, whose rows are left and right, from premises
+// with the rows given. The rows of a premise that the rule doesn't have don't matter.
+pub fn yields_in(
+    rows: &[u16],
+    table: &[u64],
+    rule: u16,
+    left: u16,
+    right: u16,
+    first: Sides,
+    second: Sides,
+) -> bool
+    ensures { λ r. ⌜ (now (table .entry) ≡ ruleTable
+        → r ≡ rowYields (tableOf (now (rows .entry))) rule (sides left right)
+        (take (premiseCount rule) (sidesIn first ∷ sidesIn second ∷ []))) ⌝ }
+{
+    if rule == WAY_BACK_RULE {
+        return is_with_back(rows, left, right);
+    }
+    let e = rule_at(table, rule);
+    some_form_yields(rows, table, e.0, e.1, e.2, left, right, first, second)
+}
+
+pub fn yields(rows: &[u16], rule: u16, left: u16, right: u16, first: Sides, second: Sides) -> bool
+    ensures { λ r. ⌜ r ≡ rowYields (tableOf (now (rows .entry))) rule (sides left right)
+        (take (premiseCount rule) (sidesIn first ∷ sidesIn second ∷ [])) ⌝ }
+{
+    let table = TABLE;
+    yields_in(rows, &table, rule, left, right, first, second)
+}
