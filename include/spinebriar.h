@@ -31,6 +31,8 @@ enum spinebriar_answer {
     SPINEBRIAR_LIMIT_PASSED = 15,
     SPINEBRIAR_SHORT_BUFFER = 16, /* the call write's */
     SPINEBRIAR_BAD_NAME = 17, /* the program tally's */
+    SPINEBRIAR_BAD_POINT = 20, /* 20 and 21 are of points */
+    SPINEBRIAR_POINTS_FULL = 21,
     SPINEBRIAR_BAD_LISTS = 25, /* 25 and 26 are the call replace's */
     SPINEBRIAR_NOT_COVERED = 26
 };
@@ -59,6 +61,8 @@ static inline const char *spinebriar_answer_text(uint16_t answer)
     case SPINEBRIAR_BAD_NAME: return "a 65th name, or a file that can't be opened";
     case SPINEBRIAR_BAD_LISTS: return "more than 64 old or new rows, or not as many steps as old rows";
     case SPINEBRIAR_NOT_COVERED: return "an old row whose step doesn't say that it is contained in a new row";
+    case SPINEBRIAR_BAD_POINT: return "no point has the name, or a point to be set has the name 0 or one in use";
+    case SPINEBRIAR_POINTS_FULL: return "the session holds eight points already";
     default: return NULL;
     }
 }

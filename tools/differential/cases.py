@@ -10,7 +10,7 @@ import re
 import sys
 from collections import namedtuple
 
-from rules import (AXES, AXIS_LETTERS, DEEPEST, FORMS, KINDS, MISTAKES, MOST_ROWS, MOST_STEPS, NAMED, OPPOSITE,
+from rules import (AXES, AXIS_LETTERS, DEEPEST, FORMS, KINDS, MISTAKES, MOST_POINTS, MOST_ROWS, MOST_STEPS, NAMED, OPPOSITE,
                    PATH_LETTERS, ROOT, TEST_LETTERS, VOID, WAY_BACK, Book, Term, below, condition, fill, inclusion,
                    looser_forms, match, match_both, some, step, way_back)
 
@@ -28,7 +28,8 @@ OTHER_KIND = {"union": "composition", "composition": "union", "and": "or", "or":
 ODD_LINES = [b"", b"fresh", b"document", b"document ", b"document" + b" 0" * MOST_NUMBERS,
              b"document" + b" 0" * (MOST_NUMBERS + 1), b"select 0 0 0 1024", b"select 0 0 0 1025", b"select 0 0 4294967295 0",
              b"select 0 0 4294967296 0", b"kind a b c", b"rule left right first second", b"term 65535 65536 0 0",
-             b"step 1 0 0 0 0 0", b"Term 0 0 0 0", b"old", b"new", b"replace", b"old ", b"old 65536",
+             b"step 1 0 0 0 0 0", b"Term 0 0 0 0", b"old", b"new", b"replace", b"old ", b"old 65536", b"point",
+             b"point 65536", b"point 1 1", b"return", b"return 65536",
              *(word + b" 1" * count for word in (b"old", b"new", b"replace")
                for count in (MOST_LISTED, MOST_LISTED + 1))]
 # A visit takes up to as many tests as the square of the nodes. A select that may need more tests gets a smaller limit.
@@ -104,6 +105,23 @@ class Session:
 
     def step(self, numbers):
         return self.call("step", numbers, self.book.step(numbers))
+
+    def point(self):
+        """A point of a free name, or of 0 or one in use."""
+        name = self.rng.choice([0, 1, 2, 3, 4, 5, 6, 7, 8, 9, 10, 65535])
+        return self.call("point", (name,), self.book.point(name))
+
+    def points(self):
+        """As many points as there can be, and one more."""
+        while len(self.book.points) < MOST_POINTS:
+            self.point()
+        self.point()
+
+    def return_to(self):
+        """A return, mostly to a point that is held."""
+        held = [point[0] for point in self.book.points]
+        name = self.rng.choice(held if held and self.rng.random() < 0.8 else [0, 1, 5, 9, 65535])
+        return self.call("return", (name,), self.book.return_to(name))
 
     def hold(self, term):
         """The term's row, after the calls that it takes; nothing if they are refused."""
@@ -327,6 +345,12 @@ class Session:
             self.altered_step(self.rng.choice(self.book.steps))
         elif n < 0.7:
             self.document()
+        elif n < 0.775:
+            self.point()
+        elif n < 0.78:
+            self.points()
+        elif n < 0.82:
+            self.return_to()
         elif n < 0.95:
             self.select()
         elif n < 0.98:

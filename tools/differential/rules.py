@@ -14,6 +14,7 @@ STAR, NODE, INSTRUCTION = (1, 0), (2, 0), (5, 0)
 NAMED = (0, 6)  # the tests that take a name or a target
 PATH_LETTERS, QUALIFIER_LETTERS, AXIS_LETTERS, TEST_LETTERS = "pqrst", "fghi", "abc", "NMTO"
 MOST_ROWS, MOST_STEPS, DEEPEST = 1024, 2048, 32
+MOST_POINTS = 8
 
 
 class Term:
@@ -299,6 +300,7 @@ class Book:
     def __init__(self):
         self.rows, self.terms, self.nestings, self.steps = [], [], [], []
         self.number_of_row, self.number_of_term = {}, {}
+        self.points = []  # (name, rows held, steps held)
 
     def says(self, step):
         return self.terms[step[1]], self.terms[step[2]]
@@ -329,6 +331,26 @@ class Book:
         self.rows.append(row)
         self.terms.append(term)
         self.nestings.append(nesting)
+        return True
+
+    def point(self, name):
+        """Whether the point is set; if so, sets it."""
+        if name == 0 or name in [point[0] for point in self.points] or len(self.points) == MOST_POINTS:
+            return False
+        self.points.append((name, len(self.rows), len(self.steps)))
+        return True
+
+    def return_to(self, name):
+        """Whether there is such a point; if so, returns to it."""
+        names = [point[0] for point in self.points]
+        if name not in names:
+            return False
+        del self.points[names.index(name) + 1:]
+        _, rows, steps = self.points[-1]
+        del self.rows[rows:], self.terms[rows:], self.nestings[rows:], self.steps[steps:]
+        for numbers in (self.number_of_row, self.number_of_term):
+            for key in [key for key, number in numbers.items() if number >= rows]:
+                del numbers[key]
         return True
 
     def step(self, step):

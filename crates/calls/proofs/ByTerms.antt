@@ -24,7 +24,7 @@ use Rattle.rules.specs.Decision.{yields-dec}
 use Rattle.matching.proofs.RowYields.{row-yields-iff}
 use Rattle.calls.specs.Book.{Step, noStep, maxSteps, Book, Answer, answer}
 use Rattle.calls.specs.StepCall.{sameSort, badSide, badPremise, claimOf, premisesOf, stepAnswerBy, isYielded, stepAnswer}
-use Rattle.calls.specs.Calls.{Call, term, step, bookAnswer, rowAnswer, Reachable}
+use Rattle.calls.specs.Calls.{Call, term, step, point, return, bookAnswer, rowAnswer, Reachable}
 use Rattle.calls.specs.Promises.{sidesOf, rowYielded, rowStepAnswer}
 use Rattle.calls.proofs.Premises.{SidesHeld, sides-held, HeldIn, premises-held}
 use Rattle.calls.proofs.Reached.{reachable-laws}
@@ -98,7 +98,7 @@ said-same rs (q ∷ qs) = ap (λ cs. claimOf rs q ∷ cs) (said-same rs qs)
 pub row-answer-by-terms : (b : Book) (p : Step) → Reachable b → rowStepAnswer b p ≡ stepAnswer b p
 unfolding rowStepAnswer stepAnswer rowYielded isYielded sidesOf claimOf
 row-answer-by-terms b p h = answer-by (rowYielded b p) (isYielded b p) b p λ sides premises.
-    let laws = reachable-laws h in
+    let laws = reachable-laws h .held in
     let rows = one-sort (b .rows) (laws .built) p (sides-held (b .rows) p sides) in
     let sorted = premises-sorted (b .rows) (laws .built) (b .steps) (premisesOf (b .steps) p) (laws .sides) (premises-held (b .steps) p premises) in
     let premise-claims = said-same (b .rows) (premisesOf (b .steps) p) in
@@ -113,3 +113,5 @@ row-answer-by-terms b p h = answer-by (rowYielded b p) (isYielded b p) b p λ si
 pub answer-by-terms : (b : Book) (c : Call) → Reachable b → rowAnswer b c ≡ bookAnswer b c
 answer-by-terms b (term r) h = refl
 answer-by-terms b (step p) h = row-answer-by-terms b p h
+answer-by-terms b (point n) h = refl
+answer-by-terms b (return n) h = refl

@@ -16,12 +16,15 @@ use Rattle.rules.specs.Yields.{maxRule}
 use Rattle.calls.specs.declared.TermAnswer.the-variants as TermCases
 use Rattle.calls.specs.declared.StepAnswer.the-variants as StepCases
 use Rattle.calls.specs.declared.SelectAnswer.the-variants as SelectCases
-use Rattle.calls.specs.Book.{Step, maxSteps, Book, Answer, answer}
+use Rattle.calls.specs.declared.points.PointAnswer.the-variants as PointCases
+use Rattle.calls.specs.Book.{Step, maxSteps, maxPoints, Book, Answer, answer}
 use Rattle.calls.specs.Refusals as refusals
 use Rattle.calls.specs.TermCall.{termAnswer}
 use Rattle.calls.specs.StepCall.{badSide, badPremise, stepAnswerBy}
 use Rattle.calls.specs.SelectCall.{selectAnswer}
+use Rattle.calls.specs.PointCall.{placeOf, pointAnswer, returnAnswer}
 use Rattle.calls.specs.code.Answers.{termAnswerOf, stepAnswerOf, selectAnswerOf}
+use Rattle.calls.specs.code.Points.{pointAnswerOf}
 
 -- some case of an enum has the answer t
 abbrev HasCase : {A : Type 0} → (A → Answer) → Answer → Type 0
@@ -53,6 +56,20 @@ step-case y b p =
     (either-case stepAnswerOf (not y) _ _ (StepCases.NotYielded, refl)
     (either-case stepAnswerOf (leb maxSteps (length (b .steps))) _ _ (StepCases.StepsFull, refl)
     (StepCases.Held (length (b .steps) + 1), refl)))))
+
+pub point-case : (names : List ℕ) (n : ℕ) → HasCase pointAnswerOf (pointAnswer names n)
+unfolding pointAnswer
+point-case names n =
+    let bad = eqb n 0 || ltb (placeOf names n) (length names) in
+    either-case pointAnswerOf bad _ _ (PointCases.BadPoint n, refl)
+    (either-case pointAnswerOf (leb maxPoints (length names)) _ _ (PointCases.PointsFull, refl)
+    (PointCases.Accepted, refl))
+
+pub return-case : (names : List ℕ) (n : ℕ) → HasCase pointAnswerOf (returnAnswer names n)
+unfolding returnAnswer
+return-case names n =
+    either-case pointAnswerOf (leb (length names) (placeOf names n)) _ _ (PointCases.BadPoint n, refl)
+    (PointCases.Accepted, refl)
 
 document-case : (o : Option ℕ) (t : Answer) → HasCase selectAnswerOf t
     → HasCase selectAnswerOf (Option·elim o t (λ v. answer refusals.bad-document v))

@@ -7,6 +7,9 @@ pub mod SelectLaws
 pub mod Tables
 pub mod Premises
 pub mod Runs
+pub mod PointTables
+pub mod PointJudged
+pub mod Returns
 pub mod Cases
 pub mod Reached
 pub mod RowAdded

@@ -6,8 +6,8 @@ use mathlib.Core.List.{List, [], _∷_, _++_, map}
 use mathlib.Core.Logic.{⊎-elim}
 use native.Mathlib.Omega.{arith}
 use lib.Dec.{leb, eqb}
-use lib.ListN.{length, getD, length-append, List·getD-append}
-use lib.Seq.{getD-at}
+use lib.ListN.{length, getD, take, length-append, length-map, List·getD-append}
+use lib.Seq.{getD-at, getD-take, length-take-le}
 use mir.Facts.{yes-and, yes-leb, yes-eqb}
 use Rattle.common.proofs.Reflect.{below-suc}
 use Rattle.terms.specs.Row.{Row, rowAt, noRow, find}
@@ -21,11 +21,14 @@ use Rattle.rules.specs.Claim.{says, IsTrue}
 use Rattle.rules.specs.Yields.{Yields}
 use Rattle.rules.specs.Decision.{yields-dec}
 use Rattle.rules.proofs.Sound.{yields-sound}
-use Rattle.calls.specs.Book.{Step, noStep, Book, book}
+use Rattle.calls.specs.Book as books
+use Rattle.calls.specs.Book.{Step, noStep, noPoint, Book}
 use Rattle.calls.specs.TermCall.{termAnswer}
 use Rattle.calls.specs.StepCall.{sameSort, claimOf, premisesOf, isYielded, stepAnswer}
-use Rattle.calls.specs.Calls.{Call, term, step, bookAnswer, bookWith, plainBook, Reachable}
+use Rattle.calls.specs.PointCall.{pointNames, placeOf}
+use Rattle.calls.specs.Calls.{Call, term, step, point, return, bookAnswer, bookWith, plainBook, Reachable}
 use Rattle.calls.proofs.Runs.{reached-law}
+use Rattle.calls.proofs.PointJudged.{return-accepted}
 use Rattle.calls.proofs.TermJudged.{term-accepted}
 use Rattle.calls.proofs.StepJudged.{step-accepted}
 use Rattle.calls.proofs.Premises.{SidesHeld, sides-held, HeldIn, premises-held}
@@ -54,12 +57,13 @@ module _ (rs : List Row) (r : Row) (p : Step) (held : SidesHeld rs p) where
   claim-stays =
       rw (row-stays rs r (p .left) (held .left), term-stays rs (r ∷ []) (p .left) (held .left), term-stays rs (r ∷ []) (p .right) (held .right))
 
-pub record BookLaws (b : Book) : Type 0 where
-  pub built : Built (b .rows)
-  pub sides : (i : ℕ) → i < length (b .steps) → SidesHeld (b .rows) (getD (b .steps) i noStep)
-  pub claims : (i : ℕ) → i < length (b .steps) → IsTrue (claimOf (b .rows) (getD (b .steps) i noStep))
+-- rows and steps that calls lead to
+pub record HeldLaws (rs : List Row) (ps : List Step) : Type 0 where
+  pub built : Built rs
+  pub sides : (i : ℕ) → i < length ps → SidesHeld rs (getD ps i noStep)
+  pub claims : (i : ℕ) → i < length ps → IsTrue (claimOf rs (getD ps i noStep))
 
-row-added : (rs : List Row) (ps : List Step) (r : Row) → BookLaws (book rs ps) → termAnswer rs r .number ≡ 0 → BookLaws (book (rs ++ (r ∷ [])) ps)
+row-added : (rs : List Row) (ps : List Step) (r : Row) → HeldLaws rs ps → termAnswer rs r .number ≡ 0 → HeldLaws (rs ++ (r ∷ [])) ps
 unfolding isWellFormed isNew
 row-added rs ps r w e =
     let t = term-accepted rs r e in
@@ -73,13 +77,14 @@ row-added rs ps r w e =
       claims = λ i h. rw (claim-stays rs r (getD ps i noStep) (w .sides i h)) (w .claims i h);
     }
 
--- what holds of each step, and of one more, holds of each step of both
-each-and-last : (P : Step → Type 0) (ps : List Step) (p : Step) → ((i : ℕ) → i < length ps → P (getD ps i noStep)) → P p
-    → (i : ℕ) → i < length (ps ++ (p ∷ [])) → P (getD (ps ++ (p ∷ [])) i noStep)
-each-and-last P ps p f g i h =
+-- what holds of each, and of one more, holds of each of both
+each-and-last : {A : Type 0} (d : A) (P : A → Type 0) (ps : List A) (p : A)
+    → ((i : ℕ) → i < length ps → P (getD ps i d)) → P p
+    → (i : ℕ) → i < length (ps ++ (p ∷ [])) → P (getD (ps ++ (p ∷ [])) i d)
+each-and-last d P ps p f g i h =
     let n = length-append ps (p ∷ []) in
     let k : i < suc (length ps) = omega arith in
-    ⊎-elim (λ e. rw (getD-at ps p [] noStep i (sym e)) g) (λ l. rw (List·getD-append ps (p ∷ []) noStep i l) (f i l)) (below-suc k)
+    ⊎-elim (λ e. rw (getD-at ps p [] d i (sym e)) g) (λ l. rw (List·getD-append ps (p ∷ []) d i l) (f i l)) (below-suc k)
 
 -- what holds of held steps says so of premises
 premises-true : (rs : List Row) (ps qs : List Step) → ((i : ℕ) → i < length ps → IsTrue (claimOf rs (getD ps i noStep)))
@@ -87,7 +92,8 @@ premises-true : (rs : List Row) (ps qs : List Step) → ((i : ℕ) → i < lengt
 premises-true rs ps [] f h = tt
 premises-true rs ps (q ∷ qs) f h = (rw (h .0 .2) (f (h .0 .0) (h .0 .1)), premises-true rs ps qs f (h .1))
 
-step-added : (b : Book) (p : Step) → BookLaws b → stepAnswer b p .number ≡ 0 → BookLaws (book (b .rows) (b .steps ++ (p ∷ [])))
+step-added : (b : Book) (p : Step) → HeldLaws (b .rows) (b .steps) → stepAnswer b p .number ≡ 0
+    → HeldLaws (b .rows) (b .steps ++ (p ∷ []))
 unfolding stepAnswer isYielded
 step-added b p w e =
     let t = step-accepted (isYielded b p) b p e in
@@ -96,14 +102,42 @@ step-added b p w e =
     let premises = premises-true (b .rows) (b .steps) (premisesOf (b .steps) p) (w .claims) (premises-held (b .steps) p (t .premises)) in
     record {
       built = w .built;
-      sides = each-and-last (SidesHeld (b .rows)) (b .steps) p (w .sides) (sides-held (b .rows) p (t .sides));
-      claims = each-and-last (λ q. IsTrue (claimOf (b .rows) q)) (b .steps) p (w .claims) (yields-sound (p .rule) _ _ yields premises);
+      sides = each-and-last noStep (SidesHeld (b .rows)) (b .steps) p (w .sides) (sides-held (b .rows) p (t .sides));
+      claims = each-and-last noStep (λ q. IsTrue (claimOf (b .rows) q)) (b .steps) p (w .claims)
+          (yields-sound (p .rule) _ _ yields premises);
     }
 
--- what an accepted call adds keeps the laws
+-- the laws of the rows and steps held, and of those of each point
+pub record BookLaws (b : Book) : Type 0 where
+  pub held : HeldLaws (b .rows) (b .steps)
+  pub points : (i : ℕ) → i < length (b .points)
+      → HeldLaws (getD (b .points) i noPoint .rows) (getD (b .points) i noPoint .steps)
+
+-- what an accepted call makes of the book keeps the laws
 laws-with : (b : Book) (c : Call) → BookLaws b → bookAnswer b c .number ≡ 0 → BookLaws (bookWith b c)
-laws-with b (term r) w e = row-added (b .rows) (b .steps) r w e
-laws-with b (step p) w e = step-added b p w e
+laws-with b (term r) w e = record { held = row-added (b .rows) (b .steps) r (w .held) e; points = w .points }
+laws-with b (step p) w e = record { held = step-added b p (w .held) e; points = w .points }
+laws-with b (point n) w e =
+    record {
+      held = w .held;
+      points = each-and-last noPoint (λ q. HeldLaws (q .rows) (q .steps)) (b .points)
+          (books.point n (b .rows) (b .steps)) (w .points) (w .held);
+    }
+laws-with b (return n) w e =
+    let i = placeOf (pointNames (b .points)) n in
+    let here : i < length (b .points) =
+    omega (arith, return-accepted (pointNames (b .points)) n e, length-map (b .points) (λ p. p .name)) in
+    let count : length (take (i + 1) (b .points)) ≡ i + 1 = length-take-le (i + 1) (b .points) (omega arith) in
+    record {
+      held = w .points i here;
+      points = λ j h. rw (getD-take (i + 1) (b .points) j noPoint (omega arith)) (w .points j (omega arith));
+    }
 
 pub reachable-laws : {b : Book} → Reachable b → BookLaws b
-reachable-laws = reached-law plainBook BookLaws (record { built = empty; sides = λ i h. absurd (omega arith); claims = λ i h. absurd (omega arith) }) laws-with
+reachable-laws =
+    reached-law plainBook BookLaws
+    (record {
+      held = record { built = empty; sides = λ i h. absurd (omega arith); claims = λ i h. absurd (omega arith) };
+      points = λ i h. absurd (omega arith);
+    })
+    laws-with

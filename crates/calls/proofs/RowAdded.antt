@@ -1,16 +1,17 @@
 -- A step call is answered as before when a row is added. Assumes nothing.
 use mathlib.Core.Path.{_≡_, refl, ap, ap₂, _∙_}
 use mathlib.Core.Bool.{true}
-use mathlib.Core.List.{List, [], _∷_, _++_, map}
+use mathlib.Core.List.{List, [], _∷_, map}
 use native.Mathlib.Omega.{arith}
 use lib.ListN.{length}
 use borrow.Author.Tests.{lt-leb}
 use Rattle.terms.specs.Row.{Row}
 use Rattle.common.specs.Lists.{Every}
-use Rattle.calls.specs.Book.{Step, Book, book}
+use Rattle.calls.specs.Book.{Step, Book}
+use Rattle.calls.specs.TermCall.{termBook}
 use Rattle.calls.specs.StepCall.{badSide, claimOf, premisesOf, isYielded, stepAnswerBy, stepAnswer}
 use Rattle.calls.proofs.Premises.{SidesHeld, sides-held, HeldIn, premises-held}
-use Rattle.calls.proofs.Reached.{BookLaws, sides-stay, claim-stays}
+use Rattle.calls.proofs.Reached.{HeldLaws, sides-stay, claim-stays}
 use Rattle.calls.proofs.StepJudged.{step-accepted}
 
 no-bad-side : (rs : List Row) (p : Step) → SidesHeld rs p → badSide rs p ≡ 0
@@ -22,9 +23,9 @@ no-bad-side rs p held = rw (
 )
 
 -- the row r is added to the rows of the book b
-module _ (b : Book) (laws : BookLaws b) (r : Row) where
+module _ (b : Book) (laws : HeldLaws (b .rows) (b .steps)) (r : Row) where
   abbrev grown : Book
-  grown = book (b .rows ++ (r ∷ [])) (b .steps)
+  grown = termBook b r
 
   premises-stay : (qs : List Step) → Every (HeldIn (b .steps)) qs
       → map (claimOf (grown .rows)) qs ≡ map (claimOf (b .rows)) qs

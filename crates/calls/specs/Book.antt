@@ -1,4 +1,4 @@
--- The plain book of document 01: a list of rows and a list of steps. Assumes nothing.
+-- The plain book of document 01: a list of rows and a list of steps; document 02 gives it points. Assumes nothing.
 use Prim.Native.Nat.{ℕ}
 use mathlib.Core.Bool.{Bool}
 use mathlib.Core.List.{List, []}
@@ -22,12 +22,33 @@ noStep = step 0 0 0 0 0
 abbrev pub maxSteps : ℕ
 maxSteps = 2048
 
-pub record Book : Type 0 where
+-- a named point of document 02: its name, and the rows and steps held when it was set
+pub record Point : Type 0 where
+  pub name : ℕ
   pub rows : List Row
   pub steps : List Step
 
+abbrev pub point : ℕ → List Row → List Step → Point
+point n rs ps = record { name = n; rows = rs; steps = ps }
+
+abbrev pub noPoint : Point
+noPoint = point 0 [] []
+
+abbrev pub maxPoints : ℕ
+maxPoints = 8
+
+-- the points stand in the order in which they were set
+pub record Book : Type 0 where
+  pub rows : List Row
+  pub steps : List Step
+  pub points : List Point
+
+abbrev pub pointedBook : List Row → List Step → List Point → Book
+pointedBook rs ps points = record { rows = rs; steps = ps; points = points }
+
+-- a book without points
 abbrev pub book : List Row → List Step → Book
-book rs ps = record { rows = rs; steps = ps }
+book rs ps = pointedBook rs ps []
 
 abbrev pub emptyBook : Book
 emptyBook = book [] []

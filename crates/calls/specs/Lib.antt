@@ -3,10 +3,12 @@ pub mod Book
 pub mod TermCall
 pub mod StepCall
 pub mod SelectCall
+pub mod PointCall
 pub mod Promises
 pub mod SelectLaws
 pub mod Uses
 pub mod Runs
 pub mod Calls
+pub mod PointLaws
 pub mod code
 pub mod values

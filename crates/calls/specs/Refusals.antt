@@ -69,6 +69,14 @@ short-buffer = 16
 abbrev pub bad-name : ℕ
 bad-name = 17
 
+-- no such point, or a name in use or 0 when setting: the name
+abbrev pub bad-point : ℕ
+bad-point = 20
+
+-- eight points held
+abbrev pub points-full : ℕ
+points-full = 21
+
 -- a list of more than 64, or not as many steps as old rows
 abbrev pub bad-lists : ℕ
 bad-lists = 25

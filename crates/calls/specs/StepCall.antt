@@ -9,7 +9,7 @@ use Rattle.terms.specs.Fields.{isPath}
 use Rattle.rules.specs.Claim.{Claim, says}
 use Rattle.rules.specs.Yields.{maxRule, premiseCount}
 use Rattle.rules.specs.Decision.{yields-dec}
-use Rattle.calls.specs.Book.{Step, noStep, maxSteps, Book, book, Answer, answer}
+use Rattle.calls.specs.Book.{Step, noStep, maxSteps, Book, pointedBook, Answer, answer}
 use Rattle.calls.specs.Refusals.{no-rule, bad-side, bad-premise, not-yielded, steps-full}
 
 -- rows i and j are both paths, or neither is
@@ -64,4 +64,4 @@ stepAnswer b p = stepAnswerBy (isYielded b p) b p
 
 -- where no refusal applies, the step goes to the end of its list
 abbrev pub stepBook : Book → Step → Book
-stepBook b p = book (b .rows) (b .steps ++ (p ∷ []))
+stepBook b p = pointedBook (b .rows) (b .steps ++ (p ∷ [])) (b .points)

@@ -6,7 +6,7 @@ use lib.ListN.{length}
 use Rattle.terms.specs.Row.{Row, maxRows, find}
 use Rattle.terms.specs.Fields.{maxKind, badPlace}
 use Rattle.terms.specs.Nesting.{maxNesting, nesting}
-use Rattle.calls.specs.Book.{Book, book, Answer, answer}
+use Rattle.calls.specs.Book.{Book, pointedBook, Answer, answer}
 use Rattle.calls.specs.Refusals.{bad-kind, bad-field, too-deep, terms-full, already-held}
 
 -- the first refusal that applies, in the order 1, 2, 3, 12, 11; else 0 with the row's number
@@ -21,4 +21,4 @@ termAnswer rs r =
 
 -- where no refusal applies, the row goes to the end of its list
 abbrev pub termBook : Book → Row → Book
-termBook b r = book (b .rows ++ (r ∷ [])) (b .steps)
+termBook b r = pointedBook (b .rows ++ (r ∷ [])) (b .steps) (b .points)

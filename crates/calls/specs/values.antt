@@ -1,3 +1,4 @@
 pub mod CallCases
 pub mod TableCases
 pub mod SelectLawCases
+pub mod PointCases

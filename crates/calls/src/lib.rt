@@ -1,4 +1,15 @@
-// The answers of the calls term, step and select, on lent rows and steps.
+// The answers of the calls term, step, point, return and select, on lent rows, steps and points.
+mod points;
+
+pub use points::MAX_POINTS;
+pub use points::POINT_WIDTH;
+pub use points::PointAnswer;
+pub use points::PointCounts;
+pub use points::clear;
+pub use points::judge_point;
+pub use points::judge_return;
+pub use points::point_named;
+pub use points::point_place;
 use matching::Sides;
 use selection::Evaluated;
 use terms::Row;
@@ -19,7 +30,7 @@ ghost use Rattle.calls.specs.code.Tables.{stepsOf, firstRowNumbers, firs
 ghost use Rattle.calls.specs.code.Answers.{termAnswerOf, stepAnswerOf, selectAnswerOf, evaluationAnswer, stepOf};
 ghost use Rattle.calls.specs.Promises.{sidesOf, rowYielded, rowStepAnswer, SelectMade};
 
-// The refusals of document 01.
+// The refusals of documents 01 and 02.
 pub const BAD_KIND: u16 = 1;
 
 pub const BAD_FIELD: u16 = 2;
@@ -53,6 +64,10 @@ pub const LIMIT_PASSED: u16 = 15;
 pub const SHORT_BUFFER: u16 = 16;
 
 pub const BAD_NAME: u16 = 17;
+
+pub const BAD_POINT: u16 = 20;
+
+pub const POINTS_FULL: u16 = 21;
 
 pub const BAD_LISTS: u16 = 25;
 

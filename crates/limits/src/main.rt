@@ -27,12 +27,13 @@ fn print_before_space(limit: usize) {
     io::write_all(1, b" ");
 }
 
-// Rows, steps, nesting, nodes.
+// Rows, steps, nesting, nodes, points.
 fn print_limits() {
     print_before_space(Session::ROWS);
     print_before_space(Session::STEPS);
     print_before_space(Session::NESTING as usize);
-    io::print_decimal(1, Session::NODES as u64);
+    print_before_space(Session::NODES);
+    io::print_decimal(1, Session::POINTS as u64);
     io::write_all(1, b"\n");
 }
 
@@ -126,6 +127,22 @@ fn visits() {
     print_select(s, 1, 3 * Session::NODES, 512);
 }
 
+// Eight points and one more.
+fn points() {
+    let mut s = Session::new();
+    let mut i: u16 = 0;
+    while i < 9 {
+        let next = s.point(i + 1);
+        let answer = next.answer;
+        if 7 <= i {
+            print(answer.number(), answer.value());
+        }
+        let after = next.session;
+        s = after;
+        i += 1;
+    }
+}
+
 fn main() {
     print_limits();
     nesting();
@@ -133,4 +150,5 @@ fn main() {
     steps();
     nodes();
     visits();
+    points();
 }

@@ -21,7 +21,7 @@ use Rattle.matching.proofs.RowYields.{says-paths}
 use Rattle.calls.specs.Book.{Step, Book}
 use Rattle.calls.specs.StepCall.{sameSort, stepNumbered, claimOf}
 use Rattle.calls.proofs.Premises.{SidesHeld}
-use Rattle.calls.proofs.Reached.{BookLaws}
+use Rattle.calls.proofs.Reached.{HeldLaws}
 use Rattle.calls.proofs.ByTerms.{path-held, containment-sides}
 use Rattle.replacing.specs.Covered.{isHeldStep, isIn, isReplaced}
 use Rattle.replacing.specs.NoneLost.{Some, pathsOf, StepSays, ReplacedByTerms}
@@ -77,7 +77,7 @@ module _ (rs : List Row) where
       (and-yes (ltb (p .left) (length rs)) (isPath (rowAt rs (p .left))) t .1) in
       path-held rs (p .right) (held .right) (rw left at (held .one-sort))
 
-module _ (b : Book) (laws : BookLaws b) (new : List ℕ) (old i : ℕ) where
+module _ (b : Book) (laws : HeldLaws (b .rows) (b .steps)) (new : List ℕ) (old i : ℕ) where
   abbrev saying : Step
   saying = stepNumbered (b .steps) i
 

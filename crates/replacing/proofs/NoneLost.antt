@@ -19,7 +19,7 @@ use Rattle.terms.specs.Fields.{heldPath}
 use Rattle.terms.specs.Terms.{pathAt}
 use Rattle.rules.specs.Claim.{TrueOn, IsTrue}
 use Rattle.calls.specs.Book.{Book}
-use Rattle.calls.proofs.Reached.{BookLaws}
+use Rattle.calls.proofs.Reached.{HeldLaws}
 use Rattle.replacing.specs.Covered.{isReplacedAt, isCovered}
 use Rattle.replacing.specs.NoneLost.{Some, pathsOf, StepSays, ReplacedByTerms, Covered, NoneLost}
 use Rattle.replacing.proofs.ByTerms.{replaced-iff}
@@ -41,7 +41,7 @@ unfolding pathsOf
 paths-every rs P [] h = tt
 paths-every rs P (n ∷ ns) h = rw (true-iff (heldPath rs n) .0 (h .0 .0)) (h .0 .1, paths-every rs P ns (h .1))
 
-module _ (b : Book) (laws : BookLaws b) where
+module _ (b : Book) (laws : HeldLaws (b .rows) (b .steps)) where
   contained : (i : ℕ) (p q : Path) → StepSays b i p q
       → (d : Document) → T (wellFormed d) → (x : ℕ) → x < length d
       → (y : ℕ) → T (selects d p x y) → T (selects d q x y)

@@ -11,7 +11,8 @@ use Rattle.lines.specs.Line.{sameBytes}
 use Rattle.lines.specs.Number.{maxNumber, numbersUpTo, lineNumbers}
 use Rattle.calls.specs.code.Tables.{rowWidth, stepWidth}
 use Rattle.script.specs.declared.Word.{Word}
-use Rattle.script.specs.declared.Word.the-variants.{Term, Step, Select, Document, Fresh, Old, New, Replace, Write}
+use Rattle.script.specs.declared.Word.the-variants.{Term, Step, Select, Document, Fresh, Old, New, Replace}
+use Rattle.script.specs.declared.Word.the-variants.{Write, Point, Return}
 use Rattle.script.specs.declared.Shape.{Shape}
 use Rattle.script.specs.declared.Shape.the-variants.{Counted, Listed, Selection, Room}
 
@@ -53,6 +54,8 @@ words =
     ∷ (ascii "new", New)
     ∷ (ascii "replace", Replace)
     ∷ (ascii "write", Write)
+    ∷ (ascii "point", Point)
+    ∷ (ascii "return", Return)
     ∷ []
 
 -- what stands after a word
@@ -66,6 +69,8 @@ shapeOf Old = Listed maxListed
 shapeOf New = Listed maxListed
 shapeOf Replace = Listed maxListed
 shapeOf Write = Room
+shapeOf Point = Counted 1
+shapeOf Return = Counted 1
 
 -- as many numbers as there are parts
 abbrev pub allNumbers : List (List ℕ) → Option (List ℕ)

@@ -33,6 +33,8 @@ pub enum Word {
     New,
     Replace,
     Write,
+    Point,
+    Return,
 }
 
 // What stands after a word: so many numbers of 16 bits, a list of up to so many, the numbers of a select, or the length
@@ -50,7 +52,7 @@ pub struct Entry(pub [u8; WORD_WIDTH], pub usize, pub Word, pub Shape);
 // One byte more than the longest word has.
 const WORD_WIDTH: usize = 13;
 
-const WORD_COUNT: usize = 9;
+const WORD_COUNT: usize = 11;
 
 const WORDS: [Entry; WORD_COUNT] = [
     Entry(*b"term         ", 4, Word::Term, Shape::Counted(ROW_WIDTH)),
@@ -72,6 +74,8 @@ const WORDS: [Entry; WORD_COUNT] = [
         Shape::Listed(MAX_LISTED),
     ),
     Entry(*b"write        ", 5, Word::Write, Shape::Room),
+    Entry(*b"point        ", 5, Word::Point, Shape::Counted(1)),
+    Entry(*b"return       ", 6, Word::Return, Shape::Counted(1)),
 ];
 
 // The numbers after a word, by its shape: `a` to `e` are those that are counted, in their order; `size` says how many

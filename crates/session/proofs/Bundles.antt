@@ -1,6 +1,6 @@
 -- A well-written bundle: its lines read back, and reading it is making its calls. Assumes nothing.
-use Prim.Native.Nat.{ℕ, _+_}
-use mathlib.Core.Path.{_≡_, refl, sym, ap, _∙_}
+use Prim.Native.Nat.{ℕ, _+_, _≤_}
+use mathlib.Core.Path.{_≡_, refl, sym, ap, subst, _∙_}
 use mathlib.Core.Bool.{Bool, true, false}
 use mathlib.Core.List.{List, [], _∷_, _++_, map, append-assoc}
 use mathlib.Core.Option.{none, some, Option·elim, Option·none-ne-some}
@@ -17,28 +17,33 @@ use Rattle.lines.proofs.Written.{line-reads-back}
 use Rattle.session.specs.declared.session.Session.{Session}
 use Rattle.session.specs.declared.read.ReadResult.{ReadResult}
 use Rattle.session.specs.declared.write.WriteAnswer.{WriteAnswer}
-use Rattle.calls.specs.Book.{Step, answer}
-use Rattle.calls.specs.Runs.{done, then}
-use Rattle.calls.specs.Calls.{step, CallSeen}
+use Rattle.calls.specs.Book.{Step, book, answer}
+use Rattle.calls.specs.Runs.{seen, done, then}
+use Rattle.calls.specs.Calls.{Call, step, CallSeen, bookAfter}
 use Rattle.calls.specs.code.Tables.{rowWidth}
 use Rattle.session.specs.View.{view, freshSession, rowNumbers, stepNumbers}
 use Rattle.bundles.specs.Bundle.{rowNames, stepNames, rowText, rowsText, stepsText, bundleText}
 use Rattle.calls.specs.Promises.{rowStepAnswer}
 use Rattle.session.specs.Reading.{Reading, stepsRead, rowsRead, linesRead, reading}
-use Rattle.session.specs.Promises.{CallRelation, SelectRelation, Met, CallsMade, SelectMet}
+use Rattle.session.specs.Promises.{CallRelation, SelectRelation, sessionAnswer, sessionWith, session}
+use Rattle.session.specs.Promises.{Met, CallsMade, SelectMet}
 use Rattle.session.specs.ReadCall.{ReadMet}
 use Rattle.session.specs.WriteCall.{sessionText, WriteRelation, WriteMet}
-use Rattle.session.specs.ReadDemand.{IsAccepted, callsOf, RowFits, StepFits, ReadDemand}
-use Rattle.calls.proofs.Runs.{run-map, run-append}
+use Rattle.session.specs.ReadDemand.{IsAccepted, callsOf, RowFits, StepFits, CallFits, ReadDemand}
+use Rattle.session.specs.Audit.{maxBytes}
+use Rattle.session.specs.SessionLaws.{sessionOf, withoutPoints}
+use Rattle.calls.proofs.Runs.{run-map, accepted-made}
 use Rattle.session.proofs.Demand3.{CallsKept, SelectsKept}
 use Rattle.session.proofs.LineCalls.{row-names-free, step-names-free}
 use Rattle.session.proofs.LinesRead.{names-read, row-held, step-held}
 use Rattle.session.proofs.ReadByRows.{reading-by-rows}
 use Rattle.session.proofs.ReadCalls.{is-line, read-accepted, read-refused}
-use Rattle.session.proofs.Simulation.{fresh-kept}
-use Rattle.session.proofs.Sorted.{Sorted, every-append, calls-sorted}
-use Rattle.session.proofs.StepsAdded.{calls-added}
+use Rattle.session.proofs.Restored.{whole-left, points-left-out}
+use Rattle.session.proofs.Simulation.{accepted-moves, answers-by-terms, Kept, fresh-kept, kept-on}
+use Rattle.session.proofs.Sorted.{AllTaken, Sorted, AllSorted, calls-sorted}
+use Rattle.session.proofs.StepsAdded.{bookWithAll, calls-behind, calls-held}
 use Rattle.session.proofs.Views.{fresh-view}
+use Rattle.session.proofs.Whole.{view-of}
 use Rattle.session.proofs.Written.{written-text, written-where-room, sorted-taken, read-text}
 
 -- the second names line is no term line
@@ -94,19 +99,68 @@ well-written : (rs : List Row) (ps : List Step) (os : List CallSeen) (u : Sessio
 unfolding bundleText linesRead
 well-written rs ps os u rows steps run taken =
     let text = lines-at rowNames (rowsText rs ++ (stepNames ++ newline ∷ stepsText ps)) row-names-free in
-    let count = calls-added freshSession rs ps os u fresh-kept run taken in
-    let none-first : length (view freshSession .steps) ≡ 0 = rw fresh-view in
-    let held : length (view u .steps) ≡ length ps = omega arith in
+    let held = ap (λ b. length (b .steps)) (calls-held rs ps os u run taken) in
     reading-by-rows (bundleText rs ps) ∙ rw (text, first-names-are) (rows-written freshSession 2 rs ps os u rows steps run taken ∙ ap (λ n. record { answer = answer 0 n; session = u }) held)
 
--- what term and step calls leave, as text, reads back
-sorted-reads-back : {s : Session} → Sorted s → reading (sessionText s) ≡ allRead s
-sorted-reads-back {s} o =
-    let run = run-append (o .rows-made) (o .steps-made) in
-    let taken = every-append IsAccepted (o .rows-seen) (o .steps-seen) (o .rows-accepted) (o .steps-accepted) in
-    ap (λ b. reading (bundleText (b .rows) (b .steps))) (o .held)
-    ∙ well-written (o .rows) (o .steps) _ s (o .rows-fit) (o .steps-fit) run taken
-    ∙ ap (λ b. record { answer = answer 0 (length (b .steps)); session = s }) (sym (o .held))
+-- calls that the plain book accepts one after the other are made on a session of it
+record TakenRun (s : Session) (cs : List Call) : Type 0 where
+  pub seen : List CallSeen
+  pub last : Session
+  pub made : CallsMade s cs seen last
+  pub accepted : Every IsAccepted seen
+  pub kept : Kept last
+  pub held : view last ≡ bookWithAll (view s) cs
+
+taken-run : (s : Session) → Kept s → (cs : List Call) → AllTaken (view s) cs → TakenRun s cs
+taken-run s k [] taken = record { seen = []; last = s; made = done; accepted = tt; kept = k; held = refl }
+taken-run s k (c ∷ cs) taken =
+    let e = ap (λ a. a .number) (answers-by-terms s (k .reachable) c) ∙ taken .0 in
+    let m = accepted-made session s c e in
+    let moved = accepted-moves s c (k .whole) e .0 in
+    let later = taken-run (sessionWith s c) (kept-on k m) cs (subst (λ b. AllTaken b cs) (sym moved) (taken .1)) in
+    record {
+      seen = seen (sessionAnswer s c) (view (sessionWith s c)) ∷ later .seen;
+      last = later .last;
+      made = then m (later .made);
+      accepted = (e, later .accepted);
+      kept = later .kept;
+      held = later .held ∙ ap (λ b. bookWithAll b cs) moved;
+    }
+
+-- what calls leave, as text, reads back
+sorted-reads-back : {rs : List Row} {ps : List Step} → Sorted rs ps
+    → reading (bundleText rs ps) ≡ record { answer = answer 0 (length ps); session = sessionOf (book rs ps) }
+sorted-reads-back {rs} {ps} o =
+    let from-fresh = subst (λ b. AllTaken b (callsOf rs ps)) (sym fresh-view) (o .taken) in
+    let run = taken-run freshSession fresh-kept (callsOf rs ps) from-fresh in
+    let held = run .held ∙ ap (λ b. bookWithAll b (callsOf rs ps)) fresh-view ∙ calls-behind rs ps in
+    let last = run .kept .whole .same ∙ ap sessionOf held in
+    well-written rs ps (run .seen) (run .last) (o .rows-fit) (o .steps-fit) (run .made) (run .accepted)
+    ∙ ap (λ u. record { answer = answer 0 (length ps); session = u }) last
+
+module _ (cs : List Call) (os : List CallSeen) (s : Session) (run : CallsMade freshSession cs os s)
+    (fits : Every CallFits cs)
+  where
+    whole : s ≡ sessionOf (bookAfter cs)
+    whole = whole-left s cs os run
+
+    sorted : AllSorted (bookAfter cs)
+    sorted = calls-sorted cs fits
+
+    shown : view s ≡ bookAfter cs
+    shown = ap view whole ∙ view-of (bookAfter cs) (sorted .fits)
+
+    left-reads-back : reading (sessionText s)
+        ≡ record { answer = answer 0 (length (view s .steps)); session = withoutPoints s }
+    left-reads-back =
+        ap (λ b. reading (bundleText (b .rows) (b .steps))) shown ∙ sorted-reads-back (sorted .held)
+        ∙ ap (λ b. record { answer = answer 0 (length (b .steps)); session = sessionOf (book (b .rows) (b .steps)) })
+        (sym shown)
+        ∙ ap (λ u. record { answer = answer 0 (length (view s .steps)); session = u })
+        (sym (points-left-out (view s)) ∙ ap (λ b. withoutPoints (sessionOf b)) shown ∙ sym (ap withoutPoints whole))
+
+    left-taken : length (sessionText s) ≤ maxBytes
+    left-taken = subst (λ b. length (bundleText (b .rows) (b .steps)) ≤ maxBytes) (sym shown) (sorted-taken sorted)
 
 -- where read, write and the calls meet their promises, and calls that meet them can be made
 pub read-demand-by : (Selected : SelectRelation) (Called : CallRelation) (Read : List ℕ → ReadResult
@@ -126,7 +180,7 @@ read-demand-by Selected Called Read Write select-tied call-tied met-called read-
           (met .answer ∙ ap (λ r. r .answer) same, met .session ∙ ap (λ r. r .session) same);
       written-reads-back = λ cs os s run fits buffer left w m e t r.
           let text = written-text s buffer w left (write-tied s buffer w left m) e in
-          let same = ap reading text ∙ sorted-reads-back (calls-sorted (run-map call-tied run) fits) in
+          let same = ap reading text ∙ left-reads-back cs os s (run-map call-tied run) fits in
           let met = read-tied _ t r in
           (met .answer ∙ ap (λ r. r .answer) same, met .session ∙ ap (λ r. r .session) same);
       same-bytes = λ bytes t r e buffer left w m taken.
@@ -135,6 +189,6 @@ read-demand-by Selected Called Read Write select-tied call-tied met-called read-
           ∙ read-text bytes (read .rows) (read .steps) (read .seen) (t .session) (read .bundle)
           (run-map call-tied (read .made)) (read .all-accepted);
       always-room = λ cs os s run fits buffer left w m room.
-          let short = sorted-taken (calls-sorted (run-map call-tied run) fits) in
+          let short = left-taken cs os s (run-map call-tied run) fits in
           written-where-room s buffer w left (write-tied s buffer w left m) (omega (arith, short, room));
     }

@@ -24,7 +24,7 @@ use Rattle.calls.proofs.Reached.{BookLaws, reachable-laws}
 use Rattle.calls.proofs.ByTerms.{containment-sides}
 use Rattle.calls.proofs.Runs.{run-map, run-follows}
 use Rattle.calls.proofs.Marked.{select-takes, select-leaves, select-well-formed, select-marks, select-stays}
-use Rattle.session.proofs.Views.{fresh-sized, fresh-view}
+use Rattle.session.proofs.Views.{fresh-view}
 use Rattle.session.proofs.Simulation.{session-as-book, fresh-kept}
 
 mark-true : (b : Bool) → _≡_ {A = ℕ} (cond b 1 0) 1 → T b
@@ -53,10 +53,10 @@ module _ (Selected : SelectRelation) (select-tied : SelectsKept Selected SelectM
       → (p q : Path) → claimOf (b .rows) (getD (b .steps) i noStep) ≡ Containment p q
       → (d : Document) → T (wellFormed d) → (x : ℕ) → x < length d
       → (y : ℕ) → T (selects d p x y) → T (selects d q x y) =
-      λ i h p q e d w x k y t. subst IsTrue e (laws .claims i h) d w x k y t in
+      λ i h p q e d w x k y t. subst IsTrue e (laws .held .claims i h) d w x k y t in
       record {
         containment = contained;
-        implication = λ i h f g e d w x k t. subst IsTrue e (laws .claims i h) d w x k t;
+        implication = λ i h f g e d w x k t. subst IsTrue e (laws .held .claims i h) d w x k t;
         answers = λ row xs x limit buffer left t m. select-tied _ _ _ _ _ _ _ _ m .answer ∙ rw rows;
         refused = λ row xs x limit buffer left t m f.
             select-leaves _ row xs x limit buffer left t (select-tied _ _ _ _ _ _ _ _ m) f;
@@ -87,7 +87,7 @@ module _ (Selected : SelectRelation) (select-tied : SelectsKept Selected SelectM
 
   pub demanded : (cs : List Call) (os : List CallSeen) (s : Session) → CallsMade freshSession cs os s → Demand3 Selected cs os s
   demanded cs os s run =
-      let (shows, holds, size, reachable) = run-follows session-as-book fresh-sized (fresh-kept .reachable) run in
+      let (shows, holds, whole, reachable) = run-follows session-as-book (fresh-kept .whole) (fresh-kept .reachable) run in
       let same : view s ≡ bookAfter cs = holds ∙ ap (λ b. final plainBook b cs) fresh-view in
       record {
         seen = shows ∙ ap (λ b. shown plainBook b cs) fresh-view;

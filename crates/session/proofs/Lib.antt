@@ -3,12 +3,16 @@ pub mod Source
 pub mod Clauses
 pub mod ReadClauses
 pub mod ReplaceClauses
+pub mod PointClauses
 pub mod Views
+pub mod Whole
 pub mod Simulation
 pub mod Demand3
 pub mod SetsReplaced
+pub mod Restored
 pub mod TermMade
 pub mod StepMade
+pub mod PointMade
 pub mod ReadByRows
 pub mod LinesRead
 pub mod LineCalls

@@ -29,7 +29,7 @@ use Rattle.calls.proofs.Runs.{accepted-made, run-map}
 use Rattle.session.proofs.ReadByRows.{reading-by-rows}
 use Rattle.session.proofs.Demand3.{CallsKept, SelectsKept, demanded}
 use Rattle.session.proofs.Simulation.{fresh-kept}
-use Rattle.session.proofs.StepsAdded.{calls-added}
+use Rattle.session.proofs.StepsAdded.{calls-held}
 use Rattle.session.proofs.Views.{fresh-view}
 
 -- the line is the bytes and a newline
@@ -257,9 +257,8 @@ module _ (Selected : SelectRelation) (Called : CallRelation)
         let made = lines-made (lines bytes) zero-told in
         let calls = callsOf (made .rows) (made .steps) in
         let run = subst (CallsMade freshSession calls (made .seen)) (sym left) (made .made) in
-        let added = calls-added freshSession (made .rows) (made .steps) (made .seen) (t .session) fresh-kept run (made .accepted) in
-        let none-first : length (view freshSession .steps) ≡ 0 = rw fresh-view in
-        let held : length (view (t .session) .steps) ≡ length (made .steps) = omega arith in
+        let holds = calls-held (made .rows) (made .steps) (made .seen) (t .session) run (made .accepted) in
+        let held = ap (λ b. length (b .steps)) holds in
         let told = answered ∙ lines-settled (lines bytes) .held zero-told in
         record {
           rows = made .rows;

@@ -24,8 +24,9 @@ use Rattle.session.specs.Promises.{CallRelation, SelectRelation}
 use Rattle.bundles.specs.Bundle.{rowNames, stepNames, rowOfLine, stepOfLine, bundleText}
 use Rattle.session.specs.ReadCall.{readAnswerOf}
 use Rattle.session.specs.Demand3.{Demand3}
+use Rattle.session.specs.SessionLaws.{withoutPoints}
 use Rattle.session.specs.WriteCall.{sessionText, writeAnswerOf, WriteRelation, WriteMet}
-use Rattle.session.specs.ReadDemand.{TermOrStep, ReadAccepted, ReadDemand}
+use Rattle.session.specs.ReadDemand.{CallFits, ReadAccepted, ReadDemand}
 
 abbrev bundleCalls : List Row → List Step → List Call
 bundleCalls rs ps = map term rs ++ map step ps
@@ -77,12 +78,12 @@ module _ (Selected : SelectRelation) (Called : CallRelation) (Read : List ℕ �
         × (writeAnswerOf w .number ≡ 0) × (text ≡ take (writeAnswerOf w .value) left)
 
     abbrev AllFit16 : List Call → Type 0
-    AllFit16 cs = Every TermOrStep cs
+    AllFit16 cs = Every CallFits cs
 
     pub filed-read : (cs : List Call) (os : List CallSeen) (s : Session) → Run view Called freshSession cs os s
         → AllFit16 cs
         → (text : List ℕ) → Filed s text → (t : ReadResult) → Read text t
-        → (readAnswerOf (t .answer) ≡ answer 0 (length (view s .steps))) × (t .session ≡ s)
+        → (readAnswerOf (t .answer) ≡ answer 0 (length (view s .steps))) × (t .session ≡ withoutPoints s)
     filed-read cs os s run fits text (buffer, left, w, m, e, is) t r =
         demand .written-reads-back cs os s run fits buffer left w m e t (subst (λ bytes. Read bytes t) is r)
 

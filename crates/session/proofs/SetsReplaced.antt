@@ -12,12 +12,12 @@ use Rattle.session.specs.declared.session.Session.{Session}
 use Rattle.session.specs.View.{view, freshSession}
 use Rattle.session.specs.Promises.{CallRelation, Met, CallsMade}
 use Rattle.session.specs.ReplaceDemand.{ReplaceRelation, ReplaceMet, SetsReplaced, ReplaceDemand}
-use Rattle.calls.proofs.Reached.{BookLaws, reachable-laws}
+use Rattle.calls.proofs.Reached.{HeldLaws, reachable-laws}
 use Rattle.calls.proofs.Runs.{run-map, run-follows}
 use Rattle.replacing.proofs.Judged.{accepts-iff}
 use Rattle.replacing.proofs.ByTerms.{replaced-iff}
 use Rattle.replacing.proofs.NoneLost.{covered-none-lost, rows-covered}
-use Rattle.session.proofs.Views.{fresh-sized, fresh-view}
+use Rattle.session.proofs.Views.{fresh-view}
 use Rattle.session.proofs.Simulation.{session-as-book, fresh-kept}
 use Rattle.session.proofs.Demand3.{CallsKept}
 
@@ -28,7 +28,7 @@ ReplacesKept Replaced Kept = (s : Session) (old new by : List ℕ) (t : ReplaceA
 
 -- a replace that meets its promise
 module _ (Replaced : ReplaceRelation) (replace-tied : ReplacesKept Replaced ReplaceMet) where
-  sets-replaced : (s : Session) (b : Book) → view s ≡ b → BookLaws b → SetsReplaced Replaced s b
+  sets-replaced : (s : Session) (b : Book) → view s ≡ b → HeldLaws (b .rows) (b .steps) → SetsReplaced Replaced s b
   sets-replaced s b same laws =
       let told : (old new by : List ℕ) (t : ReplaceAnswer) → Replaced s old new by t
       → replaceAnswerOf t ≡ replaceAnswer b old new by =
@@ -54,9 +54,9 @@ module _ (Replaced : ReplaceRelation) (replace-tied : ReplacesKept Replaced Repl
   replaced : (cs : List Call) (os : List CallSeen) (s : Session) → CallsMade freshSession cs os s
       → SetsReplaced Replaced s (bookAfter cs)
   replaced cs os s run =
-      let (shows, holds, size, reachable) = run-follows session-as-book fresh-sized (fresh-kept .reachable) run in
+      let (shows, holds, whole, reachable) = run-follows session-as-book (fresh-kept .whole) (fresh-kept .reachable) run in
       let same : view s ≡ bookAfter cs = holds ∙ ap (λ b. final plainBook b cs) fresh-view in
-      sets-replaced s _ same (subst BookLaws same (reachable-laws reachable))
+      sets-replaced s _ same (subst (λ b. HeldLaws (b .rows) (b .steps)) same (reachable-laws reachable .held))
 
   -- so for every `new` and every calls that meet theirs
   pub replace-demand-by : (New : Session → Type 0) (Called : CallRelation)

@@ -14,14 +14,17 @@ use Rattle.session.specs.declared.read.ReadResult.{ReadResult}
 use Rattle.calls.specs.declared.SelectAnswer.{SelectAnswer}
 use Rattle.calls.specs.Book as book
 use Rattle.calls.specs.Book.{Answer, answer, accepted}
-use Rattle.calls.specs.Calls.{Call, term, step, CallSeen}
+use Rattle.calls.specs.Calls.{Call, term, step, point, return, CallSeen}
+use Rattle.calls.specs.PointCall.{pointNames}
 use Rattle.calls.specs.code.Answers.{termAnswerOf, stepAnswerOf}
+use Rattle.calls.specs.code.Points.{pointAnswerOf}
 use Rattle.calls.specs.SelectCall.{selectBuffer}
 use Rattle.calls.specs.Runs.{next, Run}
 use Rattle.calls.specs.Promises.{rowYielded, rowStepAnswer}
 use Rattle.session.specs.View.{view, freshSession}
 use Rattle.session.specs.Promises.{sessionAnswer, session, Met, SelectMet}
 use Rattle.session.specs.Demand3.{DemandThree}
+use Rattle.session.specs.SessionLaws.{WholeSession, NoPointLeft, SessionRestored}
 use Rattle.session.specs.declared.read.ReadAnswer.{ReadAnswer}
 use Rattle.session.specs.declared.read.ReadAnswer.the-variants as ReadCases
 use Rattle.session.specs.declared.write.WriteAnswer.{WriteAnswer}
@@ -35,13 +38,16 @@ use Rattle.session.specs.ReplaceDemand.{ReplaceMet, ReplaceDemand}
 use Rattle.replacing.specs.declared.ReplaceAnswer.{ReplaceAnswer}
 use Rattle.replacing.proofs.Judged.{replace-case}
 use Rattle.calls.proofs.Runs.{made, run-exists}
-use Rattle.calls.proofs.Cases.{term-case, step-case, select-case}
+use Rattle.calls.proofs.Cases.{term-case, step-case, point-case, return-case, select-case}
 use Rattle.session.proofs.Demand3.{CallsKept, SelectsKept, demand3-by}
+use Rattle.session.proofs.Restored.{whole-by, no-point-left-by, restored-by}
 use Rattle.session.proofs.Bundles.{read-demand-by}
 use Rattle.session.proofs.SetsReplaced.{ReplacesKept, replace-demand-by}
 use Rattle.session.proofs.session.Session.new.Reads as new-reads
 use Rattle.session.proofs.session.Session.term.Reads as term-reads
 use Rattle.session.proofs.session.Session.step.Reads as step-reads
+use Rattle.session.proofs.session.Session.point.Reads as point-reads
+use Rattle.session.proofs.session.Session.return_to.Reads as return-reads
 use Rattle.session.proofs.session.Session.select.Reads as select-reads
 use Rattle.session.proofs.session.Session.read.Reads as read-reads
 use Rattle.session.proofs.session.Session.replace.Reads as replace-reads
@@ -51,7 +57,8 @@ use Rattle.session.proofs.session.Session.write.Reads as write-reads
 pub data New : Session → Type 0 where
   new-called : (κs : _) (a : _) (r : _) (x : _) → new-reads.Post κs a r x → New r
 
--- `Session::term` or `Session::step` on a session, with the arguments of a call, has an answer and leaves a session
+-- `Session::term`, `step`, `point` or `return_to` on a session, with the arguments of a call, has an answer and leaves a
+-- session
 pub data Called : Session → Call → Answer → Session → Type 0 where
   term-called : (κs : _) (a : _) (r : _) (x : _) → term-reads.Post κs a r x
       → Called (a .0) (term (row (a .1 .0) (a .1 .1 .0) (a .1 .1 .1 .0) (a .1 .1 .1 .1 .0)))
@@ -60,6 +67,10 @@ pub data Called : Session → Call → Answer → Session → Type 0 where
       → Called (a .0)
       (step (book.step (a .1 .0) (a .1 .1 .0) (a .1 .1 .1 .0) (a .1 .1 .1 .1 .0) (a .1 .1 .1 .1 .1 .0)))
       (stepAnswerOf (r .answer)) (r .session)
+  point-called : (κs : _) (a : _) (r : _) (x : _) → point-reads.Post κs a r x
+      → Called (a .0) (point (a .1 .0)) (pointAnswerOf (r .answer)) (r .session)
+  return-called : (κs : _) (a : _) (r : _) (x : _) → return-reads.Post κs a r x
+      → Called (a .0) (return (a .1 .0)) (pointAnswerOf (r .answer)) (r .session)
 
 -- `Session::select` on a session with a row, lent numbers, a node, a limit and a buffer has the answer r and leaves bytes
 pub data Selected : Session → (row : ℕ) → List ℕ → (x limit : ℕ) → List ℕ → SelectAnswer → List ℕ → Type 0 where
@@ -88,6 +99,8 @@ new-tied s (new-called κs a r x m) = m
 pub call-tied : CallsKept Called Met
 call-tied s c a t (term-called κs args r x m) = m
 call-tied s c a t (step-called κs args r x m) = m
+call-tied s c a t (point-called κs args r x m) = m
+call-tied s c a t (return-called κs args r x m) = m
 
 pub select-tied : SelectsKept Selected SelectMet
 select-tied s row xs x limit buffer t left (select-called κs a r y m) = m
@@ -116,9 +129,26 @@ met-called s (step p) a t m =
     (step-called tt (s, (p .rule, (p .left, (p .right, (p .first, (p .second, tt))))))
     (record { answer = o; session = t }) (s, (p .rule, (p .left, (p .right, (p .first, (p .second, tt))))))
     (record { answer = e; left = m .left }))
+met-called s (point n) a t m =
+    let (o, e) = point-case (pointNames (view s .points)) n in
+    subst (λ a. Called s (point n) a t) (e ∙ sym (m .answer))
+    (point-called tt (s, (n, tt)) (record { answer = o; session = t }) (s, (n, tt)) (record { answer = e; left = m .left }))
+met-called s (return n) a t m =
+    let (o, e) = return-case (pointNames (view s .points)) n in
+    subst (λ a. Called s (return n) a t) (e ∙ sym (m .answer))
+    (return-called tt (s, (n, tt)) (record { answer = o; session = t }) (s, (n, tt)) (record { answer = e; left = m .left }))
 
 pub demand3 : DemandThree Selected New Called
 demand3 = demand3-by Selected select-tied New Called new-tied call-tied
+
+pub whole-session : WholeSession New Called
+whole-session = whole-by New Called new-tied call-tied
+
+pub no-point-left : NoPointLeft New Called
+no-point-left = no-point-left-by New Called new-tied call-tied
+
+pub session-restored : SessionRestored New Called
+session-restored = restored-by New Called new-tied call-tied
 
 -- a fresh session can be made, and from it every list of calls: the demand is about something
 pub new-exists : New freshSession

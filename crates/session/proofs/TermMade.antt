@@ -21,14 +21,14 @@ module _ (s : Session) (r : Row) (n : ℕ) (count : n ≡ rowsHeld s) (ys : List
   judged = let same : min n maxRows ≡ rowsHeld s = omega arith in m .answer ∙ rw same
 
   pub term-made-held : termAnswerOf t .number ≡ 0 →
-      Met s (term r) (termAnswerOf t) (record { rows = ys; «row_count» = n + 1; steps = s .steps; «step_count» = s .«step_count» })
+      Met s (term r) (termAnswerOf t) (record { rows = ys; «row_count» = n + 1; steps = s .steps; «step_count» = s .«step_count»; points = s .points; «point_count» = s .«point_count» })
   unfolding withRow view
   term-made-held e =
       let written : ys ≡ sets (s .rows) (rowWidth * rowsHeld s) (rowNumbers r) = m .numbers ∙ sym (if-accepted _ _ (m .answer) _ _ e) ∙ rw count in
-      record { answer = judged; left = (λ i. record { rows = written i; «row_count» = count i + 1; steps = s .steps; «step_count» = s .«step_count» }) ∙ if-accepted _ _ judged (withRow s r) s e }
+      record { answer = judged; left = (λ i. record { rows = written i; «row_count» = count i + 1; steps = s .steps; «step_count» = s .«step_count»; points = s .points; «point_count» = s .«point_count» }) ∙ if-accepted _ _ judged (withRow s r) s e }
 
   pub term-made-refused : ¬ (termAnswerOf t .number ≡ 0) →
-      Met s (term r) (termAnswerOf t) (record { rows = ys; «row_count» = s .«row_count»; steps = s .steps; «step_count» = s .«step_count» })
+      Met s (term r) (termAnswerOf t) (record { rows = ys; «row_count» = s .«row_count»; steps = s .steps; «step_count» = s .«step_count»; points = s .points; «point_count» = s .«point_count» })
   term-made-refused f =
       let kept : ys ≡ s .rows = m .numbers ∙ sym (if-refused _ _ (m .answer) _ _ f) in
-      record { answer = judged; left = (λ i. record { rows = kept i; «row_count» = s .«row_count»; steps = s .steps; «step_count» = s .«step_count» }) ∙ if-refused _ _ judged (withRow s r) s f }
+      record { answer = judged; left = (λ i. record { rows = kept i; «row_count» = s .«row_count»; steps = s .steps; «step_count» = s .«step_count»; points = s .points; «point_count» = s .«point_count» }) ∙ if-refused _ _ judged (withRow s r) s f }

@@ -23,6 +23,8 @@ use Rattle.calls.specs.Book.{Answer}
 use Rattle.calls.specs.Runs.{Run}
 use Rattle.calls.specs.SelectLaws.{LimitSuffices, MarksSameElsewhere}
 use Rattle.calls.proofs.SelectLaws.{limit-suffices, marks-same-elsewhere}
+use Rattle.calls.specs.PointLaws.{ReturnRestores}
+use Rattle.calls.proofs.Returns.{return-restores}
 use Rattle.calls.specs.Calls.{Call, CallSeen}
 use Rattle.session.specs.declared.session.Session.{Session}
 use Rattle.session.specs.declared.read.ReadResult.{ReadResult}
@@ -30,6 +32,7 @@ use Rattle.session.specs.declared.write.WriteAnswer.{WriteAnswer}
 use Rattle.session.specs.View.{view, freshSession}
 use Rattle.session.specs.Promises.{Met, SelectMet, AnswersByTerms}
 use Rattle.session.specs.Demand3.{DemandThree}
+use Rattle.session.specs.SessionLaws.{WholeSession, NoPointLeft, SessionRestored}
 use Rattle.session.specs.Reading.{reading}
 use Rattle.session.specs.ReadCall.{ReadMet}
 use Rattle.session.specs.WriteCall.{WriteMet}
@@ -43,6 +46,8 @@ use Rattle.session.proofs.Source.{New, Called, Selected, Read, Replaced
 use Rattle.session.proofs.session.Session.new.Reads as new-reads
 use Rattle.session.proofs.session.Session.term.Reads as term-reads
 use Rattle.session.proofs.session.Session.step.Reads as step-reads
+use Rattle.session.proofs.session.Session.point.Reads as point-reads
+use Rattle.session.proofs.session.Session.return_to.Reads as return-reads
 use Rattle.session.proofs.session.Session.select.Reads as select-reads
 use Rattle.session.proofs.session.Session.read.Reads as read-reads
 use Rattle.session.proofs.session.Session.replace.Reads as replace-reads
@@ -55,15 +60,18 @@ pub record Theorems : Type 0 where
   pub new-takes : (κs : _) (a : _) → new-reads.Pre κs a
   pub term-takes : (κs : _) (a : _) → term-reads.Pre κs a
   pub step-takes : (κs : _) (a : _) → step-reads.Pre κs a
+  pub point-takes : (κs : _) (a : _) → point-reads.Pre κs a
+  pub return-takes : (κs : _) (a : _) → return-reads.Pre κs a
   pub select-takes : (κs : _) (a : _) → select-reads.Pre κs a
   pub read-takes : (κs : _) (a : _) → read-reads.Pre κs a
   pub replace-takes : (κs : _) (a : _) → replace-reads.Pre κs a
   pub write-takes : (κs : _) (a : _) → write-reads.Pre κs a
   pub audit-takes : (κs : _) (a : _) → audit-reads.Pre κs a
   pub c-takes : (κs : _) (a : _) → c-reads.Pre κs a
-  -- `Session::new` gives a session without rows and steps
+  -- `Session::new` gives a session without rows, steps and points
   pub new : (s : Session) → New s → s ≡ freshSession
-  -- term and step answer the first refusal that applies and leave the session, or accept and add their row or step
+  -- term, step, point and return answer the first refusal that applies and leave the session, or accept and add their row,
+  -- step or point, or leave just what was held when the point was set
   pub call : (s : Session) (c : Call) (a : Answer) (t : Session) → Called s c a t → Met s c a t
   -- on every session that calls lead to, their answers are those of the plain book, where steps are judged as terms
   pub by-terms : AnswersByTerms
@@ -86,9 +94,15 @@ pub record Theorems : Type 0 where
   -- demand 3: after every list of calls from a fresh session all is as in the plain book, what is held is true on every
   -- document, and select marks by it
   pub demand3 : DemandThree Selected New Called
+  -- after every such list the session is, as a whole value, the one that the book determines, without points where none
+  -- was set; and returning to a point restores the whole session that setting it left, and the book
+  pub whole-session : WholeSession New Called
+  pub no-point-left : NoPointLeft New Called
+  pub session-restored : SessionRestored New Called
+  pub return-restores : ReturnRestores
   -- what is demanded of read and write: read accepts just the bundles whose calls are all accepted, and demand 3 holds
-  -- of the calls; what is written of a session that term and step calls lead to reads back as that session, and what is
-  -- read is written again as the same bytes
+  -- of the calls; what is written of a session that calls lead to reads back as that session but for its points, and what
+  -- is read is written again as the same bytes
   pub read-demand : ReadDemand Selected Called Read Write
   -- a whole set replaced: after every list of calls from a fresh session, each node that any path of a covered list
   -- selects is selected by some new one, from the same node of every document; an accepted replace is a case of it
@@ -126,6 +140,8 @@ theorems =
       new-takes = λ κs a. tt;
       term-takes = λ κs a. tt;
       step-takes = λ κs a. tt;
+      point-takes = λ κs a. tt;
+      return-takes = λ κs a. tt;
       select-takes = λ κs a. tt;
       read-takes = λ κs a. tt;
       replace-takes = λ κs a. tt;
@@ -142,6 +158,10 @@ theorems =
       audit = λ κs a r s m. m;
       c-read = λ κs a r s m. m;
       demand3 = source.demand3;
+      whole-session = source.whole-session;
+      no-point-left = source.no-point-left;
+      session-restored = source.session-restored;
+      return-restores = return-restores;
       read-demand = source.read-demand;
       replace-demand = source.replace-demand;
       new-exists = source.new-exists;

@@ -14,7 +14,7 @@ use Rattle.lines.specs.Line.{newline, lines}
 use Rattle.session.specs.declared.session.Session.{Session}
 use Rattle.session.specs.declared.write.WriteAnswer.{WriteAnswer}
 use Rattle.session.specs.declared.write.WriteAnswer.the-variants as WriteCases
-use Rattle.calls.specs.Book.{Step, maxSteps, book, answer}
+use Rattle.calls.specs.Book.{Step, maxSteps, Book, book, answer}
 use Rattle.calls.specs.Refusals.{short-buffer}
 use Rattle.calls.specs.Calls.{CallSeen}
 use Rattle.calls.specs.code.Tables.{rowWidth, stepWidth}
@@ -29,9 +29,9 @@ use Rattle.session.specs.WriteCall.{sessionText, writeAnswerOf, WriteMet
 use Rattle.session.specs.ReadDemand.{IsAccepted, callsOf, IsBundle}
 use Rattle.session.specs.Audit.{maxBytes}
 use Rattle.session.proofs.Simulation.{fresh-kept}
-use Rattle.session.proofs.Sorted.{Sorted}
+use Rattle.session.proofs.Sorted.{AllSorted}
 use Rattle.session.proofs.StepsAdded.{calls-held}
-use Rattle.session.proofs.Views.{rows-count, steps-count, fresh-view}
+use Rattle.session.proofs.Views.{fresh-view}
 
 module _ (s : Session) (buffer : List ℕ) (w : WriteAnswer) (left : List ℕ) (m : WriteMet s buffer w left) where
   -- an accepted write leaves the text at the start
@@ -51,17 +51,13 @@ module _ (s : Session) (buffer : List ℕ) (w : WriteAnswer) (left : List ℕ) (
   written-where-room h = ap (λ a. a .number) (m .answer) ∙ rw (le-leb (length (sessionText s)) (length buffer) h)
 
 -- 40 + 15 * 1024 + 23 * 2048 is 62,504
-pub sorted-short : {s : Session} → Sorted s → length (sessionText s) ≤ 62504
-sorted-short {s} o =
-    let k = o .kept in
-    let text = ap (λ b. length (bundleText (b .rows) (b .steps))) (o .held) in
-    let rows = ap (λ b. length (b .rows)) (o .held) in
-    let steps = ap (λ b. length (b .steps)) (o .held) in
-    let short = bundle-short (o .rows) (o .steps) (o .rows-short) (o .steps-short) in
-    omega (arith, text, rows, steps, short, rows-count s (k .size), steps-count s (k .size))
+pub sorted-short : {b : Book} → AllSorted b → length (bundleText (b .rows) (b .steps)) ≤ 62504
+sorted-short {b} o =
+    let short = bundle-short (b .rows) (b .steps) (o .held .rows-short) (o .held .steps-short) in
+    omega (arith, short, o .fits .rows, o .fits .steps)
 
 -- so a program takes it
-pub sorted-taken : {s : Session} → Sorted s → length (sessionText s) ≤ maxBytes
+pub sorted-taken : {b : Book} → AllSorted b → length (bundleText (b .rows) (b .steps)) ≤ maxBytes
 sorted-taken o = let short = sorted-short o in omega (arith, short)
 
 -- a bundle has one text
@@ -81,9 +77,7 @@ pub read-text : (bytes : List ℕ) (rs : List Row) (ps : List Step) (os : List C
     → IsBundle (lines bytes) rs ps
     → CallsMade freshSession (callsOf rs ps) os u → Every IsAccepted os → sessionText u ≡ bytes
 read-text bytes rs ps os u b run taken =
-    let held = calls-held freshSession rs ps os u fresh-kept run taken
-    ∙ ap (λ b. book (b .rows ++ rs) (b .steps ++ ps)) fresh-view in
-    ap (λ b. bundleText (b .rows) (b .steps)) held ∙ sym (bundle-spelled bytes rs ps b)
+    ap (λ b. bundleText (b .rows) (b .steps)) (calls-held rs ps os u run taken) ∙ sym (bundle-spelled bytes rs ps b)
 
 -- the numbers of a session's tables are those of the rows and steps that it holds
 pub session-tables : (s : Session) → length (s .rows) ≡ rowWidth * maxRows → length (s .steps) ≡ stepWidth * maxSteps

@@ -1,4 +1,4 @@
--- Demand 3, for lists of term and step calls from a fresh session, refused ones included. Assumes nothing.
+-- Demand 3, for lists of term, step, point and return calls from a fresh session, refused ones included. Assumes nothing.
 use Prim.Native.Nat.{ℕ, _≤_, _<_}
 use mathlib.Core.Path.{_≡_}
 use mathlib.Core.Bool.{cond}
@@ -60,7 +60,7 @@ module _ (Selected : SelectRelation) where
 
   -- what demand 3 asks of the calls cs, of which os was seen and which left s
   pub record Demand3 (cs : List Call) (os : List CallSeen) (s : Session) : Type 0 where
-    -- each call's number and value, and after it the rows and steps held, in order, are the book's
+    -- each call's number and value, and after it the rows, steps and points held, in order, are the book's
     pub seen : os ≡ bookSeen cs
     pub held : view s ≡ bookAfter cs
     -- what is then held is true, and select marks by it

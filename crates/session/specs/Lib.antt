@@ -5,6 +5,7 @@ pub mod ReadCall
 pub mod WriteCall
 pub mod Audit
 pub mod Demand3
+pub mod SessionLaws
 pub mod ReadDemand
 pub mod ReplaceDemand
 pub mod values

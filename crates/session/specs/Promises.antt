@@ -11,11 +11,11 @@ use Rattle.calls.specs.declared.SelectAnswer.{SelectAnswer}
 use Rattle.calls.specs.Book.{Answer, accepted}
 use Rattle.calls.specs.TermCall.{termAnswer}
 use Rattle.calls.specs.Runs.{Machine, Made, Run}
-use Rattle.calls.specs.Calls.{Call, term, step, CallSeen, bookAnswer, rowAnswer, Reachable}
+use Rattle.calls.specs.Calls.{Call, term, step, point, return, CallSeen, bookAnswer, rowAnswer, Reachable}
 use Rattle.calls.specs.code.Tables.{rowWidth, firstRows}
 use Rattle.calls.specs.Promises.{SelectMade}
 use Rattle.calls.specs.code.Answers.{termAnswerOf}
-use Rattle.session.specs.View.{view, rowNumbers, withRow, withStep}
+use Rattle.session.specs.View.{view, rowNumbers, withRow, withStep, withPoint, atPoint}
 
 -- what may be said of a call on a session, its answer, and the session that it leaves
 abbrev pub CallRelation : Type 1
@@ -34,6 +34,8 @@ sessionAnswer s c = rowAnswer (view s) c
 abbrev pub sessionWith : Session → Call → Session
 sessionWith s (term r) = withRow s r
 sessionWith s (step p) = withStep s p
+sessionWith s (point n) = withPoint s n
+sessionWith s (return n) = atPoint s n
 
 abbrev pub session : Machine Session Call
 session = record { answer = sessionAnswer; with = sessionWith }

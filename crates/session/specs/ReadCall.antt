@@ -14,7 +14,7 @@ use Rattle.session.specs.declared.read.RowsEnd.the-variants as RowsCases
 use Rattle.session.specs.declared.read.StepsEnd.{StepsEnd}
 use Rattle.session.specs.declared.read.StepsEnd.the-variants as StepsCases
 use Rattle.calls.specs.Book.{maxSteps, Answer, answer, accepted}
-use Rattle.session.specs.View.{freshSession}
+use Rattle.session.specs.View.{noPoints, freshSession}
 use Rattle.calls.specs.Promises.{rowStepAnswer}
 use Rattle.session.specs.Reading.{Reading, refusedAt, stepsRead, rowsRead, reading}
 
@@ -35,9 +35,10 @@ pub record ReadMet (bytes : List ℕ) (t : ReadResult) : Type 0 where
   pub variant : isHeld (t .answer) ≡ accepted (reading bytes .answer)
   pub session : t .session ≡ reading bytes .session
 
--- the session of n rows with the numbers xs, and m steps with the numbers ys
+-- the session of n rows with the numbers xs, and m steps with the numbers ys, without points
 abbrev pub holding : (xs : List ℕ) (n : ℕ) (ys : List ℕ) (m : ℕ) → Session
-holding xs n ys m = record { rows = xs; «row_count» = n; steps = ys; «step_count» = m }
+holding xs n ys m =
+    record { rows = xs; «row_count» = n; steps = ys; «step_count» = m; points = noPoints; «point_count» = 0 }
 
 -- what is still to be read after the term lines, which left the numbers xs
 abbrev pub afterRows : List ℕ → (xs : List ℕ) → RowsEnd → Reading

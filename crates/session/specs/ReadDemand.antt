@@ -13,7 +13,7 @@ use Rattle.session.specs.declared.session.Session.{Session}
 use Rattle.session.specs.declared.read.ReadResult.{ReadResult}
 use Rattle.session.specs.declared.write.WriteAnswer.{WriteAnswer}
 use Rattle.calls.specs.Book.{Step, answer}
-use Rattle.calls.specs.Calls.{Call, term, step, CallSeen}
+use Rattle.calls.specs.Calls.{Call, term, step, point, return, CallSeen}
 use Rattle.calls.specs.Runs.{Run}
 use Rattle.session.specs.View.{view, freshSession, rowNumbers, stepNumbers}
 use Rattle.session.specs.Promises.{CallRelation, SelectRelation}
@@ -22,6 +22,7 @@ use Rattle.session.specs.ReadCall.{readAnswerOf}
 use Rattle.session.specs.WriteCall.{writeAnswerOf, WriteRelation}
 use Rattle.session.specs.Audit.{maxBytes}
 use Rattle.session.specs.Demand3.{Demand3}
+use Rattle.session.specs.SessionLaws.{withoutPoints}
 
 abbrev pub IsAccepted : CallSeen → Type 0
 IsAccepted o = o .answer .number ≡ 0
@@ -45,10 +46,12 @@ RowFits r = AllFit (rowNumbers r)
 abbrev pub StepFits : Step → Type 0
 StepFits p = AllFit (stepNumbers p)
 
--- a term or a step call of such numbers
-pub data TermOrStep : Call → Type 0 where
-  term-fits : (r : Row) → RowFits r → TermOrStep (term r)
-  step-fits : (p : Step) → StepFits p → TermOrStep (step p)
+-- a call whose row or step has such numbers
+abbrev pub CallFits : Call → Type 0
+CallFits (term r) = RowFits r
+CallFits (step p) = StepFits p
+CallFits (point n) = Unit {0}
+CallFits (return n) = Unit {0}
 
 -- `Selected` and `Called` as in demand 3
 module _ (Selected : SelectRelation) (Called : CallRelation) where
@@ -80,19 +83,19 @@ module _ (Selected : SelectRelation) (Called : CallRelation) where
         → Run view Called freshSession (callsOf rs ps) os s → Every IsAccepted os
         → (t : ReadResult) → Read (bundleText rs ps) t
         → (readAnswerOf (t .answer) ≡ answer 0 (length ps)) × (t .session ≡ s)
-    -- reading what was written of a session that term and step calls lead to gives 0, the number of steps, and that
-    -- very session
+    -- reading what was written of a session that calls lead to, returns among them, gives 0, the number of steps, and
+    -- that very session but for its points
     pub written-reads-back : (cs : List Call) (os : List CallSeen) (s : Session)
-        → Run view Called freshSession cs os s → Every TermOrStep cs
+        → Run view Called freshSession cs os s → Every CallFits cs
         → (buffer left : List ℕ) (w : WriteAnswer) → Write s buffer w left → writeAnswerOf w .number ≡ 0
         → (t : ReadResult) → Read (take (writeAnswerOf w .value) left) t
-        → (readAnswerOf (t .answer) ≡ answer 0 (length (view s .steps))) × (t .session ≡ s)
+        → (readAnswerOf (t .answer) ≡ answer 0 (length (view s .steps))) × (t .session ≡ withoutPoints s)
     -- what read accepted and is written again is the same bytes
     pub same-bytes : (bytes : List ℕ) (t : ReadResult) → Read bytes t → readAnswerOf (t .answer) .number ≡ 0
         → (buffer left : List ℕ) (w : WriteAnswer) → Write (t .session) buffer w left → writeAnswerOf w .number ≡ 0
         → take (writeAnswerOf w .value) left ≡ bytes
-    -- a buffer as long as the longest text that audit takes has room for every session that term and step calls lead to
+    -- a buffer as long as the longest text that audit takes has room for every session that calls lead to
     pub always-room : (cs : List Call) (os : List CallSeen) (s : Session)
-        → Run view Called freshSession cs os s → Every TermOrStep cs
+        → Run view Called freshSession cs os s → Every CallFits cs
         → (buffer left : List ℕ) (w : WriteAnswer) → Write s buffer w left → maxBytes ≤ length buffer
         → writeAnswerOf w .number ≡ 0

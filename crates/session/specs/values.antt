@@ -1,3 +1,4 @@
 pub mod BundleCases
 pub mod AuditCases
 pub mod WriteCases
+pub mod PointedCases

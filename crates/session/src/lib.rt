@@ -6,6 +6,7 @@ mod report;
 mod session;
 mod write;
 
+pub use calls::PointAnswer;
 pub use calls::SelectAnswer;
 pub use calls::StepAnswer;
 pub use calls::TermAnswer;
@@ -14,6 +15,7 @@ pub use read::ReadResult;
 pub use replacing::ReplaceAnswer;
 pub use report::Report;
 pub use report::audit;
+pub use session::PointResult;
 pub use session::Session;
 pub use session::StepResult;
 pub use session::TermResult;

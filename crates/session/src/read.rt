@@ -1,4 +1,5 @@
 // The reading of a bundle: its lines are the calls, made from a fresh session.
+use crate::session::POINT_NUMBERS;
 use crate::session::Session;
 use crate::session::no_rows;
 use crate::session::no_steps;
@@ -197,6 +198,8 @@ impl Session {
                             row_count: n,
                             steps,
                             step_count: m,
+                            points: [0u16; POINT_NUMBERS],
+                            point_count: 0,
                         },
                     },
                     StepsEnd::Refused { number, line } => refused_read(number, line, fresh),

@@ -1,4 +1,6 @@
-// A session: rows of terms and steps of derivations, held by value, and the calls on it.
+// A session: rows of terms, steps of derivations and named points, held by value, and the calls on it.
+use calls::PointAnswer;
+use calls::PointCounts;
 use calls::SelectAnswer;
 use calls::Step;
 use calls::StepAnswer;
@@ -10,11 +12,12 @@ ghost use lib.ListN.{length};
 ghost use lib.Seq.{sets};
 ghost use Rattle.terms.specs.Row.{row, maxRows};
 ghost use Rattle.terms.specs.code.RowTypes.{rowOf};
-ghost use Rattle.calls.specs.Book.{step, maxSteps};
+ghost use Rattle.calls.specs.Book.{step, maxSteps, maxPoints};
 ghost use Rattle.calls.specs.Calls.{Call};
 ghost use Rattle.calls.specs.code.Tables.{rowWidth, stepWidth};
 ghost use Rattle.calls.specs.code.Answers.{stepOf, termAnswerOf, stepAnswerOf};
-ghost use Rattle.session.specs.View.{freshSession, rowNumbers, stepNumbers};
+ghost use Rattle.calls.specs.code.Points.{pointAnswerOf, pointWidth, cleared};
+ghost use Rattle.session.specs.View.{freshSession, rowNumbers, stepNumbers, countsNumbers};
 ghost use Rattle.session.specs.Promises.{Met, TermPlaced, SelectMet};
 
 // The numbers of a session's tables.
@@ -22,12 +25,17 @@ pub(crate) const ROW_NUMBERS: usize = terms::ROW_WIDTH * terms::MAX_ROWS;
 
 pub(crate) const STEP_NUMBERS: usize = calls::STEP_WIDTH * calls::MAX_STEPS;
 
-// Rows, four numbers each, and steps, five numbers each; of both the first ones are held, as many as the counts say.
+pub(crate) const POINT_NUMBERS: usize = calls::POINT_WIDTH * calls::MAX_POINTS;
+
+// Rows, four numbers each, steps, five each, and points, three each; of each the first ones are held, as many as the counts
+// say.
 pub struct Session {
     pub(crate) rows: [u16; ROW_NUMBERS],
     pub(crate) row_count: usize,
     pub(crate) steps: [u16; STEP_NUMBERS],
     pub(crate) step_count: usize,
+    pub(crate) points: [u16; POINT_NUMBERS],
+    pub(crate) point_count: usize,
 }
 
 pub struct TermResult {
@@ -37,6 +45,11 @@ pub struct TermResult {
 
 pub struct StepResult {
     pub answer: StepAnswer,
+    pub session: Session,
+}
+
+pub struct PointResult {
+    pub answer: PointAnswer,
     pub session: Session,
 }
 
@@ -93,6 +106,38 @@ fn put_in_table(steps: &mut [u16; STEP_NUMBERS], m: usize, step: Step)
     put_step(steps, m, step)
 }
 
+// Point k, counted from 0, becomes `point`.
+fn put_point(points: &mut [u16; POINT_NUMBERS], k: usize, point: PointCounts)
+    requires { ⌜ (k < maxPoints) × (length (now points) ≡ pointWidth * maxPoints) ⌝ }
+    ensures { λ r. ⌜ now (points .exit) ≡ sets (now (points .entry)) (pointWidth * k) (countsNumbers point) ⌝ }
+{
+    let at = calls::POINT_WIDTH * k;
+    points[at] = point.name;
+    points[at + 1] = point.rows;
+    points[at + 2] = point.steps;
+}
+
+// The numbers of a session's rows from place `from` on become 0.
+fn clear_rows(rows: &mut [u16; ROW_NUMBERS], from: usize)
+    ensures { λ r. ⌜ now (rows .exit) ≡ cleared from (now (rows .entry)) ⌝ }
+{
+    calls::clear(rows, from)
+}
+
+// The same of its steps.
+fn clear_steps(steps: &mut [u16; STEP_NUMBERS], from: usize)
+    ensures { λ r. ⌜ now (steps .exit) ≡ cleared from (now (steps .entry)) ⌝ }
+{
+    calls::clear(steps, from)
+}
+
+// The same of its points.
+fn clear_points(points: &mut [u16; POINT_NUMBERS], from: usize)
+    ensures { λ r. ⌜ now (points .exit) ≡ cleared from (now (points .entry)) ⌝ }
+{
+    calls::clear(points, from)
+}
+
 pub(crate) fn no_rows() -> [u16; ROW_NUMBERS]
     ensures { λ r. ⌜ r ≡ freshSession .rows ⌝ }
 {
@@ -110,6 +155,8 @@ impl Session {
 
     pub const STEPS: usize = calls::MAX_STEPS;
 
+    pub const POINTS: usize = calls::MAX_POINTS;
+
     pub const NESTING: u16 = terms::MAX_NESTING;
 
     pub const NODES: usize = xpath::MAX_NODES;
@@ -122,6 +169,8 @@ impl Session {
             row_count: 0,
             steps: [0u16; STEP_NUMBERS],
             step_count: 0,
+            points: [0u16; POINT_NUMBERS],
+            point_count: 0,
         }
     }
 
@@ -164,6 +213,50 @@ impl Session {
         }
         StepResult {
             answer: judged,
+            session: self,
+        }
+    }
+
+    // Sets a point of that name.
+    pub fn point(mut self, name: u16) -> PointResult
+        ensures { λ r. ⌜ Met self (Call.point name) (pointAnswerOf (r .answer)) (r .session) ⌝ }
+    {
+        let n = calls::clamp(self.row_count, Session::ROWS);
+        let m = calls::clamp(self.step_count, Session::STEPS);
+        let k = calls::clamp(self.point_count, Session::POINTS);
+        let told = calls::judge_point(&self.points, self.point_count, name);
+        if told.number() == 0 {
+            let rows = n as u16;
+            let steps = m as u16;
+            put_point(&mut self.points, k, PointCounts { name, rows, steps });
+            self.point_count = k + 1;
+        }
+        PointResult {
+            answer: told,
+            session: self,
+        }
+    }
+
+    // Returns to the point of that name: just the rows and steps held when it was set are left, and later points are
+    // forgotten.
+    pub fn return_to(mut self, name: u16) -> PointResult
+        ensures { λ r. ⌜ Met self (Call.return name) (pointAnswerOf (r .answer)) (r .session) ⌝ }
+    {
+        let found = calls::judge_return(&self.points, self.point_count, name);
+        if found.number() == 0 {
+            let place = calls::point_place(&self.points, self.point_count, name);
+            let point = calls::point_named(&self.points, self.point_count, name);
+            let n = common::wide(point.rows);
+            let m = common::wide(point.steps);
+            clear_rows(&mut self.rows, terms::ROW_WIDTH * n);
+            self.row_count = n;
+            clear_steps(&mut self.steps, calls::STEP_WIDTH * m);
+            self.step_count = m;
+            clear_points(&mut self.points, calls::POINT_WIDTH * (place + 1));
+            self.point_count = place + 1;
+        }
+        PointResult {
+            answer: found,
             session: self,
         }
     }

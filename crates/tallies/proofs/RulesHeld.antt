@@ -1,20 +1,23 @@
 -- The steps of an accepted bundle are held by rules of the table, and are no more than a session has room for.
 -- Assumes nothing.
-use Prim.Native.Nat.{ℕ, _≤_}
+use Prim.Native.Nat.{ℕ, zero, suc, _+_, _≤_}
 use mathlib.Core.Path.{_≡_, refl, sym, ap, subst, _∙_}
 use mathlib.Core.Bool.{Bool, true, false, cond, not, _&&_, false≢true}
 use mathlib.Core.List.{List, [], _∷_, _++_}
 use native.Mathlib.Omega.{arith}
 use lib.Dec.{leb}
-use lib.ListN.{length}
+use lib.ListN.{length, getD, take}
 use borrow.Author.Tests.{eqb-true}
 use Rattle.common.specs.Lists.{Every}
 use Rattle.rules.specs.Yields.{maxRule}
-use Rattle.calls.specs.Book.{Step, maxSteps, Book, emptyBook, accepted}
+use Rattle.calls.specs.Book as books
+use Rattle.calls.specs.Book.{Step, maxSteps, Book, emptyBook, accepted, noPoint}
+use Rattle.calls.specs.PointCall.{pointNames, placeOf}
 use Rattle.calls.specs.StepCall.{isYielded, stepAnswer}
 use Rattle.calls.specs.Runs.{next, final}
-use Rattle.calls.specs.Calls.{Call, term, step, bookAnswer, bookWith, plainBook}
+use Rattle.calls.specs.Calls.{Call, term, step, point, return, bookAnswer, bookWith, plainBook}
 use Rattle.calls.proofs.Accepted.{by-accepted}
+use Rattle.calls.proofs.Returns.{every-more, every-first}
 use Rattle.calls.proofs.StepJudged.{step-accepted}
 use Rattle.calls.proofs.Tables.{few-steps}
 use Rattle.session.specs.declared.session.Session.{Session}
@@ -33,9 +36,10 @@ second : (a b : Bool) → (a && b) ≡ true → b ≡ true
 second true b e = e
 second false b e = absurd (false≢true e)
 
-and-last : {A : Type 0} (P : A → Type 0) (xs : List A) (x : A) → Every P xs → P x → Every P (xs ++ (x ∷ []))
-and-last P [] x h g = (g, tt)
-and-last P (y ∷ ys) x h g = (h .0, and-last P ys x (h .1) g)
+every-at : {A : Type 0} (P : A → Type 0) (d : A) (xs : List A) (i : ℕ) → Every P xs → P d → P (getD xs i d)
+every-at P d [] i h g = g
+every-at P d (x ∷ xs) zero h g = h .0
+every-at P d (x ∷ xs) (suc i) h g = every-at P d xs i (h .1) g
 
 -- a step that no refusal applies to isn't refused with 4
 accepted-rule : (b : Book) (p : Step) → stepAnswer b p .number ≡ 0 → RuleHeld p
@@ -44,11 +48,17 @@ accepted-rule b p e = step-accepted (isYielded b p) b p e .rule
 
 -- an accepted call keeps it, so calls do
 abbrev RulesHeld : Book → Type 0
-RulesHeld b = Every RuleHeld (b .steps)
+RulesHeld b = Every RuleHeld (b .steps) × Every (λ q. Every RuleHeld (q .steps)) (b .points)
 
 rules-with : (b : Book) (c : Call) → RulesHeld b → bookAnswer b c .number ≡ 0 → RulesHeld (bookWith b c)
 rules-with b (term r) held e = held
-rules-with b (step p) held e = and-last RuleHeld (b .steps) p held (accepted-rule b p e)
+rules-with b (step p) held e = (every-more RuleHeld (b .steps) p (held .0) (accepted-rule b p e), held .1)
+rules-with b (point n) held e =
+    (held .0, every-more (λ q. Every RuleHeld (q .steps)) (b .points) (books.point n (b .rows) (b .steps)) (held .1) (held .0))
+rules-with b (return n) held e = (
+  every-at (λ q. Every RuleHeld (q .steps)) noPoint (b .points) (placeOf (pointNames (b .points)) n) (held .1) tt,
+  every-first (λ q. Every RuleHeld (q .steps)) (placeOf (pointNames (b .points)) n + 1) (b .points) (held .1),
+)
 
 rules-after : (b : Book) (cs : List Call) → RulesHeld b → RulesHeld (final plainBook b cs)
 unfolding final
@@ -65,7 +75,7 @@ rules-read bytes taken =
     let number : readAnswerOf (t .answer) .number ≡ 0 =
     ap (λ a. a .number) (met .answer) ∙ eqb-true (reading bytes .answer .number) 0 taken in
     let bundle = read-demand .accepted bytes t read number in
-    subst RulesHeld (sym (bundle .demand .held) ∙ ap view (met .session)) (rules-after emptyBook _ tt)
+    subst RulesHeld (sym (bundle .demand .held) ∙ ap view (met .session)) (rules-after emptyBook _ (tt, tt))
 
 -- what holds of an accepted bundle's steps, and of none, holds of those that count
 by-bundle : (P : List Step → Type 0) (f : File) → (isAccepted f ≡ true → P (view (reading (f .bytes) .session) .steps))
@@ -82,7 +92,7 @@ unfolding isAccepted
 rules-held f =
     let short = not (f .failed) && leb (length (f .bytes)) maxBytes in
     by-bundle (Every RuleHeld) f
-    (λ e. rules-read (f .bytes) (second short (accepted (reading (f .bytes) .answer)) e))
+    (λ e. rules-read (f .bytes) (second short (accepted (reading (f .bytes) .answer)) e) .0)
     tt
 
 few-viewed : (s : Session) → length (view s .steps) ≤ maxSteps

@@ -5,7 +5,8 @@ use mathlib.Core.List.{List, [], _∷_}
 use mathlib.Core.Option.{Option, none, some}
 use Rattle.lines.specs.Line.{Line, partsRead}
 use Rattle.script.specs.declared.Word.{Word}
-use Rattle.script.specs.declared.Word.the-variants.{Term, Step, Select, Document, Fresh, Old, New, Replace, Write}
+use Rattle.script.specs.declared.Word.the-variants.{Term, Step, Select, Document, Fresh, Old, New, Replace}
+use Rattle.script.specs.declared.Word.the-variants.{Write, Point, Return}
 use Rattle.script.specs.Command.{Command, commandOf}
 use Rattle.transcript.specs.declared.Style.{Style}
 use Rattle.transcript.specs.declared.Style.the-variants.{Answers, Nodes}
@@ -27,6 +28,8 @@ wordTaken s Document = true
 wordTaken s Old = true
 wordTaken s New = true
 wordTaken s Replace = true
+wordTaken s Point = true
+wordTaken s Return = true
 wordTaken s Fresh = freshTaken s
 wordTaken s Write = writeTaken s
 

@@ -121,6 +121,20 @@ fn step(s: Session, v: Values, style: Style) -> Session {
     made.session
 }
 
+fn point(s: Session, values: Values, style: Style) -> Session {
+    let made = s.point(values.a);
+    let answer = made.answer;
+    print(style, answer.number(), answer.value() as u64);
+    made.session
+}
+
+fn return_to(s: Session, values: Values, style: Style) -> Session {
+    let made = s.return_to(values.a);
+    let answer = made.answer;
+    print(style, answer.number(), answer.value() as u64);
+    made.session
+}
+
 fn put_node(line: &mut [u8], used: usize, mark: u8, node: usize) -> usize {
     if mark != 1 {
         return used;
@@ -220,6 +234,8 @@ fn is_taken(word: Word, style: Style) -> bool
             Style::Answers => false,
             Style::Nodes => true,
         },
+        Word::Point => true,
+        Word::Return => true,
         Word::Old => true,
         Word::New => true,
         Word::Replace => true,
@@ -269,6 +285,8 @@ fn make(s: Session, lent: Lent, read: CallLine, style: Style) -> Session {
     match word {
         Word::Term => term(s, values, style),
         Word::Step => step(s, values, style),
+        Word::Point => point(s, values, style),
+        Word::Return => return_to(s, values, style),
         Word::Select => {
             select(s, lent.document, values, style);
             s

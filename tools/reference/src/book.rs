@@ -1,4 +1,5 @@
-//! The plain book: rows and steps, and the calls term, step and select with their refusals in 01's order.
+//! The plain book: rows, steps and 02's named points, and the calls term, step, point, return and select with their
+//! refusals in the papers' order.
 
 use crate::document::document;
 use crate::rules;
@@ -18,6 +19,14 @@ pub const MOST_STEPS: usize = 2048;
 pub const DEEPEST: u32 = 32;
 /// Of the old rows of a replace, and of the new ones.
 pub const MOST_REPLACED: usize = 64;
+pub const MOST_POINTS: usize = 8;
+
+/// A named point: its name, and how many rows and steps were held when it was set.
+struct Point {
+    name: u16,
+    rows: usize,
+    steps: usize,
+}
 
 #[derive(Default)]
 pub struct Book {
@@ -26,6 +35,7 @@ pub struct Book {
     terms: Vec<Rc<Term>>,
     nestings: Vec<u32>,
     pub steps: Vec<Step>,
+    points: Vec<Point>,
 }
 
 impl Book {
@@ -79,6 +89,30 @@ impl Book {
         }
         self.steps.push(step);
         (0, self.steps.len() as u64)
+    }
+
+    pub fn point(&mut self, name: u16) -> Answer {
+        if name == 0 || self.points.iter().any(|point| point.name == name) {
+            return (20, name as u64);
+        }
+        if self.points.len() == MOST_POINTS {
+            return (21, 0);
+        }
+        self.points.push(Point { name, rows: self.terms.len(), steps: self.steps.len() });
+        (0, 0)
+    }
+
+    /// Rows and steps are only ever put at the end, so what was held then is the first ones.
+    pub fn return_to(&mut self, name: u16) -> Answer {
+        let Some(place) = self.points.iter().position(|point| point.name == name) else { return (20, name as u64) };
+        let Point { rows, steps, .. } = self.points[place];
+        self.numbers.retain(|_, number| *number < rows);
+        self.rows.truncate(rows);
+        self.terms.truncate(rows);
+        self.nestings.truncate(rows);
+        self.steps.truncate(steps);
+        self.points.truncate(place + 1);
+        (0, 0)
     }
 
     pub fn select(&self, row: u16, numbers: &[u16], context: u16, limit: u32, marks: &mut [u8]) -> Answer {

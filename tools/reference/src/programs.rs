@@ -61,6 +61,8 @@ impl Run {
             [b"step", rule, left, right, first, second] => {
                 self.book.step([small(rule)?, small(left)?, small(right)?, small(first)?, small(second)?])
             }
+            [b"point", name] => self.book.point(small(name)?),
+            [b"return", name] => self.book.return_to(small(name)?),
             [b"document", ref numbers @ ..] if numbers.len() <= MOST_NUMBERS => {
                 self.document = numbers.iter().map(|word| small(word)).collect::<Option<_>>()?;
                 return Some(String::new());

@@ -364,3 +364,28 @@ fn tally_refuses_the_first_bad_line() {
     assert_eq!(tally(format!("{one}{place}/one\0b\n").as_bytes()), "17 2\n");
     assert_eq!(tally(format!("{}\n", "x".repeat(5000)).as_bytes()), "17 1\n");
 }
+
+#[test]
+fn points_and_returns() {
+    let calls = "term 1 0 0 0\npoint 0\npoint 7\npoint 7\nterm 6 0 0 0\nstep 2 0 0 0 0\npoint 8\nreturn 9\nreturn 7\n\
+                 return 8\nterm 6 0 0 0\nstep 2 0 0 0 0\nstep 2 0 0 0 0\nreturn 7\nstep 2 1 1 0 0\n";
+    let answers = [
+        "0 0", "20 0", "0 0", "20 7", "0 1", "0 1", "0 0", "20 9", "0 0", "20 8", "0 1", "0 1", "0 2", "0 0", "5 1",
+    ];
+    assert_eq!(replayed(calls), answers);
+}
+
+#[test]
+fn eight_points() {
+    let mut calls: String = (1..=9).map(|name| format!("point {name}\n")).collect();
+    calls += "point 0\npoint 8\nreturn 7\npoint 9\npoint 10\n";
+    let answers = replayed(&calls);
+    assert_eq!(answers[7..], ["0 0", "21 0", "20 0", "20 8", "0 0", "0 0", "21 0"]);
+}
+
+#[test]
+fn written_after_a_return() {
+    let calls = "term 1 0 0 0\npoint 7\nterm 6 0 0 0\nstep 2 0 0 0 0\nreturn 7\nwrite 100\n";
+    let answers = ["0 0", "0 0", "0 1", "0 1", "0 0", "0 48", "kind a b c", "1 0 0 0", "rule left right first second"];
+    assert_eq!(replayed(calls), answers);
+}

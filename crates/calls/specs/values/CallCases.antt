@@ -29,28 +29,29 @@ use Rattle.calls.specs.TermCall.{termAnswer}
 use Rattle.calls.specs.StepCall.{sameSort, badSide, premiseOk, badPremise, claimOf, premisesOf}
 use Rattle.calls.specs.StepCall.{stepAnswerBy, isYielded, stepAnswer}
 use Rattle.calls.specs.SelectCall.{selectAnswer, selectBuffer}
+use Rattle.calls.specs.PointCall.{placeOf, pointAnswer, returnAnswer}
 use Rattle.calls.specs.Runs.{seen, shown, final}
 use Rattle.calls.specs.Calls.{Call, plainBook, CallSeen, bookAfter}
 
-abbrev term : ℕ → ℕ → ℕ → ℕ → Call
+abbrev pub term : ℕ → ℕ → ℕ → ℕ → Call
 term k a b c = Call.term (row k a b c)
 
-abbrev step : ℕ → ℕ → ℕ → ℕ → ℕ → Call
+abbrev pub step : ℕ → ℕ → ℕ → ℕ → ℕ → Call
 step n l r i j = Call.step (books.step n l r i j)
 
 infix 72 _leaving_
 -- an answer, and the book after it
-abbrev _leaving_ : Answer → Book → CallSeen
+abbrev pub _leaving_ : Answer → Book → CallSeen
 t leaving b = seen t b
 
 -- what is seen of calls made in order on the book b; to unfold it is to unfold all that it computes with
-unfoldable seenFrom : Book → List Call → List CallSeen
+unfoldable pub seenFrom : Book → List Call → List CallSeen
 unfolding
     shown termAnswer badPlace fieldsOf fieldOk
     heldPath heldQualifier isPath isQualifier nesting nestings entriesFrom nestingBy operandNesting
     find sameRow stepAnswer stepAnswerBy sameSort badSide premiseOk badPremise claimOf premisesOf
     isYielded says termAt terms termBy asPath asQualifier premiseCount firstCount formsOf formsIn
-    rules decide yields-dec decision.ruleFits
+    rules decide yields-dec decision.ruleFits placeOf pointAnswer returnAnswer
 seenFrom b cs = shown plainBook b cs
 
 -- the calls, made in order on the book b, get these answers, and after each the book is as it was

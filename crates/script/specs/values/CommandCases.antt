@@ -10,7 +10,8 @@ use Rattle.lines.specs.Ascii.{ascii}
 use Rattle.lines.specs.Line.{inFirstLine, lines, inFirstPart, parts, sameBytes}
 use Rattle.lines.specs.Number.{isDigit, areDigits, isDecimal, appendDigits, numbersUpTo}
 use Rattle.lines.specs.code.NumbersRead.{firstParts}
-use Rattle.script.specs.declared.Word.the-variants.{Term, Step, Select, Document, Fresh, Old, New, Replace, Write}
+use Rattle.script.specs.declared.Word.the-variants.{Term, Step, Select, Document, Fresh, Old, New, Replace}
+use Rattle.script.specs.declared.Word.the-variants.{Write, Point, Return}
 use Rattle.script.specs.Command.{Command, command, words, shapeOf, atMost, named, wordFor, commandBy, commandOf}
 
 -- the command of a text's first line
@@ -33,6 +34,8 @@ pub commands :
     ∷ first "replace\n" is some (command Replace [])
     ∷ first "write 0\n" is some (command Write (0 ∷ []))
     ∷ first "write 65536\n" is some (command Write (65536 ∷ []))
+    ∷ first "point 65535\n" is some (command Point (65535 ∷ []))
+    ∷ first "return 0\n" is some (command Return (0 ∷ []))
     ∷ [])
 unfolding ascii words wordFor shapeOf commandBy named atMost firstParts lines inFirstLine parts inFirstPart sameBytes
     numbersUpTo Option·elim isDecimal areDigits isDigit appendDigits
@@ -79,6 +82,13 @@ pub no-commands :
     ∷ first "write\n" is none
     ∷ first "write 1 1\n" is none
     ∷ first "write 1 \n" is none
+    -- a point without a name, with 65536, with two names; a return without one, with 65536, with a space at its end
+    ∷ first "point\n" is none
+    ∷ first "point 65536\n" is none
+    ∷ first "point 1 2\n" is none
+    ∷ first "return\n" is none
+    ∷ first "return 65536\n" is none
+    ∷ first "return 1 \n" is none
     ∷ [])
 unfolding ascii words wordFor shapeOf commandBy named atMost firstParts lines inFirstLine parts inFirstPart sameBytes
     numbersUpTo Option·elim isDecimal areDigits isDigit appendDigits

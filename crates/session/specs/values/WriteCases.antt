@@ -10,12 +10,12 @@ use Rattle.lines.specs.Ascii.{ascii}
 use Rattle.lines.specs.Written.{digitsOf, decimal, lineText}
 use Rattle.calls.specs.Book as book
 use Rattle.calls.specs.Book.{Step, answer}
-use Rattle.calls.specs.Calls.{term, step}
+use Rattle.calls.specs.Calls.{term, step, point, return}
 use Rattle.calls.specs.code.Tables.{stepsOf}
 use Rattle.bundles.specs.Bundle.{rowNames, stepNames, rowsText, stepsText, bundleText}
-use Rattle.session.specs.View.{view, freshSession}
+use Rattle.session.specs.View.{view, noPoints, freshSession}
 use Rattle.session.specs.WriteCall.{sessionText, writeAnswer, writeBuffer}
-use Rattle.session.specs.ReadDemand.{TermOrStep, term-fits, step-fits}
+use Rattle.session.specs.ReadDemand.{CallFits}
 
 -- a text of three bytes, and buffers that are longer, as long, a byte shorter, and empty
 answers :
@@ -52,7 +52,14 @@ unfolding view freshSession tableOf stepsOf bundleText rowNames stepNames rowsTe
 fresh-text = refl
 
 full-length : length (sessionText
-    (record { rows = replicate 4096 0; «row_count» = 1025; steps = replicate 10240 0; «step_count» = 2049 })) ≡ 28712
+    (record {
+      rows = replicate 4096 0;
+      «row_count» = 1025;
+      steps = replicate 10240 0;
+      «step_count» = 2049;
+      points = noPoints;
+      «point_count» = 0;
+    })) ≡ 28712
 unfolding view tableOf stepsOf bundleText rowNames stepNames rowsText stepsText lineText decimal digitsOf ascii
 full-length = refl
 
@@ -63,8 +70,9 @@ largestRow = row 65535 65535 65535 65535
 abbrev largestStep : Step
 largestStep = book.step 65535 65535 65535 65535 65535
 
-largest : Every TermOrStep (term largestRow ∷ step largestStep ∷ [])
+-- and so are all that set points and return
+largest : Every CallFits (term largestRow ∷ step largestStep ∷ point 65535 ∷ return 65535 ∷ [])
 largest = (
-  term-fits largestRow (omega arith, (omega arith, (omega arith, (omega arith, tt)))),
-  (step-fits largestStep (omega arith, (omega arith, (omega arith, (omega arith, (omega arith, tt))))), tt),
+  (omega arith, (omega arith, (omega arith, (omega arith, tt)))),
+  ((omega arith, (omega arith, (omega arith, (omega arith, (omega arith, tt))))), (tt, (tt, tt))),
 )

@@ -18,10 +18,11 @@ ends style text = endingLine style 1 (lines (ascii text))
 
 pub endings :
     AllRight
-    -- no line, two calls, a line without its newline, `fresh`, a word that is none
+    -- no line, two calls, a line without its newline, a point without its name, `fresh`, a word that is none
     (ends Answers "" is 0
     ∷ ends Answers "term 1 0 0 0\ndocument\n" is 0
     ∷ ends Answers "term 1 0 0 0\nterm 1 0 0 0" is 2
+    ∷ ends Answers "point 1\nreturn 1\npoint\n" is 3
     ∷ ends Answers "document\nfresh\n" is 2
     ∷ ends Answers "terms 1 0 0 0\n" is 1
     -- the lists of a replace, and it

@@ -1,6 +1,8 @@
 -- `Session::replace` meets its contract: the rows and steps held are those of the view. Assumes nothing.
 use mathlib.Core.Path.{_∙_}
 use borrow.Author.Needs.{needs}
+use Rattle.replacing.specs.Covered.{isReplaced, isReplacedAt}
+use Rattle.replacing.specs.ReplaceCall.{firstUncovered, replaceAnswer}
 use Rattle.session.specs.View.{view}
 use Rattle.session.proofs.session.Session.replace.Statement.{statement}
 use Rattle.session.proofs.session.Session.replace.Tie as tie
@@ -15,7 +17,7 @@ replace-on-requires : tie.Need-replace-on-requires
 replace-on-requires c κs = search needs
 
 returns : tie.Need-returns
-unfolding view
+unfolding view replaceAnswer firstUncovered isReplacedAt isReplaced
 returns c =
     let at-steps = c .before in
     let at-rows = at-steps .before .before .before in

@@ -1,0 +1,63 @@
+-- `points` is safe and ends: the loop counts. Assumes nothing.
+use Prim.Native.Nat.{_≤_, _-_}
+use native.Mathlib.Omega.{arith}
+use borrow.Author.Needs.{needs}
+use Rattle.limits.proofs.points.Statement.{statement}
+use Rattle.limits.proofs.points.Tie as tie
+
+abbrev Inv-loop : tie.InvT-loop
+Inv-loop s₀ i₀ s i = i ≤ 9
+
+abbrev μ-loop : tie.MeasureT-loop
+μ-loop s₀ i₀ s i = 9 - i
+
+new-requires : tie.Need-new-requires Inv-loop μ-loop
+new-requires c κs = search needs
+
+loop-holds : tie.Need-loop-holds Inv-loop μ-loop
+loop-holds c = omega arith
+
+add-point : tie.Need-add-point Inv-loop μ-loop
+add-point c = omega arith
+
+point-requires : tie.Need-point-requires Inv-loop μ-loop
+point-requires c κs = search needs
+
+number-requires : tie.Need-number-requires Inv-loop μ-loop
+number-requires c κs = search needs
+
+value-requires : tie.Need-value-requires Inv-loop μ-loop
+value-requires c κs = search needs
+
+print-requires : tie.Need-print-requires Inv-loop μ-loop
+print-requires c κs = search needs
+
+add-i : tie.Need-add-i Inv-loop μ-loop
+add-i c = omega arith
+
+loop-less : tie.Need-loop-less Inv-loop μ-loop
+loop-less c = omega arith
+
+loop-again : tie.Need-loop-again Inv-loop μ-loop
+loop-again c = omega arith
+
+returns : tie.Need-returns Inv-loop μ-loop
+returns c = search needs
+
+pub points-spec : {M : Type 1} → statement M
+points-spec =
+    tie.close
+    (tie.spec
+    Inv-loop
+    μ-loop
+    new-requires
+    loop-holds
+    add-point
+    point-requires
+    number-requires
+    value-requires
+    print-requires
+    add-i
+    loop-less
+    loop-again
+    returns)
