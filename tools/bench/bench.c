@@ -1,7 +1,8 @@
 /* Measures the proved read and write against the reference's on one bundle, and the proved selection against libxml2's
  * XPath with compiled expressions on a document nested 500 levels and on a flat one: on a tree that stands already, and
  * with the parsing of the document's text. Then the longest time of one visit. After the bundle, one term call and one
- * step call by rules 2 and 59. Prints tables in Markdown. run.sh builds and runs it. */
+ * step call by rules 2 and 59, and the orders of two rows and of two bundles. Prints tables in Markdown. run.sh builds
+ * and runs it. */
 
 #include "spinebriar.h"
 #include <libxml/parser.h>
@@ -19,6 +20,13 @@ uint16_t bench_select(const uint16_t *rows, size_t row_numbers, uint16_t row, co
 
 size_t bench_write(uint8_t *out, size_t room, const uint16_t *rows, size_t row_numbers, size_t row_count,
                    const uint16_t *steps, size_t step_numbers, size_t step_count);
+
+uint32_t bench_order(const uint16_t *left, size_t left_numbers, uint16_t i, const uint16_t *right, size_t right_numbers,
+                     uint16_t j);
+
+uint32_t bench_bundle_order(const uint16_t *left, size_t left_numbers, const uint16_t *left_steps,
+                            size_t left_step_numbers, const uint16_t *right, size_t right_numbers,
+                            const uint16_t *right_steps, size_t right_step_numbers);
 
 /* tools/reference/src/c.rs */
 uint16_t reference_read(const uint8_t *bytes, size_t length);
@@ -295,6 +303,85 @@ static void bench_calls(void) {
                    &deep, doubled(&deep, 27));
     bench_way_back("a step by rule 59 of a path of 128 steps, no two the same: 643 rows", &wide,
                    balanced(&wide, add_row(&wide, 2, 2, 2, 0), 1, 128));
+}
+
+/* Orders */
+
+typedef struct {
+    uint16_t rows[ROW_NUMBERS], steps[STEP_NUMBERS];
+    size_t row_numbers, step_numbers;
+} Table;
+
+typedef struct {
+    Table left, right;
+    int i, j; /* the rows that are compared */
+} Tables;
+
+static int put_row(Table *t, int kind, int a, int b, int c) {
+    int row = (int)(t->row_numbers / 4), numbers[] = {kind, a, b, c};
+    check(t->row_numbers < ROW_NUMBERS, "too many rows");
+    for (int k = 0; k < 4; k++) t->rows[t->row_numbers++] = (uint16_t)numbers[k];
+    return row;
+}
+
+/* The composition of the steps child::1 to child::COUNT, put together two by two, from the left or from the right. */
+static int put_balanced(Table *t, int first, int count, bool from_right) {
+    if (count == 1) return put_row(t, 2, 1, 0, first);
+    int half = count / 2, rows[2];
+    for (int k = 0; k < 2; k++) {
+        bool second = (k == 1) != from_right;
+        rows[second] = put_balanced(t, second ? first + half : first, second ? count - half : half, from_right);
+    }
+    return put_row(t, 4, rows[0], rows[1], 0);
+}
+
+static int put_doubled(Table *t, int row, int levels) {
+    for (int k = 0; k < levels; k++) row = put_row(t, 4, row, row, 0);
+    return row;
+}
+
+/* Steps by rule 2, of a row with itself. */
+static void put_steps(Table *t, int row) {
+    while (t->step_numbers < STEP_NUMBERS) {
+        uint16_t step[] = {2, (uint16_t)row, (uint16_t)row, 0, 0};
+        memcpy(t->steps + t->step_numbers, step, sizeof step);
+        t->step_numbers += 5;
+    }
+}
+
+static void run_order(const void *of) {
+    const Tables *t = of;
+    uint32_t order = bench_order(t->left.rows, t->left.row_numbers, (uint16_t)t->i, t->right.rows, t->right.row_numbers,
+                                 (uint16_t)t->j);
+    check(order == 1, "the terms are not equal");
+}
+
+static void run_bundle_order(const void *of) {
+    const Tables *t = of;
+    uint32_t order = bench_bundle_order(t->left.rows, t->left.row_numbers, t->left.steps, t->left.step_numbers,
+                                        t->right.rows, t->right.row_numbers, t->right.steps, t->right.step_numbers);
+    check(order == 1, "the bundles are not equal");
+}
+
+static void print_order(const char *what, Call *call, const Tables *tables) {
+    Timing side = {.call = call};
+    measure(&side, 1, tables);
+    printf("| %s | %.2f | %.2f |\n", what, min_us(&side), median_us(&side));
+}
+
+static void bench_orders(void) {
+    static Tables deep, wide;
+    printf("\nOrders, in microseconds:\n\n| compared | min | median |\n|---|---|---|\n");
+    deep.i = put_doubled(&deep.left, put_row(&deep.left, 2, 1, 0, 1), 31);
+    put_row(&deep.right, 1, 0, 0, 0);
+    deep.j = put_doubled(&deep.right, put_row(&deep.right, 2, 1, 0, 1), 31);
+    print_order("31 compositions, each of the one before with itself: 2^31 leaves, 32 rows; equal", run_order, &deep);
+    wide.i = put_balanced(&wide.left, 1, 512, false);
+    wide.j = put_balanced(&wide.right, 1, 512, true);
+    print_order("a path of 512 steps, no two the same: 1,023 rows, numbered differently; equal", run_order, &wide);
+    put_steps(&wide.left, wide.i);
+    put_steps(&wide.right, wide.j);
+    print_order("two bundles of these rows and 2,048 steps; equal", run_bundle_order, &wide);
 }
 
 /* Documents */
@@ -591,6 +678,7 @@ int main(int argc, char **argv) {
     check(argc == 2, "usage: bench BUNDLE");
     bench_read(argv[1]);
     bench_calls();
+    bench_orders();
     static Document documents[2], shapes[3];
     make_nested(&documents[0]);
     make_flat(&documents[1]);

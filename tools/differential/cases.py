@@ -29,7 +29,8 @@ ODD_LINES = [b"", b"fresh", b"document", b"document ", b"document" + b" 0" * MOS
              b"document" + b" 0" * (MOST_NUMBERS + 1), b"select 0 0 0 1024", b"select 0 0 0 1025", b"select 0 0 4294967295 0",
              b"select 0 0 4294967296 0", b"kind a b c", b"rule left right first second", b"term 65535 65536 0 0",
              b"step 1 0 0 0 0 0", b"Term 0 0 0 0", b"old", b"new", b"replace", b"old ", b"old 65536", b"point",
-             b"point 65536", b"point 1 1", b"return", b"return 65536",
+             b"point 65536", b"point 1 1", b"return", b"return 65536", b"other", b"other 0",
+             b"order 0 0", b"order 0", b"order 65536 0", b"bundle-order", b"bundle-order 0", b"bundle",
              *(word + b" 1" * count for word in (b"old", b"new", b"replace")
                for count in (MOST_LISTED, MOST_LISTED + 1))]
 # A visit takes up to as many tests as the square of the nodes. A select that may need more tests gets a smaller limit.
@@ -44,6 +45,7 @@ class Session:
 
     def __init__(self, rng):
         self.rng, self.book, self.nodes = rng, Book(), 0
+        self.aside = Book()  # the session that the last `other` set aside
         self.calls = []  # (word, numbers, whether it is accepted)
 
     # Random terms
@@ -330,11 +332,47 @@ class Session:
     def write(self):
         needed = len(bundle_text(self.book.rows, self.book.steps))
         edges = [needed, needed, needed - 1, needed + 1, MOST_BYTES, MOST_BYTES - 1, 0]
-        room = self.rng.choice([*edges, self.rng.randrange(2 * needed)])
+        room = self.rng.choice([*edges, self.rng.randrange(min(2 * needed, MOST_BYTES))])
         self.call("write", (room,), needed <= room)
+
+    def other(self):
+        """Sets the session aside. The new one gets some of its terms, in another order, and mostly its first steps."""
+        rng = self.rng
+        self.call("other", ())
+        self.aside, self.book = self.book, Book()
+        terms = self.aside.terms
+        for term in rng.sample(terms, min(len(terms), rng.choice([0, 3, 10, 40]))):
+            self.hold(term)
+        for rule, left, right, *premises in self.aside.steps[:rng.choice([0, 1, 5, MOST_STEPS, MOST_STEPS])]:
+            numbers = (rule, self.hold(terms[left]), self.hold(terms[right]), *premises)
+            if rng.random() < 0.03:
+                self.altered_step(numbers)
+            elif not self.step(numbers) or rng.random() < 0.02:
+                break
+        self.orders()
+
+    def orders(self):
+        """Rows of the session set aside against rows of this one, mostly of terms that both hold, and the two bundles."""
+        rng, left, right = self.rng, self.aside.number_of_term, self.book.number_of_term
+        both = [term for term in left if term in right]
+        for _ in range(rng.choice([1, 3, 8])):
+            rows = [rng.randrange(len(left) + 1), rng.randrange(len(right) + 1)]
+            if both and rng.random() < 0.6:
+                rows = [left[rng.choice(both)], right[rng.choice(both)]]
+            if both and rng.random() < 0.4:
+                term = rng.choice(both)
+                rows = [left[term], right[term]]
+            if rng.random() < 0.05:
+                rows[rng.randrange(2)] = rng.choice(EDGES)
+            self.call("order", rows, rows[0] < len(left) and rows[1] < len(right))
+        self.call("bundle-order", (), True)
 
     def random_call(self):
         n = self.rng.random()
+        if self.rng.random() < 0.04:
+            return self.orders()
+        if self.rng.random() < 0.02:
+            return self.other()
         if self.rng.random() < 0.06:
             return self.replace()
         if n < 0.5:
@@ -380,7 +418,7 @@ class Session:
 
     def accepted(self):
         """For each line that replay prints, whether the call is accepted, where the book says so."""
-        return [accepted for word, _, accepted in self.calls if word not in ("document", "old", "new")]
+        return [accepted for word, _, accepted in self.calls if word not in ("document", "old", "new", "other")]
 
     def bundle(self, refused=False):
         """The accepted term and step calls as a bundle, with one of the refused ones in its place if so asked."""
@@ -497,7 +535,7 @@ def with_low_limits(text):
 def resized(rng, text):
     """The text made as long as the longest input, or a byte or more longer, by its last term or step over and over."""
     size = MOST_BYTES + rng.choice([0, 0, 1, 1, 2, 5000])
-    others = (b"select", b"document", b"old", b"new", b"replace", b"write")
+    others = (b"select", b"document", b"old", b"new", b"replace", b"write", b"other", b"order", b"bundle-order")
     line = next((line for line in reversed(text.splitlines(True)) if not line.startswith(others)), b"\n")
     return (text + line * (size // len(line) + 1))[:size - 1] + rng.choice([b"\n", b"0"])
 

@@ -1,8 +1,11 @@
-// Select and write for a benchmark in C, on rows and steps that the caller lends.
+// Select, write and orders for a benchmark in C, on rows and steps that the caller lends.
 ghost use mathlib.Core.Path.{_≡_};
 ghost use lib.ListN.{length};
 ghost use Rattle.terms.specs.Row.{tableOf};
 ghost use Rattle.calls.specs.SelectCall.{selectAnswer, selectBuffer};
+ghost use Rattle.calls.specs.Book.{book};
+ghost use Rattle.calls.specs.code.Tables.{stepsOf};
+ghost use Rattle.ordering.specs.OrderCall.{orderAnswer, bundleOrderAnswer};
 ghost use Rattle.bundles.specs.code.TextPut.{heldText, TextWritten};
 
 // The number of the answer; the marks are written as `Session::select` writes them.
@@ -35,4 +38,30 @@ pub extern "C" fn bench_write<'a>(
         (now (out .exit)) ⌝ }
 {
     bundles::write_tables(out, 0, rows, n, steps, m)
+}
+
+// The value of the answer for row i of the left rows and row j of the right ones, compared as `Session::order` compares
+// them.
+#[no_mangle]
+pub extern "C" fn bench_order<'a>(left: &'a [u16], i: u16, right: &'a [u16], j: u16) -> u32
+    ensures { λ r. ⌜ r ≡ orderAnswer (tableOf (now (left .entry))) i (tableOf (now (right .entry))) j .value ⌝ }
+{
+    let answer = ordering::order_on(left, i, right, j);
+    answer.value()
+}
+
+// The value of the answer for two bundles, which are compared as `Session::bundle_order` compares them.
+#[no_mangle]
+pub extern "C" fn bench_bundle_order<'a>(
+    left: &'a [u16],
+    left_steps: &'a [u16],
+    right: &'a [u16],
+    right_steps: &'a [u16],
+) -> u32
+    ensures { λ r. ⌜ r ≡ bundleOrderAnswer
+        (book (tableOf (now (left .entry))) (stepsOf (now («left_steps» .entry))))
+        (book (tableOf (now (right .entry))) (stepsOf (now («right_steps» .entry)))) .value ⌝ }
+{
+    let answer = ordering::bundle_order_on(left, left_steps, right, right_steps);
+    answer.value()
 }

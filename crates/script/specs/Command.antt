@@ -12,7 +12,7 @@ use Rattle.lines.specs.Number.{maxNumber, numbersUpTo, lineNumbers}
 use Rattle.calls.specs.code.Tables.{rowWidth, stepWidth}
 use Rattle.script.specs.declared.Word.{Word}
 use Rattle.script.specs.declared.Word.the-variants.{Term, Step, Select, Document, Fresh, Old, New, Replace}
-use Rattle.script.specs.declared.Word.the-variants.{Write, Point, Return}
+use Rattle.script.specs.declared.Word.the-variants.{Write, Point, Return, Other, Order, BundleOrder}
 use Rattle.script.specs.declared.Shape.{Shape}
 use Rattle.script.specs.declared.Shape.the-variants.{Counted, Listed, Selection, Room}
 
@@ -56,6 +56,9 @@ words =
     ∷ (ascii "write", Write)
     ∷ (ascii "point", Point)
     ∷ (ascii "return", Return)
+    ∷ (ascii "other", Other)
+    ∷ (ascii "order", Order)
+    ∷ (ascii "bundle-order", BundleOrder)
     ∷ []
 
 -- what stands after a word
@@ -71,6 +74,9 @@ shapeOf Replace = Listed maxListed
 shapeOf Write = Room
 shapeOf Point = Counted 1
 shapeOf Return = Counted 1
+shapeOf Other = Counted 0
+shapeOf Order = Counted 2
+shapeOf BundleOrder = Counted 0
 
 -- as many numbers as there are parts
 abbrev pub allNumbers : List (List ℕ) → Option (List ℕ)

@@ -35,6 +35,9 @@ pub enum Word {
     Write,
     Point,
     Return,
+    Other,
+    Order,
+    BundleOrder,
 }
 
 // What stands after a word: so many numbers of 16 bits, a list of up to so many, the numbers of a select, or the length
@@ -52,7 +55,7 @@ pub struct Entry(pub [u8; WORD_WIDTH], pub usize, pub Word, pub Shape);
 // One byte more than the longest word has.
 const WORD_WIDTH: usize = 13;
 
-const WORD_COUNT: usize = 11;
+const WORD_COUNT: usize = 14;
 
 const WORDS: [Entry; WORD_COUNT] = [
     Entry(*b"term         ", 4, Word::Term, Shape::Counted(ROW_WIDTH)),
@@ -76,6 +79,9 @@ const WORDS: [Entry; WORD_COUNT] = [
     Entry(*b"write        ", 5, Word::Write, Shape::Room),
     Entry(*b"point        ", 5, Word::Point, Shape::Counted(1)),
     Entry(*b"return       ", 6, Word::Return, Shape::Counted(1)),
+    Entry(*b"other        ", 5, Word::Other, Shape::Counted(0)),
+    Entry(*b"order        ", 5, Word::Order, Shape::Counted(2)),
+    Entry(*b"bundle-order ", 12, Word::BundleOrder, Shape::Counted(0)),
 ];
 
 // The numbers after a word, by its shape: `a` to `e` are those that are counted, in their order; `size` says how many

@@ -4,12 +4,14 @@ pub mod Clauses
 pub mod ReadClauses
 pub mod ReplaceClauses
 pub mod PointClauses
+pub mod OrderClauses
 pub mod Views
 pub mod Whole
 pub mod Simulation
 pub mod Demand3
 pub mod SetsReplaced
 pub mod Restored
+pub mod ArchivesOrdered
 pub mod TermMade
 pub mod StepMade
 pub mod PointMade

@@ -35,14 +35,18 @@ use Rattle.session.specs.ReadCall.{readAnswerOf, isHeld, ReadMet}
 use Rattle.session.specs.WriteCall.{sessionText, writeAnswer, writeBuffer, writeAnswerOf, WriteMet}
 use Rattle.session.specs.ReadDemand.{ReadDemand}
 use Rattle.session.specs.ReplaceDemand.{ReplaceMet, ReplaceDemand}
+use Rattle.session.specs.OrderDemand.{OrderMet, BundleOrderMet, OrderDemand}
 use Rattle.replacing.specs.declared.ReplaceAnswer.{ReplaceAnswer}
 use Rattle.replacing.proofs.Judged.{replace-case}
+use Rattle.ordering.specs.declared.OrderAnswer.{OrderAnswer}
+use Rattle.ordering.proofs.Judged.{order-case, bundle-order-case}
 use Rattle.calls.proofs.Runs.{made, run-exists}
 use Rattle.calls.proofs.Cases.{term-case, step-case, point-case, return-case, select-case}
 use Rattle.session.proofs.Demand3.{CallsKept, SelectsKept, demand3-by}
 use Rattle.session.proofs.Restored.{whole-by, no-point-left-by, restored-by}
 use Rattle.session.proofs.Bundles.{read-demand-by}
 use Rattle.session.proofs.SetsReplaced.{ReplacesKept, replace-demand-by}
+use Rattle.session.proofs.ArchivesOrdered.{OrdersKept, BundleOrdersKept, order-demand-by}
 use Rattle.session.proofs.session.Session.new.Reads as new-reads
 use Rattle.session.proofs.session.Session.term.Reads as term-reads
 use Rattle.session.proofs.session.Session.step.Reads as step-reads
@@ -51,6 +55,8 @@ use Rattle.session.proofs.session.Session.return_to.Reads as return-rea
 use Rattle.session.proofs.session.Session.select.Reads as select-reads
 use Rattle.session.proofs.session.Session.read.Reads as read-reads
 use Rattle.session.proofs.session.Session.replace.Reads as replace-reads
+use Rattle.session.proofs.session.Session.order.Reads as order-reads
+use Rattle.session.proofs.session.Session.bundle_order.Reads as bundle-order-reads
 use Rattle.session.proofs.session.Session.write.Reads as write-reads
 
 -- `Session::new` gives the session r
@@ -87,6 +93,16 @@ pub data Replaced : Session → (old new by : List ℕ) → ReplaceAnswer → Ty
   replace-called : (κs : _) (a : _) (r : _) (x : _) → replace-reads.Post κs a r x
       → Replaced (a .0) (now (a .1 .0)) (now (a .1 .1 .0)) (now (a .1 .1 .1 .0)) r
 
+-- `Session::order` on a session with a row, another session and a row of it has the answer r
+pub data Ordered : Session → (i : ℕ) → Session → (j : ℕ) → OrderAnswer → Type 0 where
+  order-called : (κs : _) (a : _) (r : _) (x : _) → order-reads.Post κs a r x
+      → Ordered (a .0) (a .1 .0) (a .1 .1 .0) (a .1 .1 .1 .0) r
+
+-- `Session::bundle_order` on two sessions has the answer r
+pub data BundleOrdered : Session → Session → OrderAnswer → Type 0 where
+  bundle-order-called : (κs : _) (a : _) (r : _) (x : _) → bundle-order-reads.Post κs a r x
+      → BundleOrdered (a .0) (a .1 .0) r
+
 -- `Session::write` on a session with a buffer has the answer r and leaves bytes
 pub data Write : Session → List ℕ → WriteAnswer → List ℕ → Type 0 where
   write-called : (κs : _) (a : _) (r : _) (x : _) → write-reads.Post κs a r x
@@ -110,6 +126,12 @@ read-tied bytes t (read-called κs a r x m) = m
 
 pub replace-tied : ReplacesKept Replaced ReplaceMet
 replace-tied s old new by t (replace-called κs a r x m) = m
+
+pub order-tied : OrdersKept Ordered OrderMet
+order-tied s i t j o (order-called κs a r x m) = m
+
+pub bundle-order-tied : BundleOrdersKept BundleOrdered BundleOrderMet
+bundle-order-tied s t o (bundle-order-called κs a r x m) = m
 
 pub write-tied : (s : Session) (buffer : List ℕ) (w : WriteAnswer) (left : List ℕ) → Write s buffer w left
     → WriteMet s buffer w left
@@ -158,7 +180,7 @@ pub calls-exist : (s : Session) (cs : List Call) → (os : List CallSeen) × (t 
 calls-exist =
     run-exists view Called (λ s c. (sessionAnswer s c, next session s c, met-called s c _ _ (made session s c)))
 
--- and so can every select, every read, every replace and every write
+-- and so can every select, every read, every replace, every order, every bundle order and every write
 abbrev lent : {A : Type 0} → A → RefT A
 lent x = record { ptr = (0, 0); name = 0; now = x }
 
@@ -194,6 +216,19 @@ replaces-exist s old new by =
 
 pub replace-demand : ReplaceDemand Replaced New Called
 replace-demand = replace-demand-by Replaced replace-tied New Called new-tied call-tied
+
+pub orders-exist : (s : Session) (i : ℕ) (t : Session) (j : ℕ) → (r : OrderAnswer) × Ordered s i t j r
+orders-exist s i t j =
+    let (r, e) = order-case (view s .rows) i (view t .rows) j in
+    (r, order-called tt (s, (i, (t, (j, tt)))) r (s, (i, (t, (j, tt)))) e)
+
+pub bundle-orders-exist : (s t : Session) → (r : OrderAnswer) × BundleOrdered s t r
+bundle-orders-exist s t =
+    let (r, e) = bundle-order-case (view s) (view t) in
+    (r, bundle-order-called tt (s, (t, tt)) r (s, (t, tt)) e)
+
+pub order-demand : OrderDemand Ordered BundleOrdered New Called
+order-demand = order-demand-by Ordered order-tied BundleOrdered bundle-order-tied New Called new-tied call-tied
 
 write-case : (text : List ℕ) (room : ℕ) → (w : WriteAnswer) × (writeAnswerOf w ≡ writeAnswer text room)
 write-case text room = by-test (leb (length text) room)

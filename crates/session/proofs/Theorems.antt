@@ -1,5 +1,5 @@
--- All that is proved of the calls, as one list. `New`, `Called`, `Selected`, `Read`, `Replaced` and `Write` (in Source) say
--- of a call what its contract in the source does. Assumes nothing.
+-- All that is proved of the calls, as one list. `New`, `Called`, `Selected`, `Read`, `Replaced`, `Ordered`,
+-- `BundleOrdered` and `Write` (in Source) say of a call what its contract in the source does. Assumes nothing.
 use Prim.Native.Nat.{ℕ}
 use mathlib.Core.Path.{_≡_}
 use mathlib.Core.List.{List, map}
@@ -39,10 +39,19 @@ use Rattle.session.specs.WriteCall.{WriteMet}
 use Rattle.session.specs.ReadDemand.{ReadDemand}
 use Rattle.session.specs.ReplaceDemand.{ReplaceMet, ReplaceDemand}
 use Rattle.replacing.specs.declared.ReplaceAnswer.{ReplaceAnswer}
+use Rattle.session.specs.OrderDemand.{OrderMet, BundleOrderMet, OrderDemand}
+use Rattle.ordering.specs.declared.OrderAnswer.{OrderAnswer}
+use Rattle.ordering.specs.TermOrder.{termOrder}
+use Rattle.ordering.specs.BundleOrder.{stepsOrder}
+use Rattle.ordering.specs.OrderLaws.{TotalOrder, SortedMatch}
+use Rattle.ordering.proofs.Orders.{total-order}
+use Rattle.ordering.proofs.TermOrder.{terms-ordered}
+use Rattle.ordering.proofs.BundleOrder.{steps-ordered}
+use Rattle.ordering.proofs.Sorted.{sorted-match}
 use Rattle.session.specs.Audit.{report}
 use Rattle.session.proofs.Simulation as simulation
 use Rattle.session.proofs.Source as source
-use Rattle.session.proofs.Source.{New, Called, Selected, Read, Replaced, Write}
+use Rattle.session.proofs.Source.{New, Called, Selected, Read, Replaced, Ordered, BundleOrdered, Write}
 use Rattle.session.proofs.session.Session.new.Reads as new-reads
 use Rattle.session.proofs.session.Session.term.Reads as term-reads
 use Rattle.session.proofs.session.Session.step.Reads as step-reads
@@ -51,6 +60,8 @@ use Rattle.session.proofs.session.Session.return_to.Reads as return-rea
 use Rattle.session.proofs.session.Session.select.Reads as select-reads
 use Rattle.session.proofs.session.Session.read.Reads as read-reads
 use Rattle.session.proofs.session.Session.replace.Reads as replace-reads
+use Rattle.session.proofs.session.Session.order.Reads as order-reads
+use Rattle.session.proofs.session.Session.bundle_order.Reads as bundle-order-reads
 use Rattle.session.proofs.session.Session.write.Reads as write-reads
 use Rattle.session.proofs.report.audit.Reads as audit-reads
 use Rattle.session.proofs.c.spinebriar_read.Reads as c-reads
@@ -65,6 +76,8 @@ pub record Theorems : Type 0 where
   pub select-takes : (κs : _) (a : _) → select-reads.Pre κs a
   pub read-takes : (κs : _) (a : _) → read-reads.Pre κs a
   pub replace-takes : (κs : _) (a : _) → replace-reads.Pre κs a
+  pub order-takes : (κs : _) (a : _) → order-reads.Pre κs a
+  pub bundle-order-takes : (κs : _) (a : _) → bundle-order-reads.Pre κs a
   pub write-takes : (κs : _) (a : _) → write-reads.Pre κs a
   pub audit-takes : (κs : _) (a : _) → audit-reads.Pre κs a
   pub c-takes : (κs : _) (a : _) → c-reads.Pre κs a
@@ -84,6 +97,9 @@ pub record Theorems : Type 0 where
   -- replace answers the first refusal that applies, or accepts
   pub replace : (s : Session) (old new by : List ℕ) (t : ReplaceAnswer)
       → Replaced s old new by t → ReplaceMet s old new by t
+  -- order answers 5 for a row that is not held, or the order of the rows' terms; bundle order answers that of the steps
+  pub order : (s : Session) (i : ℕ) (t : Session) (j : ℕ) (r : OrderAnswer) → Ordered s i t j r → OrderMet s i t j r
+  pub bundle-order : (s t : Session) (r : OrderAnswer) → BundleOrdered s t r → BundleOrderMet s t r
   -- write answers 0 with the length and leaves the bundle's text at the buffer's start, or 16 with the length needed and
   -- the buffer as it was
   pub write : (s : Session) (buffer : List ℕ) (w : WriteAnswer) (left : List ℕ) → Write s buffer w left
@@ -107,14 +123,24 @@ pub record Theorems : Type 0 where
   -- a whole set replaced: after every list of calls from a fresh session, each node that any path of a covered list
   -- selects is selected by some new one, from the same node of every document; an accepted replace is a case of it
   pub replace-demand : ReplaceDemand Replaced New Called
+  -- the order of terms, and that of lists of steps as terms, is total, and equal holds just when both are the same;
+  -- sorted lists that hold the same terms are the same list
+  pub terms-ordered : TotalOrder termOrder
+  pub steps-ordered : TotalOrder stepsOrder
+  pub sorted-match : SortedMatch termOrder
+  -- after every two lists of calls, each from a fresh session, order answers the order of the terms, also for lists of
+  -- rows that were sorted by it, each in its session
+  pub order-demand : OrderDemand Ordered BundleOrdered New Called
   -- a fresh session can be made as the contracts have it, and on every session every list of calls; so can every
-  -- select, every read, every replace and every write
+  -- select, every read, every replace, every order, every bundle order and every write
   pub new-exists : New freshSession
   pub calls-exist : (s : Session) (cs : List Call) → (os : List CallSeen) × (t : Session) × Run view Called s cs os t
   pub selects-exist : (s : Session) (row : ℕ) (xs : List ℕ) (x limit : ℕ) (buffer : List ℕ)
       → (t : SelectAnswer) × (left : List ℕ) × Selected s row xs x limit buffer t left
   pub reads-exist : (bytes : List ℕ) → (t : ReadResult) × Read bytes t
   pub replaces-exist : (s : Session) (old new by : List ℕ) → (t : ReplaceAnswer) × Replaced s old new by t
+  pub orders-exist : (s : Session) (i : ℕ) (t : Session) (j : ℕ) → (r : OrderAnswer) × Ordered s i t j r
+  pub bundle-orders-exist : (s t : Session) → (r : OrderAnswer) × BundleOrdered s t r
   pub writes-exist : (s : Session) (buffer : List ℕ) → (w : WriteAnswer) × (left : List ℕ) × Write s buffer w left
   -- a select call on a path of k steps, with a limit of at least the bound, is never answered 15; two accepted calls of
   -- one step of a path, on lent numbers that differ in the name of one node, mark every other node alike
@@ -145,6 +171,8 @@ theorems =
       select-takes = λ κs a. tt;
       read-takes = λ κs a. tt;
       replace-takes = λ κs a. tt;
+      order-takes = λ κs a. tt;
+      bundle-order-takes = λ κs a. tt;
       write-takes = λ κs a. tt;
       audit-takes = λ κs a. tt;
       c-takes = λ κs a. tt;
@@ -154,6 +182,8 @@ theorems =
       select = source.select-tied;
       read = source.read-tied;
       replace = source.replace-tied;
+      order = source.order-tied;
+      bundle-order = source.bundle-order-tied;
       write = source.write-tied;
       audit = λ κs a r s m. m;
       c-read = λ κs a r s m. m;
@@ -164,11 +194,17 @@ theorems =
       return-restores = return-restores;
       read-demand = source.read-demand;
       replace-demand = source.replace-demand;
+      terms-ordered = total-order terms-ordered;
+      steps-ordered = total-order steps-ordered;
+      sorted-match = sorted-match terms-ordered;
+      order-demand = source.order-demand;
       new-exists = source.new-exists;
       calls-exist = source.calls-exist;
       selects-exist = source.selects-exist;
       reads-exist = source.reads-exist;
       replaces-exist = source.replaces-exist;
+      orders-exist = source.orders-exist;
+      bundle-orders-exist = source.bundle-orders-exist;
       writes-exist = source.writes-exist;
       limit-suffices = limit-suffices;
       marks-same-elsewhere = marks-same-elsewhere;

@@ -8,4 +8,5 @@ pub mod Demand3
 pub mod SessionLaws
 pub mod ReadDemand
 pub mod ReplaceDemand
+pub mod OrderDemand
 pub mod values

@@ -1,5 +1,6 @@
 // A session of terms and steps, the calls on it, the reading and writing of bundles, and what a host in C calls.
 mod c;
+mod order;
 mod read;
 mod replace;
 mod report;
@@ -10,6 +11,7 @@ pub use calls::PointAnswer;
 pub use calls::SelectAnswer;
 pub use calls::StepAnswer;
 pub use calls::TermAnswer;
+pub use ordering::OrderAnswer;
 pub use read::ReadAnswer;
 pub use read::ReadResult;
 pub use replacing::ReplaceAnswer;

@@ -5,20 +5,20 @@ use mathlib.Core.List.{List, [], _∷_}
 use mathlib.Core.Option.{Option, none, some}
 use Rattle.lines.specs.Line.{Line, partsRead}
 use Rattle.script.specs.declared.Word.{Word}
-use Rattle.script.specs.declared.Word.the-variants.{Term, Step, Select, Document, Fresh, Old, New, Replace}
-use Rattle.script.specs.declared.Word.the-variants.{Write, Point, Return}
+use Rattle.script.specs.declared.Word.the-variants.{Term, Step, Select, Document, Fresh, Old, New, Replace, Write}
+use Rattle.script.specs.declared.Word.the-variants.{Point, Return, Other, Order, BundleOrder}
 use Rattle.script.specs.Command.{Command, commandOf}
 use Rattle.transcript.specs.declared.Style.{Style}
 use Rattle.transcript.specs.declared.Style.the-variants.{Answers, Nodes}
 
--- where answers are printed, a script has one session; where nodes are, no bundle is printed
-abbrev pub freshTaken : Style → Bool
-freshTaken Answers = false
-freshTaken Nodes = true
+-- where answers are printed, a script has a session and another one; where nodes are, no bundle and no order is printed
+abbrev pub printsAnswers : Style → Bool
+printsAnswers Answers = true
+printsAnswers Nodes = false
 
-abbrev pub writeTaken : Style → Bool
-writeTaken Answers = true
-writeTaken Nodes = false
+abbrev pub printsNodes : Style → Bool
+printsNodes Answers = false
+printsNodes Nodes = true
 
 abbrev pub wordTaken : Style → Word → Bool
 wordTaken s Term = true
@@ -30,8 +30,11 @@ wordTaken s New = true
 wordTaken s Replace = true
 wordTaken s Point = true
 wordTaken s Return = true
-wordTaken s Fresh = freshTaken s
-wordTaken s Write = writeTaken s
+wordTaken s Fresh = printsNodes s
+wordTaken s Write = printsAnswers s
+wordTaken s Other = printsAnswers s
+wordTaken s Order = printsAnswers s
+wordTaken s BundleOrder = printsAnswers s
 
 -- a line that is no command is never taken
 abbrev pub isTaken : Style → Option Command → Bool

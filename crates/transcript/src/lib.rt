@@ -8,7 +8,7 @@ ghost use mathlib.Core.Path.{_≡_};
 ghost use lib.ListN.{length};
 ghost use Rattle.lines.specs.Line.{lines};
 ghost use Rattle.script.specs.Command.{maxMarks, maxRoom};
-ghost use Rattle.transcript.specs.Transcript.{wordTaken, endingLine};
+ghost use Rattle.transcript.specs.Transcript.{printsAnswers, printsNodes, wordTaken, endingLine};
 
 // What the lent marks hold before a select, and a lent buffer before a write.
 const FILL: u8 = 7;
@@ -17,9 +17,10 @@ const FILL: u8 = 7;
 const LINE: usize = 4096;
 
 // What is printed. `Answers`: `NUMBER VALUE` for each call but document, old and new, after an accepted select the
-// marked nodes, and after an accepted write the bundle's lines; a script has one session, so `fresh` is no call.
-// `Nodes`: the marked nodes of each accepted select, and `refused NUMBER VALUE` for what is refused; `fresh` starts a
-// new session, and `write` is no call.
+// marked nodes, and after an accepted write the bundle's lines; `other` sets the session aside and starts a new one,
+// `order` and `bundle-order` compare the one set aside with it, and `fresh` is no call. Other and what is lent print
+// nothing. `Nodes`: the marked nodes of each accepted select, and `refused NUMBER VALUE` for what is refused; `fresh`
+// starts a new session, and `write`, `other`, `order` and `bundle-order` are no calls.
 pub enum Style {
     Answers,
     Nodes,
@@ -221,6 +222,34 @@ fn write(s: Session, room: usize) {
     write_into(s, &mut buffer[..size]);
 }
 
+fn order(other: Session, v: Values, s: Session) {
+    let answer = other.order(v.a, s, v.b);
+    print(Style::Answers, answer.number(), answer.value() as u64);
+}
+
+fn bundle_order(other: Session, s: Session) {
+    let answer = other.bundle_order(s);
+    print(Style::Answers, answer.number(), answer.value() as u64);
+}
+
+fn prints_answers(style: Style) -> bool
+    ensures { λ r. ⌜ r ≡ printsAnswers style ⌝ }
+{
+    match style {
+        Style::Answers => true,
+        Style::Nodes => false,
+    }
+}
+
+fn prints_nodes(style: Style) -> bool
+    ensures { λ r. ⌜ r ≡ printsNodes style ⌝ }
+{
+    match style {
+        Style::Answers => false,
+        Style::Nodes => true,
+    }
+}
+
 // Whether a style takes the word.
 fn is_taken(word: Word, style: Style) -> bool
     ensures { λ r. ⌜ r ≡ wordTaken style word ⌝ }
@@ -230,19 +259,16 @@ fn is_taken(word: Word, style: Style) -> bool
         Word::Step => true,
         Word::Select => true,
         Word::Document => true,
-        Word::Fresh => match style {
-            Style::Answers => false,
-            Style::Nodes => true,
-        },
+        Word::Fresh => prints_nodes(style),
         Word::Point => true,
         Word::Return => true,
         Word::Old => true,
         Word::New => true,
         Word::Replace => true,
-        Word::Write => match style {
-            Style::Answers => true,
-            Style::Nodes => false,
-        },
+        Word::Write => prints_answers(style),
+        Word::Other => prints_answers(style),
+        Word::Order => prints_answers(style),
+        Word::BundleOrder => prints_answers(style),
     }
 }
 
@@ -277,8 +303,16 @@ fn lent_after(lent: Lent, read: CallLine) -> Lent {
     Lent { document, old, new }
 }
 
+// The session that is set aside after a line.
+fn other_after(s: Session, other: Session, word: Word) -> Session {
+    match word {
+        Word::Other => s,
+        _ => other,
+    }
+}
+
 // Makes the call of a line and prints its answer; gives the session after it.
-fn make(s: Session, lent: Lent, read: CallLine, style: Style) -> Session {
+fn make(s: Session, other: Session, lent: Lent, read: CallLine, style: Style) -> Session {
     let word = read.word;
     let values = read.values;
     let numbers = read.numbers;
@@ -299,6 +333,15 @@ fn make(s: Session, lent: Lent, read: CallLine, style: Style) -> Session {
             write(s, values.size);
             s
         }
+        Word::Order => {
+            order(other, values, s);
+            s
+        }
+        Word::BundleOrder => {
+            bundle_order(other, s);
+            s
+        }
+        Word::Other => Session::new(),
         Word::Fresh => Session::new(),
         _ => s,
     }
@@ -311,6 +354,7 @@ pub fn run(input: &[u8], style: Style) -> usize
     ensures { λ r. ⌜ r ≡ endingLine style 1 (lines (now (input .entry))) ⌝ }
 {
     let mut s = Session::new();
+    let mut other = Session::new();
     let mut lent = none_lent();
     let mut at = 0;
     let mut line: usize = 0;
@@ -321,8 +365,10 @@ pub fn run(input: &[u8], style: Style) -> usize
         if !and(read.ok, is_taken(word, style)) {
             return line;
         }
-        let after = make(s, lent, read, style);
+        let after = make(s, other, lent, read, style);
+        let aside = other_after(s, other, word);
         s = after;
+        other = aside;
         let lists = lent_after(lent, read);
         lent = lists;
         at = read.next;

@@ -4,8 +4,9 @@
 use crate::document::document;
 use crate::rules;
 use crate::selection::Evaluation;
-use crate::term::{Term, Test, AXES};
+use crate::term::{Comparison, Term, Test, AXES};
 use crate::Answer;
+use std::cmp::Ordering;
 use std::collections::HashMap;
 use std::rc::Rc;
 
@@ -152,6 +153,28 @@ impl Book {
         (0, 0)
     }
 
+    /// This book's row against the other book's, as terms: 0 less, 1 equal, 2 greater.
+    pub fn order(&self, row: u16, other: &Book, other_row: u16) -> Answer {
+        let Some(left) = self.terms.get(row as usize) else { return (5, 1) };
+        let Some(right) = other.terms.get(other_row as usize) else { return (5, 2) };
+        (0, order_value(Comparison::default().terms(left, right)))
+    }
+
+    /// This book's steps against the other's, in turn: rule, left and right, then the lengths.
+    pub fn bundle_order(&self, other: &Book) -> Answer {
+        let mut comparison = Comparison::default();
+        for (p, q) in self.steps.iter().zip(&other.steps) {
+            let ((left, right), (other_left, other_right)) = (self.says(p), other.says(q));
+            let order = p[0].cmp(&q[0]);
+            let order = order.then_with(|| comparison.terms(left, other_left));
+            let order = order.then_with(|| comparison.terms(right, other_right));
+            if order != Ordering::Equal {
+                return (0, order_value(order));
+            }
+        }
+        (0, order_value(self.steps.len().cmp(&other.steps.len())))
+    }
+
     /// What a step says: its two terms.
     fn says(&self, step: &Step) -> (&Rc<Term>, &Rc<Term>) {
         (&self.terms[step[1] as usize], &self.terms[step[2] as usize])
@@ -208,6 +231,14 @@ impl Book {
             11 => Term::Inclusion(at(a), at(b)),
             _ => unreachable!("a kind above 11"),
         }
+    }
+}
+
+fn order_value(order: Ordering) -> u64 {
+    match order {
+        Ordering::Less => 0,
+        Ordering::Equal => 1,
+        Ordering::Greater => 2,
     }
 }
 

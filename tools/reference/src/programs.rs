@@ -1,8 +1,8 @@
 //! The programs audit and replay, from standard input to standard output.
 //!
 //! Of replay: its input is judged for length before any call is made, so too long a one prints `10 0` alone; `document`
-//! with no numbers is a call and lends none from then on, and so it is with `old`, `new` and `replace`; a last line
-//! that lacks its newline is of another form; empty input prints nothing.
+//! with no numbers is a call and lends none from then on, and so it is with `old`, `new` and `replace`; `other` leaves
+//! what is lent; a last line that lacks its newline is of another form; empty input prints nothing.
 
 use crate::book::Book;
 use crate::bundle::{lines, number, read, write};
@@ -27,7 +27,7 @@ pub fn audit(input: &[u8]) -> String {
     format!("{heading}{answer} {line} {} {left} {right}\n", book.steps.len())
 }
 
-/// A line for each call but document, old and new; `10 LINE` at the first line of another form, which ends the run.
+/// A line for each call but document, old, new and other; `10 LINE` at the first line of another form, which ends the run.
 pub fn replay(input: &[u8]) -> String {
     if input.len() > MOST_BYTES {
         return "10 0\n".to_string();
@@ -46,6 +46,8 @@ pub fn replay(input: &[u8]) -> String {
 #[derive(Default)]
 struct Run {
     book: Book,
+    /// The session that `other` set aside, a fresh one at first.
+    other: Book,
     document: Vec<u16>,
     old: Vec<u16>,
     new: Vec<u16>,
@@ -79,6 +81,12 @@ impl Run {
                 let steps: Vec<u16> = numbers.iter().map(|word| small(word)).collect::<Option<_>>()?;
                 self.book.replace(&self.old, &self.new, &steps)
             }
+            [b"other"] => {
+                self.other = std::mem::take(&mut self.book);
+                return Some(String::new());
+            }
+            [b"order", left, right] => self.other.order(small(left)?, &self.book, small(right)?),
+            [b"bundle-order"] => self.other.bundle_order(&self.book),
             [b"select", row, context, limit, marks] => {
                 let limit = number(limit, u32::MAX as u64)? as u32;
                 let mut marks = vec![FILL; number(marks, MOST_MARKS)? as usize];

@@ -389,3 +389,55 @@ fn written_after_a_return() {
     let answers = ["0 0", "0 0", "0 1", "0 1", "0 0", "0 48", "kind a b c", "1 0 0 0", "rule left right first second"];
     assert_eq!(replayed(calls), answers);
 }
+
+/// Rows of two sessions; left: child::1, child::2, their unions both ways, true. Right: the same in another order.
+const TWO_SESSIONS: &str = "term 2 1 0 1\nterm 2 1 0 2\nterm 3 0 1 0\nterm 3 1 0 0\nterm 6 0 0 0\nother\n\
+    term 6 0 0 0\nterm 2 1 0 2\nterm 2 1 0 1\nterm 3 1 2 0\nterm 3 2 1 0\n";
+
+#[test]
+fn orders_across_sessions() {
+    let cases = [
+        ("0 2", "0 1"),
+        ("2 4", "0 1"),
+        ("3 3", "0 1"),
+        ("2 3", "0 0"),
+        ("3 4", "0 2"),
+        ("0 1", "0 0"),
+        ("4 4", "0 2"),
+        ("4 0", "0 1"),
+        ("5 0", "5 1"),
+        ("0 5", "5 2"),
+        ("5 5", "5 1"),
+    ];
+    for (rows, answer) in cases {
+        assert_eq!(last(&format!("{TWO_SESSIONS}order {rows}\n")), answer, "{rows}");
+    }
+    assert_eq!(replayed("order 0 0\nbundle-order\nterm 1 0 0 0\norder 0 0\n"), ["5 1", "0 1", "0 0", "5 1"]);
+}
+
+#[test]
+fn orders_of_bundles() {
+    let cases = [
+        ("", "", "0 1"),
+        ("", "step 2 0 0 0 0\n", "0 0"),
+        ("step 2 0 0 0 0\n", "", "0 2"),
+        ("step 2 0 0 0 0\n", "step 2 0 0 0 0\n", "0 1"),
+        ("step 2 0 0 0 0\n", "step 2 0 0 0 0\nstep 2 0 0 0 0\n", "0 0"),
+        ("step 2 1 1 0 0\n", "step 2 0 0 0 0\nstep 2 1 1 0 0\n", "0 2"),
+        ("step 2 1 1 0 0\n", "step 8 0 1 0 0\n", "0 0"),
+        ("step 2 0 0 0 0\nstep 2 0 0 0 0\nstep 3 0 0 1 1\n", "step 2 0 0 0 0\nstep 2 0 0 0 0\nstep 3 0 0 2 1\n", "0 1"),
+    ];
+    for (left, right, answer) in cases {
+        let terms = "term 2 1 0 1\nterm 2 1 1 0\n";
+        let calls = format!("{terms}{left}other\n{terms}{right}bundle-order\n");
+        assert_eq!(last(&calls), answer, "{left}, {right}");
+    }
+}
+
+#[test]
+fn terms_with_many_leaves_are_ordered() {
+    let rows: String = (0..31).map(|row| format!("term 4 {row} {row} 0\n")).collect();
+    let calls = format!("term 2 1 0 1\n{rows}other\nterm 2 1 0 1\n{rows}");
+    assert_eq!(last(&format!("{calls}order 31 31\n")), "0 1");
+    assert_eq!(last(&format!("{calls}order 31 30\n")), "0 2");
+}

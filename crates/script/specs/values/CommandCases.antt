@@ -11,7 +11,7 @@ use Rattle.lines.specs.Line.{inFirstLine, lines, inFirstPart, parts, sameBytes}
 use Rattle.lines.specs.Number.{isDigit, areDigits, isDecimal, appendDigits, numbersUpTo}
 use Rattle.lines.specs.code.NumbersRead.{firstParts}
 use Rattle.script.specs.declared.Word.the-variants.{Term, Step, Select, Document, Fresh, Old, New, Replace}
-use Rattle.script.specs.declared.Word.the-variants.{Write, Point, Return}
+use Rattle.script.specs.declared.Word.the-variants.{Write, Point, Return, Other, Order, BundleOrder}
 use Rattle.script.specs.Command.{Command, command, words, shapeOf, atMost, named, wordFor, commandBy, commandOf}
 
 -- the command of a text's first line
@@ -36,6 +36,9 @@ pub commands :
     ∷ first "write 65536\n" is some (command Write (65536 ∷ []))
     ∷ first "point 65535\n" is some (command Point (65535 ∷ []))
     ∷ first "return 0\n" is some (command Return (0 ∷ []))
+    ∷ first "other\n" is some (command Other [])
+    ∷ first "order 0 65535\n" is some (command Order (0 ∷ 65535 ∷ []))
+    ∷ first "bundle-order\n" is some (command BundleOrder [])
     ∷ [])
 unfolding ascii words wordFor shapeOf commandBy named atMost firstParts lines inFirstLine parts inFirstPart sameBytes
     numbersUpTo Option·elim isDecimal areDigits isDigit appendDigits
@@ -89,6 +92,17 @@ pub no-commands :
     ∷ first "return\n" is none
     ∷ first "return 65536\n" is none
     ∷ first "return 1 \n" is none
+    -- other with a number; an order alone, with one row, with three, with 65536; a bundle order with a number, other
+    -- words
+    ∷ first "other 0\n" is none
+    ∷ first "order\n" is none
+    ∷ first "order 1\n" is none
+    ∷ first "order 1 1 1\n" is none
+    ∷ first "order 65536 0\n" is none
+    ∷ first "order 0 65536\n" is none
+    ∷ first "bundle-order 0\n" is none
+    ∷ first "bundle\n" is none
+    ∷ first "bundle order\n" is none
     ∷ [])
 unfolding ascii words wordFor shapeOf commandBy named atMost firstParts lines inFirstLine parts inFirstPart sameBytes
     numbersUpTo Option·elim isDecimal areDigits isDigit appendDigits

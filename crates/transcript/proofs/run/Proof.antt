@@ -12,15 +12,18 @@ use Rattle.transcript.proofs.run.Statement.{statement}
 use Rattle.transcript.proofs.run.Tie as tie
 
 abbrev Inv-loop : tie.InvT-loop
-Inv-loop input style s₀ lent₀ at₀ line₀ s lent at line =
+Inv-loop input style s₀ other₀ lent₀ at₀ line₀ s other lent at line =
     (line ≤ at) × (at ≤ length input)
     × (endingLine style 1 (lines input) ≡ endingLine style (line + 1) (lines (drop at input)))
 
 abbrev μ-loop : tie.MeasureT-loop
-μ-loop input style s₀ lent₀ at₀ line₀ s lent at line = length input - at
+μ-loop input style s₀ other₀ lent₀ at₀ line₀ s other lent at line = length input - at
 
 new-requires : tie.Need-new-requires Inv-loop μ-loop
 new-requires c κs = search needs
+
+new-requires-2 : tie.Need-new-requires-2 Inv-loop μ-loop
+new-requires-2 c κs = search needs
 
 none-lent-requires : tie.Need-none-lent-requires Inv-loop μ-loop
 none-lent-requires c κs = search needs
@@ -46,7 +49,7 @@ returns c =
     let at-read = at-taken .before in
     let at-loop = at-read .before .before in
     let l = at-loop .loop in
-    let a = at-loop .before .before .before .before .args in
+    let a = at-loop .before .before .before .before .before .args in
     line-ends _ _ (a .input .now) (l .at) (at-read .before .loop-test .taken) _ (at-read .call-at .ensures)
     _ (at-taken .is-taken .ensures) _ (c .before .and .ensures) (not-true _ (c .if1 .taken))
     ∙ sym (l .inv .2)
@@ -54,23 +57,26 @@ returns c =
 make-requires : tie.Need-make-requires Inv-loop μ-loop
 make-requires c κs = search needs
 
+other-after-requires : tie.Need-other-after-requires Inv-loop μ-loop
+other-after-requires c κs = search needs
+
 lent-after-requires : tie.Need-lent-after-requires Inv-loop μ-loop
 lent-after-requires c κs = search needs
 
 loop-less : tie.Need-loop-less Inv-loop μ-loop
 loop-less c =
-    let at-if = c .before .before in
+    let at-if = c .before .before .before in
     let read = at-if .before .before .before .call-at .ensures in
     omega (arith, read .further, read .inside)
 
 loop-again : tie.Need-loop-again Inv-loop μ-loop
 loop-again c =
-    let at-if = c .before .before in
+    let at-if = c .before .before .before in
     let at-taken = at-if .before .before in
     let at-read = at-taken .before in
     let at-loop = at-read .before .before in
     let l = at-loop .loop in
-    let a = at-loop .before .before .before .before .args in
+    let a = at-loop .before .before .before .before .before .args in
     let read = at-read .call-at .ensures in
     let passed = line-passed _ _ (a .input .now) (l .at) (at-read .before .loop-test .taken) _ read
     _ (at-taken .is-taken .ensures) _ (at-if .before .and .ensures) (not-false _ (at-if .if1 .left)) in
@@ -80,7 +86,7 @@ returns-2 : tie.Need-returns-2 Inv-loop μ-loop
 returns-2 c =
     let at-loop = c .before in
     let l = at-loop .loop in
-    let a = at-loop .before .before .before .before .args in
+    let a = at-loop .before .before .before .before .before .args in
     no-line-left _ _ (a .input .now) (l .at) (c .loop-test .left) ∙ sym (l .inv .2)
 
 pub run-spec : {M : Type 1} → statement M
@@ -90,6 +96,7 @@ run-spec =
     Inv-loop
     μ-loop
     new-requires
+    new-requires-2
     none-lent-requires
     loop-holds
     add-line
@@ -98,6 +105,7 @@ run-spec =
     and-requires
     returns
     make-requires
+    other-after-requires
     lent-after-requires
     loop-less
     loop-again

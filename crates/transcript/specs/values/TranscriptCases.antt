@@ -30,12 +30,18 @@ pub endings :
     -- the first of two lines that are not taken
     ∷ ends Answers "document\n\nfresh\n" is 2
     ∷ ends Answers "write 0\nwrite 65537\n" is 2
+    -- another session, and orders
+    ∷ ends Answers "other\norder 0 0\nbundle-order\nother\norder 0\n" is 5
     -- `fresh`, where nodes are printed; a word that is none there, and one that is none at all
     ∷ ends Nodes "document\nfresh\n" is 0
     ∷ ends Nodes "fresh\nwrite 0\n" is 2
     ∷ ends Nodes "document\nfresh\nfreshly\n" is 3
     -- the lists of a replace, and it, where nodes are printed
     ∷ ends Nodes "old\nnew\nreplace\n" is 0
+    -- no other session and no orders there
+    ∷ ends Nodes "fresh\nother\n" is 2
+    ∷ ends Nodes "order 0 0\n" is 1
+    ∷ ends Nodes "fresh\nbundle-order\n" is 2
     ∷ [])
 unfolding endingLine ascii words shapeOf wordFor commandBy named atMost numbersUpTo lines inFirstLine parts
     inFirstPart sameBytes Option·elim isDecimal areDigits isDigit appendDigits

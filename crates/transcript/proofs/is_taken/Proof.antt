@@ -1,0 +1,141 @@
+-- `is_taken` meets its contract, word by word. Assumes nothing.
+use borrow.Author.Needs.{needs}
+use Rattle.transcript.proofs.is_taken.Statement.{statement}
+use Rattle.transcript.proofs.is_taken.Tie as tie
+
+enum-told : tie.Need-enum-told
+enum-told c = search needs
+
+enum-told-2 : tie.Need-enum-told-2
+enum-told-2 c = search needs
+
+enum-told-3 : tie.Need-enum-told-3
+enum-told-3 c = search needs
+
+enum-told-4 : tie.Need-enum-told-4
+enum-told-4 c = search needs
+
+enum-told-5 : tie.Need-enum-told-5
+enum-told-5 c = search needs
+
+prints-nodes-requires : tie.Need-prints-nodes-requires
+prints-nodes-requires c κs = search needs
+
+enum-told-6 : tie.Need-enum-told-6
+enum-told-6 c = search needs
+
+enum-told-7 : tie.Need-enum-told-7
+enum-told-7 c = search needs
+
+enum-told-8 : tie.Need-enum-told-8
+enum-told-8 c = search needs
+
+enum-told-9 : tie.Need-enum-told-9
+enum-told-9 c = search needs
+
+enum-told-10 : tie.Need-enum-told-10
+enum-told-10 c = search needs
+
+enum-told-11 : tie.Need-enum-told-11
+enum-told-11 c = search needs
+
+prints-answers-requires : tie.Need-prints-answers-requires
+prints-answers-requires c κs = search needs
+
+enum-told-12 : tie.Need-enum-told-12
+enum-told-12 c = search needs
+
+prints-answers-requires-2 : tie.Need-prints-answers-requires-2
+prints-answers-requires-2 c κs = search needs
+
+enum-told-13 : tie.Need-enum-told-13
+enum-told-13 c = search needs
+
+prints-answers-requires-3 : tie.Need-prints-answers-requires-3
+prints-answers-requires-3 c κs = search needs
+
+enum-told-14 : tie.Need-enum-told-14
+enum-told-14 c = search needs
+
+prints-answers-requires-4 : tie.Need-prints-answers-requires-4
+prints-answers-requires-4 c κs = search needs
+
+returns : tie.Need-returns
+returns c = search needs
+
+returns-2 : tie.Need-returns-2
+returns-2 c = search needs
+
+returns-3 : tie.Need-returns-3
+returns-3 c = search needs
+
+returns-4 : tie.Need-returns-4
+returns-4 c = search needs
+
+returns-5 : tie.Need-returns-5
+returns-5 c = rw (c .before .enum-told5 .given .1) (c .prints-nodes .ensures)
+
+returns-6 : tie.Need-returns-6
+returns-6 c = search needs
+
+returns-7 : tie.Need-returns-7
+returns-7 c = search needs
+
+returns-8 : tie.Need-returns-8
+returns-8 c = search needs
+
+returns-9 : tie.Need-returns-9
+returns-9 c = search needs
+
+returns-10 : tie.Need-returns-10
+returns-10 c = search needs
+
+returns-11 : tie.Need-returns-11
+returns-11 c = rw (c .before .enum-told11 .given .1) (c .prints-answers .ensures)
+
+returns-12 : tie.Need-returns-12
+returns-12 c = rw (c .before .enum-told12 .given .1) (c .prints-answers2 .ensures)
+
+returns-13 : tie.Need-returns-13
+returns-13 c = rw (c .before .enum-told13 .given .1) (c .prints-answers3 .ensures)
+
+returns-14 : tie.Need-returns-14
+returns-14 c = rw (c .before .enum-told14 .given .1) (c .prints-answers4 .ensures)
+
+pub is-taken-spec : {M : Type 1} → statement M
+is-taken-spec =
+    tie.close
+    (tie.spec
+    enum-told
+    enum-told-2
+    enum-told-3
+    enum-told-4
+    enum-told-5
+    prints-nodes-requires
+    enum-told-6
+    enum-told-7
+    enum-told-8
+    enum-told-9
+    enum-told-10
+    enum-told-11
+    prints-answers-requires
+    enum-told-12
+    prints-answers-requires-2
+    enum-told-13
+    prints-answers-requires-3
+    enum-told-14
+    prints-answers-requires-4
+    returns
+    returns-2
+    returns-3
+    returns-4
+    returns-5
+    returns-6
+    returns-7
+    returns-8
+    returns-9
+    returns-10
+    returns-11
+    returns-12
+    returns-13
+    returns-14)
