@@ -31,6 +31,8 @@ enum spinebriar_answer {
     SPINEBRIAR_LIMIT_PASSED = 15,
     SPINEBRIAR_SHORT_BUFFER = 16, /* the call write's */
     SPINEBRIAR_BAD_NAME = 17, /* the program tally's */
+    SPINEBRIAR_OUTSIDE_GRAMMAR = 18, /* 18 and 19 are the call text's */
+    SPINEBRIAR_UNLISTED_NAME = 19,
     SPINEBRIAR_BAD_POINT = 20, /* 20 and 21 are of points */
     SPINEBRIAR_POINTS_FULL = 21,
     SPINEBRIAR_BAD_LISTS = 25, /* 25 and 26 are the call replace's */
@@ -52,13 +54,15 @@ static inline const char *spinebriar_answer_text(uint16_t answer)
     case SPINEBRIAR_BAD_DOCUMENT: return "the document is empty, too long or has a bad row";
     case SPINEBRIAR_BAD_ARGUMENT: return "the context node is outside the document, or the row is not a held path";
     case SPINEBRIAR_WRONG_FORM: return "a line of the wrong form";
-    case SPINEBRIAR_TERMS_FULL: return "the session holds 1,024 rows already";
+    case SPINEBRIAR_TERMS_FULL: return "the new rows do not fit in a session's 1,024";
     case SPINEBRIAR_ALREADY_HELD: return "the row is held already";
     case SPINEBRIAR_STEPS_FULL: return "the session holds 2,048 steps already";
     case SPINEBRIAR_SHORT_MARKS: return "the marks are shorter than the document";
     case SPINEBRIAR_LIMIT_PASSED: return "more visits are needed than the limit";
     case SPINEBRIAR_SHORT_BUFFER: return "the buffer is shorter than the bundle";
     case SPINEBRIAR_BAD_NAME: return "a 65th name, or a file that can't be opened";
+    case SPINEBRIAR_OUTSIDE_GRAMMAR: return "the text is outside the grammar of selectors";
+    case SPINEBRIAR_UNLISTED_NAME: return "a name of the text is not in the list";
     case SPINEBRIAR_BAD_LISTS: return "more than 64 old or new rows, or not as many steps as old rows";
     case SPINEBRIAR_NOT_COVERED: return "an old row whose step doesn't say that it is contained in a new row";
     case SPINEBRIAR_BAD_POINT: return "no point has the name, or a point to be set has the name 0 or one in use";

@@ -1,8 +1,8 @@
 /* Measures the proved read and write against the reference's on one bundle, and the proved selection against libxml2's
  * XPath with compiled expressions on a document nested 500 levels and on a flat one: on a tree that stands already, and
  * with the parsing of the document's text. Then the longest time of one visit. After the bundle, one term call and one
- * step call by rules 2 and 59, and the orders of two rows and of two bundles. Prints tables in Markdown. run.sh builds
- * and runs it. */
+ * step call by rules 2 and 59, and the orders of two rows and of two bundles. Then texts of 65,536 bytes. Prints
+ * tables in Markdown. run.sh builds and runs it. */
 
 #include "spinebriar.h"
 #include <libxml/parser.h>
@@ -27,6 +27,9 @@ uint32_t bench_order(const uint16_t *left, size_t left_numbers, uint16_t i, cons
 uint32_t bench_bundle_order(const uint16_t *left, size_t left_numbers, const uint16_t *left_steps,
                             size_t left_step_numbers, const uint16_t *right, size_t right_numbers,
                             const uint16_t *right_steps, size_t right_step_numbers);
+
+/* The number of the answer to a selector as text where no row is held. */
+uint16_t bench_text(const uint8_t *names, size_t names_length, const uint8_t *selector, size_t length);
 
 /* tools/reference/src/c.rs */
 uint16_t reference_read(const uint8_t *bytes, size_t length);
@@ -674,11 +677,58 @@ static void bench_visits(const Document *d) {
     bench_operators(d);
 }
 
+/* Selectors as text */
+
+enum { TEXT = 65536, LISTED = 10000, NAME = 5, TRIES = 5 };
+
+/* 10,000 names of five bytes, n0000 to n9999. */
+static char list[LISTED * (NAME + 1) + 1];
+
+static void make_names(void) {
+    for (int i = 0; i < LISTED; i++) sprintf(list + i * (NAME + 1), "n%04d\n", i);
+}
+
+/* The piece over and over, and then spaces, 65,536 bytes in all. */
+static void make_text(char *text, const char *start, const char *piece) {
+    size_t length = strlen(start), size = strlen(piece);
+    memcpy(text, start, length);
+    for (; length + size <= TEXT; length += size) memcpy(text + length, piece, size);
+    memset(text + length, ' ', TEXT - length);
+}
+
+static void bench_texts(void) {
+    static char text[TEXT + 1];
+    static const struct { const char *what, *start, *piece; } shapes[] = {
+        {"spaces after a name", "n0000", " "},
+        {"`/..` over and over", ".", "/.."},
+        {"`[.]` over and over", "*", "[.]"},
+        {"the first name of the list over and over", "n0000", "/n0000"},
+        {"the last name of the list over and over", "n9999", "/n9999"},
+        {"a name that isn't listed over and over", "x", "/x"},
+    };
+    make_names();
+    printf("\nA text of 65,536 bytes with a list of 10,000 names, in seconds, and the nanoseconds for one byte:\n\n");
+    printf("| text | answer | shortest of 5 | a byte |\n|---|---|---|---|\n");
+    for (size_t i = 0; i < sizeof shapes / sizeof *shapes; i++) {
+        double best = 1e9;
+        uint16_t answer = 0;
+        make_text(text, shapes[i].start, shapes[i].piece);
+        for (int n = 0; n < TRIES; n++) {
+            double start = now();
+            answer = bench_text((uint8_t *)list, LISTED * (NAME + 1), (uint8_t *)text, TEXT);
+            double took = now() - start;
+            if (took < best) best = took;
+        }
+        printf("| %s | %u | %.4f | %.1f |\n", shapes[i].what, answer, best, best / TEXT * 1e9);
+    }
+}
+
 int main(int argc, char **argv) {
     check(argc == 2, "usage: bench BUNDLE");
     bench_read(argv[1]);
     bench_calls();
     bench_orders();
+    bench_texts();
     static Document documents[2], shapes[3];
     make_nested(&documents[0]);
     make_flat(&documents[1]);

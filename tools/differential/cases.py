@@ -13,6 +13,7 @@ from collections import namedtuple
 from rules import (AXES, AXIS_LETTERS, DEEPEST, FORMS, KINDS, MISTAKES, MOST_POINTS, MOST_ROWS, MOST_STEPS, NAMED, OPPOSITE,
                    PATH_LETTERS, ROOT, TEST_LETTERS, VOID, WAY_BACK, Book, Term, below, condition, fill, inclusion,
                    looser_forms, match, match_both, some, step, way_back)
+from spelling import Spelling
 
 MOST_BYTES, MOST_NODES, MOST_NUMBERS, MOST_MARKS, MOST_LIMIT = 65536, 512, 1539, 1024, 4294967295
 MOST_REPLACED, MOST_LISTED = 64, 100
@@ -29,10 +30,17 @@ ODD_LINES = [b"", b"fresh", b"document", b"document ", b"document" + b" 0" * MOS
              b"document" + b" 0" * (MOST_NUMBERS + 1), b"select 0 0 0 1024", b"select 0 0 0 1025", b"select 0 0 4294967295 0",
              b"select 0 0 4294967296 0", b"kind a b c", b"rule left right first second", b"term 65535 65536 0 0",
              b"step 1 0 0 0 0 0", b"Term 0 0 0 0", b"old", b"new", b"replace", b"old ", b"old 65536", b"point",
-             b"point 65536", b"point 1 1", b"return", b"return 65536", b"other", b"other 0",
+             b"point 65536", b"point 1 1", b"return", b"return 65536", b"names", b"names ", b"names a  b", b"text", b"text ",
+             b"text a", b"text a[b or .]", b"texts a", b"names" + b" a" * 2000, b"other", b"other 0",
              b"order 0 0", b"order 0", b"order 65536 0", b"bundle-order", b"bundle-order 0", b"bundle",
              *(word + b" 1" * count for word in (b"old", b"new", b"replace")
                for count in (MOST_LISTED, MOST_LISTED + 1))]
+# Words that are names, and lines that are none; a text's names are among the first, so some of them aren't listed.
+WORDS = "log mark run and or not div true text node comment self child ancestor-or-self e_1 a.b x-y _ A9".split()
+NO_NAMES = ["3d", "", "a:b", "-a", "a*", ".", "log\t"]
+# What makes any text one that ends too soon, and bytes that no text has.
+TOO_SOON = ["/", "//", "|", "[", "[a", "[a and ", "[a or", "[not(", "[(a", "[true(", "/@", "/self::", "/text(", "/..//"]
+FOREIGN = list("#!$%&;,{}\\^~?+=<>") + ["é", "\x7f", "\x00"]
 # A visit takes up to as many tests as the square of the nodes. A select that may need more tests gets a smaller limit.
 MANY_TESTS, FEW_VISITS = 10**8, 1000
 
@@ -46,6 +54,7 @@ class Session:
     def __init__(self, rng):
         self.rng, self.book, self.nodes = rng, Book(), 0
         self.aside = Book()  # the session that the last `other` set aside
+        self.names = []  # the lent list's lines
         self.calls = []  # (word, numbers, whether it is accepted)
 
     # Random terms
@@ -279,6 +288,72 @@ class Session:
             self.term(row)
             number = None if is_last else self.book.number_of_row.get(row)
 
+    # Selectors as text
+
+    def lend_names(self):
+        """A list with names, some of them twice, and lines that are none."""
+        rng = self.rng
+        lines = [rng.choice(WORDS if rng.random() < 0.9 else NO_NAMES) for _ in range(rng.choice([0, 3, 8, 16, 40]))]
+        self.names = lines[:-1] if lines[-1:] == [""] else lines
+        self.call("names", lines)
+
+    def number(self, name):
+        return self.names.index(name) + 1 if name in self.names else 0
+
+    def selector(self):
+        """A text call: a selector, one that nests too deep, or one that isn't of the grammar."""
+        rng = self.rng
+        used = self.names if self.names and rng.random() < 0.8 else WORDS
+        used = [name for name in used if name in WORDS] or WORDS
+        spelling = Spelling(rng, used, used, self.number, (" ", " ", "\t", "\r", "  "))
+        text, term = spelling.union(rng.choice([0, 1, 2, 2, 3])) if rng.random() < 0.93 else self.long_selector(spelling)
+        text = spelling.w() + text + spelling.w()
+        if rng.random() < 0.75:
+            return self.call("text", [text], self.hold_all(term))
+        kind, place = rng.randrange(3), rng.randrange(len(text) + 1)
+        if kind == 0:
+            text += rng.choice(TOO_SOON)
+        elif kind == 1:
+            text = text[:place] + rng.choice(FOREIGN) + text[place:]
+        else:
+            cut = place + rng.choice([0, 1, 1, 2])
+            text = text[:place] + rng.choice([*"/|[]()@.*:'", "::", "//", "or", " ", "a"]) + text[cut:] + rng.choice(FOREIGN)
+        return self.call("text", [text], False)
+
+    def long_selector(self, spelling):
+        """A chain of some 32 steps, or some 32 levels of `not`, groups and predicates; the term is None past 32 levels."""
+        rng = self.rng
+        if rng.random() < 0.5:
+            pairs = [spelling.step(0) for _ in range(rng.choice([30, 31, 32, 33, 34]))]
+            term = pairs[0][1]
+            for _, next_term in pairs[1:]:
+                term = term / next_term
+            return "/".join(text for text, _ in pairs), term
+        text, term = spelling.step(0)
+        term, levels = some(term), 0
+        most = rng.choice([27, 28, 29, 31, 32])
+        while levels < most:
+            levels += 1
+            if rng.random() < 0.6:
+                text, term = f"not({text})", ~term
+            else:
+                text = f"({text})"
+        outer, path = spelling.test()
+        return f"{outer}[{text}]", step(1, path)[term] if levels < 32 else None
+
+    def hold_all(self, term):
+        """Whether all rows of the term can be held; if so, holds them."""
+        found = parts(term, {}) if term else {}
+        book = self.book
+        if not found or found[term] > DEEPEST or any(x.kind == "step" and x.args[1][0] in NAMED and not x.args[1][1] for x in found):
+            return False
+        if len(book.rows) + sum(x not in book.number_of_term for x in found) > MOST_ROWS:
+            return False
+        calls = len(self.calls)
+        self.hold(term)
+        del self.calls[calls:]
+        return True
+
     # Documents and selects
 
     def document(self, damage=0.3):
@@ -375,6 +450,8 @@ class Session:
             return self.other()
         if self.rng.random() < 0.06:
             return self.replace()
+        if self.rng.random() < 0.15:
+            return self.selector()
         if n < 0.5:
             self.derive()
         elif n < 0.6:
@@ -391,8 +468,10 @@ class Session:
             self.return_to()
         elif n < 0.95:
             self.select()
-        elif n < 0.98:
+        elif n < 0.97:
             self.write()
+        elif n < 0.98:
+            self.lend_names()
         else:
             self.deep_term()
 
@@ -410,6 +489,7 @@ class Session:
         for _ in range(4):
             self.altered_term()
             self.altered_step(self.book.steps[-1])
+            self.selector()
             self.term((2, 0, 0, self.rng.randrange(2000, 3000)))
             self.step(self.book.steps[-1])
 
@@ -418,7 +498,7 @@ class Session:
 
     def accepted(self):
         """For each line that replay prints, whether the call is accepted, where the book says so."""
-        return [accepted for word, _, accepted in self.calls if word not in ("document", "old", "new", "other")]
+        return [accepted for word, _, accepted in self.calls if word not in ("document", "old", "new", "names", "other")]
 
     def bundle(self, refused=False):
         """The accepted term and step calls as a bundle, with one of the refused ones in its place if so asked."""
@@ -437,6 +517,16 @@ def is_covered(book, old, new, steps):
     if max(len(old), len(new)) > MOST_REPLACED or len(steps) != len(old):
         return False
     return all(covers(row, number) for row, number in zip(old, steps))
+
+
+def parts(term, found):
+    """The nesting of each part of the term."""
+    if term not in found:
+        operands = [x for x in term.args if isinstance(x, Term)]
+        for x in operands:
+            parts(x, found)
+        found[term] = 1 + max((found[x] for x in operands), default=0)
+    return found
 
 
 def text_of(lines):
@@ -535,7 +625,8 @@ def with_low_limits(text):
 def resized(rng, text):
     """The text made as long as the longest input, or a byte or more longer, by its last term or step over and over."""
     size = MOST_BYTES + rng.choice([0, 0, 1, 1, 2, 5000])
-    others = (b"select", b"document", b"old", b"new", b"replace", b"write", b"other", b"order", b"bundle-order")
+    others = (b"select", b"document", b"old", b"new", b"replace", b"write", b"names", b"text", b"other", b"order",
+              b"bundle-order")
     line = next((line for line in reversed(text.splitlines(True)) if not line.startswith(others)), b"\n")
     return (text + line * (size // len(line) + 1))[:size - 1] + rng.choice([b"\n", b"0"])
 
@@ -544,6 +635,8 @@ def replay_case(rng):
     session = Session(rng)
     if rng.random() < 0.8:
         session.document(damage=0)
+    if rng.random() < 0.8:
+        session.lend_names()
     for _ in range(rng.choice([1, 5, 20, 60])):
         session.random_call()
     if rng.random() < 0.01:

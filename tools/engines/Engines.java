@@ -4,7 +4,10 @@
 //
 // A question is a line: "document XML", or "select CONTEXT XPATH" on the last document. The answer to a document is its
 // rows "kind parent name" in document order, all on one line; to a selection, the numbers of the selected nodes, or
-// "refused": Saxon refuses an expression if it sees that a part of it is never evaluated.
+// "refused": Saxon refuses an expression if it sees that a part of it is never evaluated, Jaxen some that it doesn't take
+// for node sets. "names NAME NAME .." gives the
+// names of later documents their numbers from 1, the first of two equal ones counting; it is answered by an empty line.
+// "parses XPATH" is answered by "yes" or "no": whether Jaxen takes it for an expression of XPath 1.0.
 
 import java.io.*;
 import java.util.*;
@@ -26,10 +29,23 @@ public class Engines {
         TreeSet<Integer> select(int context, String xpath) throws Exception;
     }
 
-    /** A name's number is what follows its first letter; an instruction of target i has none, 0. */
+    static List<String> names = null;
+
+    /** A name's number is what follows its first letter, or its place among the names; an instruction of target i has
+        none, 0. */
     static String row(int kind, int parent, String name) {
         boolean named = kind == 1 || kind == 5 || kind == 4 && !name.equals("i");
-        return kind + " " + parent + " " + (named ? name.substring(1) : "0");
+        String number = !named ? "0" : names == null ? name.substring(1) : "" + (names.indexOf(name) + 1);
+        return kind + " " + parent + " " + number;
+    }
+
+    static boolean parses(String xpath) {
+        try {
+            new DOMXPath(xpath);
+            return true;
+        } catch (org.jaxen.JaxenException e) {
+            return false;
+        }
     }
 
     static class Jaxen implements Engine {
@@ -65,8 +81,12 @@ public class Engines {
 
         public TreeSet<Integer> select(int context, String xpath) throws Exception {
             TreeSet<Integer> selected = new TreeSet<>();
-            for (Object node : new DOMXPath(xpath).selectNodes(nodes.get(context))) {
-                selected.add(numbers.get(node));
+            try {
+                for (Object node : new DOMXPath(xpath).selectNodes(nodes.get(context))) {
+                    selected.add(numbers.get(node));
+                }
+            } catch (org.jaxen.JaxenException e) {
+                return null;
             }
             return selected;
         }
@@ -140,6 +160,11 @@ public class Engines {
         for (String line = questions.readLine(); line != null; line = questions.readLine()) {
             if (line.startsWith("document ")) {
                 answers.println(String.join(" ", engine.document(line.substring(9))));
+            } else if (line.startsWith("names ")) {
+                names = Arrays.asList(line.substring(6).split(" "));
+                answers.println();
+            } else if (line.startsWith("parses ")) {
+                answers.println(parses(line.substring(7)) ? "yes" : "no");
             } else {
                 String[] words = line.split(" ", 3);
                 TreeSet<Integer> selected = engine.select(Integer.parseInt(words[1]), words[2]);

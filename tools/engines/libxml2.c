@@ -2,7 +2,7 @@
  *
  *     cc -O2 libxml2.c $(xml2-config --cflags --libs) -o libxml2 && ./libxml2 < QUESTIONS
  *
- * Questions and answers are those of Engines.java. */
+ * Questions and answers are those of Engines.java, but for names. */
 
 #include <libxml/parser.h>
 #include <libxml/xpath.h>
@@ -58,6 +58,18 @@ static void answer(xmlXPathContextPtr context, long number, const char *xpath) {
     printf("\n");
 }
 
+static void quiet(void *context, xmlErrorPtr error) {
+    (void)context;
+    (void)error;
+}
+
+static void parses(const char *xpath) {
+    xmlSetStructuredErrorFunc(NULL, quiet);
+    xmlXPathCompExprPtr compiled = xmlXPathCompile((const xmlChar *)xpath);
+    printf("%s\n", compiled ? "yes" : "no");
+    xmlXPathFreeCompExpr(compiled);
+}
+
 int main(void) {
     xmlDocPtr document = NULL;
     xmlXPathContextPtr context = NULL;
@@ -74,6 +86,8 @@ int main(void) {
             count = 0;
             add((xmlNodePtr)document, 0);
             printf("\n");
+        } else if (strncmp(line, "parses ", 7) == 0) {
+            parses(line + 7);
         } else {
             char *end;
             long number = strtol(line + 7, &end, 10);

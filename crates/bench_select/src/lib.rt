@@ -1,11 +1,13 @@
-// Select, write and orders for a benchmark in C, on rows and steps that the caller lends.
+// Select, write, orders and the reading of a selector as text, for a benchmark in C, on what the caller lends.
 ghost use mathlib.Core.Path.{_≡_};
+ghost use mathlib.Core.List.{[]};
 ghost use lib.ListN.{length};
 ghost use Rattle.terms.specs.Row.{tableOf};
 ghost use Rattle.calls.specs.SelectCall.{selectAnswer, selectBuffer};
 ghost use Rattle.calls.specs.Book.{book};
 ghost use Rattle.calls.specs.code.Tables.{stepsOf};
 ghost use Rattle.ordering.specs.OrderCall.{orderAnswer, bundleOrderAnswer};
+ghost use Rattle.calls.specs.TextCall.{textReply};
 ghost use Rattle.bundles.specs.code.TextPut.{heldText, TextWritten};
 
 // The number of the answer; the marks are written as `Session::select` writes them.
@@ -64,4 +66,16 @@ pub extern "C" fn bench_bundle_order<'a>(
 {
     let answer = ordering::bundle_order_on(left, left_steps, right, right_steps);
     answer.value()
+}
+
+// The numbers of a session's table.
+const TABLE_SIZE: usize = terms::ROW_WIDTH * terms::MAX_ROWS;
+
+// The number of the answer to a selector as text, with a lent list of names, where no row is held.
+#[no_mangle]
+pub extern "C" fn bench_text(names: &[u8], selector: &[u8]) -> u16
+    ensures { λ r. ⌜ r ≡ textReply (now (names .entry)) (now (selector .entry)) [] .number ⌝ }
+{
+    let read = text::read_text(selector, names, [0u16; TABLE_SIZE], 0);
+    read.number
 }

@@ -1,6 +1,7 @@
 -- How long the lines of accepted rows and steps are, and a bundle of them. Assumes nothing.
 use Prim.Native.Nat.{ℕ, _+_, _*_, _≤_, _<_}
-use mathlib.Core.Path.{_≡_, refl, ap, _∙_}
+use mathlib.Core.Path.{_≡_, refl, sym, ap, _∙_}
+use mathlib.Core.Bool.{Bool, true, false, false≢true}
 use mathlib.Core.List.{List, [], _∷_, _++_}
 use native.Mathlib.Omega.{arith}
 use lib.ListN.{length, length-append}
@@ -64,6 +65,51 @@ kind-short not-kind = omega arith
 kind-short and-kind = omega arith
 kind-short or-kind = omega arith
 kind-short in-kind = omega arith
+
+-- a name stands in the last place only
+unfoldable isName : Field → Bool
+isName unused = false
+isName axis = false
+isName test = false
+isName name = true
+isName path = false
+isName qualifier = false
+
+name-last : {k : ℕ} → Kind k → (isName (fieldsOf k .a) ≡ false) × (isName (fieldsOf k .b) ≡ false)
+unfolding isName fieldsOf
+name-last void-kind = (refl, refl)
+name-last root-kind = (refl, refl)
+name-last step-kind = (refl, refl)
+name-last union-kind = (refl, refl)
+name-last composition-kind = (refl, refl)
+name-last filter-kind = (refl, refl)
+name-last true-kind = (refl, refl)
+name-last false-kind = (refl, refl)
+name-last not-kind = (refl, refl)
+name-last and-kind = (refl, refl)
+name-last or-kind = (refl, refl)
+name-last in-kind = (refl, refl)
+
+field-fits : (rs : List Row) (i : ℕ) (f : Field) (x t : ℕ) → FieldLaw rs i f x t → i < maxRows → isName f ≡ false
+    → x ≤ maxNumber
+unfolding isName
+field-fits rs i unused x t law few e = omega (arith, law)
+field-fits rs i axis x t law few e = omega (arith, law)
+field-fits rs i test x t law few e = omega (arith, law)
+field-fits rs i name x t law few e = absurd (false≢true (sym e))
+field-fits rs i path x t law few e = omega (arith, law .0)
+field-fits rs i qualifier x t law few e = omega (arith, law .0)
+
+-- so of an accepted row's numbers only that one may have more than 16 bits
+pub row-numbers : {rs : List Row} → Built rs → (i : ℕ) → i < length rs → i < maxRows → rowAt rs i .c ≤ maxNumber
+    → AllFit (rowNumbers (rowAt rs i))
+row-numbers {rs} built i h few m =
+    let r = rowAt rs i in
+    let laws = built-row built i h in
+    let (no-a, no-b) = name-last (kind-of (r .kind) (laws .kind)) in
+    let a = field-fits rs i (fieldsOf (r .kind) .a) (r .a) (r .b) (laws .a) few no-a in
+    let b = field-fits rs i (fieldsOf (r .kind) .b) (r .b) (r .b) (laws .b) few no-b in
+    (omega (arith, laws .kind), (a, (b, (m, tt))))
 
 -- the longest line of a row is `10 1000 1000 0`, with its newline
 pub row-short : {rs : List Row} → Built rs → (i : ℕ) → i < length rs → i < maxRows → AllFit (rowNumbers (rowAt rs i))

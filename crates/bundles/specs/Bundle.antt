@@ -4,6 +4,7 @@ use mathlib.Core.List.{List, [], _∷_, _++_}
 use mathlib.Core.Option.{Option, Option·map}
 use lib.ListN.{getD}
 use Rattle.terms.specs.Row.{Row, row}
+pub use Rattle.terms.specs.Row.{rowNumbers}
 use Rattle.lines.specs.Ascii.{ascii}
 use Rattle.lines.specs.Line.{newline, Line}
 use Rattle.lines.specs.Number.{numbersOf}
@@ -32,10 +33,7 @@ rowOfLine l = Option·map rowOfNumbers (numbersOf rowWidth l)
 unfoldable pub stepOfLine : Line → Option Step
 stepOfLine l = Option·map stepOfNumbers (numbersOf stepWidth l)
 
--- the numbers of a row and of a step, in order
-abbrev pub rowNumbers : Row → List ℕ
-rowNumbers r = r .kind ∷ r .a ∷ r .b ∷ r .c ∷ []
-
+-- the numbers of a step, in order
 abbrev pub stepNumbers : Step → List ℕ
 stepNumbers p = p .rule ∷ p .left ∷ p .right ∷ p .first ∷ p .second ∷ []
 

@@ -24,7 +24,7 @@ use Rattle.rules.specs.Decision.{yields-dec}
 use Rattle.matching.proofs.RowYields.{row-yields-iff}
 use Rattle.calls.specs.Book.{Step, noStep, maxSteps, Book, Answer, answer}
 use Rattle.calls.specs.StepCall.{sameSort, badSide, badPremise, claimOf, premisesOf, stepAnswerBy, isYielded, stepAnswer}
-use Rattle.calls.specs.Calls.{Call, term, step, point, return, bookAnswer, rowAnswer, Reachable}
+use Rattle.calls.specs.Calls.{Call, term, step, text, point, return, bookAnswer, rowAnswer, Reachable}
 use Rattle.calls.specs.Promises.{sidesOf, rowYielded, rowStepAnswer}
 use Rattle.calls.proofs.Premises.{SidesHeld, sides-held, HeldIn, premises-held}
 use Rattle.calls.proofs.Reached.{reachable-laws}
@@ -113,5 +113,6 @@ row-answer-by-terms b p h = answer-by (rowYielded b p) (isYielded b p) b p λ si
 pub answer-by-terms : (b : Book) (c : Call) → Reachable b → rowAnswer b c ≡ bookAnswer b c
 answer-by-terms b (term r) h = refl
 answer-by-terms b (step p) h = row-answer-by-terms b p h
+answer-by-terms b (text names t) h = refl
 answer-by-terms b (point n) h = refl
 answer-by-terms b (return n) h = refl

@@ -15,4 +15,5 @@ pub mod Reached
 pub mod RowAdded
 pub mod Yielded
 pub mod ByTerms
+pub mod TextLaws
 pub mod RuleUses

@@ -1,6 +1,6 @@
 -- Laws of every book that calls lead to. Assumes nothing.
 use Prim.Native.Nat.{ℕ, suc, _+_, _<_}
-use mathlib.Core.Path.{_≡_, sym}
+use mathlib.Core.Path.{_≡_, sym, subst}
 use mathlib.Core.Bool.{_&&_, decide-iff}
 use mathlib.Core.List.{List, [], _∷_, _++_, map}
 use mathlib.Core.Logic.{⊎-elim}
@@ -21,41 +21,50 @@ use Rattle.rules.specs.Claim.{says, IsTrue}
 use Rattle.rules.specs.Yields.{Yields}
 use Rattle.rules.specs.Decision.{yields-dec}
 use Rattle.rules.proofs.Sound.{yields-sound}
+use Rattle.grammar.specs.Bytes.{Bytes}
+use Rattle.grammar.proofs.Answered.{answered}
+use Rattle.grammar.proofs.Longer.{answer-longer}
+use Rattle.grammar.proofs.Standing.{answer-built}
 use Rattle.calls.specs.Book as books
 use Rattle.calls.specs.Book.{Step, noStep, noPoint, Book}
 use Rattle.calls.specs.TermCall.{termAnswer}
 use Rattle.calls.specs.StepCall.{sameSort, claimOf, premisesOf, isYielded, stepAnswer}
+use Rattle.calls.specs.TextCall.{textReply}
 use Rattle.calls.specs.PointCall.{pointNames, placeOf}
-use Rattle.calls.specs.Calls.{Call, term, step, point, return, bookAnswer, bookWith, plainBook, Reachable}
+use Rattle.calls.specs.Calls.{Call, term, step, text, point, return, bookAnswer, bookWith, plainBook, Reachable}
 use Rattle.calls.proofs.Runs.{reached-law}
 use Rattle.calls.proofs.PointJudged.{return-accepted}
 use Rattle.calls.proofs.TermJudged.{term-accepted}
 use Rattle.calls.proofs.StepJudged.{step-accepted}
 use Rattle.calls.proofs.Premises.{SidesHeld, sides-held, HeldIn, premises-held}
 
--- a held row stays as it is when a row is added
-module _ (rs : List Row) (r : Row) (i : ℕ) (h : i < length rs) where
-  row-stays : rowAt (rs ++ (r ∷ [])) i ≡ rowAt rs i
-  row-stays = List·getD-append rs (r ∷ []) noRow i h
+-- a held row stays as it is when rows are added
+module _ (rs new : List Row) (i : ℕ) (h : i < length rs) where
+  row-stays : rowAt (rs ++ new) i ≡ rowAt rs i
+  row-stays = List·getD-append rs new noRow i h
 
--- the rows of a held step, and what it says, stay as they are when a row is added
-module _ (rs : List Row) (r : Row) (p : Step) (held : SidesHeld rs p) where
-  grown : length (rs ++ (r ∷ [])) ≡ length rs + 1
-  grown = length-append rs (r ∷ [])
+-- the rows of a held step, and what it says, stay as they are when rows are added
+module _ (rs new : List Row) (p : Step) (held : SidesHeld rs p) where
+  grown : length (rs ++ new) ≡ length rs + length new
+  grown = length-append rs new
 
-  pub sides-stay : SidesHeld (rs ++ (r ∷ [])) p
+  pub sides-stay : SidesHeld (rs ++ new) p
   unfolding sameSort
   sides-stay =
       record {
         left = omega (arith, grown, held .left);
         right = omega (arith, grown, held .right);
-        one-sort = rw (row-stays rs r (p .left) (held .left), row-stays rs r (p .right) (held .right)) (held .one-sort);
+        one-sort = rw (row-stays rs new (p .left) (held .left), row-stays rs new (p .right) (held .right)) (held .one-sort);
       }
 
-  pub claim-stays : claimOf (rs ++ (r ∷ [])) p ≡ claimOf rs p
+  pub claim-stays : claimOf (rs ++ new) p ≡ claimOf rs p
   unfolding claimOf says
   claim-stays =
-      rw (row-stays rs r (p .left) (held .left), term-stays rs (r ∷ []) (p .left) (held .left), term-stays rs (r ∷ []) (p .right) (held .right))
+      rw (
+        row-stays rs new (p .left) (held .left),
+        term-stays rs new (p .left) (held .left),
+        term-stays rs new (p .right) (held .right),
+      )
 
 -- rows and steps that calls lead to
 pub record HeldLaws (rs : List Row) (ps : List Step) : Type 0 where
@@ -63,19 +72,36 @@ pub record HeldLaws (rs : List Row) (ps : List Step) : Type 0 where
   pub sides : (i : ℕ) → i < length ps → SidesHeld rs (getD ps i noStep)
   pub claims : (i : ℕ) → i < length ps → IsTrue (claimOf rs (getD ps i noStep))
 
-row-added : (rs : List Row) (ps : List Step) (r : Row) → HeldLaws rs ps → termAnswer rs r .number ≡ 0 → HeldLaws (rs ++ (r ∷ [])) ps
+-- rows that are accepted after those held
+rows-added : (rs new : List Row) (ps : List Step) → HeldLaws rs ps → Built (rs ++ new) → HeldLaws (rs ++ new) ps
+rows-added rs new ps w b =
+    record {
+      built = b;
+      sides = λ i h. sides-stay rs new (getD ps i noStep) (w .sides i h);
+      claims = λ i h. rw (claim-stays rs new (getD ps i noStep) (w .sides i h)) (w .claims i h);
+    }
+
+row-added : (rs : List Row) (ps : List Step) (r : Row) → HeldLaws rs ps → termAnswer rs r .number ≡ 0
+    → HeldLaws (rs ++ (r ∷ [])) ps
 unfolding isWellFormed isNew
 row-added rs ps r w e =
     let t = term-accepted rs r e in
-    record {
-      built = more r (w .built)
-          (yes-and (leb (r .kind) maxKind && eqb (badPlace rs r) 0) (leb (nesting rs r) maxNesting)
-          (yes-and (leb (r .kind) maxKind) (eqb (badPlace rs r) 0) (yes-leb (t .kind)) (yes-eqb (let z : badPlace rs r ≡ 0 = omega (arith, t .fields) in z)))
-          (yes-leb (t .nesting)))
-          (yes-eqb (let z : find rs r ≡ length rs = omega (arith, t .new, find-le rs r) in z));
-      sides = λ i h. sides-stay rs r (getD ps i noStep) (w .sides i h);
-      claims = λ i h. rw (claim-stays rs r (getD ps i noStep) (w .sides i h)) (w .claims i h);
-    }
+    rows-added rs (r ∷ []) ps w
+    (more r (w .built)
+    (yes-and (leb (r .kind) maxKind && eqb (badPlace rs r) 0) (leb (nesting rs r) maxNesting)
+    (yes-and (leb (r .kind) maxKind) (eqb (badPlace rs r) 0) (yes-leb (t .kind)) (yes-eqb (let z : badPlace rs r ≡ 0 = omega (arith, t .fields) in z)))
+    (yes-leb (t .nesting)))
+    (yes-eqb (let z : find rs r ≡ length rs = omega (arith, t .new, find-le rs r) in z)))
+
+-- a text leaves accepted rows, the held ones in front
+text-added : (rs : List Row) (ps : List Step) (names t : Bytes) → HeldLaws rs ps
+    → HeldLaws (textReply names t rs .rows) ps
+unfolding textReply
+text-added rs ps names t w =
+    let reply = answered names t rs in
+    let (new, e) = answer-longer names t rs _ _ _ (reply .1) in
+    let built = answer-built names t rs (w .built) _ _ _ (reply .1) in
+    subst (λ (ss : List Row). HeldLaws ss ps) (sym e) (rows-added rs new ps w (subst Built e built))
 
 -- what holds of each, and of one more, holds of each of both
 each-and-last : {A : Type 0} (d : A) (P : A → Type 0) (ps : List A) (p : A)
@@ -117,6 +143,7 @@ pub record BookLaws (b : Book) : Type 0 where
 laws-with : (b : Book) (c : Call) → BookLaws b → bookAnswer b c .number ≡ 0 → BookLaws (bookWith b c)
 laws-with b (term r) w e = record { held = row-added (b .rows) (b .steps) r (w .held) e; points = w .points }
 laws-with b (step p) w e = record { held = step-added b p (w .held) e; points = w .points }
+laws-with b (text names t) w e = record { held = text-added (b .rows) (b .steps) names t (w .held); points = w .points }
 laws-with b (point n) w e =
     record {
       held = w .held;

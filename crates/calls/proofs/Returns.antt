@@ -11,18 +11,21 @@ use lib.ListN.{length, getD, take, length-append, length-map}
 use lib.Seq.{getD-at, length-take-le, take-append-add}
 use borrow.Author.Tests.{eq-eqb}
 use Rattle.common.specs.Lists.{Every}
-use Rattle.common.proofs.Entries.{every-map}
+use Rattle.common.proofs.Entries.{every-map, every-more, every-first, every-there}
 use Rattle.terms.specs.Row.{Row, maxRows}
 use Rattle.calls.specs.Book as books
 use Rattle.calls.specs.Book.{Step, Point, noPoint, maxSteps, maxPoints, Book, emptyBook, answer}
+use Rattle.grammar.specs.Bytes.{Bytes}
+use Rattle.calls.specs.TextCall.{textAnswer}
 use Rattle.calls.specs.PointCall.{pointNames, placeOf, pointBook, returnBook}
 use Rattle.calls.specs.Promises.{rowYielded, rowStepAnswer}
 use Rattle.calls.specs.Runs.{next, final}
-use Rattle.calls.specs.Calls.{Call, term, step, point, return, bookAnswer, bookWith, plainBook, rowAnswer}
+use Rattle.calls.specs.Calls.{Call, term, step, text, point, return, bookAnswer, bookWith, plainBook, rowAnswer}
 use Rattle.calls.specs.PointLaws.{KeepsPoints, ReturnRestores}
 use Rattle.calls.proofs.Accepted.{if-accepted, by-accepted}
 use Rattle.calls.proofs.TermJudged.{term-accepted}
 use Rattle.calls.proofs.StepJudged.{step-accepted}
+use Rattle.calls.proofs.TextLaws.{text-accepted}
 use Rattle.calls.proofs.PointJudged.{point-accepted, return-accepted, returns-there}
 
 -- the rows and steps of the point begin these
@@ -36,11 +39,11 @@ begins-itself : (p : Point) → Begins p (p .rows) (p .steps)
 begins-itself p =
     record { later-rows = []; rows = sym (append-nil (p .rows)); later-steps = []; steps = sym (append-nil (p .steps)) }
 
-begins-row : (r : Row) (p : Point) (rs : List Row) (ps : List Step) → Begins p rs ps → Begins p (rs ++ (r ∷ [])) ps
-begins-row r p rs ps w =
+begins-rows : (new : List Row) (p : Point) (rs : List Row) (ps : List Step) → Begins p rs ps → Begins p (rs ++ new) ps
+begins-rows new p rs ps w =
     record {
-      later-rows = w .later-rows ++ (r ∷ []);
-      rows = ap (λ xs. xs ++ (r ∷ [])) (w .rows) ∙ append-assoc (p .rows) (w .later-rows) (r ∷ []);
+      later-rows = w .later-rows ++ new;
+      rows = ap (λ xs. xs ++ new) (w .rows) ∙ append-assoc (p .rows) (w .later-rows) new;
       later-steps = w .later-steps;
       steps = w .steps;
     }
@@ -58,20 +61,6 @@ begins-step q p rs ps w =
 abbrev pub Ordered : List Point → Type 0
 Ordered [] = Unit {0}
 Ordered (p ∷ ps) = Every (λ q. Begins p (q .rows) (q .steps)) ps × Ordered ps
-
-pub every-more : {A : Type 0} (P : A → Type 0) (xs : List A) (x : A) → Every P xs → P x → Every P (xs ++ (x ∷ []))
-every-more P [] x h p = (p, tt)
-every-more P (y ∷ ys) x h p = (h .0, every-more P ys x (h .1) p)
-
-pub every-first : {A : Type 0} (P : A → Type 0) (n : ℕ) (xs : List A) → Every P xs → Every P (take n xs)
-every-first P zero xs h = tt
-every-first P (suc n) [] h = tt
-every-first P (suc n) (x ∷ xs) h = (h .0, every-first P n xs (h .1))
-
-pub every-there : {A : Type 0} (P : A → Type 0) (d : A) (xs : List A) (i : ℕ) → Every P xs → i < length xs → P (getD xs i d)
-every-there P d [] i h l = absurd (omega arith)
-every-there P d (x ∷ xs) zero h l = h .0
-every-there P d (x ∷ xs) (suc i) h l = every-there P d xs i (h .1) (omega arith)
 
 ordered-more : (ps : List Point) (q : Point) → Ordered ps → Every (λ p. Begins p (q .rows) (q .steps)) ps
     → Ordered (ps ++ (q ∷ []))
@@ -107,16 +96,26 @@ pub empty-fits : Fits emptyBook
 empty-fits = record { rows = omega arith; steps = omega arith; points = omega arith; begin = tt; ordered = tt }
 
 module _ (b : Book) (w : Fits b) where
-  row-fits : (r : Row) → length (b .rows) < maxRows → Fits (bookWith b (term r))
-  row-fits r room =
+  rows-fit : (new : List Row) → length (b .rows ++ new) ≤ maxRows
+      → Fits (books.pointedBook (b .rows ++ new) (b .steps) (b .points))
+  rows-fit new room =
       record {
-        rows = omega (arith, length-append (b .rows) (r ∷ []));
+        rows = room;
         steps = w .steps;
         points = w .points;
-        begin = every-map (λ p. Begins p (b .rows) (b .steps)) (λ p. Begins p (b .rows ++ (r ∷ [])) (b .steps))
-            (λ p. begins-row r p (b .rows) (b .steps)) (b .points) (w .begin);
+        begin = every-map (λ p. Begins p (b .rows) (b .steps)) (λ p. Begins p (b .rows ++ new) (b .steps))
+            (λ p. begins-rows new p (b .rows) (b .steps)) (b .points) (w .begin);
         ordered = w .ordered;
       }
+
+  row-fits : (r : Row) → length (b .rows) < maxRows → Fits (bookWith b (term r))
+  row-fits r room = rows-fit (r ∷ []) (omega (arith, length-append (b .rows) (r ∷ [])))
+
+  text-fits : (names t : Bytes) → textAnswer (b .rows) names t .number ≡ 0 → Fits (bookWith b (text names t))
+  text-fits names t e =
+      let (new, grown, few) = text-accepted (b .rows) names t e in
+      subst (λ rs. Fits (books.pointedBook rs (b .steps) (b .points))) (sym grown)
+      (rows-fit new (subst (λ rs. length rs ≤ maxRows) grown few))
 
   step-fits : (q : Step) → length (b .steps) < maxSteps → Fits (bookWith b (step q))
   step-fits q room =
@@ -165,6 +164,7 @@ pub fits-with : (b : Book) (c : Call) → Fits b → rowAnswer b c .number ≡ 0
 unfolding rowStepAnswer
 fits-with b (term r) w e = row-fits b w r (term-accepted (b .rows) r e .room)
 fits-with b (step p) w e = step-fits b w p (step-accepted (rowYielded b p) b p e .room)
+fits-with b (text names t) w e = text-fits b w names t e
 fits-with b (point n) w e =
     point-fits b w n (omega (arith, point-accepted (pointNames (b .points)) n e .room, point-names (b .points)))
 fits-with b (return n) w e =
@@ -209,6 +209,7 @@ module _ (b : Book) (n : ℕ) (taken : bookAnswer b (point n) .number ≡ 0) whe
     kept-with : (c : Call) → KeepsPoints (pointNames (b .points)) c → bookAnswer d c .number ≡ 0 → Kept (bookWith d c)
     kept-with (term r) f e = record { later = w .later; points = w .points }
     kept-with (step p) f e = record { later = w .later; points = w .points }
+    kept-with (text names t) f e = record { later = w .later; points = w .points }
     kept-with (point m) f e =
         let new = books.point m (d .rows) (d .steps) in
         record {

@@ -32,7 +32,7 @@ module _ (b : Book) (laws : HeldLaws (b .rows) (b .steps)) (r : Row) where
   premises-stay [] h = refl
   premises-stay (q ∷ qs) h =
       let (i, held, is) = h .0 in
-      ap₂ (λ c cs. c ∷ cs) (rw is (claim-stays (b .rows) r _ (laws .sides i held))) (premises-stay qs (h .1))
+      ap₂ (λ c cs. c ∷ cs) (rw is (claim-stays (b .rows) (r ∷ []) _ (laws .sides i held))) (premises-stay qs (h .1))
 
   -- an accepted step call
   pub step-stays : (p : Step) → stepAnswer b p .number ≡ 0 → stepAnswer grown p ≡ stepAnswer b p
@@ -42,7 +42,7 @@ module _ (b : Book) (laws : HeldLaws (b .rows) (b .steps)) (r : Row) where
       let held = sides-held (b .rows) p (t .sides) in
       rw (
         no-bad-side (b .rows) p held,
-        no-bad-side (grown .rows) p (sides-stay (b .rows) r p held),
-        claim-stays (b .rows) r p held,
+        no-bad-side (grown .rows) p (sides-stay (b .rows) (r ∷ []) p held),
+        claim-stays (b .rows) (r ∷ []) p held,
         premises-stay (premisesOf (b .steps) p) (premises-held (b .steps) p (t .premises)),
       )

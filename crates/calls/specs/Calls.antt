@@ -2,9 +2,11 @@
 use Prim.Native.Nat.{ℕ}
 use mathlib.Core.List.{List}
 use Rattle.terms.specs.Row.{Row}
+use Rattle.grammar.specs.Bytes.{Bytes}
 use Rattle.calls.specs.Book.{Step, Book, emptyBook, Answer}
 use Rattle.calls.specs.TermCall.{termAnswer, termBook}
 use Rattle.calls.specs.StepCall.{stepAnswer, stepBook}
+use Rattle.calls.specs.TextCall.{textAnswer, textBook}
 use Rattle.calls.specs.PointCall.{pointNames, pointAnswer, returnAnswer, pointBook, returnBook}
 use Rattle.calls.specs.Promises.{rowStepAnswer}
 use Rattle.calls.specs.Runs.{Machine, Seen, shown, final, Reached}
@@ -13,6 +15,7 @@ use Rattle.calls.specs.Runs.{Machine, Seen, shown, final, Reached}
 pub data Call : Type 0 where
   term : Row → Call
   step : Step → Call
+  text : (names t : Bytes) → Call
   point : (name : ℕ) → Call
   return : (name : ℕ) → Call
 
@@ -20,6 +23,7 @@ pub data Call : Type 0 where
 abbrev pub bookAnswer : Book → Call → Answer
 bookAnswer b (term r) = termAnswer (b .rows) r
 bookAnswer b (step p) = stepAnswer b p
+bookAnswer b (text names t) = textAnswer (b .rows) names t
 bookAnswer b (point n) = pointAnswer (pointNames (b .points)) n
 bookAnswer b (return n) = returnAnswer (pointNames (b .points)) n
 
@@ -27,6 +31,7 @@ bookAnswer b (return n) = returnAnswer (pointNames (b .points)) n
 abbrev pub bookWith : Book → Call → Book
 bookWith b (term r) = termBook b r
 bookWith b (step p) = stepBook b p
+bookWith b (text names t) = textBook b names t
 bookWith b (point n) = pointBook b n
 bookWith b (return n) = returnBook b n
 
@@ -52,5 +57,6 @@ Reachable = Reached plainBook emptyBook
 abbrev pub rowAnswer : Book → Call → Answer
 rowAnswer b (term r) = termAnswer (b .rows) r
 rowAnswer b (step p) = rowStepAnswer b p
+rowAnswer b (text names t) = textAnswer (b .rows) names t
 rowAnswer b (point n) = pointAnswer (pointNames (b .points)) n
 rowAnswer b (return n) = returnAnswer (pointNames (b .points)) n

@@ -2,6 +2,7 @@ pub mod Refusals
 pub mod Book
 pub mod TermCall
 pub mod StepCall
+pub mod TextCall
 pub mod SelectCall
 pub mod PointCall
 pub mod Promises
@@ -10,5 +11,6 @@ pub mod Uses
 pub mod Runs
 pub mod Calls
 pub mod PointLaws
+pub mod TextLaws
 pub mod code
 pub mod values

@@ -7,12 +7,13 @@ use Rattle.common.specs.Lists.{Every}
 use Rattle.calls.specs.Book.{Book, answer}
 use Rattle.calls.specs.PointCall.{pointNames, placeOf}
 use Rattle.calls.specs.Runs.{next, final}
-use Rattle.calls.specs.Calls.{Call, term, step, point, return, bookAnswer, plainBook}
+use Rattle.calls.specs.Calls.{Call, term, step, text, point, return, bookAnswer, plainBook}
 
 -- the call returns to none of the points of these names
 abbrev pub KeepsPoints : (names : List ℕ) → Call → Type 0
 KeepsPoints names (term r) = Unit {0}
 KeepsPoints names (step p) = Unit {0}
+KeepsPoints names (text listed t) = Unit {0}
 KeepsPoints names (point n) = Unit {0}
 KeepsPoints names (return n) = ¬ (placeOf names n < length names)
 

@@ -2,3 +2,4 @@ pub mod CallCases
 pub mod TableCases
 pub mod SelectLawCases
 pub mod PointCases
+pub mod TextCases

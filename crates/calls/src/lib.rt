@@ -1,6 +1,30 @@
 // The answers of the calls term, step, point, return and select, on lent rows, steps and points.
 mod points;
 
+pub use common::refusal::ALREADY_HELD;
+pub use common::refusal::BAD_ARGUMENT;
+pub use common::refusal::BAD_DOCUMENT;
+pub use common::refusal::BAD_FIELD;
+pub use common::refusal::BAD_KIND;
+pub use common::refusal::BAD_LISTS;
+pub use common::refusal::BAD_NAME;
+pub use common::refusal::BAD_POINT;
+pub use common::refusal::BAD_PREMISE;
+pub use common::refusal::BAD_SIDE;
+pub use common::refusal::LIMIT_PASSED;
+pub use common::refusal::NO_RULE;
+pub use common::refusal::NOT_COVERED;
+pub use common::refusal::NOT_YIELDED;
+pub use common::refusal::OUTSIDE_GRAMMAR;
+pub use common::refusal::POINTS_FULL;
+pub use common::refusal::SHORT_BUFFER;
+pub use common::refusal::SHORT_MARKS;
+pub use common::refusal::STEPS_FULL;
+pub use common::refusal::TERMS_FULL;
+pub use common::refusal::TOO_DEEP;
+pub use common::refusal::UNLISTED_NAME;
+pub use common::refusal::WRONG_FORM;
+use matching::Sides;
 pub use points::MAX_POINTS;
 pub use points::POINT_WIDTH;
 pub use points::PointAnswer;
@@ -10,7 +34,6 @@ pub use points::judge_point;
 pub use points::judge_return;
 pub use points::point_named;
 pub use points::point_place;
-use matching::Sides;
 use selection::Evaluated;
 use terms::Row;
 use xpath::DocumentCheck;
@@ -29,49 +52,6 @@ ghost use Rattle.calls.specs.Uses.{usesOf};
 ghost use Rattle.calls.specs.code.Tables.{stepsOf, firstRowNumbers, firstStepNumbers, firstRows, firstSteps};
 ghost use Rattle.calls.specs.code.Answers.{termAnswerOf, stepAnswerOf, selectAnswerOf, evaluationAnswer, stepOf};
 ghost use Rattle.calls.specs.Promises.{sidesOf, rowYielded, rowStepAnswer, SelectMade};
-
-// The refusals of documents 01 and 02.
-pub const BAD_KIND: u16 = 1;
-
-pub const BAD_FIELD: u16 = 2;
-
-pub const TOO_DEEP: u16 = 3;
-
-pub const NO_RULE: u16 = 4;
-
-pub const BAD_SIDE: u16 = 5;
-
-pub const BAD_PREMISE: u16 = 6;
-
-pub const NOT_YIELDED: u16 = 7;
-
-pub const BAD_DOCUMENT: u16 = 8;
-
-pub const BAD_ARGUMENT: u16 = 9;
-
-pub const WRONG_FORM: u16 = 10;
-
-pub const TERMS_FULL: u16 = 11;
-
-pub const ALREADY_HELD: u16 = 12;
-
-pub const STEPS_FULL: u16 = 13;
-
-pub const SHORT_MARKS: u16 = 14;
-
-pub const LIMIT_PASSED: u16 = 15;
-
-pub const SHORT_BUFFER: u16 = 16;
-
-pub const BAD_NAME: u16 = 17;
-
-pub const BAD_POINT: u16 = 20;
-
-pub const POINTS_FULL: u16 = 21;
-
-pub const BAD_LISTS: u16 = 25;
-
-pub const NOT_COVERED: u16 = 26;
 
 // A step has five numbers.
 pub const STEP_WIDTH: usize = 5;

@@ -4,4 +4,5 @@ pub mod NodeKinds
 pub mod Axes
 pub mod NodeTests
 pub mod RowKinds
+pub mod Refusals
 pub mod values

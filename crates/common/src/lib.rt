@@ -3,6 +3,7 @@
 pub mod axis;
 pub mod node_kind;
 pub mod node_test;
+pub mod refusal;
 pub mod row_kind;
 
 ghost use mathlib.Core.Path.{_≡_};

@@ -12,10 +12,10 @@ use Rattle.terms.specs.Nesting.{maxNesting}
 use Rattle.grammar.specs.Bytes.{Bytes}
 use Rattle.grammar.specs.Words.{numberOf}
 use Rattle.grammar.specs.Grammar.{Union, Spells, Outside}
-use Rattle.grammar.specs.Denotes.{unlisted, unionNames, unionOf, putPath, nestPath, Answers, outside}
-use Rattle.grammar.specs.Denotes.{unnumbered, deep, full, held}
+use Rattle.grammar.specs.Denotes.{unlisted, unionNames, unionOf, putPath, nestPath}
+use Rattle.grammar.specs.Answer.{Reply, reply, Answers, outside, unnumbered, deep, full, held}
 use Rattle.grammar.specs.Reader.{Outcome, good, bad, run, initial, Text}
-use Rattle.grammar.specs.Answer.{Reply, reply, answer, readAnswer, namesAnswer, termAnswer}
+use Rattle.grammar.specs.ReaderAnswer.{answer, readAnswer, namesAnswer, termAnswer}
 use Rattle.grammar.proofs.Basics.{so, is-true}
 use Rattle.grammar.proofs.Place.{sound-run, complete-run, bad-outside, one-place, textOf}
 
@@ -56,7 +56,7 @@ only list t rs n v r (held u s e h i) =
       under (length (putPath (unionOf (numberOf list) u) rs .rows)) 1024 i,
     ) refl
 
-abbrev Is : Bytes → Bytes → List Row → Reply → Type 0
+abbrev pub Is : Bytes → Bytes → List Row → Reply → Type 0
 Is list t rs a = Answers list t rs (a .number) (a .value) (a .rows)
 
 nleb : (m n : ℕ) → leb m n ≡ false → n < m
@@ -86,3 +86,7 @@ given list t rs = go (run t initial) refl
     go : (o : Outcome) → run t initial ≡ o → Is list t rs (readAnswer o list (length t) rs)
     go (bad m) e = outside (bad-outside t m e)
     go (good y) e = named list t rs (y .tree) (sound-run t y e) _ refl
+
+-- so a text call has its answer
+unfoldable pub answered : (list t : Bytes) (rs : List Row) → (a : Reply) × Is list t rs a
+answered list t rs = (answer list t rs, given list t rs)

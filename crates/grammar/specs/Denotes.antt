@@ -8,7 +8,10 @@ use lib.Dec.{eqb, ltb}
 use lib.ListN.{length}
 use Rattle.grammar.specs.Bytes.{Bytes}
 use Rattle.grammar.specs.Words.{axisCode, typeCode, instructionWord, numberOf}
-use Rattle.common.specs.NodeTests.{target-test}
+use Rattle.common.specs.Axes.{self, child, parent, descendant-or-self, attribute as attribute-axis}
+use Rattle.common.specs.NodeTests.{name-test, star-test, node-test, target-test}
+use Rattle.common.specs.RowKinds.{void-row, root-row, step-row, union-row, composition-row, filter-row, true-row}
+use Rattle.common.specs.RowKinds.{false-row, not-row, and-row, or-row, inclusion-row}
 use Rattle.xpath.specs.Term as term
 use Rattle.xpath.specs.Term.{some-of}
 use Rattle.terms.specs.Row.{Row, row, find, maxRows}
@@ -21,13 +24,13 @@ use Rattle.grammar.specs.Grammar.{spellStep, spellRel, spellPath, spellU
 use Rattle.grammar.specs.Grammar.{spellOr, spellBool, Spells, Outside}
 
 unfoldable pub axisOf : Axis → ℕ
-axisOf implied = 1
-axisOf (attribute w) = 11
+axisOf implied = child
+axisOf (attribute w) = attribute-axis
 axisOf (axis w n v) = axisCode n
 
 -- descendant-or-self::node()
 abbrev pub everyBelow : term.Path
-everyBelow = term.AxisStep 5 2 0
+everyBelow = term.AxisStep descendant-or-self node-test 0
 
 unfoldable pub constantOf : Bool → term.Qualifier
 constantOf true = term.True
@@ -35,24 +38,25 @@ constantOf false = term.False
 
 module _ (num : Bytes → ℕ) where
   unfoldable pub testOf : ℕ → Test → term.Path
-  testOf a (any w) = term.AxisStep a 1 0
-  testOf a (called w n) = term.AxisStep a 0 (num n)
+  testOf a (any w) = term.AxisStep a star-test 0
+  testOf a (called w n) = term.AxisStep a name-test (num n)
   testOf a (kind w n v u) = term.AxisStep a (typeCode n) 0
   testOf a (target w v u q m y) = term.AxisStep a target-test (num m)
 
   unfoldable mutual
     pub stepOf : Step → term.Path
-    stepOf (dot w) = term.AxisStep 0 2 0
-    stepOf (dots w) = term.AxisStep 2 2 0
+    stepOf (dot w) = term.AxisStep self node-test 0
+    stepOf (dots w) = term.AxisStep parent node-test 0
     stepOf (test a t) = testOf (axisOf a) t
     stepOf (filter s w e v) = term.Filter (stepOf s) (orOf e)
 
-    -- steps grouped from the left after the path p
+    -- steps grouped from the left
     pub relOf : Rel → term.Path
     relOf (one s) = stepOf s
     relOf (slash r w s) = term.Composition (relOf r) (stepOf s)
     relOf (slashes r w s) = term.Composition (term.Composition (relOf r) everyBelow) (stepOf s)
 
+    -- the same after the path p
     pub relAfter : Rel → term.Path → term.Path
     relAfter (one s) = λ p. term.Composition p (stepOf s)
     relAfter (slash r w s) = λ p. term.Composition (relAfter r p) (stepOf s)
@@ -94,7 +98,7 @@ testNames i (kind w n v u) = []
 testNames i (target w v u q m y) =
     record { place = i + length (w ++ (instructionWord ++ (v ++ (40 ∷ (u ++ (q ∷ [])))))); name = m } ∷ []
 
--- the name tests of a tree that begins at place i, in order
+-- the names of a tree that begins at place i, of tests and of targets, in order
 unfoldable mutual
   pub stepNames : Step → ℕ → List Named
   stepNames (dot w) i = []
@@ -148,26 +152,26 @@ put rs r = record { rows = cond (ltb (find rs r) (length rs)) rs (rs ++ (r ∷ [
 -- operands first, left first
 unfoldable mutual
   pub putPath : term.Path → List Row → Put
-  putPath term.Void rs = put rs (row 0 0 0 0)
-  putPath term.Root rs = put rs (row 1 0 0 0)
-  putPath (term.AxisStep a t c) rs = put rs (row 2 a t c)
+  putPath term.Void rs = put rs (row void-row 0 0 0)
+  putPath term.Root rs = put rs (row root-row 0 0 0)
+  putPath (term.AxisStep a t c) rs = put rs (row step-row a t c)
   putPath (term.Union p q) rs =
-      let x = putPath p rs in let y = putPath q (x .rows) in put (y .rows) (row 3 (x .at) (y .at) 0)
+      let x = putPath p rs in let y = putPath q (x .rows) in put (y .rows) (row union-row (x .at) (y .at) 0)
   putPath (term.Composition p q) rs =
-      let x = putPath p rs in let y = putPath q (x .rows) in put (y .rows) (row 4 (x .at) (y .at) 0)
+      let x = putPath p rs in let y = putPath q (x .rows) in put (y .rows) (row composition-row (x .at) (y .at) 0)
   putPath (term.Filter p f) rs =
-      let x = putPath p rs in let y = putQual f (x .rows) in put (y .rows) (row 5 (x .at) (y .at) 0)
+      let x = putPath p rs in let y = putQual f (x .rows) in put (y .rows) (row filter-row (x .at) (y .at) 0)
 
   pub putQual : term.Qualifier → List Row → Put
-  putQual term.True rs = put rs (row 6 0 0 0)
-  putQual term.False rs = put rs (row 7 0 0 0)
-  putQual (term.Not f) rs = let x = putQual f rs in put (x .rows) (row 8 (x .at) 0 0)
+  putQual term.True rs = put rs (row true-row 0 0 0)
+  putQual term.False rs = put rs (row false-row 0 0 0)
+  putQual (term.Not f) rs = let x = putQual f rs in put (x .rows) (row not-row (x .at) 0 0)
   putQual (term.And f g) rs =
-      let x = putQual f rs in let y = putQual g (x .rows) in put (y .rows) (row 9 (x .at) (y .at) 0)
+      let x = putQual f rs in let y = putQual g (x .rows) in put (y .rows) (row and-row (x .at) (y .at) 0)
   putQual (term.Or f g) rs =
-      let x = putQual f rs in let y = putQual g (x .rows) in put (y .rows) (row 10 (x .at) (y .at) 0)
+      let x = putQual f rs in let y = putQual g (x .rows) in put (y .rows) (row or-row (x .at) (y .at) 0)
   putQual (term.In p q) rs =
-      let x = putPath p rs in let y = putPath q (x .rows) in put (y .rows) (row 11 (x .at) (y .at) 0)
+      let x = putPath p rs in let y = putPath q (x .rows) in put (y .rows) (row inclusion-row (x .at) (y .at) 0)
 
 unfoldable mutual
   pub nestPath : term.Path → ℕ
@@ -185,19 +189,3 @@ unfoldable mutual
   nestQual (term.And f g) = suc (max (nestQual f) (nestQual g))
   nestQual (term.Or f g) = suc (max (nestQual f) (nestQual g))
   nestQual (term.In p q) = suc (max (nestPath p) (nestPath q))
-
--- The answer to a text call on the rows held: number, value, and the rows afterwards.
-pub data Answers (list t : Bytes) (rs : List Row) : (number value : ℕ) → List Row → Type 0 where
-  outside : {k : ℕ} → Outside t k → Answers list t rs 18 k rs
-  unnumbered : {u : Union} {k : ℕ} → Spells t u → unlisted (numberOf list) (unionNames u 0) ≡ some k
-      → Answers list t rs 19 k rs
-  deep : {u : Union} → Spells t u → unlisted (numberOf list) (unionNames u 0) ≡ none
-      → maxNesting < nestPath (unionOf (numberOf list) u) → Answers list t rs 3 0 rs
-  full : {u : Union} → Spells t u → unlisted (numberOf list) (unionNames u 0) ≡ none
-      → nestPath (unionOf (numberOf list) u) ≤ maxNesting
-      → maxRows < length (putPath (unionOf (numberOf list) u) rs .rows) → Answers list t rs 11 0 rs
-  held : (u : Union) → Spells t u → unlisted (numberOf list) (unionNames u 0) ≡ none
-      → nestPath (unionOf (numberOf list) u) ≤ maxNesting
-      → length (putPath (unionOf (numberOf list) u) rs .rows) ≤ maxRows
-      → Answers list t rs 0 (putPath (unionOf (numberOf list) u) rs .at)
-      (putPath (unionOf (numberOf list) u) rs .rows)

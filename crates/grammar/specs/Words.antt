@@ -4,7 +4,9 @@ use mathlib.Core.Bool.{Bool, true, false, cond}
 use mathlib.Core.List.{List, [], _∷_, _++_}
 use mathlib.Core.Option.{Option, none, some}
 use lib.Dec.{leb}
+use Rattle.common.specs.NodeTests.{node-test}
 use Rattle.lines.specs.Line.{Line, lines}
+use Rattle.lines.specs.Number.{maxNumber}
 use Rattle.grammar.specs.Bytes.{Bytes, same}
 
 unfoldable pub next : Option ℕ → Option ℕ
@@ -77,7 +79,7 @@ abbrev pub axisCode : Bytes → ℕ
 axisCode n = orZero (find n axes)
 
 abbrev pub typeCode : Bytes → ℕ
-typeCode n = 2 + orZero (find n types)
+typeCode n = node-test + orZero (find n types)
 
 -- `processing-instruction`
 unfoldable pub instructionWord : Bytes
@@ -92,7 +94,7 @@ bytesOf (l ∷ ls) = l .bytes ∷ bytesOf ls
 
 unfoldable pub numbered : Option ℕ → ℕ
 numbered none = 0
-numbered (some i) = cond (leb (suc i) 65535) (suc i) 0
+numbered (some i) = cond (leb (suc i) maxNumber) (suc i) 0
 
 -- the number of a name, 1 to 65535, or 0 if it is not in the list: the first line that equals it counts
 unfoldable pub numberOf : Bytes → Bytes → ℕ

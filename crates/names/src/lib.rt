@@ -27,7 +27,7 @@ fn line_end(list: &[u8], at: usize) -> usize
 }
 
 // Where the next line starts; the list's length where there is none.
-fn next_line(list: &[u8], at: usize) -> usize
+pub fn next_line(list: &[u8], at: usize) -> usize
     ensures { λ r. ⌜ NextMet (now (list .entry)) at r ⌝ }
 {
     let end = line_end(list, at);

@@ -1,5 +1,6 @@
 pub mod Numbers
 pub mod Calls
 pub mod Lists
+pub mod Rests
 pub mod Words
 pub mod Table

@@ -20,7 +20,7 @@ use Rattle.lines.proofs.Parts.{first-none}
 use Rattle.script.specs.declared.Word.{Word}
 use Rattle.script.specs.declared.Entry.{Entry}
 use Rattle.script.specs.declared.Shape.{Shape}
-use Rattle.script.specs.declared.Shape.the-variants.{Counted, Listed, Selection, Room}
+use Rattle.script.specs.declared.Shape.the-variants.{Counted, Listed, Selection, Room, Rest}
 use Rattle.script.specs.declared.Values.{Values}
 use Rattle.script.specs.declared.CallLine.{CallLine}
 use Rattle.script.specs.Command.{maxNumbers, words, shapeOf, wordCommand, wordFor, commandBy, commandOf}
@@ -41,6 +41,7 @@ fitting (Counted n) = leb n maxCount
 fitting (Listed most) = leb most maxNumbers
 fitting Selection = true
 fitting Room = true
+fitting Rest = true
 
 fitting-fits : (shape : Shape) → fitting shape ≡ true → Fits shape
 unfolding fitting
@@ -48,6 +49,7 @@ fitting-fits (Counted n) e = leb-true n maxCount e
 fitting-fits (Listed most) e = leb-true most maxNumbers e
 fitting-fits Selection e = tt
 fitting-fits Room e = tt
+fitting-fits Rest e = tt
 
 sound : List ℕ × Word → Bool
 sound e =

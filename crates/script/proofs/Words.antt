@@ -18,7 +18,7 @@ use Rattle.lines.proofs.Parts.{FirstPart, no-line, only-part, part-before, firs
 use Rattle.lines.proofs.Parts.{next-behind, first-mapped}
 use Rattle.script.specs.declared.Word.{Word}
 use Rattle.script.specs.declared.Shape.{Shape}
-use Rattle.script.specs.declared.Shape.the-variants.{Counted, Listed, Selection, Room}
+use Rattle.script.specs.declared.Shape.the-variants.{Counted, Listed, Selection, Room, Rest}
 use Rattle.script.specs.declared.CallLine.{CallLine}
 use Rattle.script.specs.Command.{command, shapeOf, atMost, numbersIn, named, wordCommand, wordFor, commandBy}
 use Rattle.script.specs.code.CommandRead.{noNumbers, sizeOnly, valuesOf, listedOf, plainLine, noCall, callLine}
@@ -32,6 +32,7 @@ alone (Counted n) e = rw (eqb-true n 0 e)
 alone (Listed most) e = rw (le-leb 0 most (omega arith))
 alone Selection e = absurd (false≢true e)
 alone Room e = absurd (false≢true e)
+alone Rest e = refl
 
 not-alone : (shape : Shape) → standsAlone shape ≡ false → numbersIn shape [] ≡ none
 unfolding numbersUpTo
@@ -40,18 +41,21 @@ not-alone (Counted (suc n)) e = refl
 not-alone (Listed most) e = absurd (false≢true (sym e))
 not-alone Selection e = refl
 not-alone Room e = refl
+not-alone Rest e = absurd (false≢true (sym e))
 
 alone-values : (shape : Shape) → valuesOf shape [] ≡ sizeOnly 0
 alone-values (Counted n) = refl
 alone-values (Listed most) = refl
 alone-values Selection = refl
 alone-values Room = refl
+alone-values Rest = refl
 
 alone-listed : (shape : Shape) → listedOf shape [] ≡ noNumbers
 alone-listed (Counted n) = refl
 alone-listed (Listed most) = refl
 alone-listed Selection = refl
 alone-listed Room = refl
+alone-listed Rest = refl
 
 same-itself : (xs : List ℕ) → sameBytes xs xs ≡ true
 unfolding sameBytes

@@ -12,9 +12,9 @@ use Rattle.lines.specs.Number.{maxNumber, numbersUpTo, lineNumbers}
 use Rattle.calls.specs.code.Tables.{rowWidth, stepWidth}
 use Rattle.script.specs.declared.Word.{Word}
 use Rattle.script.specs.declared.Word.the-variants.{Term, Step, Select, Document, Fresh, Old, New, Replace}
-use Rattle.script.specs.declared.Word.the-variants.{Write, Point, Return, Other, Order, BundleOrder}
+use Rattle.script.specs.declared.Word.the-variants.{Write, Point, Return, Other, Order, BundleOrder, Names, Text}
 use Rattle.script.specs.declared.Shape.{Shape}
-use Rattle.script.specs.declared.Shape.the-variants.{Counted, Listed, Selection, Room}
+use Rattle.script.specs.declared.Shape.the-variants.{Counted, Listed, Selection, Room, Rest}
 
 pub record Command : Type 0 where
   pub word : Word
@@ -59,6 +59,8 @@ words =
     ∷ (ascii "other", Other)
     ∷ (ascii "order", Order)
     ∷ (ascii "bundle-order", BundleOrder)
+    ∷ (ascii "names", Names)
+    ∷ (ascii "text", Text)
     ∷ []
 
 -- what stands after a word
@@ -77,6 +79,8 @@ shapeOf Return = Counted 1
 shapeOf Other = Counted 0
 shapeOf Order = Counted 2
 shapeOf BundleOrder = Counted 0
+shapeOf Names = Rest
+shapeOf Text = Rest
 
 -- as many numbers as there are parts
 abbrev pub allNumbers : List (List ℕ) → Option (List ℕ)
@@ -90,12 +94,13 @@ atMost most o = Option·elim o none (λ ns. cond (leb (length ns) most) (some ns
 abbrev pub selectBounds : List ℕ
 selectBounds = maxNumber ∷ maxNumber ∷ maxLimit ∷ maxMarks ∷ []
 
--- the numbers that the parts after a word write
+-- the numbers that the parts after a word write; bytes of any form are no numbers
 abbrev pub numbersIn : Shape → List (List ℕ) → Option (List ℕ)
 numbersIn (Counted n) ws = lineNumbers n ws
 numbersIn (Listed most) ws = atMost most (allNumbers ws)
 numbersIn Selection ws = numbersUpTo selectBounds ws
 numbersIn Room ws = numbersUpTo (maxRoom ∷ []) ws
+numbersIn Rest ws = some []
 
 unfoldable pub named : Word → Option (List ℕ) → Option Command
 named w o = Option·elim o none (λ ns. some (command w ns))

@@ -38,15 +38,18 @@ pub enum Word {
     Other,
     Order,
     BundleOrder,
+    Names,
+    Text,
 }
 
-// What stands after a word: so many numbers of 16 bits, a list of up to so many, the numbers of a select, or the length
-// of a buffer.
+// What stands after a word: so many numbers of 16 bits, a list of up to so many, the numbers of a select, the length of a
+// buffer, or any bytes.
 pub enum Shape {
     Counted(usize),
     Listed(usize),
     Selection,
     Room,
+    Rest,
 }
 
 // A word's bytes and spaces after them, how many bytes it has, which word it is, and what stands after it.
@@ -55,7 +58,7 @@ pub struct Entry(pub [u8; WORD_WIDTH], pub usize, pub Word, pub Shape);
 // One byte more than the longest word has.
 const WORD_WIDTH: usize = 13;
 
-const WORD_COUNT: usize = 14;
+const WORD_COUNT: usize = 16;
 
 const WORDS: [Entry; WORD_COUNT] = [
     Entry(*b"term         ", 4, Word::Term, Shape::Counted(ROW_WIDTH)),
@@ -82,6 +85,8 @@ const WORDS: [Entry; WORD_COUNT] = [
     Entry(*b"other        ", 5, Word::Other, Shape::Counted(0)),
     Entry(*b"order        ", 5, Word::Order, Shape::Counted(2)),
     Entry(*b"bundle-order ", 12, Word::BundleOrder, Shape::Counted(0)),
+    Entry(*b"names        ", 5, Word::Names, Shape::Rest),
+    Entry(*b"text         ", 4, Word::Text, Shape::Rest),
 ];
 
 // The numbers after a word, by its shape: `a` to `e` are those that are counted, in their order; `size` says how many
@@ -210,6 +215,21 @@ fn room_call(bytes: &[u8], at: usize, word: Word) -> CallLine
     plain_line(word, size_only(room.value as usize), room.next)
 }
 
+// The same of any bytes up to the line's end.
+fn rest_call(bytes: &[u8], at: usize, word: Word) -> CallLine
+    requires { ⌜ shapeOf word ≡ Shape.Rest ⌝ }
+    ensures { λ r. ⌜ CallMet (wordCommand word) (now (bytes .entry)) at r ⌝ }
+{
+    let mut i = at;
+    while i < bytes.len() {
+        if bytes[i] == lines::NEWLINE {
+            return plain_line(word, size_only(0), i + 1);
+        }
+        i += 1;
+    }
+    no_call(bytes)
+}
+
 // The same of a list of up to `most` numbers.
 fn list_call(bytes: &[u8], at: usize, word: Word, most: usize) -> CallLine
     requires { ⌜ (shapeOf word ≡ Shape.Listed most) × (most ≤ maxNumbers) ⌝ }
@@ -252,6 +272,7 @@ fn shaped_call(bytes: &[u8], at: usize, word: Word, shape: Shape) -> CallLine
         Shape::Listed(most) => list_call(bytes, at, word, most),
         Shape::Selection => selection_call(bytes, at, word),
         Shape::Room => room_call(bytes, at, word),
+        Shape::Rest => rest_call(bytes, at, word),
     }
 }
 
@@ -264,6 +285,7 @@ fn stands_alone(shape: Shape) -> bool
         Shape::Listed(_) => true,
         Shape::Selection => false,
         Shape::Room => false,
+        Shape::Rest => true,
     }
 }
 

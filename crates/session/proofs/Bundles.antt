@@ -7,7 +7,7 @@ use mathlib.Core.Option.{none, some, Option·elim, Option·none-ne-some}
 use native.Mathlib.Omega.{arith}
 use lib.ListN.{length}
 use Rattle.terms.specs.Row.{Row}
-use Rattle.common.specs.Lists.{Every}
+use Rattle.common.specs.Lists.{Every, joined}
 use Rattle.lines.specs.Ascii.{ascii}
 use Rattle.lines.specs.Line.{newline, Line, line, inFirstPart, lines, parts, sameBytes, isLine, firstIs}
 use Rattle.lines.specs.Number.{isDigit, isDecimal, appendDigits, numbersUpTo, numbersOf}

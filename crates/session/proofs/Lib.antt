@@ -13,6 +13,7 @@ pub mod SetsReplaced
 pub mod Restored
 pub mod ArchivesOrdered
 pub mod TermMade
+pub mod TextMade
 pub mod StepMade
 pub mod PointMade
 pub mod ReadByRows

@@ -4,17 +4,17 @@ use mathlib.Core.Path.{_≡_, refl, sym, ap, subst, _∙_}
 use mathlib.Core.List.{List, [], _∷_}
 use lib.ListN.{take}
 use lib.Seq.{take-nil}
-use Rattle.common.specs.Lists.{Every}
+use Rattle.common.specs.Lists.{Every, joined}
 use Rattle.session.specs.declared.session.Session.{Session}
 use Rattle.calls.specs.Book.{Book, pointedBook, book, emptyBook, Answer, answer}
 use Rattle.calls.specs.PointCall.{pointNames, placeOf}
 use Rattle.calls.specs.Runs.{next, final}
-use Rattle.calls.specs.Calls.{Call, term, step, point, return, CallSeen}
+use Rattle.calls.specs.Calls.{Call, term, step, text, point, return, CallSeen}
 use Rattle.calls.specs.Calls.{bookAnswer, bookWith, bookAfter, plainBook}
 use Rattle.calls.specs.PointLaws.{KeepsPoints}
 use Rattle.session.specs.View.{view, freshSession, withPoint}
 use Rattle.session.specs.Promises.{CallRelation, sessionAnswer, Met, CallsMade}
-use Rattle.session.specs.SessionLaws.{joined, sessionOf, withoutPoints, SetsNoPoint}
+use Rattle.session.specs.SessionLaws.{sessionOf, withoutPoints, SetsNoPoint}
 use Rattle.session.specs.SessionLaws.{WholeSession, NoPointLeft, SessionRestored}
 use Rattle.calls.proofs.Accepted.{if-accepted, by-accepted}
 use Rattle.calls.proofs.Runs.{run-map, run-follows}
@@ -32,6 +32,7 @@ whole-left s cs os run =
 no-point-with : (b : Book) (c : Call) → SetsNoPoint c → b .points ≡ [] → bookWith b c .points ≡ []
 no-point-with b (term r) f e = e
 no-point-with b (step p) f e = e
+no-point-with b (text names t) f e = e
 no-point-with b (point n) f e = absurd f
 no-point-with b (return n) f e =
     let place = placeOf (pointNames (b .points)) n in ap (take (place + 1)) e ∙ take-nil (place + 1)

@@ -3,29 +3,37 @@ use Prim.Native.Nat.{ℕ, _+_, _≤_, _<_}
 use mathlib.Core.Path.{_≡_, refl, sym, ap, subst, _∙_}
 use mathlib.Core.List.{List, [], _∷_, _++_, map, append-assoc, append-nil}
 use native.Mathlib.Omega.{arith}
-use lib.ListN.{length, take, length-append}
-use lib.Seq.{getD-at}
+use lib.ListN.{length, take, drop, length-append}
+use lib.Seq.{getD-at, drop-append-seam}
 use Rattle.terms.specs.Row.{Row, rowAt, noRow, maxRows}
 use Rattle.common.specs.Lists.{Every}
+use Rattle.common.proofs.Entries.{every-map, every-more, every-first, every-later, every-there}
+use Rattle.grammar.specs.Bytes.{Bytes}
+use Rattle.grammar.proofs.Numbered.{NameFits}
+use Rattle.grammar.proofs.Standing.{answer-numbered}
 use Rattle.calls.specs.Book as books
 use Rattle.calls.specs.Book.{Step, Point, noPoint, Book, emptyBook}
+use Rattle.calls.specs.TextCall.{textReply, textAnswer}
+use Rattle.calls.specs.TextLaws.{newRows}
 use Rattle.calls.specs.PointCall.{pointNames, placeOf}
 use Rattle.calls.specs.TermCall.{termAnswer}
 use Rattle.calls.specs.StepCall.{isYielded, stepAnswerBy, stepAnswer}
 use Rattle.calls.specs.Runs.{next, final, Reached, first, after}
-use Rattle.calls.specs.Calls.{Call, term, step, point, return, bookAnswer, bookWith, plainBook, bookAfter, Reachable}
+use Rattle.calls.specs.Calls.{Call, term, step, text, point, return, bookAnswer, bookWith, plainBook, bookAfter}
+use Rattle.calls.specs.Calls.{Reachable}
 use Rattle.bundles.specs.Bundle.{rowText, stepText}
-use Rattle.bundles.proofs.Lengths.{row-short, step-short}
+use Rattle.bundles.proofs.Lengths.{row-numbers, row-short, step-short}
 use Rattle.session.specs.ReadDemand.{callsOf, RowFits, StepFits, CallFits}
 use Rattle.calls.proofs.Accepted.{if-accepted, by-accepted}
 use Rattle.calls.proofs.ByTerms.{answer-by-terms}
 use Rattle.calls.proofs.PointJudged.{return-accepted}
 use Rattle.calls.proofs.Premises.{sides-held, premise-fits}
 use Rattle.calls.proofs.Reached.{reachable-laws}
-use Rattle.calls.proofs.Returns.{every-more, every-first, every-there, Fits, empty-fits, fits-with, point-names}
+use Rattle.calls.proofs.Returns.{Fits, empty-fits, fits-with, point-names}
 use Rattle.calls.proofs.RowAdded.{step-stays}
 use Rattle.calls.proofs.StepJudged.{step-accepted}
 use Rattle.calls.proofs.TermJudged.{term-accepted}
+use Rattle.calls.proofs.TextLaws.{answers-as-defined, text-accepted, as-term-calls}
 use Rattle.session.proofs.StepsAdded.{bookWithAll, calls-behind}
 
 -- the calls are accepted one after the other
@@ -149,10 +157,47 @@ module _ (b : Book) (o : AllSorted b) where
           points = points;
         }
 
+term-sorted : (b : Book) (r : Row) → AllSorted b → termAnswer (b .rows) r .number ≡ 0 → RowFits r
+    → AllSorted (bookWith b (term r))
+term-sorted b r o e fit = all-with b o (term r) e fit (with-row b o r e fit) (o .points)
+
+-- of an accepted row's numbers only a name's may have more than 16 bits
+row-fits : (b : Book) (r : Row) → Reachable b → termAnswer (b .rows) r .number ≡ 0 → NameFits r → RowFits r
+row-fits b r h new m =
+    let rs = b .rows in
+    let built = reachable-laws (reachable-with (term r) h new) .held .built in
+    let last : rowAt (rs ++ (r ∷ [])) (length rs) ≡ r = getD-at rs r [] noRow (length rs) refl in
+    let room = term-accepted rs r new .room in
+    let inside : length rs < length (rs ++ (r ∷ [])) = omega (arith, length-append rs (r ∷ [])) in
+    subst RowFits last (row-numbers built (length rs) inside room (subst NameFits (sym last) m))
+
+-- rows that are added one after the other, as a text's are
+rows-sorted : (rs : List Row) (b : Book) → AllSorted b → Every NameFits rs → AllSorted (final plainBook b (map term rs))
+unfolding final
+rows-sorted [] b o m = o
+rows-sorted (r ∷ rs) b o m =
+    let next = by-accepted AllSorted (bookAnswer b (term r)) (bookWith b (term r)) b
+    (λ e. term-sorted b r o e (row-fits b r (o .reachable) e (m .0))) o in
+    rows-sorted rs _ next (m .1)
+
+text-sorted : (b : Book) (names t : Bytes) → AllSorted b → textAnswer (b .rows) names t .number ≡ 0
+    → AllSorted (bookWith b (text names t))
+unfolding newRows
+text-sorted b names t o e =
+    let (new, grown, few) = text-accepted (b .rows) names t e in
+    let named = every-map RowFits NameFits (λ r h. h .1 .1 .1 .0) (b .rows) (o .held .rows-fit) in
+    let all = answer-numbered names t (b .rows) named _ _ _ (answers-as-defined names t (b .rows) _ _ _ .1 refl) in
+    let are-new : drop (length (b .rows)) (textReply names t (b .rows) .rows) ≡ new =
+    ap (drop (length (b .rows))) grown ∙ drop-append-seam (b .rows) new in
+    let later = every-later NameFits (b .rows) new (subst (Every NameFits) grown all) in
+    subst AllSorted (as-term-calls b (o .reachable) names t e .1)
+    (rows-sorted (newRows b names t) b o (subst (Every NameFits) (sym are-new) later))
+
 pub sorted-with : (b : Book) (c : Call) → AllSorted b → bookAnswer b c .number ≡ 0 → CallFits c
     → AllSorted (bookWith b c)
-sorted-with b (term r) o e fit = all-with b o (term r) e fit (with-row b o r e fit) (o .points)
+sorted-with b (term r) o e fit = term-sorted b r o e fit
 sorted-with b (step p) o e fit = all-with b o (step p) e fit (with-step b o p e fit) (o .points)
+sorted-with b (text names t) o e fit = text-sorted b names t o e
 sorted-with b (point n) o e fit =
     all-with b o (point n) e fit (o .held)
     (every-more PointSorted (b .points) (books.point n (b .rows) (b .steps)) (o .points) (o .held))

@@ -14,7 +14,7 @@ use Rattle.session.specs.declared.read.ReadResult.{ReadResult}
 use Rattle.calls.specs.declared.SelectAnswer.{SelectAnswer}
 use Rattle.calls.specs.Book as book
 use Rattle.calls.specs.Book.{Answer, answer, accepted}
-use Rattle.calls.specs.Calls.{Call, term, step, point, return, CallSeen}
+use Rattle.calls.specs.Calls.{Call, term, step, text, point, return, CallSeen}
 use Rattle.calls.specs.PointCall.{pointNames}
 use Rattle.calls.specs.code.Answers.{termAnswerOf, stepAnswerOf}
 use Rattle.calls.specs.code.Points.{pointAnswerOf}
@@ -22,7 +22,7 @@ use Rattle.calls.specs.SelectCall.{selectBuffer}
 use Rattle.calls.specs.Runs.{next, Run}
 use Rattle.calls.specs.Promises.{rowYielded, rowStepAnswer}
 use Rattle.session.specs.View.{view, freshSession}
-use Rattle.session.specs.Promises.{sessionAnswer, session, Met, SelectMet}
+use Rattle.session.specs.Promises.{sessionAnswer, textAnswerOf, session, Met, SelectMet}
 use Rattle.session.specs.Demand3.{DemandThree}
 use Rattle.session.specs.SessionLaws.{WholeSession, NoPointLeft, SessionRestored}
 use Rattle.session.specs.declared.read.ReadAnswer.{ReadAnswer}
@@ -50,6 +50,7 @@ use Rattle.session.proofs.ArchivesOrdered.{OrdersKept, BundleOrdersKept
 use Rattle.session.proofs.session.Session.new.Reads as new-reads
 use Rattle.session.proofs.session.Session.term.Reads as term-reads
 use Rattle.session.proofs.session.Session.step.Reads as step-reads
+use Rattle.session.proofs.session.Session.text.Reads as text-reads
 use Rattle.session.proofs.session.Session.point.Reads as point-reads
 use Rattle.session.proofs.session.Session.return_to.Reads as return-reads
 use Rattle.session.proofs.session.Session.select.Reads as select-reads
@@ -63,8 +64,8 @@ use Rattle.session.proofs.session.Session.write.Reads as write-reads
 pub data New : Session → Type 0 where
   new-called : (κs : _) (a : _) (r : _) (x : _) → new-reads.Post κs a r x → New r
 
--- `Session::term`, `step`, `point` or `return_to` on a session, with the arguments of a call, has an answer and leaves a
--- session
+-- `Session::term`, `step`, `text`, `point` or `return_to` on a session, with the arguments of a call, has an answer and
+-- leaves a session
 pub data Called : Session → Call → Answer → Session → Type 0 where
   term-called : (κs : _) (a : _) (r : _) (x : _) → term-reads.Post κs a r x
       → Called (a .0) (term (row (a .1 .0) (a .1 .1 .0) (a .1 .1 .1 .0) (a .1 .1 .1 .1 .0)))
@@ -73,6 +74,8 @@ pub data Called : Session → Call → Answer → Session → Type 0 where
       → Called (a .0)
       (step (book.step (a .1 .0) (a .1 .1 .0) (a .1 .1 .1 .0) (a .1 .1 .1 .1 .0) (a .1 .1 .1 .1 .1 .0)))
       (stepAnswerOf (r .answer)) (r .session)
+  text-called : (κs : _) (a : _) (r : _) (x : _) → text-reads.Post κs a r x
+      → Called (a .0) (text (now (a .1 .0)) (now (a .1 .1 .0))) (textAnswerOf (r .answer)) (r .session)
   point-called : (κs : _) (a : _) (r : _) (x : _) → point-reads.Post κs a r x
       → Called (a .0) (point (a .1 .0)) (pointAnswerOf (r .answer)) (r .session)
   return-called : (κs : _) (a : _) (r : _) (x : _) → return-reads.Post κs a r x
@@ -115,6 +118,7 @@ new-tied s (new-called κs a r x m) = m
 pub call-tied : CallsKept Called Met
 call-tied s c a t (term-called κs args r x m) = m
 call-tied s c a t (step-called κs args r x m) = m
+call-tied s c a t (text-called κs args r x m) = m
 call-tied s c a t (point-called κs args r x m) = m
 call-tied s c a t (return-called κs args r x m) = m
 
@@ -137,6 +141,9 @@ pub write-tied : (s : Session) (buffer : List ℕ) (w : WriteAnswer) (left : Lis
     → WriteMet s buffer w left
 write-tied s buffer w left (write-called κs a r x m) = m
 
+abbrev lent : {A : Type 0} → A → RefT A
+lent x = record { ptr = (0, 0); name = 0; now = x }
+
 -- and no more: a call that meets what they say can be made
 met-called : CallsKept Met Called
 unfolding rowStepAnswer
@@ -151,6 +158,9 @@ met-called s (step p) a t m =
     (step-called tt (s, (p .rule, (p .left, (p .right, (p .first, (p .second, tt))))))
     (record { answer = o; session = t }) (s, (p .rule, (p .left, (p .right, (p .first, (p .second, tt))))))
     (record { answer = e; left = m .left }))
+met-called s (text names t) a u m =
+    text-called ([], ([], tt)) (s, (lent names, (lent t, tt)))
+    (record { answer = record { number = a .number; value = a .value }; session = u }) (s, (lent names, (lent t, tt))) m
 met-called s (point n) a t m =
     let (o, e) = point-case (pointNames (view s .points)) n in
     subst (λ a. Called s (point n) a t) (e ∙ sym (m .answer))
@@ -181,9 +191,6 @@ calls-exist =
     run-exists view Called (λ s c. (sessionAnswer s c, next session s c, met-called s c _ _ (made session s c)))
 
 -- and so can every select, every read, every replace, every order, every bundle order and every write
-abbrev lent : {A : Type 0} → A → RefT A
-lent x = record { ptr = (0, 0); name = 0; now = x }
-
 pub selects-exist : (s : Session) (row : ℕ) (xs : List ℕ) (x limit : ℕ) (buffer : List ℕ)
     → (t : SelectAnswer) × (left : List ℕ) × Selected s row xs x limit buffer t left
 selects-exist s row xs x limit buffer =
@@ -230,13 +237,13 @@ bundle-orders-exist s t =
 pub order-demand : OrderDemand Ordered BundleOrdered New Called
 order-demand = order-demand-by Ordered order-tied BundleOrdered bundle-order-tied New Called new-tied call-tied
 
-write-case : (text : List ℕ) (room : ℕ) → (w : WriteAnswer) × (writeAnswerOf w ≡ writeAnswer text room)
-write-case text room = by-test (leb (length text) room)
+write-case : (bundle : List ℕ) (room : ℕ) → (w : WriteAnswer) × (writeAnswerOf w ≡ writeAnswer bundle room)
+write-case bundle room = by-test (leb (length bundle) room)
   where
     by-test : (b : Bool) → (w : WriteAnswer) ×
-        (writeAnswerOf w ≡ cond b (answer 0 (length text)) (answer short-buffer (length text)))
-    by-test true = (WriteCases.Written (length text), refl)
-    by-test false = (WriteCases.ShortBuffer (length text), refl)
+        (writeAnswerOf w ≡ cond b (answer 0 (length bundle)) (answer short-buffer (length bundle)))
+    by-test true = (WriteCases.Written (length bundle), refl)
+    by-test false = (WriteCases.ShortBuffer (length bundle), refl)
 
 pub writes-exist : (s : Session) (buffer : List ℕ) → (w : WriteAnswer) × (left : List ℕ) × Write s buffer w left
 writes-exist s buffer =

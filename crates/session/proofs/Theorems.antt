@@ -23,6 +23,10 @@ use Rattle.calls.specs.Book.{Answer}
 use Rattle.calls.specs.Runs.{Run}
 use Rattle.calls.specs.SelectLaws.{LimitSuffices, MarksSameElsewhere}
 use Rattle.calls.proofs.SelectLaws.{limit-suffices, marks-same-elsewhere}
+use Rattle.calls.specs.TextLaws.{AnswersAsDefined, AsTermCalls, GivesItsTerm}
+use Rattle.calls.proofs.TextLaws.{answers-as-defined, as-term-calls, gives-its-term}
+use Rattle.grammar.specs.Abbreviations.{Expanded, Meant}
+use Rattle.grammar.proofs.Abbreviated.{expanded, meant}
 use Rattle.calls.specs.PointLaws.{ReturnRestores}
 use Rattle.calls.proofs.Returns.{return-restores}
 use Rattle.calls.specs.Calls.{Call, CallSeen}
@@ -55,6 +59,7 @@ use Rattle.session.proofs.Source.{New, Called, Selected, Read, Replaced
 use Rattle.session.proofs.session.Session.new.Reads as new-reads
 use Rattle.session.proofs.session.Session.term.Reads as term-reads
 use Rattle.session.proofs.session.Session.step.Reads as step-reads
+use Rattle.session.proofs.session.Session.text.Reads as text-reads
 use Rattle.session.proofs.session.Session.point.Reads as point-reads
 use Rattle.session.proofs.session.Session.return_to.Reads as return-reads
 use Rattle.session.proofs.session.Session.select.Reads as select-reads
@@ -71,6 +76,7 @@ pub record Theorems : Type 0 where
   pub new-takes : (κs : _) (a : _) → new-reads.Pre κs a
   pub term-takes : (κs : _) (a : _) → term-reads.Pre κs a
   pub step-takes : (κs : _) (a : _) → step-reads.Pre κs a
+  pub text-takes : (κs : _) (a : _) → text-reads.Pre κs a
   pub point-takes : (κs : _) (a : _) → point-reads.Pre κs a
   pub return-takes : (κs : _) (a : _) → return-reads.Pre κs a
   pub select-takes : (κs : _) (a : _) → select-reads.Pre κs a
@@ -83,11 +89,19 @@ pub record Theorems : Type 0 where
   pub c-takes : (κs : _) (a : _) → c-reads.Pre κs a
   -- `Session::new` gives a session without rows, steps and points
   pub new : (s : Session) → New s → s ≡ freshSession
-  -- term, step, point and return answer the first refusal that applies and leave the session, or accept and add their row,
-  -- step or point, or leave just what was held when the point was set
+  -- term, step, text, point and return answer the first refusal that applies and leave the session, or accept and add
+  -- their row, step, the rows that the text's term needs, or point, or leave just what was held when the point was set
   pub call : (s : Session) (c : Call) (a : Answer) (t : Session) → Called s c a t → Met s c a t
   -- on every session that calls lead to, their answers are those of the plain book, where steps are judged as terms
   pub by-terms : AnswersByTerms
+  -- a text call's number, value and rows are those of the grammar's definition, which has no others; an accepted one does
+  -- what term calls of its new rows do, and the row that it answers has the term of the text's tree
+  pub answers-as-defined : AnswersAsDefined
+  pub as-term-calls : AsTermCalls
+  pub gives-its-term : GivesItsTerm
+  -- an abbreviation has the term of what it stands for; what a leading `/`, a predicate and its parts mean on a document
+  pub expanded : Expanded
+  pub meant : Meant
   -- select answers the first refusal that applies and leaves the buffer, or marks the nodes that the path selects and
   -- answers the visits
   pub select : (s : Session) (row : ℕ) (xs : List ℕ) (x limit : ℕ) (buffer : List ℕ) (t : SelectAnswer) (left : List ℕ)
@@ -166,6 +180,7 @@ theorems =
       new-takes = λ κs a. tt;
       term-takes = λ κs a. tt;
       step-takes = λ κs a. tt;
+      text-takes = λ κs a. tt;
       point-takes = λ κs a. tt;
       return-takes = λ κs a. tt;
       select-takes = λ κs a. tt;
@@ -179,6 +194,11 @@ theorems =
       new = source.new-tied;
       call = source.call-tied;
       by-terms = simulation.answers-by-terms;
+      answers-as-defined = answers-as-defined;
+      as-term-calls = as-term-calls;
+      gives-its-term = gives-its-term;
+      expanded = expanded;
+      meant = meant;
       select = source.select-tied;
       read = source.read-tied;
       replace = source.replace-tied;

@@ -6,26 +6,30 @@ use native.Mathlib.Nat.{add-comm, sub-zero, mul-zero, mul-suc, mul-le-mul-left}
 use native.Mathlib.Omega.{arith}
 use lib.ListN.{length, getD, take, drop, replicate, length-append, length-replicate}
 use lib.ListN.{take-append-drop, List·getD-map}
-use lib.Seq.{sets, sets-eq, take-at, drop-append-add, length-take-le}
-use Rattle.common.specs.Lists.{Every}
+use lib.Seq.{sets, sets-eq, take-at, drop-append-add, drop-append-seam, length-take-le}
+use Rattle.common.specs.Lists.{Every, joined}
+use Rattle.common.proofs.Entries.{every-there}
 use Rattle.terms.specs.Row.{Row, tableOf, maxRows}
+use Rattle.text.specs.Build.{tableWith}
 use Rattle.session.specs.declared.session.Session.{Session}
 use Rattle.calls.specs.declared.points.PointCounts.{PointCounts}
 use Rattle.calls.specs.Book as books
 use Rattle.calls.specs.Book.{Step, maxSteps, Point, noPoint, maxPoints, Book, emptyBook, pointedBook}
+use Rattle.calls.specs.TextCall.{textReply}
 use Rattle.calls.specs.PointCall.{pointNames, placeOf}
-use Rattle.calls.specs.Calls.{Call, term, step, point, return, bookWith, rowAnswer}
+use Rattle.calls.specs.Calls.{Call, term, step, text, point, return, bookWith, rowAnswer}
 use Rattle.calls.specs.Promises.{rowYielded, rowStepAnswer}
 use Rattle.calls.specs.code.Tables.{rowWidth, stepWidth, stepsOf, firstRows, firstSteps}
 use Rattle.calls.specs.code.Points.{pointWidth, counts, noCounts, countsOf, countsNames, pointNamed, firstPoints, cleared}
 use Rattle.session.specs.View.{pointsIn, pointOf, view, freshSession, rowNumbers, stepNumbers}
-use Rattle.session.specs.View.{withRow, withStep, withPoint, atPoint}
+use Rattle.session.specs.View.{withRow, withRows, withStep, withPoint, atPoint}
 use Rattle.session.specs.Promises.{sessionWith}
-use Rattle.session.specs.SessionLaws.{joined, filled, pointNumbers, sessionOf}
+use Rattle.session.specs.SessionLaws.{filled, pointNumbers, sessionOf}
 use Rattle.calls.proofs.TermJudged.{term-accepted}
 use Rattle.calls.proofs.StepJudged.{step-accepted}
+use Rattle.calls.proofs.TextLaws.{text-accepted}
 use Rattle.calls.proofs.PointJudged.{point-accepted, return-accepted}
-use Rattle.calls.proofs.Returns.{Begins, every-there, Fits, point-names}
+use Rattle.calls.proofs.Returns.{Begins, Fits, point-names}
 
 -- numbers of entries
 joined-append : {A : Type 0} (f : A → List ℕ) (xs ys : List A) → joined f (xs ++ ys) ≡ joined f xs ++ joined f ys
@@ -33,11 +37,6 @@ unfolding joined
 joined-append f [] ys = refl
 joined-append f (x ∷ xs) ys =
     ap (λ zs. f x ++ zs) (joined-append f xs ys) ∙ sym (append-assoc (f x) (joined f xs) (joined f ys))
-
-joined-more : {A : Type 0} (f : A → List ℕ) (xs : List A) (x : A) → joined f xs ++ f x ≡ joined f (xs ++ (x ∷ []))
-unfolding joined
-joined-more f xs x =
-    ap (λ zs. joined f xs ++ zs) (sym (append-nil (f x))) ∙ sym (joined-append f xs (x ∷ []))
 
 -- tables with zeros at their end
 drop-zeros : (k m : ℕ) → drop k (replicate {A = ℕ} m 0) ≡ replicate (m - k) 0
@@ -84,17 +83,23 @@ module _ {A : Type 0} (w n : ℕ) (f : A → List ℕ) (width : (x : A) → leng
   within : (xs : List A) → length xs ≤ n → length (joined f xs) ≤ w * n
   within xs h = rw (joined-length xs) (mul-le-mul-left w h)
 
-  -- with one more
+  -- with more, and with one more
+  table-added : (xs ys : List A) → length (xs ++ ys) ≤ n
+      → sets (filled (w * n) (joined f xs)) (w * min (length xs) n) (joined f ys) ≡ filled (w * n) (joined f (xs ++ ys))
+  table-added xs ys room =
+      let held : min (length xs) n ≡ length xs = omega (arith, length-append xs ys) in
+      let fit : length (joined f (xs ++ ys)) ≤ w * n = within (xs ++ ys) room in
+      let both = ap length (joined-append f xs ys) in
+      ap (λ k. sets (filled (w * n) (joined f xs)) k (joined f ys)) (ap (λ k. w * k) held ∙ sym (joined-length xs))
+      ∙ filled-more (w * n) (joined f xs) (joined f ys) (omega (arith, length-append (joined f xs) (joined f ys)))
+      ∙ ap (filled (w * n)) (sym (joined-append f xs ys))
+
   table-more : (xs : List A) (x : A) → length xs < n
       → sets (filled (w * n) (joined f xs)) (w * min (length xs) n) (f x) ≡ filled (w * n) (joined f (xs ++ (x ∷ [])))
+  unfolding joined
   table-more xs x room =
-      let held : min (length xs) n ≡ length xs = omega arith in
-      let fit : length (joined f (xs ++ (x ∷ []))) ≤ w * n =
-      within (xs ++ (x ∷ [])) (omega (arith, length-append xs (x ∷ []))) in
-      let both = ap length (joined-more f xs x) in
-      ap (λ k. sets (filled (w * n) (joined f xs)) k (f x)) (ap (λ k. w * k) held ∙ sym (joined-length xs))
-      ∙ filled-more (w * n) (joined f xs) (f x) (omega (arith, length-append (joined f xs) (f x)))
-      ∙ ap (filled (w * n)) (joined-more f xs x)
+      ap (sets (filled (w * n) (joined f xs)) (w * min (length xs) n)) (sym (append-nil (f x)))
+      ∙ table-added xs (x ∷ []) (omega (arith, length-append xs (x ∷ [])))
 
   -- the numbers of the first entries, and those alone
   table-first : (xs later all : List A) → all ≡ xs ++ later → length xs ≤ n
@@ -205,6 +210,27 @@ module _ (b : Book) (fits : Fits b) where
         «point_count» = sessionOf b .«point_count»;
       }
 
+  -- the rows ss are those held and new ones, and there is room for them
+  with-rows-of : (ss new : List Row) → ss ≡ b .rows ++ new → length ss ≤ maxRows
+      → withRows (sessionOf b) ss ≡ sessionOf (pointedBook ss (b .steps) (b .points))
+  unfolding withRows tableWith sessionOf
+  with-rows-of ss new e few =
+      let n = min (length (b .rows)) maxRows in
+      let held : n ≡ length (b .rows) = omega (arith, fits .rows) in
+      let news : drop n ss ≡ new =
+      ap (λ k. drop k ss) held ∙ ap (drop (length (b .rows))) e ∙ drop-append-seam (b .rows) new in
+      let table = ap (λ rs. sets rowTable (rowWidth * n) (joined rowNumbers rs)) news
+      ∙ table-added rowWidth maxRows rowNumbers (λ r. refl) (b .rows) new (subst (λ rs. length rs ≤ maxRows) e few)
+      ∙ ap (λ rs. filled (rowWidth * maxRows) (joined rowNumbers rs)) (sym e) in
+      λ i. record {
+        rows = table i;
+        «row_count» = length ss;
+        steps = sessionOf b .steps;
+        «step_count» = sessionOf b .«step_count»;
+        points = sessionOf b .points;
+        «point_count» = sessionOf b .«point_count»;
+      }
+
   with-step-of : (p : Step) → length (b .steps) < maxSteps → withStep (sessionOf b) p ≡ sessionOf (bookWith b (step p))
   unfolding withStep sessionOf
   with-step-of p room =
@@ -285,6 +311,10 @@ pub with-of : (b : Book) (c : Call) → Fits b → rowAnswer b c .number ≡ 0 �
 unfolding rowStepAnswer
 with-of b (term r) fits e = with-row-of b fits r (term-accepted (b .rows) r e .room)
 with-of b (step p) fits e = with-step-of b fits p (step-accepted (rowYielded b p) b p e .room)
+with-of b (text names t) fits e =
+    let (new, grown, few) = text-accepted (b .rows) names t e in
+    ap (λ d. withRows (sessionOf b) (textReply names t (d .rows) .rows)) (view-of b fits)
+    ∙ with-rows-of b fits _ new grown few
 with-of b (point n) fits e =
     with-point-of b fits n (omega (arith, point-accepted (pointNames (b .points)) n e .room, point-names (b .points)))
 with-of b (return n) fits e =

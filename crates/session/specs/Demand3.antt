@@ -1,4 +1,5 @@
--- Demand 3, for lists of term, step, point and return calls from a fresh session, refused ones included. Assumes nothing.
+-- Demand 3, for lists of term, step, text, point and return calls from a fresh session, refused ones included. Assumes
+-- nothing.
 use Prim.Native.Nat.{ℕ, _≤_, _<_}
 use mathlib.Core.Path.{_≡_}
 use mathlib.Core.Bool.{cond}

@@ -8,14 +8,16 @@ use Rattle.terms.specs.Row.{Row}
 use Rattle.session.specs.declared.session.Session.{Session}
 use Rattle.calls.specs.declared.TermAnswer.{TermAnswer}
 use Rattle.calls.specs.declared.SelectAnswer.{SelectAnswer}
-use Rattle.calls.specs.Book.{Answer, accepted}
+use Rattle.calls.specs.Book.{Answer, answer, accepted}
 use Rattle.calls.specs.TermCall.{termAnswer}
+use Rattle.calls.specs.TextCall.{textReply}
 use Rattle.calls.specs.Runs.{Machine, Made, Run}
-use Rattle.calls.specs.Calls.{Call, term, step, point, return, CallSeen, bookAnswer, rowAnswer, Reachable}
+use Rattle.calls.specs.Calls.{Call, term, step, text, point, return, CallSeen, bookAnswer, rowAnswer, Reachable}
 use Rattle.calls.specs.code.Tables.{rowWidth, firstRows}
 use Rattle.calls.specs.Promises.{SelectMade}
 use Rattle.calls.specs.code.Answers.{termAnswerOf}
-use Rattle.session.specs.View.{view, rowNumbers, withRow, withStep, withPoint, atPoint}
+use Rattle.session.specs.declared.session.TextAnswer.{TextAnswer}
+use Rattle.session.specs.View.{view, rowNumbers, withRow, withRows, withStep, withPoint, atPoint}
 
 -- what may be said of a call on a session, its answer, and the session that it leaves
 abbrev pub CallRelation : Type 1
@@ -34,8 +36,13 @@ sessionAnswer s c = rowAnswer (view s) c
 abbrev pub sessionWith : Session → Call → Session
 sessionWith s (term r) = withRow s r
 sessionWith s (step p) = withStep s p
+sessionWith s (text names t) = withRows s (textReply names t (view s .rows) .rows)
 sessionWith s (point n) = withPoint s n
 sessionWith s (return n) = atPoint s n
+
+-- number and value of the code's answer to a text call
+abbrev pub textAnswerOf : TextAnswer → Answer
+textAnswerOf a = answer (a .number) (a .value)
 
 abbrev pub session : Machine Session Call
 session = record { answer = sessionAnswer; with = sessionWith }

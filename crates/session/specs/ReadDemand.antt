@@ -13,7 +13,7 @@ use Rattle.session.specs.declared.session.Session.{Session}
 use Rattle.session.specs.declared.read.ReadResult.{ReadResult}
 use Rattle.session.specs.declared.write.WriteAnswer.{WriteAnswer}
 use Rattle.calls.specs.Book.{Step, answer}
-use Rattle.calls.specs.Calls.{Call, term, step, point, return, CallSeen}
+use Rattle.calls.specs.Calls.{Call, term, step, text, point, return, CallSeen}
 use Rattle.calls.specs.Runs.{Run}
 use Rattle.session.specs.View.{view, freshSession, rowNumbers, stepNumbers}
 use Rattle.session.specs.Promises.{CallRelation, SelectRelation}
@@ -46,10 +46,11 @@ RowFits r = AllFit (rowNumbers r)
 abbrev pub StepFits : Step → Type 0
 StepFits p = AllFit (stepNumbers p)
 
--- a call whose row or step has such numbers
+-- a call whose row or step has such numbers; those of a text's rows have them
 abbrev pub CallFits : Call → Type 0
 CallFits (term r) = RowFits r
 CallFits (step p) = StepFits p
+CallFits (text names t) = Unit {0}
 CallFits (point n) = Unit {0}
 CallFits (return n) = Unit {0}
 

@@ -3,23 +3,18 @@ use Prim.Native.Nat.{ℕ, _-_, _*_}
 use mathlib.Core.Path.{_≡_}
 use mathlib.Core.List.{List, [], _∷_, _++_}
 use lib.ListN.{length, replicate}
-use Rattle.common.specs.Lists.{Every}
+use Rattle.common.specs.Lists.{Every, joined}
 use Rattle.terms.specs.Row.{maxRows}
 use Rattle.session.specs.declared.session.Session.{Session}
 use Rattle.calls.specs.Book.{maxSteps, Point, maxPoints, Book, Answer, answer}
 use Rattle.calls.specs.PointCall.{pointNames}
 use Rattle.calls.specs.Runs.{Run}
-use Rattle.calls.specs.Calls.{Call, term, step, point, return, CallSeen, bookAfter}
+use Rattle.calls.specs.Calls.{Call, term, step, text, point, return, CallSeen, bookAfter}
 use Rattle.calls.specs.PointLaws.{KeepsPoints}
 use Rattle.calls.specs.code.Tables.{rowWidth, stepWidth}
 use Rattle.calls.specs.code.Points.{pointWidth}
 use Rattle.session.specs.View.{view, noPoints, rowNumbers, stepNumbers}
 use Rattle.session.specs.Promises.{CallRelation}
-
--- the numbers of the entries, one after the other
-unfoldable pub joined : {A : Type 0} → (A → List ℕ) → List A → List ℕ
-joined f [] = []
-joined f (x ∷ xs) = f x ++ joined f xs
 
 -- a table of that size with these numbers: zeros after them
 abbrev pub filled : (size : ℕ) → List ℕ → List ℕ
@@ -57,6 +52,7 @@ withoutPoints s =
 abbrev pub SetsNoPoint : Call → Type 0
 SetsNoPoint (term r) = Unit {0}
 SetsNoPoint (step p) = Unit {0}
+SetsNoPoint (text names t) = Unit {0}
 SetsNoPoint (point n) = ⊥
 SetsNoPoint (return n) = Unit {0}
 

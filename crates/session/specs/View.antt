@@ -1,15 +1,17 @@
 -- A session as a book. Assumes nothing.
 use Prim.Native.Nat.{ℕ, _+_, _*_}
 use mathlib.Core.List.{List, [], _∷_, map}
-use lib.ListN.{replicate}
+use lib.ListN.{length, replicate}
 use lib.Seq.{sets}
 use Rattle.terms.specs.Row.{Row, maxRows}
+use Rattle.text.specs.Build.{tableWith}
 use Rattle.session.specs.declared.session.Session.{Session}
 use Rattle.calls.specs.declared.points.PointCounts.{PointCounts}
 use Rattle.calls.specs.Book.{Step, maxSteps, Point, point, maxPoints, Book, pointedBook}
 use Rattle.calls.specs.PointCall.{placeOf}
 use Rattle.calls.specs.code.Tables.{rowWidth, stepWidth, rowsCounted, stepsCounted, firstRows, firstSteps}
-pub use Rattle.bundles.specs.Bundle.{rowNumbers, stepNumbers}
+pub use Rattle.terms.specs.Row.{rowNumbers}
+pub use Rattle.bundles.specs.Bundle.{stepNumbers}
 use Rattle.calls.specs.code.Points.{pointWidth, counts, pointsCounted, countsNames, pointNamed, firstPoints, cleared}
 
 -- how many rows, steps and points are held
@@ -61,6 +63,18 @@ withRow s r =
     record {
       rows = sets (s .rows) (rowWidth * rowsHeld s) (rowNumbers r);
       «row_count» = rowsHeld s + 1;
+      steps = s .steps;
+      «step_count» = s .«step_count»;
+      points = s .points;
+      «point_count» = s .«point_count»;
+    }
+
+-- the session with the rows rs, which are those held and new ones after them
+unfoldable pub withRows : Session → List Row → Session
+withRows s rs =
+    record {
+      rows = tableWith (s .rows) (rowsHeld s) rs;
+      «row_count» = length rs;
       steps = s .steps;
       «step_count» = s .«step_count»;
       points = s .points;

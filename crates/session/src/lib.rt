@@ -21,4 +21,6 @@ pub use session::PointResult;
 pub use session::Session;
 pub use session::StepResult;
 pub use session::TermResult;
+pub use session::TextAnswer;
+pub use session::TextResult;
 pub use write::WriteAnswer;

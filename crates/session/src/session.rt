@@ -18,7 +18,7 @@ ghost use Rattle.calls.specs.code.Tables.{rowWidth, stepWidth};
 ghost use Rattle.calls.specs.code.Answers.{stepOf, termAnswerOf, stepAnswerOf};
 ghost use Rattle.calls.specs.code.Points.{pointAnswerOf, pointWidth, cleared};
 ghost use Rattle.session.specs.View.{freshSession, rowNumbers, stepNumbers, countsNumbers};
-ghost use Rattle.session.specs.Promises.{Met, TermPlaced, SelectMet};
+ghost use Rattle.session.specs.Promises.{Met, TermPlaced, SelectMet, textAnswerOf};
 
 // The numbers of a session's tables.
 pub(crate) const ROW_NUMBERS: usize = terms::ROW_WIDTH * terms::MAX_ROWS;
@@ -43,6 +43,18 @@ pub struct TermResult {
     pub session: Session,
 }
 
+// The answer of a text call: 0 and the row of the text's term, or a refusal and its value, which may be a place in a text
+// of any length.
+pub struct TextAnswer {
+    pub number: u16,
+    pub value: usize,
+}
+
+pub struct TextResult {
+    pub answer: TextAnswer,
+    pub session: Session,
+}
+
 pub struct StepResult {
     pub answer: StepAnswer,
     pub session: Session,
@@ -53,18 +65,6 @@ pub struct PointResult {
     pub session: Session,
 }
 
-// Row n becomes `row`.
-fn put_row(rows: &mut [u16], n: usize, row: Row)
-    requires { ⌜ (n < maxRows) × (length (now rows) ≡ rowWidth * maxRows) ⌝ }
-    ensures { λ r. ⌜ now (rows .exit) ≡ sets (now (rows .entry)) (rowWidth * n) (rowNumbers (rowOf row)) ⌝ }
-{
-    let at = terms::ROW_WIDTH * n;
-    rows[at] = row.kind;
-    rows[at + 1] = row.a;
-    rows[at + 2] = row.b;
-    rows[at + 3] = row.c;
-}
-
 // A term call on the first n rows: the answer, and the row put after them where it is held.
 pub(crate) fn term_in_place(rows: &mut [u16], n: usize, row: Row) -> TermAnswer
     requires { ⌜ (n ≤ maxRows) × (length (now rows) ≡ rowWidth * maxRows) ⌝ }
@@ -72,7 +72,7 @@ pub(crate) fn term_in_place(rows: &mut [u16], n: usize, row: Row) -> TermAnswer
 {
     let judged = calls::judge_term(rows, n, row);
     if judged.number() == 0 {
-        put_row(rows, n, row);
+        terms::put_row(rows, n, row);
     }
     judged
 }
@@ -257,6 +257,25 @@ impl Session {
         }
         PointResult {
             answer: found,
+            session: self,
+        }
+    }
+
+    // Holds the rows that the term of the selector needs, with the numbers that the lent list gives to names.
+    pub fn text(mut self, names: &[u8], selector: &[u8]) -> TextResult
+        ensures { λ r. ⌜ Met self (Call.text (now (names .entry)) (now (selector .entry))) (textAnswerOf (r .answer)) (r .session) ⌝ }
+    {
+        let rows = self.rows;
+        let read = text::read_text(selector, names, rows, self.row_count);
+        let number = read.number;
+        let value = read.value;
+        if number == 0 {
+            let left = read.rows;
+            self.rows = left;
+            self.row_count = read.count;
+        }
+        TextResult {
+            answer: TextAnswer { number, value },
             session: self,
         }
     }

@@ -9,15 +9,15 @@ use lib.Dec.{leb}
 use lib.ListN.{length, getD, take}
 use borrow.Author.Tests.{eqb-true}
 use Rattle.common.specs.Lists.{Every}
+use Rattle.common.proofs.Entries.{every-more, every-first}
 use Rattle.rules.specs.Yields.{maxRule}
 use Rattle.calls.specs.Book as books
 use Rattle.calls.specs.Book.{Step, maxSteps, Book, emptyBook, accepted, noPoint}
 use Rattle.calls.specs.PointCall.{pointNames, placeOf}
 use Rattle.calls.specs.StepCall.{isYielded, stepAnswer}
 use Rattle.calls.specs.Runs.{next, final}
-use Rattle.calls.specs.Calls.{Call, term, step, point, return, bookAnswer, bookWith, plainBook}
+use Rattle.calls.specs.Calls.{Call, term, step, text, point, return, bookAnswer, bookWith, plainBook}
 use Rattle.calls.proofs.Accepted.{by-accepted}
-use Rattle.calls.proofs.Returns.{every-more, every-first}
 use Rattle.calls.proofs.StepJudged.{step-accepted}
 use Rattle.calls.proofs.Tables.{few-steps}
 use Rattle.session.specs.declared.session.Session.{Session}
@@ -53,6 +53,7 @@ RulesHeld b = Every RuleHeld (b .steps) × Every (λ q. Every RuleHeld (q .steps
 rules-with : (b : Book) (c : Call) → RulesHeld b → bookAnswer b c .number ≡ 0 → RulesHeld (bookWith b c)
 rules-with b (term r) held e = held
 rules-with b (step p) held e = (every-more RuleHeld (b .steps) p (held .0) (accepted-rule b p e), held .1)
+rules-with b (text names t) held e = held
 rules-with b (point n) held e =
     (held .0, every-more (λ q. Every RuleHeld (q .steps)) (b .points) (books.point n (b .rows) (b .steps)) (held .1) (held .0))
 rules-with b (return n) held e = (

@@ -22,6 +22,13 @@ noRow = row void-row 0 0 0
 abbrev pub rowAt : List Row → ℕ → Row
 rowAt rs i = getD rs i noRow
 
+-- how many numbers a row has, and its numbers, in order
+abbrev pub rowWidth : ℕ
+rowWidth = 4
+
+abbrev pub rowNumbers : Row → List ℕ
+rowNumbers r = r .kind ∷ r .a ∷ r .b ∷ r .c ∷ []
+
 -- the table of lent 16-bit numbers, four a row, without an incomplete last row
 unfoldable pub tableOf : List ℕ → List Row
 tableOf [] = []

@@ -1,14 +1,15 @@
-// Tables of rows lent as 16-bit numbers, four a row: what the fields of a row must be, its nesting, and the search
-// for an equal row. An incomplete last row is no row.
+// Tables of rows lent as 16-bit numbers, four a row: what the fields of a row must be, its nesting, the search for an
+// equal row, and the putting of a row. An incomplete last row is no row.
 use common::axis;
 use common::node_test;
 use common::row_kind;
 ghost use mathlib.Core.Path.{_≡_};
 ghost use mathlib.Core.Bool.{cond};
 ghost use lib.Dec.{leb};
-ghost use Prim.Native.Nat.{_+_, _≤_};
+ghost use Prim.Native.Nat.{_+_, _*_, _≤_, _<_};
 ghost use lib.ListN.{length, getD, take};
-ghost use Rattle.terms.specs.Row.{rowAt, tableOf, maxRows, sameRow, find};
+ghost use lib.Seq.{sets};
+ghost use Rattle.terms.specs.Row.{rowAt, rowWidth, rowNumbers, tableOf, maxRows, sameRow, find};
 ghost use Rattle.terms.specs.Fields.{fieldsOf, heldPath, heldQualifier, fieldOk, badPlace};
 ghost use Rattle.terms.specs.Nesting.{operandNesting, nestingBy, nestings, nesting};
 ghost use Rattle.terms.specs.code.RowTypes.{rowOf, fieldOf, fieldsIn};
@@ -259,4 +260,16 @@ pub fn nesting_of(rows: &[u16], row: Row) -> u16
     } else {
         nesting_within(rows, row)
     }
+}
+
+// Row n becomes `row`. It asks for a table of its size and a place in it, which its callers have.
+pub fn put_row(rows: &mut [u16], n: usize, row: Row)
+    requires { ⌜ (n < maxRows) × (length (now rows) ≡ rowWidth * maxRows) ⌝ }
+    ensures { λ r. ⌜ now (rows .exit) ≡ sets (now (rows .entry)) (rowWidth * n) (rowNumbers (rowOf row)) ⌝ }
+{
+    let at = ROW_WIDTH * n;
+    rows[at] = row.kind;
+    rows[at + 1] = row.a;
+    rows[at + 2] = row.b;
+    rows[at + 3] = row.c;
 }

@@ -7,7 +7,7 @@ use mathlib.Core.Option.{Option, none, some}
 use native.Mathlib.Omega.{arith}
 use lib.Dec.{T, eqb, ltb, lt→ltb, ltb→lt}
 use lib.ListN.{length, take, drop, length-append}
-use lib.Seq.{sets, sets-eq, length-sets, length-take-le, take-at}
+use lib.Seq.{sets, sets-eq, length-sets, length-take-le, take-at, drop-drop, drop-set-lt}
 use Rattle.terms.specs.Row.{Row, row, tableOf, maxRows, find}
 use Rattle.terms.proofs.LentRows.{rows-lent, table-append}
 use Rattle.terms.proofs.Find.{find-le}
@@ -17,7 +17,7 @@ use Rattle.grammar.proofs.Basics.{so, is-true, never}
 use Rattle.text.specs.declared.build.Reading.{Reading}
 use Rattle.text.specs.declared.head.Head.{Head}
 use Rattle.text.specs.Build.{rowWidth, rowNumbers, capped, movedTo, failedAt, rowTaken, noRoom, Sized}
-use Rattle.text.specs.Build.{Holds, Puts, SameText, PutMet, missingOf, firstOf, Made, Grown, HeadPut}
+use Rattle.text.specs.Build.{Holds, Beyond, Puts, SameText, PutMet, missingOf, firstOf, Made, Grown, HeadPut}
 use Rattle.text.specs.Build.{unlistedAt, joined, over, leaf}
 
 -- numbers written after the first m are the next of the first m and those
@@ -73,6 +73,35 @@ table-count xs count z =
     rows-lent (take (rowWidth * count) xs)
     ∙ rw (length-take-le (rowWidth * count) xs (omega (arith, z .size, z .bound))) (omega arith)
 
+-- what stands past the rows stays, from one table to the next
+none-put : (xs : List ℕ) (n : ℕ) → Beyond xs n xs n
+none-put xs n = record { more = omega arith; rest = refl }
+
+then-beyond : (xs ys zs : List ℕ) (m n k : ℕ) → Beyond xs m ys n → Beyond ys n zs k → Beyond xs m zs k
+then-beyond xs ys zs m n k a b =
+    let g = k - n in
+    let e : rowWidth * n + rowWidth * g ≡ rowWidth * k = omega (arith, b .more) in
+    let past : (ws : List ℕ) → drop (rowWidth * k) ws ≡ drop (rowWidth * g) (drop (rowWidth * n) ws) =
+    λ ws. ap (λ (i : ℕ). drop i ws) (sym e) ∙ sym (drop-drop (rowWidth * g) (rowWidth * n) ws) in
+    record {
+      more = omega (arith, a .more, b .more);
+      rest = b .rest ∙ past ys ∙ ap (drop (rowWidth * g)) (a .rest) ∙ sym (past xs);
+    }
+
+row-beyond : (xs ys : List ℕ) (n : ℕ) (r : Row) → ys ≡ sets xs (rowWidth * n) (rowNumbers r)
+    → Beyond xs n ys (n + 1)
+row-beyond xs ys n r e =
+    let i = rowWidth * n in
+    let j = rowWidth * (n + 1) in
+    record {
+      more = omega arith;
+      rest = ap (drop j) e
+          ∙ drop-set-lt j _ (suc (suc (suc i))) (r .c) (omega arith)
+          ∙ drop-set-lt j _ (suc (suc i)) (r .b) (omega arith)
+          ∙ drop-set-lt j _ (suc i) (r .a) (omega arith)
+          ∙ drop-set-lt j xs i (r .kind) (omega arith);
+    }
+
 -- put
 module _ (r : Row) (nesting : ℕ) (xs : List ℕ) (x : Reading) (z : Sized xs (x .count)) where
   counted : length (tableOf (take (rowWidth * x .count) xs)) ≡ x .count
@@ -89,6 +118,7 @@ module _ (r : Row) (nesting : ℕ) (xs : List ℕ) (x : Reading) (z : Sized xs (
           held = λ rs h. record { rows = λ f. absurd (never f); over = λ _. omega (arith, h .over e, put-more rs r) };
           at = λ rs h f. absurd (never f);
           keeps = λ f. absurd (never f);
+          beyond = λ f. absurd (never f);
         };
         text = unchanged x (noRoom x nesting) refl refl refl refl;
         nest = refl;
@@ -109,6 +139,7 @@ module _ (r : Row) (nesting : ℕ) (xs : List ℕ) (x : Reading) (z : Sized xs (
             };
             at = λ rs h g. found-in rs h ∙ sym (put-at rs r);
             keeps = λ g. g;
+            beyond = λ g. none-put xs (x .count);
           };
           text = unchanged x (rowTaken x found (x .count) nesting) refl refl refl refl;
           nest = refl;
@@ -129,6 +160,7 @@ module _ (r : Row) (nesting : ℕ) (xs : List ℕ) (x : Reading) (z : Sized xs (
               };
               at = λ rs h g. absurd (never g);
               keeps = λ g. absurd (never g);
+              beyond = λ g. absurd (never g);
             };
             text = unchanged x (noRoom x nesting) refl refl refl refl;
             nest = refl;
@@ -157,6 +189,7 @@ module _ (r : Row) (nesting : ℕ) (xs : List ℕ) (x : Reading) (z : Sized xs (
               };
               at = λ rs h g. sym (put-at rs r ∙ omega (arith, found-in rs h, held-count rs h e, i, find-le rs r));
               keeps = λ g. g;
+              beyond = λ g. row-beyond xs ys n r k;
             };
             text = unchanged x (rowTaken x n (n + 1) nesting) refl refl refl refl;
             nest = refl;
@@ -196,7 +229,7 @@ pub made-from : {f : List Row → Put} {n : ℕ} {m : Option ℕ} {xs ys : List 
 unfolding missingOf
 made-from x to y a =
     record {
-      puts = record { held = a .puts .held; at = a .puts .at; keeps = a .puts .keeps };
+      puts = record { held = a .puts .held; at = a .puts .at; keeps = a .puts .keeps; beyond = a .puts .beyond };
       nest = a .nest;
       names = a .names;
     }
@@ -206,7 +239,7 @@ pub made-to : {f : List Row → Put} {n : ℕ} {m : Option ℕ} {xs ys : List �
 unfolding missingOf
 made-to x y to a =
     record {
-      puts = record { held = a .puts .held; at = a .puts .at; keeps = a .puts .keeps };
+      puts = record { held = a .puts .held; at = a .puts .at; keeps = a .puts .keeps; beyond = a .puts .beyond };
       nest = a .nest;
       names = a .names;
     }
@@ -243,6 +276,11 @@ module _ (kind : ℕ) (f g : List Row → Put) (n k : ℕ) (m p : Option ℕ) (w
               c .puts .at (g (f rs .rows) .rows) t e
               ∙ ap (λ (r : Row). put (g (f rs .rows) .rows) r .at) (same-join rs h (c .puts .keeps e));
           keeps = λ e. a .puts .keeps (b .puts .keeps (c .puts .keeps e));
+          beyond = λ e.
+              let f = c .puts .keeps e in
+              then-beyond ws ys zs _ _ _
+              (then-beyond ws xs ys _ _ _ (a .puts .beyond (b .puts .keeps f)) (b .puts .beyond f))
+              (c .puts .beyond e);
         };
         nest = c .nest ∙ rw (a .nest, b .nest) (omega arith);
         names = same-missing y z (c .text) ∙ b .names ∙ rw (a .names) (first-assoc (missingOf w) m p);
@@ -267,6 +305,7 @@ module _ (kind : ℕ) (f : List Row → Put) (n : ℕ) (m : Option ℕ) (ws xs y
           at = λ rs h e. c .puts .at (f rs .rows) (a .puts .held rs h) e
               ∙ ap (λ (r : Row). put (f rs .rows) r .at) (same-over rs h (c .puts .keeps e));
           keeps = λ e. a .puts .keeps (c .puts .keeps e);
+          beyond = λ e. then-beyond ws xs ys _ _ _ (a .puts .beyond (c .puts .keeps e)) (c .puts .beyond e);
         };
         nest = c .nest ∙ rw (a .nest) (omega arith);
         names = same-missing x y (c .text) ∙ a .names;
@@ -350,7 +389,7 @@ module _ (xs : List ℕ) (x : Reading) (h : Head) (ys : List ℕ) (y : Reading) 
         ok = a .text .ok ∙ rw e (both-yes (x .ok));
         made = λ _. let m = made-row (row 2 (h .axis) (h .test) (h .name)) 1 xs (movedTo x (h .at)) ys y a in
             record {
-              puts = record { held = m .puts .held; at = m .puts .at; keeps = m .puts .keeps };
+              puts = record { held = m .puts .held; at = m .puts .at; keeps = m .puts .keeps; beyond = m .puts .beyond };
               nest = m .nest;
               names = rw l (m .names);
             };
@@ -373,7 +412,7 @@ module _ (xs : List ℕ) (x : Reading) (h : Head) (ys : List ℕ) (y : Reading) 
         ok = a .text .ok ∙ rw e (both-yes (x .ok));
         made = λ _. record {
           puts = record
-              { held = made-head .puts .held; at = made-head .puts .at; keeps = made-head .puts .keeps };
+              { held = made-head .puts .held; at = made-head .puts .at; keeps = made-head .puts .keeps; beyond = made-head .puts .beyond };
           nest =
               made-head .nest;
           names = sym (rw (sym told ∙ f, l) refl);
@@ -385,7 +424,7 @@ module _ (xs : List ℕ) (x : Reading) (h : Head) (ys : List ℕ) (y : Reading) 
         ok = a .text .ok ∙ rw e (both-yes (x .ok));
         made = λ _. record {
           puts = record
-              { held = made-head .puts .held; at = made-head .puts .at; keeps = made-head .puts .keeps };
+              { held = made-head .puts .held; at = made-head .puts .at; keeps = made-head .puts .keeps; beyond = made-head .puts .beyond };
           nest =
               made-head .nest;
           names = sym (rw (sym told ∙ f, a .text .missing) refl);

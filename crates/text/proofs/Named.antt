@@ -15,7 +15,8 @@ use Rattle.grammar.specs.Bytes.{Bytes, isStart, isName, every, isWord, same}
 use Rattle.grammar.specs.Words.{find, next, axes, types, bytesOf, numbered, numberOf}
 use Rattle.grammar.proofs.Basics.{so, is-true, never, and-out, eq-byte, start-name}
 use Rattle.text.specs.Scan.{byteAt}
-use Rattle.text.specs.Names.{pickFrom, firstLineIs, NextLine}
+use Rattle.names.specs.code.LineStarts.{NextMet}
+use Rattle.text.specs.Names.{pickFrom, firstLineIs}
 
 pub eqb-sym : (x y : ℕ) → eqb x y ≡ eqb y x
 eqb-sym x y = go (eqb x y) (eqb y x) refl refl
@@ -142,73 +143,6 @@ module _ (n list : Bytes) (at : ℕ) (h : isWord n ≡ true) where
     line-ends i j = sym (line-is
         ∙ rw (e, drop-drop (length n) at list, drop-cons list (at + length n) 0 (omega (arith, i, j))) refl)
 
--- next_line
-unfoldable pub afterLine : Bytes → Bytes
-afterLine [] = []
-afterLine (x ∷ t) = cond (eqb x 10) t (afterLine t)
-
-after-line : (t : Bytes) → lines (afterLine t) ≡ drop 1 (lines t)
-unfolding afterLine lines inFirstLine
-after-line [] = refl
-after-line (x ∷ t) = go (eqb x 10) refl (after-line t)
-  where
-    over : (ls : List Line) → drop 1 ls ≡ drop 1 (inFirstLine x ls)
-    over [] = refl
-    over (l ∷ ls) = refl
-
-    go : (b : Bool) → eqb x 10 ≡ b → lines (afterLine t) ≡ drop 1 (lines t) → lines (cond (eqb x 10) t (afterLine t))
-        ≡ drop 1 (cond (eqb x 10) (line [] true ∷ lines t) (inFirstLine x (lines t)))
-    go true e k = rw e refl
-    go false e k = rw e (k ∙ over (lines t))
-
--- where the search for the next line stands
-pub record Searched (list : Bytes) (at i : ℕ) : Type 0 where
-  pub rest : afterLine (drop at list) ≡ afterLine (drop i list)
-  pub from : at ≤ i
-  pub fits : i ≤ length list
-
-pub search-start : (list : Bytes) (at : ℕ) → at ≤ length list → Searched list at at
-search-start list at h = record { rest = refl; from = omega arith; fits = h }
-
-module _ (list : Bytes) (at i : ℕ) (g : Searched list at i) where
-  pub search-hit : i < length list → byteAt list i ≡ 10 → NextLine list at (i + 1)
-  unfolding afterLine
-  search-hit h e =
-      record {
-        lines = rw add-one (sym (ap lines (g .rest ∙ ap afterLine (drop-cons list i 0 h) ∙ rw e refl))
-            ∙ after-line (drop at list));
-        from = omega (arith, g .from);
-        fits = omega (arith, h);
-        moves = λ _. omega (arith, g .from);
-      }
-
-  pub search-on : i < length list → (byteAt list i ≡ 10 → ⊥) → Searched list at (i + 1)
-  unfolding afterLine
-  search-on h e =
-      record {
-        rest = g .rest ∙ ap afterLine (drop-cons list i 0 h) ∙ rw (no-newline, add-one) refl;
-        from = omega (arith, g .from);
-        fits = omega (arith, h);
-      }
-    where
-      no-newline : eqb (byteAt list i) 10 ≡ false
-      no-newline = go (eqb (byteAt list i) 10) refl
-        where
-          go : (b : Bool) → eqb (byteAt list i) 10 ≡ b → eqb (byteAt list i) 10 ≡ false
-          go true f = absurd (e (eq-byte (byteAt list i) 10 f))
-          go false f = f
-
-  pub search-end : length list ≤ i → NextLine list at i
-  unfolding afterLine
-  search-end h =
-      record {
-        lines = rw (drop-of-length-le list {i = i} h)
-            (sym (ap lines (g .rest ∙ ap afterLine (drop-of-length-le list {i = i} h))) ∙ after-line (drop at list));
-        from = g .from;
-        fits = g .fits;
-        moves = λ j. omega (arith, j, h);
-      }
-
 -- number_of
 unfoldable pub numberedFrom : ℕ → Option ℕ → ℕ
 numberedFrom k none = 0
@@ -287,11 +221,11 @@ module _ (list n : Bytes) (at number : ℕ) (g : Counted list n at number) where
     pub count-all : number ≡ 65535 → 0 ≡ numberOf list n
     count-all f = sym (g .rest ∙ rw (missed, f) (over-all (find n (bytesOf (drop 1 (lines (drop at list)))))))
 
-    pub count-on : (to : ℕ) → NextLine list at to → (number ≡ 65535 → ⊥) → Counted list n to (number + 1)
+    pub count-on : (to : ℕ) → NextMet list at to → (number ≡ 65535 → ⊥) → Counted list n to (number + 1)
     count-on to m f =
         record {
-          rest = g .rest ∙ rw (missed, ← m .lines) (next-from number (find n (bytesOf (lines (drop to list)))));
-          fits = m .fits;
+          rest = g .rest ∙ rw (missed, ← m .rest) (next-from number (find n (bytesOf (lines (drop to list)))));
+          fits = m .inside;
           range = (omega (arith, g .range .0), omega (arith, g .range .1, f));
         }
 

@@ -1,6 +1,6 @@
 -- One law for each answer of read_text. Assumes nothing.
-use Prim.Native.Nat.{ℕ, suc, _-_, _<_, _≤_}
-use mathlib.Core.Path.{_≡_, refl, sym, ap, _∙_}
+use Prim.Native.Nat.{ℕ, suc, _-_, _<_, _≤_, min}
+use mathlib.Core.Path.{_≡_, refl, sym, ap, subst, _∙_}
 use mathlib.Core.Bool.{Bool, true, false}
 use mathlib.Core.List.{List, []}
 use mathlib.Core.Option.{none, some}
@@ -14,13 +14,20 @@ use Rattle.grammar.specs.Bytes.{Bytes}
 use Rattle.grammar.specs.Words.{numberOf}
 use Rattle.grammar.specs.Denotes.{unlisted, unionNames, unionOf, putPath, nestPath}
 use Rattle.grammar.specs.Reader.{top, initial, unionByte, follow, room, run, outcome, good, bad}
-use Rattle.grammar.specs.Answer.{Reply, reply, termAnswer, namesAnswer, readAnswer, answer}
+use Rattle.grammar.specs.Answer.{Reply, reply, Answers}
+use Rattle.grammar.specs.ReaderAnswer.{termAnswer, namesAnswer, readAnswer, answer}
 use Rattle.grammar.proofs.Basics.{so, is-true}
+use Rattle.grammar.proofs.Answered.{given}
+use Rattle.grammar.proofs.Longer.{answer-longer, refused-stays}
 use Rattle.text.specs.declared.build.Reading.{Reading}
+use Rattle.text.specs.declared.TextEnd.{TextEnd}
 use Rattle.text.specs.Head.{callable}
-use Rattle.text.specs.Build.{Sized, Holds, missingOf, firstOf, nothingRead}
+use Rattle.common.specs.Lists.{joined as numbersOf}
+use Rattle.text.specs.Build.{tableWith, Sized, Holds, missingOf, firstOf, nothingRead}
 use Rattle.text.specs.Readers.{afterUnion, unionAtTop, refusalOf, heldRows, UnionRead, UnionMet, TextMet}
+use Rattle.text.specs.Readers.{TextRead}
 use Rattle.text.proofs.Built.{refuse, table-count}
+use Rattle.text.proofs.Left.{left-table}
 
 -- tests as facts
 at-most : (m n : ℕ) → m ≤ n → leb m n ≡ true
@@ -47,7 +54,7 @@ module _ (s list : Bytes) (xs : List ℕ) (count : ℕ) (z : Sized xs count) (ys
         value = sym f;
         sized = record { size = m .reached .sized .size; bound = z .bound };
         accepted = λ g. absurd (h g);
-        refused = λ _. refl;
+        beyond = λ g. absurd (h g);
       }
 
   -- the place is that of the run's end
@@ -150,5 +157,49 @@ module _ (s list : Bytes) (xs : List ℕ) (count : ℕ) (z : Sized xs count) (ys
                     ∙ sym (ap (λ (r : Reply). r .value) a);
                 sized = m .reached .sized;
                 accepted = λ _. rows ∙ sym (ap (λ (r : Reply). r .rows) a);
-                refused = λ j. absurd (j refl);
+                beyond = λ _. read .made .puts .beyond g;
               }
+
+-- the table that is left: the rows of an accepted text stand in it, and nothing else has changed
+module _ (s list : Bytes) (xs : List ℕ) (count : ℕ) (n : ℕ) (few : n ≡ min count maxRows) (z : Sized xs n)
+    (ys : List ℕ) (a : TextEnd) (m : TextMet s list xs n ys a) where
+  abbrev rows : List Row
+  rows = heldRows xs n
+
+  told : Answers list s rows (a .number) (a .value) (answer list s rows .rows)
+  told =
+      subst (λ (k : ℕ). Answers list s rows k (a .value) (answer list s rows .rows)) (sym (m .number))
+      (subst (λ (k : ℕ). Answers list s rows (answer list s rows .number) k (answer list s rows .rows))
+      (sym (m .value)) (given list s rows))
+
+  pub read-refused : ¬ (a .number ≡ 0)
+      → TextRead list s xs (min count maxRows) (record { number = a .number; value = a .value; rows = xs; count = n })
+  unfolding tableWith numbersOf
+  read-refused h =
+      let all : length rows ≡ n = table-count xs n z in
+      let same : answer list s rows .rows ≡ rows = refused-stays list s rows _ _ _ told h in
+      let none : drop n rows ≡ [] = drop-of-length-le rows {i = n} (omega (arith, all)) in
+      subst
+      (λ (k : ℕ). TextRead list s xs k (record { number = a .number; value = a .value; rows = xs; count = n })) few
+      record {
+        after = rows;
+        answers = subst (λ (q : List Row). Answers list s rows (a .number) (a .value) q) same told;
+        rows = rw none refl;
+        count = sym all;
+      }
+
+  pub read-accepted : a .number ≡ 0
+      → TextRead list s xs (min count maxRows)
+      (record { number = a .number; value = a .value; rows = ys; count = a .count })
+  read-accepted e =
+      let left = m .accepted e in
+      let (new, grown) = answer-longer list s rows _ _ _ told in
+      subst
+      (λ (k : ℕ). TextRead list s xs k
+      (record { number = a .number; value = a .value; rows = ys; count = a .count })) few
+      record {
+        after = answer list s rows .rows;
+        answers = told;
+        rows = left-table xs ys n (a .count) (answer list s rows .rows) new z (m .sized) left grown (m .beyond e);
+        count = sym (table-count ys (a .count) (m .sized)) ∙ ap length left;
+      }

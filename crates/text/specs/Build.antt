@@ -2,21 +2,21 @@
 use Prim.Native.Nat.{ℕ, suc, _+_, _*_, _<_, _≤_, min, max}
 use mathlib.Core.Path.{_≡_}
 use mathlib.Core.Bool.{Bool, true, false, cond, _||_, _&&_}
-use mathlib.Core.List.{List, [], _∷_}
+use mathlib.Core.List.{List, [], _∷_, _++_}
 use mathlib.Core.Option.{Option, none, some}
 use lib.Dec.{eqb}
-use lib.ListN.{length, take}
+use lib.ListN.{length, take, drop}
+use lib.Seq.{sets}
+use Rattle.common.specs.Lists.{joined as numbersOf}
 use Rattle.terms.specs.Row.{Row, row, tableOf, maxRows}
+pub use Rattle.terms.specs.Row.{rowWidth, rowNumbers}
 use Rattle.grammar.specs.Denotes.{Put, put}
 use Rattle.text.specs.declared.build.Reading.{Reading}
 use Rattle.text.specs.declared.head.Head.{Head}
 
--- how many numbers a row has
-abbrev pub rowWidth : ℕ
-rowWidth = 4
-
-abbrev pub rowNumbers : Row → List ℕ
-rowNumbers r = r .kind ∷ r .a ∷ r .b ∷ r .c ∷ []
+-- the numbers of rows, in order
+abbrev pub rowsNumbers : List Row → List ℕ
+rowsNumbers rs = numbersOf rowNumbers rs
 
 -- a nesting above 32 is counted as 33
 abbrev pub capped : ℕ → ℕ
@@ -72,6 +72,10 @@ noRoom r nesting = record {
   missing = r .missing;
 }
 
+-- the table xs, of which the first n rows are held, with those of the rows rs that come after them
+unfoldable pub tableWith : List ℕ → ℕ → List Row → List ℕ
+tableWith xs n rs = sets xs (rowWidth * n) (rowsNumbers (drop n rs))
+
 -- a table has its size, and a count is within it
 pub record Sized (table : List ℕ) (count : ℕ) : Type 0 where
   pub size : length table ≡ rowWidth * maxRows
@@ -82,12 +86,19 @@ pub record Holds (rs : List Row) (table : List ℕ) (count : ℕ) (fits : Bool) 
   pub rows : fits ≡ true → tableOf (take (rowWidth * count) table) ≡ rs
   pub over : fits ≡ false → maxRows < length rs
 
+-- from the first m rows of the table xs to the first n of the table ys there are no fewer, and what stands past them is
+-- the same
+pub record Beyond (xs : List ℕ) (m : ℕ) (ys : List ℕ) (n : ℕ) : Type 0 where
+  pub more : m ≤ n
+  pub rest : drop (rowWidth * n) ys ≡ drop (rowWidth * n) xs
+
 -- from the reading x with the table xs to the reading y with the table ys f has put rows, and the term's row is the
 -- last one's
 pub record Puts (f : List Row → Put) (xs : List ℕ) (x : Reading) (ys : List ℕ) (y : Reading) : Type 0 where
   pub held : (rs : List Row) → Holds rs xs (x .count) (x .fits) → Holds (f rs .rows) ys (y .count) (y .fits)
   pub at : (rs : List Row) → Holds rs xs (x .count) (x .fits) → y .fits ≡ true → y .row ≡ f rs .at
   pub keeps : y .fits ≡ true → x .fits ≡ true
+  pub beyond : y .fits ≡ true → Beyond xs (x .count) ys (y .count)
 
 -- the same text and names
 pub record SameText (x y : Reading) : Type 0 where

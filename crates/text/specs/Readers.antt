@@ -20,16 +20,18 @@ use Rattle.grammar.specs.Reader.{Next, need, after, Ctx, top, inside, Open, Alt
 use Rattle.grammar.specs.Reader.{Left, either, Pend, plain, both, leftOf, andTo, orTo, room, roomOf, enter}
 use Rattle.grammar.specs.Reader.{follow, run, outcome, Outcome, bad, atTop, pathByte, unionByte, unaryByte}
 use Rattle.grammar.specs.Reader.{shut, Text}
-use Rattle.grammar.specs.Answer.{answer}
+use Rattle.grammar.specs.Answer.{Answers}
+use Rattle.grammar.specs.ReaderAnswer.{answer}
 use Rattle.text.specs.declared.build.Reading.{Reading}
-use Rattle.text.specs.declared.TextAnswer.{TextAnswer}
+use Rattle.text.specs.declared.TextEnd.{TextEnd}
+use Rattle.text.specs.declared.TextResult.{TextResult}
 use Rattle.text.specs.declared.build.Start.{Start}
 use Rattle.text.specs.declared.head.Opens.{Opens}
 use Rattle.text.specs.declared.head.Opens.the-variants as Opening
 use Rattle.text.specs.Scan.{byteAt, Passed, beginsStep}
 use Rattle.text.specs.Head.{Between, callable, NoCall, Due}
 use Rattle.text.specs.Build.{rowWidth, capped, movedTo, failedAt, Sized, Made, PutMet, Grown}
-use Rattle.text.specs.Build.{joined, belowOf, onlyInStep, firstOf}
+use Rattle.text.specs.Build.{joined, belowOf, onlyInStep, firstOf, Beyond, tableWith}
 
 -- the run goes on with the byte at a place
 unfoldable pub proceed : Bytes → ℕ → Next → Outcome
@@ -237,24 +239,28 @@ pub record OrMet (s list : Bytes) (left : ℕ) (xs : List ℕ) (x : Reading) (ys
   pub read : y .ok ≡ true → OrRead s list left xs x ys y
   pub failed : y .ok ≡ false → OrFails s left (x .at) (y .at)
 
-abbrev pub refusalOf : (number value count : ℕ) → TextAnswer
+abbrev pub refusalOf : (number value count : ℕ) → TextEnd
 refusalOf n v k = record { number = n; value = v; count = k }
 
 -- the rows that a table holds, as many as are counted
 abbrev pub heldRows : List ℕ → ℕ → List Row
 heldRows xs count = tableOf (take (rowWidth * count) xs)
 
--- the whole text: the book's answer, and the rows where it is accepted
-pub record TextMet (s list : Bytes) (xs : List ℕ) (count : ℕ) (ys : List ℕ) (a : TextAnswer) : Type 0 where
+-- the whole text on a table: the answer, and where it is accepted the rows, and what stands past them as it was
+pub record TextMet (s list : Bytes) (xs : List ℕ) (count : ℕ) (ys : List ℕ) (a : TextEnd) : Type 0 where
   pub number : a .number ≡ answer list s (heldRows xs count) .number
   pub value : a .value ≡ answer list s (heldRows xs count) .value
   pub sized : Sized ys (a .count)
   pub accepted : a .number ≡ 0 → heldRows ys (a .count) ≡ answer list s (heldRows xs count) .rows
-  pub refused : (a .number ≡ 0 → ⊥) → a .count ≡ count
+  pub beyond : a .number ≡ 0 → Beyond xs count ys (a .count)
 
--- where the table has its size
-abbrev pub TextPromise : (s list : Bytes) (xs : List ℕ) (count : ℕ) (ys : List ℕ) (a : TextAnswer) → Type 0
-TextPromise s list xs count ys a = Sized xs count → TextMet s list xs count ys a
+-- `read_text` on the first n rows of the numbers xs: number, value and the rows afterwards are those of the definition,
+-- and all else of the table is as it was
+pub record TextRead (list t : Bytes) (xs : List ℕ) (n : ℕ) (r : TextResult) : Type 0 where
+  pub after : List Row
+  pub answers : Answers list t (heldRows xs n) (r .number) (r .value) after
+  pub rows : r .rows ≡ tableWith xs n after
+  pub count : r .count ≡ length after
 
 -- the closing byte b is due where r ends; a refused reading stays as it is
 pub record CloseMet (s : Bytes) (r : Reading) (b : ℕ) (q : Reading) : Type 0 where

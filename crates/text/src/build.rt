@@ -14,37 +14,18 @@ ghost use Rattle.text.specs.Build.{nothingRead, HeadPut};
 ghost use Rattle.text.specs.Readers.{WordMet, CloseMet, FirstPut, ConstPut, SlashPut, NegatePut};
 ghost use Rattle.text.specs.Readers.{BeginPut, rootStart, afterAnd, afterOr};
 use crate::bytes;
-use crate::bytes::and;
 use crate::bytes::byte_at;
 use crate::bytes::is_name;
-use crate::bytes::or;
 use crate::bytes::skip;
 use crate::head;
 use crate::head::Head;
 use crate::head::Opens;
+use common::and;
+use common::axis;
+use common::node_test;
+use common::or;
+use common::row_kind;
 use terms::Row;
-
-pub const ROOT: u16 = 1;
-
-pub const STEP: u16 = 2;
-
-pub const UNION: u16 = 3;
-
-pub const COMPOSITION: u16 = 4;
-
-pub const FILTER: u16 = 5;
-
-pub const TRUE: u16 = 6;
-
-pub const FALSE: u16 = 7;
-
-pub const NOT: u16 = 8;
-
-pub const AND: u16 = 9;
-
-pub const OR: u16 = 10;
-
-pub const IN: u16 = 11;
 
 // One more than the deepest nesting of a row: a nesting above is counted as this.
 const TOO_DEEP: u16 = terms::MAX_NESTING + 1;
@@ -111,18 +92,6 @@ pub fn next_is(s: &[u8], r: Reading, b: u8) -> bool
     and(r.ok, byte_at(s, r.at) == b)
 }
 
-// Row n becomes `row`.
-fn put_row(rows: &mut [u16], n: usize, row: Row)
-    requires { ⌜ (n < maxRows) × (length (now rows) ≡ rowWidth * maxRows) ⌝ }
-    ensures { λ r. ⌜ now (rows .exit) ≡ sets (now (rows .entry)) (rowWidth * n) (rowNumbers (rowOf row)) ⌝ }
-{
-    let at = terms::ROW_WIDTH * n;
-    rows[at] = row.kind;
-    rows[at + 1] = row.a;
-    rows[at + 2] = row.b;
-    rows[at + 3] = row.c;
-}
-
 // The term is row n.
 fn at_row(r: Reading, n: usize, count: usize, nesting: u16) -> Reading
     requires { ⌜ n < maxRows ⌝ }
@@ -163,7 +132,7 @@ pub fn put(rows: &mut [u16], r: Reading, row: Row, nesting: u16) -> Reading
     if terms::MAX_ROWS <= count {
         return no_row(r, nesting);
     }
-    put_row(rows, count, row);
+    terms::put_row(rows, count, row);
     at_row(r, count, count + 1, nesting)
 }
 
@@ -252,7 +221,7 @@ pub fn put_head(rows: &mut [u16], from: Reading, head: Head) -> Reading
         return fail(from, head.at);
     }
     let row = Row {
-        kind: STEP,
+        kind: row_kind::STEP,
         a: head.axis,
         b: head.test,
         c: head.name,
@@ -303,13 +272,13 @@ fn every_below(rows: &mut [u16], path: Reading) -> Reading
     ensures { λ q. ⌜ Grown belowOf (λ n. suc (max n 1)) (now (rows .entry)) path (now (rows .exit)) q ⌝ }
 {
     let row = Row {
-        kind: STEP,
-        a: 5,
-        b: 2,
+        kind: row_kind::STEP,
+        a: axis::DESCENDANT_OR_SELF,
+        b: node_test::NODE,
         c: 0,
     };
     let step = put(rows, path, row, 1);
-    join(rows, COMPOSITION, path, step)
+    join(rows, row_kind::COMPOSITION, path, step)
 }
 
 // Passes the `/` or `//` that follows a path, and the whitespace after it.
@@ -366,7 +335,7 @@ pub fn begin_path(s: &[u8], rows: &mut [u16], from: Reading) -> Start
             steps: true,
         };
     }
-    let root = put_leaf(rows, moved(from, at), ROOT);
+    let root = put_leaf(rows, moved(from, at), row_kind::ROOT);
     let next = at + 1;
     if byte_at(s, next) != bytes::SLASH {
         return begin_root(s, moved(root, skip(s, next)));
@@ -386,7 +355,7 @@ pub fn first_step(rows: &mut [u16], rooted: bool, lead: Reading, step: Reading) 
     ensures { λ q. ⌜ FirstPut rooted lead step (now (rows .entry)) (now (rows .exit)) q ⌝ }
 {
     if rooted {
-        return join(rows, COMPOSITION, lead, step);
+        return join(rows, row_kind::COMPOSITION, lead, step);
     }
     step
 }
@@ -397,8 +366,8 @@ pub fn some_of(rows: &mut [u16], paths: Reading) -> Reading
     ensures { λ q. ⌜ Grown someOf (λ n. suc (suc (max n 1))) (now (rows .entry)) paths (now (rows .exit)) q ⌝ }
 {
     let void = put_leaf(rows, paths, 0);
-    let inclusion = join(rows, IN, paths, void);
-    put_over(rows, inclusion, NOT)
+    let inclusion = join(rows, row_kind::INCLUSION, paths, void);
+    put_over(rows, inclusion, row_kind::NOT)
 }
 
 pub fn negate_if(rows: &mut [u16], opens: Opens, r: Reading) -> Reading
@@ -406,7 +375,7 @@ pub fn negate_if(rows: &mut [u16], opens: Opens, r: Reading) -> Reading
     ensures { λ q. ⌜ NegatePut opens (now (rows .entry)) r (now (rows .exit)) q ⌝ }
 {
     match opens {
-        Opens::Not => put_over(rows, r, NOT),
+        Opens::Not => put_over(rows, r, row_kind::NOT),
         Opens::Group => r,
         Opens::Paths => r,
         Opens::True => r,

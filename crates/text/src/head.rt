@@ -11,20 +11,10 @@ use crate::bytes;
 use crate::bytes::byte_at;
 use crate::bytes::is_start;
 use crate::bytes::name_end;
-use crate::bytes::or;
 use crate::bytes::skip;
 use crate::words;
 use common::node_test;
-
-const CHILD: u16 = 1;
-
-const ATTRIBUTE: u16 = 11;
-
-const NAMED: u16 = 0;
-
-const ANY: u16 = 1;
-
-const NODE: u16 = 2;
+use common::or;
 
 // A step without its predicates: `at` is the first place after it that has no whitespace; or, where it is none, the
 // first byte that can't continue. `filters`: predicates may follow. `place`: that of its name, where it has one that
@@ -126,9 +116,14 @@ fn dot_head(s: &[u8], at: usize) -> Head
 {
     let next = at + 1;
     if byte_at(s, next) == bytes::DOT {
-        return plain_head(skip(s, next + 1), 2, NODE, false);
+        return plain_head(
+            skip(s, next + 1),
+            common::axis::PARENT,
+            node_test::NODE,
+            false,
+        );
     }
-    plain_head(skip(s, next), 0, NODE, false)
+    plain_head(skip(s, next), common::axis::SELF, node_test::NODE, false)
 }
 
 // What follows the quote at `at` of an instruction's target.
@@ -170,7 +165,7 @@ fn type_head(s: &[u8], names: &[u8], at: usize, axis: u16, test: u16) -> Head
     if b == bytes::CLOSE {
         return plain_head(skip(s, inner + 1), axis, test, true);
     }
-    if test != words::INSTRUCTION {
+    if test != node_test::INSTRUCTION {
         return no_head(inner);
     }
     if !is_quote(b) {
@@ -185,11 +180,11 @@ fn name_test(s: &[u8], names: &[u8], at: usize, end: usize, to: usize, axis: u16
     ensures { λ h. ⌜ TestMet (now (s .entry)) (now (names .entry)) at axis (byteAt (now (s .entry)) to ≡ 58 → ⊥) h ⌝ }
 {
     if byte_at(s, to) != bytes::OPEN {
-        return named_head(s, names, at, end, to, axis, NAMED);
+        return named_head(s, names, at, end, to, axis, node_test::NAME);
     }
     let test = words::type_of(&s[at..end]);
     if test == words::NO_TYPE {
-        return named_head(s, names, at, end, to, axis, NAMED);
+        return named_head(s, names, at, end, to, axis, node_test::NAME);
     }
     type_head(s, names, to + 1, axis, test)
 }
@@ -201,7 +196,7 @@ fn test_head(s: &[u8], names: &[u8], at: usize, axis: u16) -> Head
 {
     let b = byte_at(s, at);
     if b == bytes::STAR {
-        return plain_head(skip(s, at + 1), axis, ANY, true);
+        return plain_head(skip(s, at + 1), axis, node_test::STAR, true);
     }
     if !is_start(b) {
         return no_head(at);
@@ -239,17 +234,17 @@ pub fn read_head(s: &[u8], names: &[u8], at: usize) -> Head
         return dot_head(s, at);
     }
     if b == bytes::AT {
-        return test_head(s, names, skip(s, at + 1), ATTRIBUTE);
+        return test_head(s, names, skip(s, at + 1), common::axis::ATTRIBUTE);
     }
     if !is_start(b) {
-        return test_head(s, names, at, CHILD);
+        return test_head(s, names, at, common::axis::CHILD);
     }
     let end = name_end(s, at + 1);
     let to = skip(s, end);
     if byte_at(s, to) == bytes::COLON {
         return axis_head(s, names, at, end, to);
     }
-    name_test(s, names, at, end, to, CHILD)
+    name_test(s, names, at, end, to, common::axis::CHILD)
 }
 
 // The byte begins a step.

@@ -1,6 +1,6 @@
 // Reads a selector typed as text and puts the rows of its term into a lent table. The readers go from left to right,
 // one byte at a time; each takes where the reading stands and gives where it stands afterwards. A refused reading
-// leaves rows of no use in the lent table: the caller lends a copy.
+// leaves rows of no use in the table that it works on, which is a copy.
 mod build;
 mod bytes;
 mod head;
@@ -10,12 +10,17 @@ use crate::build::Reading;
 use crate::bytes::byte_at;
 use crate::bytes::skip;
 use crate::head::Opens;
+use common::refusal;
+use common::row_kind;
 ghost use mathlib.Core.Path.{_≡_};
 ghost use mathlib.Core.Bool.{false};
+ghost use Prim.Native.Nat.{min};
+ghost use Rattle.terms.specs.Row.{maxRows};
 ghost use Rattle.grammar.specs.Bytes.{isSpace};
 ghost use Rattle.text.specs.Scan.{byteAt};
 ghost use Rattle.text.specs.Readers.{Ready, PredicateMet, StepMet, PathMet, UnionMet};
-ghost use Rattle.text.specs.Readers.{UnaryMet, AndMet, OrMet, TextPromise, refusalOf};
+ghost use Rattle.text.specs.Readers.{UnaryMet, AndMet, OrMet, TextMet, TextRead, refusalOf};
+ghost use Rattle.text.specs.Build.{Sized};
 
 // How deep predicates, groups and negations may nest.
 const MAX_LEVELS: usize = 32;
@@ -25,9 +30,17 @@ const TABLE_SIZE: usize = terms::ROW_WIDTH * terms::MAX_ROWS;
 
 // The answer to a text: 0 and the term's row, or a refusal and its value. `count` is how many rows are held
 // afterwards.
-pub struct TextAnswer {
+struct TextEnd {
+    number: u16,
+    value: usize,
+    count: usize,
+}
+
+// The answer, and the table afterwards, of which the first rows are held, as many as `count` says.
+pub struct TextResult {
     pub number: u16,
     pub value: usize,
+    pub rows: [u16; TABLE_SIZE],
     pub count: usize,
 }
 
@@ -43,7 +56,7 @@ fn read_predicate(s: &[u8], names: &[u8], rows: &mut [u16], from: Reading, left:
     }
     let inner = read_or(s, names, rows, build::moved(from, open + 1), left - 1);
     let shut = build::close(s, inner, bytes::CLOSE_BRACKET);
-    build::join(rows, build::FILTER, from, shut)
+    build::join(rows, row_kind::FILTER, from, shut)
 }
 
 // A step that begins at a place without whitespace: its head and predicates.
@@ -79,7 +92,7 @@ fn read_path(s: &[u8], names: &[u8], rows: &mut [u16], from: Reading, left: usiz
     while build::next_is(s, got, bytes::SLASH) {
         let before = build::pass_slash(s, rows, got);
         let step = read_step(s, names, rows, before, left);
-        let next = build::join(rows, build::COMPOSITION, before, step);
+        let next = build::join(rows, row_kind::COMPOSITION, before, step);
         got = next;
     }
     got
@@ -94,7 +107,7 @@ fn read_union(s: &[u8], names: &[u8], rows: &mut [u16], from: Reading, left: usi
     while build::next_is(s, got, bytes::BAR) {
         let bar = got.at;
         let path = read_path(s, names, rows, build::moved(got, bar + 1), left);
-        let next = build::join(rows, build::UNION, got, path);
+        let next = build::join(rows, row_kind::UNION, got, path);
         got = next;
     }
     got
@@ -116,10 +129,10 @@ fn read_operand(s: &[u8], names: &[u8], rows: &mut [u16], from: Reading, left: u
             return build::some_of(rows, paths);
         }
         Opens::True => {
-            return build::constant(s, rows, build::moved(start, paren + 1), build::TRUE);
+            return build::constant(s, rows, build::moved(start, paren + 1), row_kind::TRUE);
         }
         Opens::False => {
-            return build::constant(s, rows, build::moved(start, paren + 1), build::FALSE);
+            return build::constant(s, rows, build::moved(start, paren + 1), row_kind::FALSE);
         }
         Opens::Group => {}
         Opens::Not => {}
@@ -144,7 +157,7 @@ fn read_and(s: &[u8], names: &[u8], rows: &mut [u16], from: Reading, left: usize
             return word;
         }
         let right = read_operand(s, names, rows, word, left);
-        let next = build::join(rows, build::AND, got, right);
+        let next = build::join(rows, row_kind::AND, got, right);
         got = next;
     }
     got
@@ -162,53 +175,85 @@ fn read_or(s: &[u8], names: &[u8], rows: &mut [u16], from: Reading, left: usize)
             return word;
         }
         let right = read_and(s, names, rows, word, left);
-        let next = build::join(rows, build::OR, got, right);
+        let next = build::join(rows, row_kind::OR, got, right);
         got = next;
     }
     got
 }
 
-fn refusal(number: u16, value: usize, count: usize) -> TextAnswer
+fn refused(number: u16, value: usize, count: usize) -> TextEnd
     ensures { λ a. ⌜ a ≡ refusalOf number value count ⌝ }
 {
-    TextAnswer {
+    TextEnd {
         number,
         value,
         count,
     }
 }
 
-// The answer, where the first rows of the table are held, as many as `count` says. A table of another size has no
-// room.
-pub fn read_text(s: &[u8], names: &[u8], rows: &mut [u16], count: usize) -> TextAnswer
-    ensures { λ a. ⌜ TextPromise (now (s .entry)) (now (names .entry)) (now (rows .entry)) count (now (rows .exit)) a ⌝ }
+// The answer, where the first rows of the table are held, as many as `count` says. A refused text may leave other rows
+// after them.
+fn read_in(s: &[u8], names: &[u8], rows: &mut [u16], count: usize) -> TextEnd
+    requires { ⌜ Sized (now rows) count ⌝ }
+    ensures { λ a. ⌜ TextMet (now (s .entry)) (now (names .entry)) (now (rows .entry)) count (now (rows .exit)) a ⌝ }
 {
-    if rows.len() != TABLE_SIZE {
-        return refusal(11, 0, count);
-    }
-    if terms::MAX_ROWS < count {
-        return refusal(11, 0, count);
-    }
     let got = read_union(s, names, rows, build::nothing_read(count), MAX_LEVELS);
     let at = got.at;
     if !got.ok {
-        return refusal(18, at, count);
+        return refused(refusal::OUTSIDE_GRAMMAR, at, count);
     }
     if at < s.len() {
-        return refusal(18, at, count);
+        return refused(refusal::OUTSIDE_GRAMMAR, at, count);
     }
     if !got.listed {
-        return refusal(19, got.missing, count);
+        return refused(refusal::UNLISTED_NAME, got.missing, count);
     }
     if terms::MAX_NESTING < got.nesting {
-        return refusal(3, 0, count);
+        return refused(refusal::TOO_DEEP, 0, count);
     }
     if !got.fits {
-        return refusal(11, 0, count);
+        return refused(refusal::TERMS_FULL, 0, count);
     }
-    TextAnswer {
+    TextEnd {
         number: 0,
         value: got.row as usize,
         count: got.count,
+    }
+}
+
+// A count above the limit is read as the limit.
+fn rows_counted(count: usize) -> usize
+    ensures { λ r. ⌜ r ≡ min count maxRows ⌝ }
+{
+    if count <= terms::MAX_ROWS {
+        count
+    } else {
+        terms::MAX_ROWS
+    }
+}
+
+// The answer to the text `s` with the lent list of names, where the first rows of the table are held, as many as `count`
+// says.
+pub fn read_text(s: &[u8], names: &[u8], rows: [u16; TABLE_SIZE], count: usize) -> TextResult
+    ensures { λ r. ⌜ TextRead (now (names .entry)) (now (s .entry)) rows (min count maxRows) r ⌝ }
+{
+    let held = rows_counted(count);
+    let mut table = rows;
+    let end = read_in(s, names, &mut table, held);
+    let number = end.number;
+    let value = end.value;
+    if number != 0 {
+        return TextResult {
+            number,
+            value,
+            rows,
+            count: held,
+        };
+    }
+    TextResult {
+        number,
+        value,
+        rows: table,
+        count: end.count,
     }
 }

@@ -6,7 +6,7 @@ use mathlib.Core.Option.{Option, none, some}
 use Rattle.lines.specs.Line.{Line, partsRead}
 use Rattle.script.specs.declared.Word.{Word}
 use Rattle.script.specs.declared.Word.the-variants.{Term, Step, Select, Document, Fresh, Old, New, Replace, Write}
-use Rattle.script.specs.declared.Word.the-variants.{Point, Return, Other, Order, BundleOrder}
+use Rattle.script.specs.declared.Word.the-variants.{Point, Return, Other, Order, BundleOrder, Names, Text}
 use Rattle.script.specs.Command.{Command, commandOf}
 use Rattle.transcript.specs.declared.Style.{Style}
 use Rattle.transcript.specs.declared.Style.the-variants.{Answers, Nodes}
@@ -35,6 +35,8 @@ wordTaken s Write = printsAnswers s
 wordTaken s Other = printsAnswers s
 wordTaken s Order = printsAnswers s
 wordTaken s BundleOrder = printsAnswers s
+wordTaken s Names = true
+wordTaken s Text = true
 
 -- a line that is no command is never taken
 abbrev pub isTaken : Style → Option Command → Bool

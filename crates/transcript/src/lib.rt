@@ -32,11 +32,13 @@ struct NumberList {
     count: usize,
 }
 
-// What later calls are lent: the document, the old rows and the new rows.
+// What later calls are lent: the document, the old rows and the new rows; the names stand in the script, from `names` on
+// to the line's end.
 struct Lent {
     document: NumberList,
     old: NumberList,
     new: NumberList,
+    names: usize,
 }
 
 // Puts b behind the first `used` bytes, where there is room; gives how many are used now.
@@ -133,6 +135,53 @@ fn return_to(s: Session, values: Values, style: Style) -> Session {
     let made = s.return_to(values.a);
     let answer = made.answer;
     print(style, answer.number(), answer.value() as u64);
+    made.session
+}
+
+// Where the rest of the line at `at` starts: behind its first space, or at the line's end where it has none.
+fn rest_at(input: &[u8], at: usize) -> usize {
+    let mut i = at;
+    while i < input.len() {
+        let b = input[i];
+        if b == lines::NEWLINE {
+            return i;
+        }
+        i += 1;
+        if b == lines::SPACE {
+            return i;
+        }
+    }
+    i
+}
+
+// Copies the bytes from `from` to the line's end, with `space` for each space; gives how many they are.
+fn copy_rest(input: &[u8], from: usize, space: u8, out: &mut [u8]) -> usize {
+    let mut used = 0;
+    let mut i = from;
+    while i < input.len() {
+        let b = input[i];
+        if b == lines::NEWLINE {
+            return used;
+        }
+        used = put(out, used, if b == lines::SPACE { space } else { b });
+        i += 1;
+    }
+    used
+}
+
+fn first_bytes(bytes: &[u8], n: usize) -> &[u8] {
+    if n <= bytes.len() { &bytes[..n] } else { bytes }
+}
+
+// The lent names stand at `names`, with spaces for newlines, and the selector at `selector`.
+fn text(s: Session, input: &[u8], names: usize, selector: usize, style: Style) -> Session {
+    let mut list = [0u8; common::MAX_BYTES];
+    let mut bytes = [0u8; common::MAX_BYTES];
+    let listed = copy_rest(input, names, lines::NEWLINE, &mut list);
+    let length = copy_rest(input, selector, lines::SPACE, &mut bytes);
+    let made = s.text(first_bytes(&list, listed), first_bytes(&bytes, length));
+    let answer = made.answer;
+    print(style, answer.number, answer.value as u64);
     made.session
 }
 
@@ -269,6 +318,8 @@ fn is_taken(word: Word, style: Style) -> bool
         Word::Other => prints_answers(style),
         Word::Order => prints_answers(style),
         Word::BundleOrder => prints_answers(style),
+        Word::Names => true,
+        Word::Text => true,
     }
 }
 
@@ -276,17 +327,18 @@ fn list_of(numbers: [u16; script::MAX_NUMBERS], count: usize) -> NumberList {
     NumberList { numbers, count }
 }
 
-fn none_lent() -> Lent {
+fn none_lent(input: &[u8]) -> Lent {
     let none = list_of([0; script::MAX_NUMBERS], 0);
     Lent {
         document: none,
         old: none,
         new: none,
+        names: input.len(),
     }
 }
 
-// What is lent after a line.
-fn lent_after(lent: Lent, read: CallLine) -> Lent {
+// What is lent after the line at `at`.
+fn lent_after(lent: Lent, input: &[u8], at: usize, read: CallLine) -> Lent {
     let word = read.word;
     let values = read.values;
     let numbers = read.numbers;
@@ -294,13 +346,20 @@ fn lent_after(lent: Lent, read: CallLine) -> Lent {
     let mut document = lent.document;
     let mut old = lent.old;
     let mut new = lent.new;
+    let mut names = lent.names;
     match word {
         Word::Document => document = listed,
         Word::Old => old = listed,
         Word::New => new = listed,
+        Word::Names => names = rest_at(input, at),
         _ => {}
     }
-    Lent { document, old, new }
+    Lent {
+        document,
+        old,
+        new,
+        names,
+    }
 }
 
 // The session that is set aside after a line.
@@ -311,8 +370,16 @@ fn other_after(s: Session, other: Session, word: Word) -> Session {
     }
 }
 
-// Makes the call of a line and prints its answer; gives the session after it.
-fn make(s: Session, other: Session, lent: Lent, read: CallLine, style: Style) -> Session {
+// Makes the call of the line at `at` and prints its answer; gives the session after it.
+fn make(
+    s: Session,
+    other: Session,
+    lent: Lent,
+    input: &[u8],
+    at: usize,
+    read: CallLine,
+    style: Style,
+) -> Session {
     let word = read.word;
     let values = read.values;
     let numbers = read.numbers;
@@ -343,6 +410,7 @@ fn make(s: Session, other: Session, lent: Lent, read: CallLine, style: Style) ->
         }
         Word::Other => Session::new(),
         Word::Fresh => Session::new(),
+        Word::Text => text(s, input, lent.names, rest_at(input, at), style),
         _ => s,
     }
 }
@@ -355,7 +423,7 @@ pub fn run(input: &[u8], style: Style) -> usize
 {
     let mut s = Session::new();
     let mut other = Session::new();
-    let mut lent = none_lent();
+    let mut lent = none_lent(input);
     let mut at = 0;
     let mut line: usize = 0;
     while at < input.len() {
@@ -365,12 +433,12 @@ pub fn run(input: &[u8], style: Style) -> usize
         if !and(read.ok, is_taken(word, style)) {
             return line;
         }
-        let after = make(s, other, lent, read, style);
+        let after = make(s, other, lent, input, at, read, style);
         let aside = other_after(s, other, word);
         s = after;
         other = aside;
-        let lists = lent_after(lent, read);
-        lent = lists;
+        let later = lent_after(lent, input, at, read);
+        lent = later;
         at = read.next;
     }
     0

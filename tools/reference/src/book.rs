@@ -65,6 +65,16 @@ impl Book {
         (0, number as u64)
     }
 
+    /// The number of a row that is held.
+    pub fn held(&self, row: Row) -> Option<usize> {
+        self.numbers.get(&row).copied()
+    }
+
+    /// How many rows are held.
+    pub fn count(&self) -> usize {
+        self.terms.len()
+    }
+
     pub fn step(&mut self, step: Step) -> Answer {
         let [rule, left, right, first, second] = step;
         if !(1..=59).contains(&rule) {

@@ -18,6 +18,7 @@ pub mod rules;
 pub mod selection;
 pub mod tally;
 pub mod term;
+pub mod text;
 #[cfg(test)]
 mod tests;
 

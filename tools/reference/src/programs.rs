@@ -51,6 +51,7 @@ struct Run {
     document: Vec<u16>,
     old: Vec<u16>,
     new: Vec<u16>,
+    names: Vec<u8>,
 }
 
 impl Run {
@@ -99,6 +100,11 @@ impl Run {
                 let bundle = if number == 0 { &out[..value as usize] } else { b"" };
                 return Some(format!("{number} {value}\n{}", String::from_utf8_lossy(bundle)));
             }
+            [b"names", ..] => {
+                self.names = words[1..].join(&b'\n');
+                return Some(String::new());
+            }
+            [b"text", ..] => self.book.text(&self.names, &words[1..].join(&b' ')),
             _ => return None,
         };
         Some(format!("{number} {value}\n"))

@@ -441,3 +441,95 @@ fn terms_with_many_leaves_are_ordered() {
     assert_eq!(last(&format!("{calls}order 31 31\n")), "0 1");
     assert_eq!(last(&format!("{calls}order 31 30\n")), "0 2");
 }
+
+/// The number and value of a text's answer on a fresh book, where every name is listed that the texts below use.
+fn text(selector: &[u8]) -> (u16, u64) {
+    let names = "a b c d e x b-c x-1.y a-b _x and or not true false child text node div comment tru self parent attribute";
+    let list = format!("{}\na..\nprocessing-instruction", names.replace(' ', "\n"));
+    Book::default().text(list.as_bytes(), selector)
+}
+
+#[test]
+fn texts_of_the_grammar() {
+    let texts = [
+        "a", "/", "//a", "/ a", "a//b", " a ", "child::a", "child :: a", "child", "@a", "@*", "@ node ( )",
+        "attribute::a", ".", "..", "./a", "a..", "a/..", ".//a", "text()", "text ( )", "text", "node", "div",
+        "and", "comment()[a]", "processing-instruction()", "a[b]", "a[not(b)]", "a[not (b)]", "a[not]",
+        "a[not and not]", "a[not(tru)]", "a[true()]", "a[true]", "a[true() and false()]", "a[and and and]",
+        "a[b or c]", "a[*and*]", "a[b and(c)]", "a[b and .]", "a[.and b]", "a[b[c]and d]", "a[/]", "a[/ and/b]",
+        "a[/|b]", "a[/ | b and c]", "a[(b)]", "a[(b|c) and d]", "a[child::text()]", "a|b", "a|b|/", "*", "*/*",
+        "a-b", "_x", "self::node()[self::text()]", "following-sibling::b/preceding::*",
+        "descendant-or-self::node()/a", "a[.or b]", "a[*or*]", "a[(b)or(c)]", "a[/ or and b]", "a[or or or]",
+        "not/true", "text/node", "a[not/true]", "a[text]", "true", "false | not", "a[false ( )]",
+        "a[true ( )or b]", "child::child", "@attribute", "a[@b]", "a[..]", "a[../b]", "a[not(not(b))]", "a[b][c]",
+        "a[ ( b ) ]", "/*", "/.", "//.", "//@a", "/ | /", "a[/][b]", "a [ b ] / c", "self :: node ( )", "@ a",
+        "a / b", "a // b", "a | b", "a[not ( b )]", "a[b and or]", "a[b or and]", "a[b and c and d or e]",
+        "processing-instruction", "processing-instruction(\"x\")", "processing-instruction('x')",
+        "processing-instruction ( 'x-1.y' )", "a[processing-instruction('x')]", "processing-instruction('x')[a]",
+        "self::processing-instruction('and')", "@processing-instruction('x')",
+    ];
+    for selector in texts {
+        assert_eq!(text(selector.as_bytes()).0, 0, "{selector}");
+    }
+}
+
+#[test]
+fn texts_outside_the_grammar() {
+    let texts = [
+        ("//", 2), ("/ /a", 2), ("a///b", 3), ("a/", 2), ("", 0), ("  ", 2), ("chold::a", 5), ("child: :a", 6),
+        ("child:a", 6), ("a:b", 1), ("child::", 7), ("chold ::a", 6), ("@@a", 1), ("@.", 1), ("namespace::a", 9),
+        ("...", 2), (". .", 2), (".[a]", 1), ("..[a]", 2), (".5", 1), (".a", 1), ("text(a)", 5), ("node::a", 4),
+        ("a and b", 2), ("not(a)", 3), ("true()", 4), ("(a)", 0), ("a[not(tru())]", 9), ("a[true(]", 7),
+        ("a[b and]", 7), ("a[b andc]", 7), ("a[b an c]", 6), ("a[b o c]", 5), ("a[and (c)]", 6), ("a[b and.]", 7),
+        ("a[b]and c", 4), ("a[/ and b]", 8), ("a[b|/ or c]", 9), ("a[(b)/c]", 5), ("a[(b)|c]", 5),
+        ("a[(b)[c]]", 5), ("a[b|(c)]", 4), ("a[b|not(c)]", 7), ("a[not(b)|c]", 8), ("a[/not(b)]", 6),
+        ("a[child::not(b)]", 12), ("a|", 2), ("a||b", 2), ("a]", 1), ("a[b", 3), ("a[]", 2), ("a[1]", 2),
+        ("a=\"x\"", 1), ("a b", 2), ("$x", 0), ("**", 1), ("a*", 1), ("a[b*c]", 3), ("a[b -c]", 4), ("-a", 0),
+        ("1a", 0), ("a[not(", 6), ("a[not()]", 6), ("a[b orb]", 6), ("a[.or.]", 5), ("a[/ or b]", 7), ("foo:b", 3),
+        ("child:b", 6), ("/[a]", 1), ("///a", 2), ("processing-instruction::a", 22), ("a[count(b)]", 7),
+        ("last()", 4), ("a[position()]", 10), ("a[b=c]", 3), ("a[b<c]", 3), ("a[b!=c]", 3), ("a[b+c]", 3),
+        ("a['x']", 2), ("a[\"x\"]", 2), ("a[$b]", 2), ("id('x')", 2), ("a/(b)", 2), ("a[b]]", 4), ("a(b)", 1),
+        ("//a:b", 3), ("a:*", 1), ("..a", 2), ("...a", 2), ("@a:b", 2), ("a[b div c]", 4), ("a[b mod c]", 4),
+        ("a[text(]", 7), ("a[.]b", 4), ("a/.[b]", 3), ("a/..[b]", 4), ("a[not b]", 6), ("a[true]()", 7),
+        ("a[true()()]", 8), ("a[true()/b]", 8), ("a[not(b)/c]", 8), ("a[true ()c]", 9), ("a[(b)c]", 5),
+        ("comment(a)", 8), ("node('x')", 5), ("text(\"x\")", 5), ("processing-instruction(x)", 23),
+        ("processing-instruction('')", 24), ("processing-instruction('x\")", 25),
+        ("processing-instruction(' x')", 24), ("processing-instruction('x ')", 25),
+        ("processing-instruction('1')", 24), ("processing-instruction('x''y')", 26),
+        ("processing-instruction('x'", 26), ("processing-instruction('x", 25), ("processing-instruction(' ", 24),
+        ("processing-instruction('a:b')", 25), ("processing-instruction('x')(", 27), ("comment('x')", 8),
+    ];
+    for (selector, place) in texts {
+        assert_eq!(text(selector.as_bytes()), (18, place), "{selector}");
+    }
+}
+
+#[test]
+fn levels_of_texts() {
+    let nested = |open: &str, n: usize, shut: &str| format!("a{}{}", open.repeat(n), shut.repeat(n));
+    assert_eq!(text(nested("[b", 33, "]").as_bytes()), (18, 65));
+    assert_ne!(text(nested("[b", 32, "]").as_bytes()).0, 18);
+    assert_eq!(text(format!("a[{}b{}]", "(".repeat(31), ")".repeat(31)).as_bytes()).0, 0);
+    assert_eq!(text(format!("a[{}b{}]", "(".repeat(32), ")".repeat(32)).as_bytes()), (18, 33));
+    assert_eq!(text(format!("a[{}b", "not(".repeat(32)).as_bytes()), (18, 129));
+    assert_eq!(text(b"a\t[\nb\r]").0, 0);
+    assert_eq!(text(b"a\0"), (18, 1));
+    assert_eq!(text(&[195, 169]), (18, 0));
+}
+
+#[test]
+fn rows_of_texts() {
+    let answers = replayed("names a b\ntext a\ntext a/b\ntext b/a/c\ntext b/a/\nterm 2 1 0 2\nterm 3 1 0 0\ntext b|a\nnames a\ntext b\n");
+    assert_eq!(answers, ["0 0", "0 2", "19 4", "18 4", "12 1", "0 3", "0 3", "19 0"]);
+    let some = replayed("names a b\ntext a[b]\nterm 5 0 4 0\nterm 8 3 0 0\nterm 11 1 2 0\nterm 0 0 0 0\n");
+    assert_eq!(some, ["0 5", "12 5", "12 4", "12 3", "12 2"]);
+    assert_eq!(last("names a\ntext processing-instruction('x')\n"), "19 24");
+    let chain = |n: usize| format!("names a\ntext {}a\n", "a/".repeat(n));
+    assert_eq!(last(&chain(31)), "0 31");
+    assert_eq!(last(&chain(32)), "3 0");
+    let full: String = (1..=1024).map(|n| format!("term 2 0 0 {n}\n")).collect();
+    assert_eq!(last(&format!("{full}names a\ntext a\n")), "11 0");
+    assert_eq!(last(&format!("{full}names a\ntext self::a\n")), "0 0");
+    assert_eq!(last("text\n"), "18 0");
+    assert_eq!(last("text a\n"), "19 0");
+}

@@ -3,12 +3,10 @@ use Prim.Native.Nat.{ℕ, _*_, min}
 use mathlib.Core.List.{List, [], _∷_}
 use lib.ListN.{take}
 use Rattle.terms.specs.Row.{Row, tableOf, maxRows}
+pub use Rattle.terms.specs.Row.{rowWidth}
 use Rattle.calls.specs.Book.{Step, step, maxSteps}
 
--- how many numbers a row has, and a step
-abbrev pub rowWidth : ℕ
-rowWidth = 4
-
+-- how many numbers a step has
 abbrev pub stepWidth : ℕ
 stepWidth = 5
 

@@ -35,6 +35,12 @@ enum-told-2 c = search needs
 room-call-requires : tie.Need-room-call-requires
 room-call-requires c κs = c .before .before .before .pre .0 ∙ c .enum-told2 .given .1
 
+enum-told-3 : tie.Need-enum-told-3
+enum-told-3 c = search needs
+
+rest-call-requires : tie.Need-rest-call-requires
+rest-call-requires c κs = c .before .before .before .pre .0 ∙ c .enum-told3 .given .1
+
 returns : tie.Need-returns
 returns c = search needs
 
@@ -46,6 +52,9 @@ returns-3 c = search needs
 
 returns-4 : tie.Need-returns-4
 returns-4 c = search needs
+
+returns-5 : tie.Need-returns-5
+returns-5 c = search needs
 
 pub shaped-call-spec : {M : Type 1} → statement M
 shaped-call-spec =
@@ -59,7 +68,10 @@ shaped-call-spec =
     selection-call-requires
     enum-told-2
     room-call-requires
+    enum-told-3
+    rest-call-requires
     returns
     returns-2
     returns-3
-    returns-4)
+    returns-4
+    returns-5)

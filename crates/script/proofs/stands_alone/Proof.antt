@@ -15,6 +15,9 @@ enum-told-2 c = search needs
 enum-told-3 : tie.Need-enum-told-3
 enum-told-3 c = search needs
 
+enum-told-4 : tie.Need-enum-told-4
+enum-told-4 c = search needs
+
 returns : tie.Need-returns
 returns c = cc
 
@@ -27,6 +30,9 @@ returns-3 c = search needs
 returns-4 : tie.Need-returns-4
 returns-4 c = search needs
 
+returns-5 : tie.Need-returns-5
+returns-5 c = search needs
+
 pub stands-alone-spec : {M : Type 1} → statement M
 stands-alone-spec =
     tie.close
@@ -35,7 +41,9 @@ stands-alone-spec =
     enum-told
     enum-told-2
     enum-told-3
+    enum-told-4
     returns
     returns-2
     returns-3
-    returns-4)
+    returns-4
+    returns-5)

@@ -11,7 +11,7 @@ use Rattle.lines.specs.code.NumbersRead.{firstParts, maxCount}
 use Rattle.script.specs.declared.Word.{Word}
 use Rattle.script.specs.declared.Word.the-variants.{Term}
 use Rattle.script.specs.declared.Shape.{Shape}
-use Rattle.script.specs.declared.Shape.the-variants.{Counted, Listed, Selection, Room}
+use Rattle.script.specs.declared.Shape.the-variants.{Counted, Listed, Selection, Room, Rest}
 use Rattle.script.specs.declared.Entry.{Entry}
 use Rattle.script.specs.declared.Values.{Values}
 use Rattle.script.specs.declared.CallLine.{CallLine}
@@ -32,6 +32,7 @@ valuesOf (Listed most) ns = sizeOnly (length ns)
 valuesOf Selection ns =
     record { a = getD ns 0 0; b = getD ns 1 0; c = 0; d = 0; e = 0; limit = getD ns 2 0; size = getD ns 3 0 }
 valuesOf Room ns = sizeOnly (getD ns 0 0)
+valuesOf Rest ns = sizeOnly 0
 
 -- the numbers that are listed, and zeros after them
 abbrev pub listedOf : Shape → List ℕ → List ℕ
@@ -39,6 +40,7 @@ listedOf (Counted n) ns = noNumbers
 listedOf (Listed most) ns = ns ++ drop (length ns) noNumbers
 listedOf Selection ns = noNumbers
 listedOf Room ns = noNumbers
+listedOf Rest ns = noNumbers
 
 -- a call that lists no numbers
 abbrev pub plainLine : Word → Values → ℕ → CallLine
@@ -74,6 +76,7 @@ standsAlone (Counted n) = eqb n 0
 standsAlone (Listed most) = true
 standsAlone Selection = false
 standsAlone Room = false
+standsAlone Rest = true
 
 -- there is room for what stands after a word
 abbrev pub Fits : Shape → Type 0
@@ -81,6 +84,7 @@ Fits (Counted n) = n ≤ maxCount
 Fits (Listed most) = most ≤ maxNumbers
 Fits Selection = Unit {0}
 Fits Room = Unit {0}
+Fits Rest = Unit {0}
 
 -- an entry past the last one
 abbrev pub noEntry : List ℕ × Word

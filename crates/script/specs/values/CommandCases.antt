@@ -11,7 +11,7 @@ use Rattle.lines.specs.Line.{inFirstLine, lines, inFirstPart, parts, sameBytes}
 use Rattle.lines.specs.Number.{isDigit, areDigits, isDecimal, appendDigits, numbersUpTo}
 use Rattle.lines.specs.code.NumbersRead.{firstParts}
 use Rattle.script.specs.declared.Word.the-variants.{Term, Step, Select, Document, Fresh, Old, New, Replace}
-use Rattle.script.specs.declared.Word.the-variants.{Write, Point, Return, Other, Order, BundleOrder}
+use Rattle.script.specs.declared.Word.the-variants.{Write, Point, Return, Other, Order, BundleOrder, Names, Text}
 use Rattle.script.specs.Command.{Command, command, words, shapeOf, atMost, named, wordFor, commandBy, commandOf}
 
 -- the command of a text's first line
@@ -39,6 +39,13 @@ pub commands :
     ∷ first "other\n" is some (command Other [])
     ∷ first "order 0 65535\n" is some (command Order (0 ∷ 65535 ∷ []))
     ∷ first "bundle-order\n" is some (command BundleOrder [])
+    -- any bytes after the word, none, and two spaces
+    ∷ first "names log mark\n" is some (command Names [])
+    ∷ first "names\n" is some (command Names [])
+    ∷ first "text //mark[ not(a) ]\n" is some (command Text [])
+    ∷ first "text 65536\n" is some (command Text [])
+    ∷ first "text  \n" is some (command Text [])
+    ∷ first "text\n" is some (command Text [])
     ∷ [])
 unfolding ascii words wordFor shapeOf commandBy named atMost firstParts lines inFirstLine parts inFirstPart sameBytes
     numbersUpTo Option·elim isDecimal areDigits isDigit appendDigits
@@ -103,6 +110,10 @@ pub no-commands :
     ∷ first "bundle-order 0\n" is none
     ∷ first "bundle\n" is none
     ∷ first "bundle order\n" is none
+    -- other words, and a text without its newline
+    ∷ first "name a\n" is none
+    ∷ first "texts a\n" is none
+    ∷ first "text a" is none
     ∷ [])
 unfolding ascii words wordFor shapeOf commandBy named atMost firstParts lines inFirstLine parts inFirstPart sameBytes
     numbersUpTo Option·elim isDecimal areDigits isDigit appendDigits

@@ -60,6 +60,12 @@ enum-told-14 c = search needs
 prints-answers-requires-4 : tie.Need-prints-answers-requires-4
 prints-answers-requires-4 c κs = search needs
 
+enum-told-15 : tie.Need-enum-told-15
+enum-told-15 c = search needs
+
+enum-told-16 : tie.Need-enum-told-16
+enum-told-16 c = search needs
+
 returns : tie.Need-returns
 returns c = search needs
 
@@ -102,6 +108,12 @@ returns-13 c = rw (c .before .enum-told13 .given .1) (c .prints-answers3 .ensure
 returns-14 : tie.Need-returns-14
 returns-14 c = rw (c .before .enum-told14 .given .1) (c .prints-answers4 .ensures)
 
+returns-15 : tie.Need-returns-15
+returns-15 c = search needs
+
+returns-16 : tie.Need-returns-16
+returns-16 c = search needs
+
 pub is-taken-spec : {M : Type 1} → statement M
 is-taken-spec =
     tie.close
@@ -125,6 +137,8 @@ is-taken-spec =
     prints-answers-requires-3
     enum-told-14
     prints-answers-requires-4
+    enum-told-15
+    enum-told-16
     returns
     returns-2
     returns-3
@@ -138,4 +152,6 @@ is-taken-spec =
     returns-11
     returns-12
     returns-13
-    returns-14)
+    returns-14
+    returns-15
+    returns-16)

@@ -42,6 +42,9 @@ pub endings :
     ∷ ends Nodes "fresh\nother\n" is 2
     ∷ ends Nodes "order 0 0\n" is 1
     ∷ ends Nodes "fresh\nbundle-order\n" is 2
+    -- names and texts, in both styles
+    ∷ ends Answers "names a b\ntext a[b]\nnames\ntext\ntexts\n" is 5
+    ∷ ends Nodes "names a b\ntext a[b]\ntext a" is 3
     ∷ [])
 unfolding endingLine ascii words shapeOf wordFor commandBy named atMost numbersUpTo lines inFirstLine parts
     inFirstPart sameBytes Option·elim isDecimal areDigits isDigit appendDigits

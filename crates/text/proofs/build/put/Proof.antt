@@ -16,7 +16,7 @@ use Rattle.text.proofs.build.put.Lts as lts
 use Rattle.terms.proofs.find_row.Reads as find-row-reads
 use Rattle.text.proofs.build.at_row.Reads as at-row-reads
 use Rattle.text.proofs.build.no_row.Reads as no-row-reads
-use Rattle.text.proofs.build.put_row.Reads as put-row-reads
+use Rattle.terms.proofs.put_row.Reads as put-row-reads
 
 -- src/build.rt:153:9
 no-row-requires : tie.Need-no-row-requires

@@ -12,7 +12,7 @@ use Rattle.text.proofs.build.step_end.Reads as reads
 use Rattle.text.proofs.build.step_end.Lts as lts
 use Rattle.text.proofs.build.fail.Reads as fail-reads
 use Rattle.text.proofs.bytes.byte_at.Reads as byte-at-reads
-use Rattle.text.proofs.bytes.or.Reads as or-reads
+use Rattle.common.proofs.or.Reads as or-reads
 
 -- src/build.rt:261:9
 returns : tie.Need-returns

@@ -3,6 +3,7 @@ use mathlib.Core.Bool.{true, false}
 use native.Mathlib.Omega.{arith}
 use Prim.Native.Nat.{_+_, _-_, _<_, _≤_}
 use lib.ListN.{length, drop}
+use borrow.Author.Needs.{needs}
 use borrow.Author.Tests.{not-true, not-false}
 use Rattle.text.proofs.Named.{Counted, count-start, count-hit, count-all, count-on, count-end}
 use Rattle.text.proofs.words.number_of.Statement.{statement}
@@ -10,7 +11,7 @@ use Rattle.text.proofs.words.number_of.Tie as tie
 use Rattle.text.proofs.words.number_of.Reads as reads
 use Rattle.text.proofs.words.number_of.Lts as lts
 use Rattle.text.proofs.words.is_name_line.Reads as is-name-line-reads
-use Rattle.text.proofs.words.next_line.Reads as next-line-reads
+use Rattle.names.proofs.next_line.Reads as next-line-reads
 
 abbrev Inv-loop : tie.InvT-loop
 Inv-loop names word at₀ number₀ at number = Counted names word at number
@@ -38,7 +39,7 @@ returns-2 c = count-all _ _ _ _ (c .before .before .before .before .loop .inv) (
 
 -- src/words.rt:112:9
 next-line-requires : tie.Need-next-line-requires Inv-loop μ-loop
-next-line-requires c κs = omega (arith, c .before .before .before .before .loop .inv .fits)
+next-line-requires c κs = search needs
 
 -- src/words.rt:113:9
 add-number : tie.Need-add-number Inv-loop μ-loop
@@ -49,7 +50,7 @@ add-number c =
 
 -- src/words.rt:105:5
 loop-less : tie.Need-loop-less Inv-loop μ-loop
-loop-less c = omega (arith, c .next-line .ensures .moves (omega arith), c .next-line .ensures .fits)
+loop-less c = omega (arith, c .next-line .ensures .further (omega arith), c .next-line .ensures .inside)
 
 -- src/words.rt:105:5
 loop-again : tie.Need-loop-again Inv-loop μ-loop
