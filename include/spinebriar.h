@@ -35,6 +35,9 @@ enum spinebriar_answer {
     SPINEBRIAR_UNLISTED_NAME = 19,
     SPINEBRIAR_BAD_POINT = 20, /* 20 and 21 are of points */
     SPINEBRIAR_POINTS_FULL = 21,
+    SPINEBRIAR_NOT_NEXT = 22, /* 22 to 24 are of the register */
+    SPINEBRIAR_BAD_RECORD = 23,
+    SPINEBRIAR_FULL_OR_IN_USE = 24,
     SPINEBRIAR_BAD_LISTS = 25, /* 25 and 26 are the call replace's */
     SPINEBRIAR_NOT_COVERED = 26
 };
@@ -67,6 +70,9 @@ static inline const char *spinebriar_answer_text(uint16_t answer)
     case SPINEBRIAR_NOT_COVERED: return "an old row whose step doesn't say that it is contained in a new row";
     case SPINEBRIAR_BAD_POINT: return "no point has the name, or a point to be set has the name 0 or one in use";
     case SPINEBRIAR_POINTS_FULL: return "the session holds eight points already";
+    case SPINEBRIAR_NOT_NEXT: return "the edition is not the next one of its series";
+    case SPINEBRIAR_BAD_RECORD: return "the row or the step of the record is not as it must be";
+    case SPINEBRIAR_FULL_OR_IN_USE: return "the register is full, or the return would drop a row or step in use";
     default: return NULL;
     }
 }

@@ -10,9 +10,9 @@ import re
 import sys
 from collections import namedtuple
 
-from rules import (AXES, AXIS_LETTERS, DEEPEST, FORMS, KINDS, MISTAKES, MOST_POINTS, MOST_ROWS, MOST_STEPS, NAMED, OPPOSITE,
-                   PATH_LETTERS, ROOT, TEST_LETTERS, VOID, WAY_BACK, Book, Term, below, condition, fill, inclusion,
-                   looser_forms, match, match_both, some, step, way_back)
+from rules import (AXES, AXIS_LETTERS, DEEPEST, FORMS, KINDS, MISTAKES, MOST_POINTS, MOST_RECORDS, MOST_ROWS,
+                   MOST_STEPS, NAMED, OPPOSITE, PATH_LETTERS, ROOT, TEST_LETTERS, VOID, WAY_BACK, Book, Term, below,
+                   condition, fill, inclusion, looser_forms, match, match_both, some, step, way_back)
 from spelling import Spelling
 
 MOST_BYTES, MOST_NODES, MOST_NUMBERS, MOST_MARKS, MOST_LIMIT = 65536, 512, 1539, 1024, 4294967295
@@ -33,6 +33,8 @@ ODD_LINES = [b"", b"fresh", b"document", b"document ", b"document" + b" 0" * MOS
              b"point 65536", b"point 1 1", b"return", b"return 65536", b"names", b"names ", b"names a  b", b"text", b"text ",
              b"text a", b"text a[b or .]", b"texts a", b"names" + b" a" * 2000, b"other", b"other 0",
              b"order 0 0", b"order 0", b"order 65536 0", b"bundle-order", b"bundle-order 0", b"bundle",
+             b"record", b"record 7 1 0", b"record 7 1 0 0", b"record 7 1 0 0 0", b"record 65536 1 0 0",
+             b"record 7 1 0 65536", b"current", b"current 7", b"current 65536", b"current 7 7", b"records",
              *(word + b" 1" * count for word in (b"old", b"new", b"replace")
                for count in (MOST_LISTED, MOST_LISTED + 1))]
 # Words that are names, and lines that are none; a text's names are among the first, so some of them aren't listed.
@@ -133,6 +135,41 @@ class Session:
         held = [point[0] for point in self.book.points]
         name = self.rng.choice(held if held and self.rng.random() < 0.8 else [0, 1, 5, 9, 65535])
         return self.call("return", (name,), self.book.return_to(name))
+
+    def record(self):
+        """The next edition of a series by a held step, or by one that says p <= p, with a few changes."""
+        rng, book = self.rng, self.book
+        series = rng.choice([0, 1, 2, 7, 65535])
+        last = book.last(series)
+        paths = [row for row, term in enumerate(book.terms) if term.is_path()]
+        edition, row, number = 1, rng.choice(paths or [0]), 0
+        if last:
+            edition = last[1] + 1
+            found = [n for n, held in enumerate(book.steps, 1) if held[1] == last[2]]
+            if not found and rng.random() < 0.7 and self.step((2, last[2], last[2], 0, 0)):
+                found = [len(book.steps)]
+            number = rng.choice(found or [0])
+            row = book.steps[number - 1][2] if number else last[2]
+        record = [series, edition, row, number]
+        for _ in range(rng.choice([0, 0, 0, 0, 1, 1, 2])):
+            place = rng.randrange(1, 4)
+            held = (edition, len(book.rows), len(book.steps))[place - 1]
+            record[place] = rng.choice([rng.randrange(held + 3), record[place] ^ 1, *EDGES[:6], 65535])
+        self.call("record", record, book.record(tuple(record)))
+        self.current()
+
+    def records(self):
+        """As many records as there can be, and a few more."""
+        paths = [row for row, term in enumerate(self.book.terms) if term.is_path()]
+        for series in range(1000, 1000 + MOST_RECORDS if paths else 1000):
+            record = (series, 1, self.rng.choice(paths), 0)
+            self.call("record", record, self.book.record(record))
+        for _ in range(8):
+            self.record()
+
+    def current(self):
+        series = self.rng.choice([0, 1, 2, 3, 7, 1000, 1250, 65535])
+        self.call("current", (series,), True)
 
     def hold(self, term):
         """The term's row, after the calls that it takes; nothing if they are refused."""
@@ -448,6 +485,10 @@ class Session:
             return self.orders()
         if self.rng.random() < 0.02:
             return self.other()
+        if self.rng.random() < 0.12:
+            return self.record()
+        if self.rng.random() < 0.002:
+            return self.records()
         if self.rng.random() < 0.06:
             return self.replace()
         if self.rng.random() < 0.15:
@@ -626,7 +667,7 @@ def resized(rng, text):
     """The text made as long as the longest input, or a byte or more longer, by its last term or step over and over."""
     size = MOST_BYTES + rng.choice([0, 0, 1, 1, 2, 5000])
     others = (b"select", b"document", b"old", b"new", b"replace", b"write", b"names", b"text", b"other", b"order",
-              b"bundle-order")
+              b"bundle-order", b"record", b"current")
     line = next((line for line in reversed(text.splitlines(True)) if not line.startswith(others)), b"\n")
     return (text + line * (size // len(line) + 1))[:size - 1] + rng.choice([b"\n", b"0"])
 

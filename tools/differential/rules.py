@@ -15,6 +15,7 @@ NAMED = (0, 6)  # the tests that take a name or a target
 PATH_LETTERS, QUALIFIER_LETTERS, AXIS_LETTERS, TEST_LETTERS = "pqrst", "fghi", "abc", "NMTO"
 MOST_ROWS, MOST_STEPS, DEEPEST = 1024, 2048, 32
 MOST_POINTS = 8
+MOST_RECORDS = 256
 
 
 class Term:
@@ -301,6 +302,7 @@ class Book:
         self.rows, self.terms, self.nestings, self.steps = [], [], [], []
         self.number_of_row, self.number_of_term = {}, {}
         self.points = []  # (name, rows held, steps held)
+        self.records = []  # (series, edition, row, step)
 
     def says(self, step):
         return self.terms[step[1]], self.terms[step[2]]
@@ -341,16 +343,34 @@ class Book:
         return True
 
     def return_to(self, name):
-        """Whether there is such a point; if so, returns to it."""
+        """Whether there is such a point that has all rows and steps of records; if so, returns to it."""
         names = [point[0] for point in self.points]
         if name not in names:
             return False
+        _, rows, steps = self.points[names.index(name)]
+        if any(row >= rows or step > steps for _, _, row, step in self.records):
+            return False
         del self.points[names.index(name) + 1:]
-        _, rows, steps = self.points[-1]
         del self.rows[rows:], self.terms[rows:], self.nestings[rows:], self.steps[steps:]
         for numbers in (self.number_of_row, self.number_of_term):
             for key in [key for key, number in numbers.items() if number >= rows]:
                 del numbers[key]
+        return True
+
+    def last(self, series):
+        """The record of the series' current edition."""
+        return max((held for held in self.records if held[0] == series), key=lambda held: held[1], default=None)
+
+    def record(self, record):
+        """Whether the record is accepted; if so, puts it."""
+        series, edition, row, step = record
+        last = self.last(series)
+        if edition != (last[1] if last else 0) + 1 or not self.is_held(row, True) or len(self.records) == MOST_RECORDS:
+            return False
+        held = self.steps[step - 1] if 1 <= step <= len(self.steps) else None
+        if step != 0 if last is None else held is None or held[1:3] != (last[2], row):
+            return False
+        self.records.append(record)
         return True
 
     def step(self, step):

@@ -117,6 +117,12 @@ EDITS = [
     ("programs.rs", "MOST_MARKS: u64 = 1024", "MOST_MARKS: u64 = 1025"),
     ("programs.rs", "marks[y] == 1", "marks[y] != 0"),
     ("programs.rs", "u32::MAX as u64)?", "u32::MAX as u64 - 1)?"),
+    ("register.rs", "MOST_RECORDS: usize = 256", "MOST_RECORDS: usize = 255"),
+    ("register.rs", "(22, due)", "(22, due - 1)"),
+    ("register.rs", "None => step == 0", "None => true"),
+    ("register.rs", "(l, r) == (previous, row)", "(r, l) == (previous, row)"),
+    ("register.rs", "(row as usize) < rows && step as usize <= steps", "(row as usize) < rows"),
+    ("register.rs", "(row as usize) < rows && step as usize <= steps", "step as usize <= steps"),
 ]
 
 

@@ -7,6 +7,7 @@ pub mod SelectLaws
 pub mod Tables
 pub mod Premises
 pub mod Runs
+pub mod Above
 pub mod PointTables
 pub mod PointJudged
 pub mod Returns

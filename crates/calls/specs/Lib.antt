@@ -10,6 +10,7 @@ pub mod SelectLaws
 pub mod Uses
 pub mod Runs
 pub mod Calls
+pub mod Above
 pub mod PointLaws
 pub mod TextLaws
 pub mod code

@@ -85,6 +85,18 @@ bad-point = 20
 abbrev pub points-full : ℕ
 points-full = 21
 
+-- edition not the next one: the one due
+abbrev pub not-next : ℕ
+not-next = 22
+
+-- row (1) or step (2) not as described
+abbrev pub bad-record : ℕ
+bad-record = 23
+
+-- register full, or a return to a point that would drop a row or step in use
+abbrev pub full-or-in-use : ℕ
+full-or-in-use = 24
+
 -- a list of more than 64, or not as many steps as old rows
 abbrev pub bad-lists : ℕ
 bad-lists = 25

@@ -41,6 +41,12 @@ pub const BAD_POINT: u16 = 20;
 
 pub const POINTS_FULL: u16 = 21;
 
+pub const NOT_NEXT: u16 = 22;
+
+pub const BAD_RECORD: u16 = 23;
+
+pub const FULL_OR_IN_USE: u16 = 24;
+
 pub const BAD_LISTS: u16 = 25;
 
 pub const NOT_COVERED: u16 = 26;

@@ -13,6 +13,7 @@ use Rattle.calls.specs.code.Tables.{rowWidth, stepWidth}
 use Rattle.script.specs.declared.Word.{Word}
 use Rattle.script.specs.declared.Word.the-variants.{Term, Step, Select, Document, Fresh, Old, New, Replace}
 use Rattle.script.specs.declared.Word.the-variants.{Write, Point, Return, Other, Order, BundleOrder, Names, Text}
+use Rattle.script.specs.declared.Word.the-variants.{Record, Current}
 use Rattle.script.specs.declared.Shape.{Shape}
 use Rattle.script.specs.declared.Shape.the-variants.{Counted, Listed, Selection, Room, Rest}
 
@@ -61,6 +62,8 @@ words =
     ∷ (ascii "bundle-order", BundleOrder)
     ∷ (ascii "names", Names)
     ∷ (ascii "text", Text)
+    ∷ (ascii "record", Record)
+    ∷ (ascii "current", Current)
     ∷ []
 
 -- what stands after a word
@@ -81,6 +84,8 @@ shapeOf Order = Counted 2
 shapeOf BundleOrder = Counted 0
 shapeOf Names = Rest
 shapeOf Text = Rest
+shapeOf Record = Counted 4
+shapeOf Current = Counted 1
 
 -- as many numbers as there are parts
 abbrev pub allNumbers : List (List ℕ) → Option (List ℕ)

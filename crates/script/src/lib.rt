@@ -40,6 +40,8 @@ pub enum Word {
     BundleOrder,
     Names,
     Text,
+    Record,
+    Current,
 }
 
 // What stands after a word: so many numbers of 16 bits, a list of up to so many, the numbers of a select, the length of a
@@ -58,7 +60,7 @@ pub struct Entry(pub [u8; WORD_WIDTH], pub usize, pub Word, pub Shape);
 // One byte more than the longest word has.
 const WORD_WIDTH: usize = 13;
 
-const WORD_COUNT: usize = 16;
+const WORD_COUNT: usize = 18;
 
 const WORDS: [Entry; WORD_COUNT] = [
     Entry(*b"term         ", 4, Word::Term, Shape::Counted(ROW_WIDTH)),
@@ -87,6 +89,8 @@ const WORDS: [Entry; WORD_COUNT] = [
     Entry(*b"bundle-order ", 12, Word::BundleOrder, Shape::Counted(0)),
     Entry(*b"names        ", 5, Word::Names, Shape::Rest),
     Entry(*b"text         ", 4, Word::Text, Shape::Rest),
+    Entry(*b"record       ", 6, Word::Record, Shape::Counted(4)),
+    Entry(*b"current      ", 7, Word::Current, Shape::Counted(1)),
 ];
 
 // The numbers after a word, by its shape: `a` to `e` are those that are counted, in their order; `size` says how many

@@ -6,6 +6,7 @@ pub mod ReplaceClauses
 pub mod PointClauses
 pub mod OrderClauses
 pub mod Views
+pub mod PointsHeld
 pub mod Whole
 pub mod Simulation
 pub mod Demand3

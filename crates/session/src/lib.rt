@@ -2,6 +2,7 @@
 mod c;
 mod order;
 mod read;
+mod record;
 mod replace;
 mod report;
 mod session;

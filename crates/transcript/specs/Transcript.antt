@@ -7,11 +7,13 @@ use Rattle.lines.specs.Line.{Line, partsRead}
 use Rattle.script.specs.declared.Word.{Word}
 use Rattle.script.specs.declared.Word.the-variants.{Term, Step, Select, Document, Fresh, Old, New, Replace, Write}
 use Rattle.script.specs.declared.Word.the-variants.{Point, Return, Other, Order, BundleOrder, Names, Text}
+use Rattle.script.specs.declared.Word.the-variants.{Record, Current}
 use Rattle.script.specs.Command.{Command, commandOf}
 use Rattle.transcript.specs.declared.Style.{Style}
 use Rattle.transcript.specs.declared.Style.the-variants.{Answers, Nodes}
 
--- where answers are printed, a script has a session and another one; where nodes are, no bundle and no order is printed
+-- where answers are printed, a script has a register and another one; where nodes are, no bundle and no order is
+-- printed
 abbrev pub printsAnswers : Style → Bool
 printsAnswers Answers = true
 printsAnswers Nodes = false
@@ -37,6 +39,8 @@ wordTaken s Order = printsAnswers s
 wordTaken s BundleOrder = printsAnswers s
 wordTaken s Names = true
 wordTaken s Text = true
+wordTaken s Record = true
+wordTaken s Current = true
 
 -- a line that is no command is never taken
 abbrev pub isTaken : Style → Option Command → Bool

@@ -1,9 +1,9 @@
-// Makes the calls of a script on a session, a call a line, and prints the answers in one of two styles.
+// Makes the calls of a script on a register, a call a line, and prints the answers in one of two styles.
 use common::and;
+use register::Register;
 use script::CallLine;
 use script::Values;
 use script::Word;
-use session::Session;
 ghost use mathlib.Core.Path.{_≡_};
 ghost use lib.ListN.{length};
 ghost use Rattle.lines.specs.Line.{lines};
@@ -17,10 +17,10 @@ const FILL: u8 = 7;
 const LINE: usize = 4096;
 
 // What is printed. `Answers`: `NUMBER VALUE` for each call but document, old and new, after an accepted select the
-// marked nodes, and after an accepted write the bundle's lines; `other` sets the session aside and starts a new one,
+// marked nodes, and after an accepted write the bundle's lines; `other` sets the register aside and starts a new one,
 // `order` and `bundle-order` compare the one set aside with it, and `fresh` is no call. Other and what is lent print
 // nothing. `Nodes`: the marked nodes of each accepted select, and `refused NUMBER VALUE` for what is refused; `fresh`
-// starts a new session, and `write`, `other`, `order` and `bundle-order` are no calls.
+// starts a new register, and `write`, `other`, `order` and `bundle-order` are no calls.
 pub enum Style {
     Answers,
     Nodes,
@@ -110,32 +110,32 @@ fn print(style: Style, number: u16, value: u64) {
     }
 }
 
-fn term(s: Session, v: Values, style: Style) -> Session {
-    let made = s.term(v.a, v.b, v.c, v.d);
+fn term(r: Register, v: Values, style: Style) -> Register {
+    let made = r.term(v.a, v.b, v.c, v.d);
     let answer = made.answer;
     print(style, answer.number(), answer.value() as u64);
-    made.session
+    made.register
 }
 
-fn step(s: Session, v: Values, style: Style) -> Session {
-    let made = s.step(v.a, v.b, v.c, v.d, v.e);
+fn step(r: Register, v: Values, style: Style) -> Register {
+    let made = r.step(v.a, v.b, v.c, v.d, v.e);
     let answer = made.answer;
     print(style, answer.number(), answer.value() as u64);
-    made.session
+    made.register
 }
 
-fn point(s: Session, values: Values, style: Style) -> Session {
-    let made = s.point(values.a);
+fn point(r: Register, values: Values, style: Style) -> Register {
+    let made = r.point(values.a);
     let answer = made.answer;
     print(style, answer.number(), answer.value() as u64);
-    made.session
+    made.register
 }
 
-fn return_to(s: Session, values: Values, style: Style) -> Session {
-    let made = s.return_to(values.a);
+fn return_to(r: Register, values: Values, style: Style) -> Register {
+    let made = r.return_to(values.a);
     let answer = made.answer;
     print(style, answer.number(), answer.value() as u64);
-    made.session
+    made.register
 }
 
 // Where the rest of the line at `at` starts: behind its first space, or at the line's end where it has none.
@@ -174,15 +174,15 @@ fn first_bytes(bytes: &[u8], n: usize) -> &[u8] {
 }
 
 // The lent names stand at `names`, with spaces for newlines, and the selector at `selector`.
-fn text(s: Session, input: &[u8], names: usize, selector: usize, style: Style) -> Session {
+fn text(r: Register, input: &[u8], names: usize, selector: usize, style: Style) -> Register {
     let mut list = [0u8; common::MAX_BYTES];
     let mut bytes = [0u8; common::MAX_BYTES];
     let listed = copy_rest(input, names, lines::NEWLINE, &mut list);
     let length = copy_rest(input, selector, lines::SPACE, &mut bytes);
-    let made = s.text(first_bytes(&list, listed), first_bytes(&bytes, length));
+    let made = r.text(first_bytes(&list, listed), first_bytes(&bytes, length));
     let answer = made.answer;
     print(style, answer.number, answer.value as u64);
-    made.session
+    made.register
 }
 
 fn put_node(line: &mut [u8], used: usize, mark: u8, node: usize) -> usize {
@@ -202,8 +202,8 @@ fn put_marked(line: &mut [u8], used: usize, marks: &[u8]) -> usize {
     end
 }
 
-fn select_into(s: Session, document: &[u16], v: Values, style: Style, marks: &mut [u8]) {
-    let answer = s.select(v.a, document, v.b, v.limit, marks);
+fn select_into(r: Register, document: &[u16], v: Values, style: Style, marks: &mut [u8]) {
+    let answer = r.select(v.a, document, v.b, v.limit, marks);
     let number = answer.number();
     let mut line = [0u8; LINE];
     let used = put_answer(&mut line, style, number, answer.value() as u64);
@@ -221,12 +221,12 @@ fn filled_marks() -> [u8; script::MAX_MARKS]
     [FILL; script::MAX_MARKS]
 }
 
-fn select(s: Session, document: NumberList, v: Values, style: Style) {
+fn select(r: Register, document: NumberList, v: Values, style: Style) {
     let numbers = document.numbers;
     let mut buffer = filled_marks();
     let size = calls::clamp(v.size, script::MAX_MARKS);
     select_into(
-        s,
+        r,
         calls::front(&numbers, document.count),
         v,
         style,
@@ -234,11 +234,11 @@ fn select(s: Session, document: NumberList, v: Values, style: Style) {
     );
 }
 
-fn replace(s: Session, old: NumberList, new: NumberList, by: NumberList, style: Style) {
+fn replace(r: Register, old: NumberList, new: NumberList, by: NumberList, style: Style) {
     let old_rows = old.numbers;
     let new_rows = new.numbers;
     let steps = by.numbers;
-    let answer = s.replace(
+    let answer = r.replace(
         calls::front(&old_rows, old.count),
         calls::front(&new_rows, new.count),
         calls::front(&steps, by.count),
@@ -253,8 +253,8 @@ fn filled_room() -> [u8; script::MAX_ROOM]
 }
 
 // The bundle's own lines, behind the answer.
-fn write_into(s: Session, out: &mut [u8]) {
-    let answer = s.write(out);
+fn write_into(r: Register, out: &mut [u8]) {
+    let answer = r.write(out);
     let number = answer.number();
     let value = answer.value();
     print(Style::Answers, number, value as u64);
@@ -265,19 +265,30 @@ fn write_into(s: Session, out: &mut [u8]) {
     }
 }
 
-fn write(s: Session, room: usize) {
+fn write(r: Register, room: usize) {
     let mut buffer = filled_room();
     let size = calls::clamp(room, script::MAX_ROOM);
-    write_into(s, &mut buffer[..size]);
+    write_into(r, &mut buffer[..size]);
 }
 
-fn order(other: Session, v: Values, s: Session) {
-    let answer = other.order(v.a, s, v.b);
+fn record(r: Register, v: Values, style: Style) -> Register {
+    let made = r.record(v.a, v.b, v.c, v.d);
+    let answer = made.answer;
+    print(style, answer.number(), answer.value() as u64);
+    made.register
+}
+
+fn current(r: Register, v: Values, style: Style) {
+    print(style, 0, r.current(v.a) as u64);
+}
+
+fn order(other: Register, v: Values, r: Register) {
+    let answer = other.order(v.a, r, v.b);
     print(Style::Answers, answer.number(), answer.value() as u64);
 }
 
-fn bundle_order(other: Session, s: Session) {
-    let answer = other.bundle_order(s);
+fn bundle_order(other: Register, r: Register) {
+    let answer = other.bundle_order(r);
     print(Style::Answers, answer.number(), answer.value() as u64);
 }
 
@@ -320,6 +331,8 @@ fn is_taken(word: Word, style: Style) -> bool
         Word::BundleOrder => prints_answers(style),
         Word::Names => true,
         Word::Text => true,
+        Word::Record => true,
+        Word::Current => true,
     }
 }
 
@@ -362,67 +375,66 @@ fn lent_after(lent: Lent, input: &[u8], at: usize, read: CallLine) -> Lent {
     }
 }
 
-// The session that is set aside after a line.
-fn other_after(s: Session, other: Session, word: Word) -> Session {
+// The register that is set aside after a line.
+fn other_after(r: Register, other: Register, word: Word) -> Register {
     match word {
-        Word::Other => s,
+        Word::Other => r,
         _ => other,
     }
 }
 
-// Makes the call of the line at `at` and prints its answer; gives the session after it.
+// Makes a call that leaves the register as it is, and prints its answer.
+fn ask(r: Register, other: Register, lent: Lent, read: CallLine, style: Style) {
+    let word = read.word;
+    let values = read.values;
+    let numbers = read.numbers;
+    match word {
+        Word::Select => select(r, lent.document, values, style),
+        Word::Replace => replace(r, lent.old, lent.new, list_of(numbers, values.size), style),
+        Word::Write => write(r, values.size),
+        Word::Order => order(other, values, r),
+        Word::BundleOrder => bundle_order(other, r),
+        Word::Current => current(r, values, style),
+        _ => {}
+    }
+}
+
+// Makes the call of the line at `at` and prints its answer; gives the register after it.
 fn make(
-    s: Session,
-    other: Session,
+    r: Register,
+    other: Register,
     lent: Lent,
     input: &[u8],
     at: usize,
     read: CallLine,
     style: Style,
-) -> Session {
+) -> Register {
     let word = read.word;
     let values = read.values;
-    let numbers = read.numbers;
     match word {
-        Word::Term => term(s, values, style),
-        Word::Step => step(s, values, style),
-        Word::Point => point(s, values, style),
-        Word::Return => return_to(s, values, style),
-        Word::Select => {
-            select(s, lent.document, values, style);
-            s
+        Word::Term => term(r, values, style),
+        Word::Step => step(r, values, style),
+        Word::Text => text(r, input, lent.names, rest_at(input, at), style),
+        Word::Point => point(r, values, style),
+        Word::Return => return_to(r, values, style),
+        Word::Record => record(r, values, style),
+        Word::Other => Register::new(),
+        Word::Fresh => Register::new(),
+        _ => {
+            ask(r, other, lent, read, style);
+            r
         }
-        Word::Replace => {
-            replace(s, lent.old, lent.new, list_of(numbers, values.size), style);
-            s
-        }
-        Word::Write => {
-            write(s, values.size);
-            s
-        }
-        Word::Order => {
-            order(other, values, s);
-            s
-        }
-        Word::BundleOrder => {
-            bundle_order(other, s);
-            s
-        }
-        Word::Other => Session::new(),
-        Word::Fresh => Session::new(),
-        Word::Text => text(s, input, lent.names, rest_at(input, at), style),
-        _ => s,
     }
 }
 
-// Makes the calls of a script, a call a line, from a fresh session, and prints their answers. Gives the number of the
+// Makes the calls of a script, a call a line, from a fresh register, and prints their answers. Gives the number of the
 // line that ended it, the first that is not taken; 0 if all were. What is printed is beyond contracts, since the C
 // library's write is.
 pub fn run(input: &[u8], style: Style) -> usize
     ensures { λ r. ⌜ r ≡ endingLine style 1 (lines (now (input .entry))) ⌝ }
 {
-    let mut s = Session::new();
-    let mut other = Session::new();
+    let mut r = Register::new();
+    let mut other = Register::new();
     let mut lent = none_lent(input);
     let mut at = 0;
     let mut line: usize = 0;
@@ -433,9 +445,9 @@ pub fn run(input: &[u8], style: Style) -> usize
         if !and(read.ok, is_taken(word, style)) {
             return line;
         }
-        let after = make(s, other, lent, input, at, read, style);
-        let aside = other_after(s, other, word);
-        s = after;
+        let after = make(r, other, lent, input, at, read, style);
+        let aside = other_after(r, other, word);
+        r = after;
         other = aside;
         let later = lent_after(lent, input, at, read);
         lent = later;

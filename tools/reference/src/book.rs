@@ -113,6 +113,11 @@ impl Book {
         (0, 0)
     }
 
+    /// How many rows and steps the point of that name has.
+    pub fn held_at(&self, name: u16) -> Option<(usize, usize)> {
+        self.points.iter().find(|point| point.name == name).map(|point| (point.rows, point.steps))
+    }
+
     /// Rows and steps are only ever put at the end, so what was held then is the first ones.
     pub fn return_to(&mut self, name: u16) -> Answer {
         let Some(place) = self.points.iter().position(|point| point.name == name) else { return (20, name as u64) };
@@ -154,9 +159,8 @@ impl Book {
             return (25, 0);
         }
         for (place, (&row, &number)) in (1..).zip(old.iter().zip(steps)) {
-            let step = (number as usize).checked_sub(1).and_then(|i| self.steps.get(i));
-            let covers = |&[_, left, right, ..]: &Step| left == row && self.is_held_path(row) && new.contains(&right);
-            if !step.is_some_and(covers) {
+            let covers = |[_, left, right, ..]: Step| left == row && self.is_held_path(row) && new.contains(&right);
+            if !self.held_step(number).is_some_and(covers) {
                 return (26, place);
             }
         }
@@ -190,7 +194,12 @@ impl Book {
         (&self.terms[step[1] as usize], &self.terms[step[2] as usize])
     }
 
-    fn is_held_path(&self, number: u16) -> bool {
+    /// A held step by its number, which counts from 1.
+    pub fn held_step(&self, number: u16) -> Option<Step> {
+        (number as usize).checked_sub(1).and_then(|i| self.steps.get(i)).copied()
+    }
+
+    pub fn is_held_path(&self, number: u16) -> bool {
         self.terms.get(number as usize).is_some_and(|t| t.is_path())
     }
 

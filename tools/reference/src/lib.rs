@@ -14,6 +14,7 @@ pub mod bundle;
 mod c;
 pub mod document;
 pub mod programs;
+pub mod register;
 pub mod rules;
 pub mod selection;
 pub mod tally;

@@ -4,8 +4,8 @@
 //! with no numbers is a call and lends none from then on, and so it is with `old`, `new` and `replace`; `other` leaves
 //! what is lent; a last line that lacks its newline is of another form; empty input prints nothing.
 
-use crate::book::Book;
 use crate::bundle::{lines, number, read, write};
+use crate::register::Register;
 
 pub const MOST_BYTES: usize = 65536;
 const MOST_NUMBERS: usize = 1539;
@@ -45,9 +45,9 @@ pub fn replay(input: &[u8]) -> String {
 
 #[derive(Default)]
 struct Run {
-    book: Book,
-    /// The session that `other` set aside, a fresh one at first.
-    other: Book,
+    register: Register,
+    /// The register that `other` set aside, a fresh one at first.
+    other: Register,
     document: Vec<u16>,
     old: Vec<u16>,
     new: Vec<u16>,
@@ -59,13 +59,18 @@ impl Run {
     fn call(&mut self, line: &[u8]) -> Option<String> {
         let words: Vec<&[u8]> = line.split(|&b| b == b' ').collect();
         let small = |word: &[u8]| number(word, 65535).map(|n| n as u16);
+        let book = &mut self.register.book;
         let (number, value) = match words[..] {
-            [b"term", kind, a, b, c] => self.book.term([small(kind)?, small(a)?, small(b)?, small(c)?]),
+            [b"term", kind, a, b, c] => book.term([small(kind)?, small(a)?, small(b)?, small(c)?]),
             [b"step", rule, left, right, first, second] => {
-                self.book.step([small(rule)?, small(left)?, small(right)?, small(first)?, small(second)?])
+                book.step([small(rule)?, small(left)?, small(right)?, small(first)?, small(second)?])
             }
-            [b"point", name] => self.book.point(small(name)?),
-            [b"return", name] => self.book.return_to(small(name)?),
+            [b"point", name] => book.point(small(name)?),
+            [b"return", name] => self.register.return_to(small(name)?),
+            [b"record", series, edition, row, step] => {
+                self.register.record([small(series)?, small(edition)?, small(row)?, small(step)?])
+            }
+            [b"current", series] => self.register.current(small(series)?),
             [b"document", ref numbers @ ..] if numbers.len() <= MOST_NUMBERS => {
                 self.document = numbers.iter().map(|word| small(word)).collect::<Option<_>>()?;
                 return Some(String::new());
@@ -80,23 +85,23 @@ impl Run {
             }
             [b"replace", ref numbers @ ..] if numbers.len() <= MOST_LISTED => {
                 let steps: Vec<u16> = numbers.iter().map(|word| small(word)).collect::<Option<_>>()?;
-                self.book.replace(&self.old, &self.new, &steps)
+                book.replace(&self.old, &self.new, &steps)
             }
             [b"other"] => {
-                self.other = std::mem::take(&mut self.book);
+                self.other = std::mem::take(&mut self.register);
                 return Some(String::new());
             }
-            [b"order", left, right] => self.other.order(small(left)?, &self.book, small(right)?),
-            [b"bundle-order"] => self.other.bundle_order(&self.book),
+            [b"order", left, right] => self.other.book.order(small(left)?, book, small(right)?),
+            [b"bundle-order"] => self.other.book.bundle_order(book),
             [b"select", row, context, limit, marks] => {
                 let limit = number(limit, u32::MAX as u64)? as u32;
                 let mut marks = vec![FILL; number(marks, MOST_MARKS)? as usize];
-                let answer = self.book.select(small(row)?, &self.document, small(context)?, limit, &mut marks);
+                let answer = book.select(small(row)?, &self.document, small(context)?, limit, &mut marks);
                 return Some(format!("{} {}{}\n", answer.0, answer.1, marked(answer.0, &marks)));
             }
             [b"write", room] => {
                 let mut out = vec![FILL; number(room, MOST_BYTES as u64)? as usize];
-                let (number, value) = write(&self.book, &mut out);
+                let (number, value) = write(book, &mut out);
                 let bundle = if number == 0 { &out[..value as usize] } else { b"" };
                 return Some(format!("{number} {value}\n{}", String::from_utf8_lossy(bundle)));
             }
@@ -104,7 +109,7 @@ impl Run {
                 self.names = words[1..].join(&b'\n');
                 return Some(String::new());
             }
-            [b"text", ..] => self.book.text(&self.names, &words[1..].join(&b' ')),
+            [b"text", ..] => book.text(&self.names, &words[1..].join(&b' ')),
             _ => return None,
         };
         Some(format!("{number} {value}\n"))

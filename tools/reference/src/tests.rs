@@ -383,6 +383,41 @@ fn eight_points() {
     assert_eq!(answers[7..], ["0 0", "21 0", "20 0", "20 8", "0 0", "0 0", "21 0"]);
 }
 
+/// child::1, child::*, child::node(), true; row 0 in row 1, row 1 in row 2, true in true.
+const PATHS: &str = "term 2 1 0 1\nterm 2 1 1 0\nterm 2 1 2 0\nterm 6 0 0 0\nstep 8 0 1 0 0\nstep 8 1 2 0 0\n\
+                     step 2 3 3 0 0\n";
+
+#[test]
+fn editions_of_series() {
+    let calls = "current 7\nrecord 7 2 0 0\nrecord 7 0 0 0\nrecord 7 1 3 0\nrecord 7 1 9 0\nrecord 7 1 0 1\n\
+                 record 7 1 0 0\ncurrent 7\nrecord 7 1 0 0\nrecord 7 3 1 1\nrecord 7 2 1 0\nrecord 7 2 2 2\n\
+                 record 7 2 0 1\nrecord 7 2 1 4\nrecord 7 2 3 3\nrecord 7 2 1 1\nrecord 9 1 0 0\n\
+                 record 7 3 2 2\ncurrent 7\ncurrent 9\ncurrent 8\n";
+    let answers = [
+        "0 0", "22 1", "22 1", "23 1", "23 1", "23 2", "0 0", "0 1", "22 2", "22 2", "23 2", "23 2", "23 2", "23 2",
+        "23 1", "0 0", "0 0", "0 0", "0 3", "0 1", "0 0",
+    ];
+    assert_eq!(replayed(&format!("{PATHS}{calls}"))[7..], answers);
+}
+
+#[test]
+fn rows_and_steps_in_use() {
+    let calls = "point 1\nterm 2 1 0 1\npoint 2\nterm 2 1 1 0\npoint 3\nstep 8 0 1 0 0\npoint 4\nrecord 7 1 0 0\n\
+                 return 9\nreturn 1\nrecord 7 2 1 1\nreturn 3\nreturn 2\nreturn 4\nterm 1 0 0 0\nreturn 4\n\
+                 current 7\n";
+    let answers = ["0 0", "20 9", "24 0", "0 0", "24 0", "24 0", "0 0", "0 2", "0 0", "0 2"];
+    assert_eq!(replayed(calls)[7..], answers);
+}
+
+#[test]
+fn most_records() {
+    let mut calls = PATHS.to_string();
+    calls.extend((1..=257).map(|series| format!("record {series} 1 0 0\n")));
+    calls += "record 300 2 0 0\nrecord 300 1 3 0\nrecord 300 1 0 1\nrecord 5 2 1 1\ncurrent 256\ncurrent 257\n";
+    let answers = ["0 0", "24 0", "22 1", "23 1", "23 2", "24 0", "0 1", "0 0"];
+    assert_eq!(replayed(&calls)[7 + 255..], answers);
+}
+
 #[test]
 fn written_after_a_return() {
     let calls = "term 1 0 0 0\npoint 7\nterm 6 0 0 0\nstep 2 0 0 0 0\nreturn 7\nwrite 100\n";

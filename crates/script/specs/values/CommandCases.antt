@@ -12,6 +12,7 @@ use Rattle.lines.specs.Number.{isDigit, areDigits, isDecimal, appendDigits, num
 use Rattle.lines.specs.code.NumbersRead.{firstParts}
 use Rattle.script.specs.declared.Word.the-variants.{Term, Step, Select, Document, Fresh, Old, New, Replace}
 use Rattle.script.specs.declared.Word.the-variants.{Write, Point, Return, Other, Order, BundleOrder, Names, Text}
+use Rattle.script.specs.declared.Word.the-variants.{Record, Current}
 use Rattle.script.specs.Command.{Command, command, words, shapeOf, atMost, named, wordFor, commandBy, commandOf}
 
 -- the command of a text's first line
@@ -46,6 +47,8 @@ pub commands :
     ∷ first "text 65536\n" is some (command Text [])
     ∷ first "text  \n" is some (command Text [])
     ∷ first "text\n" is some (command Text [])
+    ∷ first "record 65535 1 0 2048\n" is some (command Record (65535 ∷ 1 ∷ 0 ∷ 2048 ∷ []))
+    ∷ first "current 65535\n" is some (command Current (65535 ∷ []))
     ∷ [])
 unfolding ascii words wordFor shapeOf commandBy named atMost firstParts lines inFirstLine parts inFirstPart sameBytes
     numbersUpTo Option·elim isDecimal areDigits isDigit appendDigits
@@ -114,6 +117,19 @@ pub no-commands :
     ∷ first "name a\n" is none
     ∷ first "texts a\n" is none
     ∷ first "text a" is none
+    -- a record of three numbers, of five, alone, with 65536, with a space at its end; current alone, with 65536, with
+    -- two numbers, with a space at its end; other words
+    ∷ first "record 7 1 0\n" is none
+    ∷ first "record 7 1 0 0 0\n" is none
+    ∷ first "record\n" is none
+    ∷ first "record 65536 1 0 0\n" is none
+    ∷ first "record 7 1 0 0 \n" is none
+    ∷ first "current\n" is none
+    ∷ first "current 65536\n" is none
+    ∷ first "current 7 1\n" is none
+    ∷ first "current 7 \n" is none
+    ∷ first "records 7 1 0 0\n" is none
+    ∷ first "currents 7\n" is none
     ∷ [])
 unfolding ascii words wordFor shapeOf commandBy named atMost firstParts lines inFirstLine parts inFirstPart sameBytes
     numbersUpTo Option·elim isDecimal areDigits isDigit appendDigits

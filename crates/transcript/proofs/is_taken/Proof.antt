@@ -1,4 +1,5 @@
 -- `is_taken` meets its contract, word by word. Assumes nothing.
+use mathlib.Core.Path.{refl}
 use borrow.Author.Needs.{needs}
 use Rattle.transcript.proofs.is_taken.Statement.{statement}
 use Rattle.transcript.proofs.is_taken.Tie as tie
@@ -66,35 +67,41 @@ enum-told-15 c = search needs
 enum-told-16 : tie.Need-enum-told-16
 enum-told-16 c = search needs
 
+enum-told-17 : tie.Need-enum-told-17
+enum-told-17 c = search needs
+
+enum-told-18 : tie.Need-enum-told-18
+enum-told-18 c = search needs
+
 returns : tie.Need-returns
-returns c = search needs
+returns c = rw (c .enum-told .given .1) refl
 
 returns-2 : tie.Need-returns-2
-returns-2 c = search needs
+returns-2 c = rw (c .enum-told2 .given .1) refl
 
 returns-3 : tie.Need-returns-3
-returns-3 c = search needs
+returns-3 c = rw (c .enum-told3 .given .1) refl
 
 returns-4 : tie.Need-returns-4
-returns-4 c = search needs
+returns-4 c = rw (c .enum-told4 .given .1) refl
 
 returns-5 : tie.Need-returns-5
 returns-5 c = rw (c .before .enum-told5 .given .1) (c .prints-nodes .ensures)
 
 returns-6 : tie.Need-returns-6
-returns-6 c = search needs
+returns-6 c = rw (c .enum-told6 .given .1) refl
 
 returns-7 : tie.Need-returns-7
-returns-7 c = search needs
+returns-7 c = rw (c .enum-told7 .given .1) refl
 
 returns-8 : tie.Need-returns-8
-returns-8 c = search needs
+returns-8 c = rw (c .enum-told8 .given .1) refl
 
 returns-9 : tie.Need-returns-9
-returns-9 c = search needs
+returns-9 c = rw (c .enum-told9 .given .1) refl
 
 returns-10 : tie.Need-returns-10
-returns-10 c = search needs
+returns-10 c = rw (c .enum-told10 .given .1) refl
 
 returns-11 : tie.Need-returns-11
 returns-11 c = rw (c .before .enum-told11 .given .1) (c .prints-answers .ensures)
@@ -109,10 +116,16 @@ returns-14 : tie.Need-returns-14
 returns-14 c = rw (c .before .enum-told14 .given .1) (c .prints-answers4 .ensures)
 
 returns-15 : tie.Need-returns-15
-returns-15 c = search needs
+returns-15 c = rw (c .enum-told15 .given .1) refl
 
 returns-16 : tie.Need-returns-16
-returns-16 c = search needs
+returns-16 c = rw (c .enum-told16 .given .1) refl
+
+returns-17 : tie.Need-returns-17
+returns-17 c = rw (c .enum-told17 .given .1) refl
+
+returns-18 : tie.Need-returns-18
+returns-18 c = rw (c .enum-told18 .given .1) refl
 
 pub is-taken-spec : {M : Type 1} → statement M
 is-taken-spec =
@@ -139,6 +152,8 @@ is-taken-spec =
     prints-answers-requires-4
     enum-told-15
     enum-told-16
+    enum-told-17
+    enum-told-18
     returns
     returns-2
     returns-3
@@ -154,4 +169,6 @@ is-taken-spec =
     returns-13
     returns-14
     returns-15
-    returns-16)
+    returns-16
+    returns-17
+    returns-18)

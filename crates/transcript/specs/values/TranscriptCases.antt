@@ -45,6 +45,9 @@ pub endings :
     -- names and texts, in both styles
     ∷ ends Answers "names a b\ntext a[b]\nnames\ntext\ntexts\n" is 5
     ∷ ends Nodes "names a b\ntext a[b]\ntext a" is 3
+    -- records and current editions, in both styles
+    ∷ ends Answers "record 7 1 0 0\ncurrent 7\nrecord 7 1 0\n" is 3
+    ∷ ends Nodes "record 7 1 0 0\ncurrent 7\ncurrent\n" is 3
     ∷ [])
 unfolding endingLine ascii words shapeOf wordFor commandBy named atMost numbersUpTo lines inFirstLine parts
     inFirstPart sameBytes Option·elim isDecimal areDigits isDigit appendDigits

@@ -1,0 +1,3 @@
+pub mod Searches
+pub mod Judged
+pub mod Editions

@@ -1,0 +1,4 @@
+pub mod Records
+pub mod Held
+pub mod Register
+pub mod values

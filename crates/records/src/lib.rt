@@ -1,0 +1,218 @@
+// The records of the register, editions of series, held by value, and the answers of the calls record and current.
+ghost use mathlib.Core.Path.{_≡_};
+ghost use Prim.Native.Nat.{_<_};
+ghost use lib.Dec.{leb};
+ghost use lib.ListN.{length};
+ghost use Rattle.terms.specs.Row.{tableOf};
+ghost use Rattle.calls.specs.code.Tables.{stepsOf};
+ghost use Rattle.records.specs.Records.{current, rowOf, isFitStep, recordAnswer, allKept, noRecord, maxRecords};
+ghost use Rattle.records.specs.Held.{recordAnswerOf, sizeOf, recordsIn, noRecords, withRecord, RecordMade};
+
+pub const MAX_RECORDS: usize = 256;
+
+// A record: a series, an edition from 1, a path row and a step.
+pub struct Record {
+    pub series: u16,
+    pub edition: u16,
+    pub row: u16,
+    pub step: u16,
+}
+
+// Records, of which the first ones are held, as many as the count says.
+pub struct Records {
+    pub held: [Record; MAX_RECORDS],
+    pub count: usize,
+}
+
+// The answer of a record call.
+pub enum RecordAnswer {
+    Recorded,
+    NotNext(u32),
+    BadRecord(u16),
+    RegisterFull,
+}
+
+pub struct RecordsMade {
+    pub answer: RecordAnswer,
+    pub records: Records,
+}
+
+fn no_record() -> Record
+    ensures { λ r. ⌜ r ≡ noRecord ⌝ }
+{
+    Record {
+        series: 0,
+        edition: 0,
+        row: 0,
+        step: 0,
+    }
+}
+
+// Whether a step is as it must be for an edition with that row, where the previous edition has the row `previous`.
+fn is_fit_step(steps: &[u16], previous: u16, given: Record) -> bool
+    ensures { λ r. ⌜ r ≡ isFitStep (stepsOf (now (steps .entry))) previous given ⌝ }
+{
+    if given.edition == 1 {
+        return given.step == 0;
+    }
+    let sides = calls::sides_of(steps, given.step);
+    let held = steps.len() / calls::STEP_WIDTH;
+    let is_held = common::and(1 <= given.step, common::wide(given.step) <= held);
+    let left = sides.left;
+    let right = sides.right;
+    common::and(is_held, common::and(left == previous, right == given.row))
+}
+
+impl Records {
+    pub fn new() -> Records
+        ensures { λ r. ⌜ r ≡ noRecords ⌝ }
+    {
+        let none = no_record();
+        Records {
+            held: [none; MAX_RECORDS],
+            count: 0,
+        }
+    }
+
+    // How many records are held.
+    pub fn size(self) -> usize
+        ensures { λ r. ⌜ r ≡ sizeOf self ⌝ }
+    {
+        calls::clamp(self.count, MAX_RECORDS)
+    }
+
+    fn is_full(self) -> bool
+        ensures { λ r. ⌜ r ≡ leb maxRecords (length (recordsIn self)) ⌝ }
+    {
+        MAX_RECORDS <= self.size()
+    }
+
+    // The highest edition of a series, 0 if it has none.
+    pub fn current(self, series: u16) -> u16
+        ensures { λ r. ⌜ r ≡ current (recordsIn self) series ⌝ }
+    {
+        let held = self.held;
+        let mut highest = 0;
+        let mut i = self.size();
+        while 0 < i {
+            i -= 1;
+            let here = held[i];
+            let edition = here.edition;
+            if common::and(here.series == series, highest < edition) {
+                highest = edition;
+            }
+        }
+        highest
+    }
+
+    // The row of an edition of a series; 0 where it is not held.
+    fn row_of(self, series: u16, edition: u16) -> u16
+        ensures { λ r. ⌜ r ≡ rowOf (recordsIn self) series edition ⌝ }
+    {
+        let n = self.size();
+        let held = self.held;
+        let mut i = 0;
+        while i < n {
+            let here = held[i];
+            if common::and(here.series == series, here.edition == edition) {
+                return here.row;
+            }
+            i += 1;
+        }
+        0
+    }
+
+    // Whether every row and every step in use is among the first ones, as many as given.
+    pub fn all_kept(self, rows: usize, steps: usize) -> bool
+        ensures { λ r. ⌜ r ≡ allKept rows steps (recordsIn self) ⌝ }
+    {
+        let n = self.size();
+        let held = self.held;
+        let mut i = 0;
+        while i < n {
+            let here = held[i];
+            let kept = common::and(
+                common::wide(here.row) < rows,
+                common::wide(here.step) <= steps,
+            );
+            if !kept {
+                return false;
+            }
+            i += 1;
+        }
+        true
+    }
+
+    // The answer of a record call on lent rows and steps: the first refusal that applies, or acceptance.
+    fn judge<'a>(self, rows: &'a [u16], steps: &'a [u16], given: Record) -> RecordAnswer
+        ensures { λ r. ⌜ recordAnswerOf r
+            ≡ recordAnswer (tableOf (now (rows .entry))) (stepsOf (now (steps .entry))) (recordsIn self) given ⌝ }
+    {
+        let highest = self.current(given.series);
+        let due = highest as u32 + 1;
+        if given.edition as u32 != due {
+            return RecordAnswer::NotNext(due);
+        }
+        if !terms::is_held_path(rows, given.row) {
+            return RecordAnswer::BadRecord(1);
+        }
+        let previous = self.row_of(given.series, highest);
+        if !is_fit_step(steps, previous, given) {
+            return RecordAnswer::BadRecord(2);
+        }
+        if self.is_full() {
+            return RecordAnswer::RegisterFull;
+        }
+        RecordAnswer::Recorded
+    }
+
+    // The record after those held.
+    fn put(mut self, given: Record) -> Records
+        requires { ⌜ sizeOf self < maxRecords ⌝ }
+        ensures { λ r. ⌜ r ≡ withRecord self given ⌝ }
+    {
+        let n = self.size();
+        self.held[n] = given;
+        self.count = n + 1;
+        self
+    }
+
+    // A record call on lent rows and steps: the answer, and the record after those held where it is accepted.
+    pub fn record<'a>(self, rows: &'a [u16], steps: &'a [u16], given: Record) -> RecordsMade
+        ensures { λ r. ⌜ RecordMade (tableOf (now (rows .entry))) (stepsOf (now (steps .entry))) self given r ⌝ }
+    {
+        let answer = self.judge(rows, steps, given);
+        if answer.number() == 0 {
+            let records = self.put(given);
+            return RecordsMade { answer, records };
+        }
+        RecordsMade {
+            answer,
+            records: self,
+        }
+    }
+}
+
+impl RecordAnswer {
+    pub fn number(self) -> u16
+        ensures { λ r. ⌜ r ≡ recordAnswerOf self .number ⌝ }
+    {
+        match self {
+            RecordAnswer::Recorded => 0,
+            RecordAnswer::NotNext(_) => calls::NOT_NEXT,
+            RecordAnswer::BadRecord(_) => calls::BAD_RECORD,
+            RecordAnswer::RegisterFull => calls::FULL_OR_IN_USE,
+        }
+    }
+
+    pub fn value(self) -> u32
+        ensures { λ r. ⌜ r ≡ recordAnswerOf self .value ⌝ }
+    {
+        match self {
+            RecordAnswer::Recorded => 0,
+            RecordAnswer::NotNext(due) => due,
+            RecordAnswer::BadRecord(place) => place as u32,
+            RecordAnswer::RegisterFull => 0,
+        }
+    }
+}

@@ -1,0 +1,4 @@
+pub mod Theorems
+pub mod Calls
+pub mod Simulation
+pub mod Source

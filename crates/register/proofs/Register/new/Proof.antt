@@ -1,0 +1,16 @@
+-- `Register::new` meets its contract. Assumes nothing.
+use borrow.Author.Needs.{needs}
+use Rattle.register.proofs.Register.new.Statement.{statement}
+use Rattle.register.proofs.Register.new.Tie as tie
+
+new-requires : tie.Need-new-requires
+new-requires c κs = search needs
+
+new-requires-2 : tie.Need-new-requires-2
+new-requires-2 c κs = search needs
+
+returns : tie.Need-returns
+returns c = rw (c .before .new .ensures, c .new2 .ensures)
+
+pub new-spec : {M : Type 1} → statement M
+new-spec = tie.close (tie.spec new-requires new-requires-2 returns)

@@ -1,0 +1,15 @@
+-- `Register::point` meets its contract: the session's. Assumes nothing.
+use mathlib.Core.Path.{refl}
+use borrow.Author.Needs.{needs}
+use Rattle.register.proofs.Calls.{on-made}
+use Rattle.register.proofs.Register.point.Statement.{statement}
+use Rattle.register.proofs.Register.point.Tie as tie
+
+point-requires : tie.Need-point-requires
+point-requires c κs = search needs
+
+returns : tie.Need-returns
+returns c = on-made (c .before .before .before .before .args .self) _ _ _ (c .before .point .ensures) refl
+
+pub point-spec : {M : Type 1} → statement M
+point-spec = tie.close (tie.spec point-requires returns)

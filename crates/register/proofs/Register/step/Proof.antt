@@ -1,0 +1,15 @@
+-- `Register::step` meets its contract: the session's. Assumes nothing.
+use mathlib.Core.Path.{refl}
+use borrow.Author.Needs.{needs}
+use Rattle.register.proofs.Calls.{on-made}
+use Rattle.register.proofs.Register.step.Statement.{statement}
+use Rattle.register.proofs.Register.step.Tie as tie
+
+step-requires : tie.Need-step-requires
+step-requires c κs = search needs
+
+returns : tie.Need-returns
+returns c = on-made (c .before .before .before .before .args .self) _ _ _ (c .before .step .ensures) refl
+
+pub step-spec : {M : Type 1} → statement M
+step-spec = tie.close (tie.spec step-requires returns)

@@ -1,0 +1,15 @@
+-- `Register::term` meets its contract: the session's. Assumes nothing.
+use mathlib.Core.Path.{refl}
+use borrow.Author.Needs.{needs}
+use Rattle.register.proofs.Calls.{on-made}
+use Rattle.register.proofs.Register.term.Statement.{statement}
+use Rattle.register.proofs.Register.term.Tie as tie
+
+term-requires : tie.Need-term-requires
+term-requires c κs = search needs
+
+returns : tie.Need-returns
+returns c = on-made (c .before .before .before .before .args .self) _ _ _ (c .before .term .ensures) refl
+
+pub term-spec : {M : Type 1} → statement M
+term-spec = tie.close (tie.spec term-requires returns)
