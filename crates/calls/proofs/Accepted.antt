@@ -15,7 +15,8 @@ module _ {A : Type 0} (t u : Answer) (same : t ≡ u) (x y : A) where
   if-refused f = rw (← same, ne-eqb (t .number) 0 f)
 
 -- what is left after a call, by whether it was accepted
-pub by-accepted : {A : Type 0} (P : A → Type 0) (t : Answer) (x y : A) → (t .number ≡ 0 → P x) → P y → P (cond (accepted t) x y)
+pub by-accepted : {A : Type 0} (P : A → Type 0) (t : Answer) (x y : A) → (t .number ≡ 0 → P x) → P y
+    → P (cond (accepted t) x y)
 by-accepted P t x y f g = by-test (accepted t) refl
   where
     by-test : (b : Bool) → accepted t ≡ b → P (cond b x y)

@@ -51,7 +51,8 @@ written-past (suc n) f buffer y h =
     getD-set-other (written n f buffer) n y (cond (f n) 1 0) 0 o ∙ written-past n f buffer y (omega arith)
 
 -- an accepted answer is no refusal 8
-no-refusal : (o : Option ℕ) (t : Answer) → Option·elim o t (λ v. answer refusals.bad-document v) .number ≡ 0 → (o ≡ none) × (t .number ≡ 0)
+no-refusal : (o : Option ℕ) (t : Answer) → Option·elim o t (λ v. answer refusals.bad-document v) .number ≡ 0
+    → (o ≡ none) × (t .number ≡ 0)
 unfolding Option·elim
 no-refusal none t e = (refl, e)
 no-refusal (some v) t e = absurd (omega arith)

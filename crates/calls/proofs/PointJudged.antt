@@ -53,7 +53,8 @@ unfolding pointAnswer
 point-accepted names n e =
     let bad = eqb n 0 || ltb (placeOf names n) (length names) in
     let t = test-failed bad (answer refusals.bad-point n) _ (omega arith) e in
-    let u = test-failed (leb maxPoints (length names)) (answer refusals.points-full 0) (answer 0 0) (omega arith) (t .1) in
+    let u = test-failed (leb maxPoints (length names)) (answer refusals.points-full 0) (answer 0 0) (omega arith)
+    (t .1) in
     record {
       new = ltb-false _ _ (or-failed (eqb n 0) (ltb (placeOf names n) (length names)) (t .0));
       room = leb-false _ _ (u .0);
@@ -63,4 +64,5 @@ pub return-accepted : (names : List ℕ) (n : ℕ) → returnAnswer names n .num
 unfolding returnAnswer
 return-accepted names n e =
     let none = leb (length names) (placeOf names n) in
-    leb-false (length names) (placeOf names n) (test-failed none (answer refusals.bad-point n) (answer 0 0) (omega arith) e .0)
+    leb-false (length names) (placeOf names n) (test-failed none (answer refusals.bad-point n) (answer 0 0)
+    (omega arith) e .0)

@@ -15,7 +15,8 @@ use borrow.Author.Tests.{eq-eqb, ne-eqb}
 use Rattle.common.proofs.Reflect.{le-or-lt}
 use Rattle.calls.specs.Book.{maxPoints}
 use Rattle.calls.specs.PointCall.{placeOf}
-use Rattle.calls.specs.code.Points.{counts, noCounts, countsOf, countsNames, pointWidth, firstPointNumbers, firstPoints, cleared}
+use Rattle.calls.specs.code.Points.{counts, noCounts, countsOf, countsNames, pointWidth, firstPointNumbers}
+use Rattle.calls.specs.code.Points.{firstPoints, cleared}
 
 pub points-lent : (xs : List ℕ) → length (countsOf xs) ≡ length xs / 3
 unfolding countsOf

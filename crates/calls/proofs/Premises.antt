@@ -57,12 +57,15 @@ fits true held i e = leb-true i held (and-both (leb 1 i) (leb i held) e .1)
 fits false held i e = omega (arith, eqb-true i 0 e)
 
 -- the premises that a rule with k premises takes
-premises-by : (ps : List Step) (k i j : ℕ) → premiseOk (leb 1 k) (length ps) i ≡ true → premiseOk (leb 2 k) (length ps) j ≡ true
+premises-by : (ps : List Step) (k i j : ℕ) → premiseOk (leb 1 k) (length ps) i ≡ true
+    → premiseOk (leb 2 k) (length ps) j ≡ true
     → Every (HeldIn ps) (map (stepNumbered ps) (take k (i ∷ j ∷ [])))
 premises-by ps zero i j a b = tt
 premises-by ps (suc zero) i j a b = (needed-held ps i a, tt)
-premises-by ps (suc (suc k)) i j a b =
-    (needed-held ps i (rw (le-leb 1 (suc (suc k)) (omega arith)) at a), (needed-held ps j (rw (le-leb 2 (suc (suc k)) (omega arith)) at b), premises-past ps k))
+premises-by ps (suc (suc k)) i j a b = (
+  needed-held ps i (rw (le-leb 1 (suc (suc k)) (omega arith)) at a),
+  (needed-held ps j (rw (le-leb 2 (suc (suc k)) (omega arith)) at b), premises-past ps k),
+)
   where
     premises-past : (ps : List Step) (k : ℕ) → Every (HeldIn ps) (map (stepNumbered ps) (take k []))
     premises-past ps zero = tt

@@ -54,7 +54,8 @@ module _ (rs new : List Row) (p : Step) (held : SidesHeld rs p) where
       record {
         left = omega (arith, grown, held .left);
         right = omega (arith, grown, held .right);
-        one-sort = rw (row-stays rs new (p .left) (held .left), row-stays rs new (p .right) (held .right)) (held .one-sort);
+        one-sort = rw (row-stays rs new (p .left) (held .left), row-stays rs new (p .right) (held .right))
+            (held .one-sort);
       }
 
   pub claim-stays : claimOf (rs ++ new) p ≡ claimOf rs p
@@ -89,7 +90,8 @@ row-added rs ps r w e =
     rows-added rs (r ∷ []) ps w
     (more r (w .built)
     (yes-and (leb (r .kind) maxKind && eqb (badPlace rs r) 0) (leb (nesting rs r) maxNesting)
-    (yes-and (leb (r .kind) maxKind) (eqb (badPlace rs r) 0) (yes-leb (t .kind)) (yes-eqb (let z : badPlace rs r ≡ 0 = omega (arith, t .fields) in z)))
+    (yes-and (leb (r .kind) maxKind) (eqb (badPlace rs r) 0) (yes-leb (t .kind))
+    (yes-eqb (let z : badPlace rs r ≡ 0 = omega (arith, t .fields) in z)))
     (yes-leb (t .nesting)))
     (yes-eqb (let z : find rs r ≡ length rs = omega (arith, t .new, find-le rs r) in z)))
 
@@ -110,7 +112,8 @@ each-and-last : {A : Type 0} (d : A) (P : A → Type 0) (ps : List A) (p : A)
 each-and-last d P ps p f g i h =
     let n = length-append ps (p ∷ []) in
     let k : i < suc (length ps) = omega arith in
-    ⊎-elim (λ e. rw (getD-at ps p [] d i (sym e)) g) (λ l. rw (List·getD-append ps (p ∷ []) d i l) (f i l)) (below-suc k)
+    ⊎-elim (λ e. rw (getD-at ps p [] d i (sym e)) g) (λ l. rw (List·getD-append ps (p ∷ []) d i l) (f i l))
+    (below-suc k)
 
 -- what holds of held steps says so of premises
 premises-true : (rs : List Row) (ps qs : List Step) → ((i : ℕ) → i < length ps → IsTrue (claimOf rs (getD ps i noStep)))
@@ -124,8 +127,10 @@ unfolding stepAnswer isYielded
 step-added b p w e =
     let t = step-accepted (isYielded b p) b p e in
     let yields : Yields (p .rule) (claimOf (b .rows) p) (map (claimOf (b .rows)) (premisesOf (b .steps) p)) =
-    decide-iff (yields-dec (p .rule) (claimOf (b .rows) p) (map (claimOf (b .rows)) (premisesOf (b .steps) p))) .0 (t .yielded) in
-    let premises = premises-true (b .rows) (b .steps) (premisesOf (b .steps) p) (w .claims) (premises-held (b .steps) p (t .premises)) in
+    decide-iff (yields-dec (p .rule) (claimOf (b .rows) p) (map (claimOf (b .rows)) (premisesOf (b .steps) p))) .0
+    (t .yielded) in
+    let premises = premises-true (b .rows) (b .steps) (premisesOf (b .steps) p) (w .claims)
+    (premises-held (b .steps) p (t .premises)) in
     record {
       built = w .built;
       sides = each-and-last noStep (SidesHeld (b .rows)) (b .steps) p (w .sides) (sides-held (b .rows) p (t .sides));

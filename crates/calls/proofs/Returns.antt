@@ -266,7 +266,8 @@ module _ (b : Book) (n : ℕ) (taken : bookAnswer b (point n) .number ≡ 0) whe
 pub return-restores : ReturnRestores
 unfolding final
 return-restores b n cs taken keep =
-    let set-book : pointBook b n ≡ next plainBook b (point n) = if-accepted (bookAnswer b (point n)) _ refl (pointBook b n) b taken in
+    let set-book : pointBook b n ≡ next plainBook b (point n) = if-accepted (bookAnswer b (point n)) _ refl
+    (pointBook b n) b taken in
     let first : Kept b n taken (next plainBook b (point n)) =
     subst (Kept b n taken) set-book (record { later = []; points = refl }) in
     let d = final plainBook (next plainBook b (point n)) cs in

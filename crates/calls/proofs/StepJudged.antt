@@ -34,7 +34,8 @@ module _ (y : Bool) (b : Book) (p : Step) where
 
         pub steps-full : y ≡ true → maxSteps ≤ n → answer refusals.steps-full 0 ≡ stepAnswerBy y b p
         unfolding stepAnswerBy
-        steps-full h l = rw (rule, ← is-i, le-ltb 0 i sides, ← is-n, ← is-j, le-ltb 0 j premises, h, le-leb maxSteps n l)
+        steps-full h l =
+            rw (rule, ← is-i, le-ltb 0 i sides, ← is-n, ← is-j, le-ltb 0 j premises, h, le-leb maxSteps n l)
 
         pub step-held : y ≡ true → n < maxSteps → answer 0 (n + 1) ≡ stepAnswerBy y b p
         unfolding stepAnswerBy

@@ -30,7 +30,10 @@ module _ (xs : List ℕ) (n : ℕ) (few : n ≤ maxRows) (size : length xs ≡ r
 -- the first rows are no more than the limit
 pub few-rows : (n : ℕ) (xs ys : List ℕ) → ys ≡ firstRowNumbers n xs → length (tableOf ys) ≤ maxRows
 few-rows n xs ys e =
-    let count : length (firstRowNumbers n xs) ≤ rowWidth * maxRows = omega (arith, length-take (rowWidth * min n maxRows) xs) in
+    let count : length (firstRowNumbers n xs) ≤ rowWidth * maxRows = omega (
+      arith,
+      length-take (rowWidth * min n maxRows) xs,
+    ) in
     rw e (omega (arith, rows-lent (firstRowNumbers n xs)))
 
 -- n whole steps, and then other numbers
@@ -43,7 +46,8 @@ steps-append (suc n) (k ∷ []) ys e = absurd (omega arith)
 steps-append (suc n) (k ∷ l ∷ []) ys e = absurd (omega arith)
 steps-append (suc n) (k ∷ l ∷ r ∷ []) ys e = absurd (omega arith)
 steps-append (suc n) (k ∷ l ∷ r ∷ i ∷ []) ys e = absurd (omega arith)
-steps-append (suc n) (k ∷ l ∷ r ∷ i ∷ j ∷ xs) ys e = ap (λ (ps : List Step). step k l r i j ∷ ps) (steps-append n xs ys (omega arith))
+steps-append (suc n) (k ∷ l ∷ r ∷ i ∷ j ∷ xs) ys e =
+    ap (λ (ps : List Step). step k l r i j ∷ ps) (steps-append n xs ys (omega arith))
 
 pub steps-lent : (xs : List ℕ) → length (stepsOf xs) ≡ length xs / 5
 unfolding stepsOf
@@ -56,7 +60,8 @@ steps-lent (k ∷ l ∷ r ∷ i ∷ j ∷ xs) = let h = steps-lent xs in omega a
 
 -- step i is the five numbers at its place
 pub step-lent : (xs : List ℕ) (i : ℕ) → i < length xs / 5 →
-    getD (stepsOf xs) i noStep ≡ step (getD xs (5 * i + 0) 0) (getD xs (5 * i + 1) 0) (getD xs (5 * i + 2) 0) (getD xs (5 * i + 3) 0) (getD xs (5 * i + 4) 0)
+    getD (stepsOf xs) i noStep ≡ step (getD xs (5 * i + 0) 0) (getD xs (5 * i + 1) 0) (getD xs (5 * i + 2) 0)
+    (getD xs (5 * i + 3) 0) (getD xs (5 * i + 4) 0)
 unfolding stepsOf
 step-lent [] i h = absurd (omega arith)
 step-lent (k ∷ []) i h = absurd (omega arith)
@@ -84,5 +89,8 @@ module _ (xs : List ℕ) (n : ℕ) (few : n ≤ maxSteps) (size : length xs ≡ 
 -- the first steps are no more than the limit
 pub few-steps : (n : ℕ) (xs ys : List ℕ) → ys ≡ firstStepNumbers n xs → length (stepsOf ys) ≤ maxSteps
 few-steps n xs ys e =
-    let count : length (firstStepNumbers n xs) ≤ stepWidth * maxSteps = omega (arith, length-take (stepWidth * min n maxSteps) xs) in
+    let count : length (firstStepNumbers n xs) ≤ stepWidth * maxSteps = omega (
+      arith,
+      length-take (stepWidth * min n maxSteps) xs,
+    ) in
     rw e (omega (arith, steps-lent (firstStepNumbers n xs)))

@@ -17,7 +17,8 @@ use Rattle.calls.proofs.Accepted.{test-failed}
 
 module _ (rs : List Row) (r : Row) where
   -- what is told of the nesting, in a table that is not too long
-  pub nesting-told : (d : ℕ) → length rs ≤ maxRows → d ≡ cond (leb (length rs) maxRows) (nesting rs r) 0 → d ≡ nesting rs r
+  pub nesting-told : (d : ℕ) → length rs ≤ maxRows → d ≡ cond (leb (length rs) maxRows) (nesting rs r) 0
+      → d ≡ nesting rs r
   nesting-told d few e = e ∙ rw (le-leb (length rs) maxRows few)
 
   pub bad-kind : maxKind < r .kind → answer refusals.bad-kind 0 ≡ termAnswer rs r
@@ -37,16 +38,45 @@ module _ (rs : List Row) (r : Row) where
       module _ (shallow : d ≤ maxNesting) (i : ℕ) (is-i : i ≡ find rs r) (n : ℕ) (is-n : n ≡ length rs) where
         pub already-held : i < n → answer refusals.already-held i ≡ termAnswer rs r
         unfolding termAnswer
-        already-held h = rw (le-ltb _ _ k, ← is-p, le-ltb 0 p fields, ← is-d, le-ltb maxNesting d shallow, ← is-i, ← is-n, lt-ltb i n h)
+        already-held h = rw (
+          le-ltb _ _ k,
+          ← is-p,
+          le-ltb 0 p fields,
+          ← is-d,
+          le-ltb maxNesting d shallow,
+          ← is-i,
+          ← is-n,
+          lt-ltb i n h,
+        )
 
         module _ (new : n ≤ i) where
           pub terms-full : maxRows ≤ n → answer refusals.terms-full 0 ≡ termAnswer rs r
           unfolding termAnswer
-          terms-full h = rw (le-ltb _ _ k, ← is-p, le-ltb 0 p fields, ← is-d, le-ltb maxNesting d shallow, ← is-i, ← is-n, le-ltb i n new, le-leb maxRows n h)
+          terms-full h = rw (
+            le-ltb _ _ k,
+            ← is-p,
+            le-ltb 0 p fields,
+            ← is-d,
+            le-ltb maxNesting d shallow,
+            ← is-i,
+            ← is-n,
+            le-ltb i n new,
+            le-leb maxRows n h,
+          )
 
           pub row-held : n < maxRows → answer 0 n ≡ termAnswer rs r
           unfolding termAnswer
-          row-held h = rw (le-ltb _ _ k, ← is-p, le-ltb 0 p fields, ← is-d, le-ltb maxNesting d shallow, ← is-i, ← is-n, le-ltb i n new, lt-leb maxRows n h)
+          row-held h = rw (
+            le-ltb _ _ k,
+            ← is-p,
+            le-ltb 0 p fields,
+            ← is-d,
+            le-ltb maxNesting d shallow,
+            ← is-i,
+            ← is-n,
+            le-ltb i n new,
+            lt-leb maxRows n h,
+          )
 
 -- where the answer is 0, no refusal applies
 pub record TermAccepted (rs : List Row) (r : Row) : Type 0 where

@@ -48,11 +48,13 @@ unfolding isWellFormed isNew
 row-accepted rs r (ok, new) room =
     let u = simp facts at ok in
     let e = simp facts at new in
-    sym (row-held rs r (u .0 .0) (badPlace rs r) refl (omega (arith, u .0 .1)) (nesting rs r) refl (u .1) (find rs r) refl
+    sym (row-held rs r (u .0 .0) (badPlace rs r) refl (omega (arith, u .0 .1)) (nesting rs r) refl (u .1)
+    (find rs r) refl
     (length rs) refl (omega (arith, e)) room)
 
 -- rows that keep a table accepted, added one after the other
-rows-accepted : (rs new : List Row) (ps : List Step) (points : List Point) → Built (rs ++ new) → length (rs ++ new) ≤ maxRows
+rows-accepted : (rs new : List Row) (ps : List Step) (points : List Point) → Built (rs ++ new)
+    → length (rs ++ new) ≤ maxRows
     → Every (λ (o : CallSeen). o .answer .number ≡ 0) (shown plainBook (pointedBook rs ps points) (map term new))
     × (final plainBook (pointedBook rs ps points) (map term new) ≡ pointedBook (rs ++ new) ps points)
 unfolding shown final
@@ -73,7 +75,8 @@ rows-accepted rs (r ∷ new) ps points b few =
         subst (λ (d : Book). Every (λ (o : CallSeen). o .answer .number ≡ 0) (shown plainBook d (map term new)))
             (sym moved) all,
       ),
-      ap (λ (d : Book). final plainBook d (map term new)) moved ∙ last ∙ ap (λ (q : List Row). pointedBook q ps points) join,
+      ap (λ (d : Book). final plainBook d (map term new)) moved ∙ last
+          ∙ ap (λ (q : List Row). pointedBook q ps points) join,
     )
 
 -- an accepted text's rows are those held and new ones, and there is room for them
@@ -94,7 +97,8 @@ as-term-calls b h names t e =
     let are-new : drop (length (b .rows)) (textReply names t (b .rows) .rows) ≡ new =
     ap (drop (length (b .rows))) grown ∙ drop-append-seam (b .rows) new in
     let (all, last) =
-    rows-accepted (b .rows) new (b .steps) (b .points) (subst Built grown built) (subst (λ (q : List Row). length q ≤ maxRows) grown few) in
+    rows-accepted (b .rows) new (b .steps) (b .points) (subst Built grown built)
+    (subst (λ (q : List Row). length q ≤ maxRows) grown few) in
     rw are-new (all, last ∙ ap (λ (q : List Row). pointedBook q (b .steps) (b .points)) (sym grown))
 
 pub gives-its-term : GivesItsTerm

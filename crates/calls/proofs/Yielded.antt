@@ -15,14 +15,16 @@ take-nil zero A = refl
 take-nil (suc k) A = refl
 
 pub sides-taken : (ps : List Step) (k i j : ℕ)
-    → take k (sidesOf (stepNumbered ps i) ∷ sidesOf (stepNumbered ps j) ∷ []) ≡ map sidesOf (map (stepNumbered ps) (take k (i ∷ j ∷ [])))
+    → take k (sidesOf (stepNumbered ps i) ∷ sidesOf (stepNumbered ps j) ∷ []) ≡ map sidesOf
+    (map (stepNumbered ps) (take k (i ∷ j ∷ [])))
 sides-taken ps zero i j = refl
 sides-taken ps (suc zero) i j = refl
 sides-taken ps (suc (suc k)) i j = rw (take-nil k ℕ, take-nil k Sides)
 
 -- the rows of the step at place n
 module _ (xs : List ℕ) (i n : ℕ) (place : n ≡ i - 1) where
-  pub sides-lent : n < length xs / 5 → record { left = getD xs (5 * n + 1) 0; right = getD xs (5 * n + 2) 0 } ≡ sidesOf (stepNumbered (stepsOf xs) i)
+  pub sides-lent : n < length xs / 5
+      → record { left = getD xs (5 * n + 1) 0; right = getD xs (5 * n + 2) 0 } ≡ sidesOf (stepNumbered (stepsOf xs) i)
   unfolding sidesOf
   sides-lent h = rw (← place, step-lent xs n h)
 

@@ -23,7 +23,9 @@ rowYielded b p = rowYields (b .rows) (p .rule) (sidesOf p) (map sidesOf (premise
 unfoldable pub rowStepAnswer : Book → Step → Answer
 rowStepAnswer b p = stepAnswerBy (rowYielded b p) b p
 
--- a select call on the rows rs, the lent numbers xs from node x and the buffer: the answer t, and the bytes that it leaves
-pub record SelectMade (rs : List Row) (row : ℕ) (xs : List ℕ) (x limit : ℕ) (buffer : List ℕ) (t : SelectAnswer) (left : List ℕ) : Type 0 where
+-- a select call on the rows rs, the lent numbers xs from node x and the buffer:
+-- the answer t, and the bytes that it leaves
+pub record SelectMade (rs : List Row) (row : ℕ) (xs : List ℕ) (x limit : ℕ) (buffer : List ℕ) (t : SelectAnswer)
+    (left : List ℕ) : Type 0 where
   pub answer : selectAnswerOf t ≡ selectAnswer rs row xs x limit (length buffer)
   pub bytes : left ≡ selectBuffer rs row xs x limit buffer

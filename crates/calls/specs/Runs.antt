@@ -28,9 +28,11 @@ seen a b = record { answer = a; held = b }
 
 -- calls made in order from s, each on what the call before left, with what is seen of each, and what the last one left:
 -- `Called s c a t` says that the call c on s answers a and leaves t, and `view t` is what t holds
-pub data Run {S C B : Type 0} (view : S → B) (Called : S → C → Answer → S → Type 0) : S → List C → List (Seen B) → S → Type 0 where
+pub data Run {S C B : Type 0} (view : S → B) (Called : S → C → Answer → S → Type 0) : S → List C → List (Seen B) → S
+    → Type 0 where
   done : {s : S} → Run view Called s [] [] s
-  then : {s t u : S} {c : C} {cs : List C} {a : Answer} {os : List (Seen B)} → Called s c a t → Run view Called t cs os u
+  then : {s t u : S} {c : C} {cs : List C} {a : Answer} {os : List (Seen B)} → Called s c a t
+      → Run view Called t cs os u
       → Run view Called s (c ∷ cs) (seen a (view t) ∷ os) u
 
 -- what is seen of calls made in order on b

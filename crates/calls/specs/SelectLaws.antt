@@ -21,8 +21,8 @@ LimitSuffices = (rs : List Row) (row : ℕ) (xs : List ℕ) (x limit : ℕ) (buf
     → (k : ℕ) → Chain k (pathAt rs row) → visitBound k (length (documentOf xs)) ≤ limit
     → ¬ (selectAnswerOf t .number ≡ limit-passed)
 
--- two accepted calls of one row that is a step of a path, from one context node, on lent numbers alike but for the name of node m:
--- they mark every other node alike
+-- two accepted calls of one row that is a step of a path, from one context node, on lent numbers alike but for the name
+-- of node m: they mark every other node alike
 abbrev pub MarksSameElsewhere : Type 0
 MarksSameElsewhere = (rs : List Row) (row x : ℕ) → rowAt rs row .kind ≡ step-row
     → (m : ℕ) (xs xs′ : List ℕ) → LentSameButName m xs xs′

@@ -6,8 +6,8 @@ use Rattle.grammar.specs.Answer.{Reply}
 use Rattle.grammar.proofs.Answered.{answered}
 use Rattle.calls.specs.Book.{Book, pointedBook, Answer, answer}
 
--- number, value and rows as `Answers` of grammar/specs/Answer.antt has them for the lent names and the text t: `answered`
--- shows that it has some for every text, `AnswersAsDefined` of TextLaws.antt that it has no others
+-- number, value and rows as `Answers` of grammar/specs/Answer.antt has them for the lent names and the text t:
+-- `answered` shows that it has some for every text, `AnswersAsDefined` of TextLaws.antt that it has no others
 unfoldable pub textReply : (names t : Bytes) → List Row → Reply
 textReply names t rs = answered names t rs .0
 

@@ -5,4 +5,5 @@ pub mod Axes
 pub mod NodeTests
 pub mod RowKinds
 pub mod Refusals
+pub mod Limits
 pub mod values

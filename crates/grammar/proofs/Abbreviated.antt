@@ -38,7 +38,8 @@ unfolding anyBelow
 only-zero zero m f h k = absurd (omega arith)
 only-zero (suc zero) m f h k = rw (lt-ltb 0 m k) refl
 only-zero (suc (suc n)) m f h k =
-    rw (only-zero (suc n) m f (omega arith) k, ne-eqb (suc n) 0 (λ e. omega arith)) (last (ltb (suc n) m) (f (suc n)) (f 0))
+    rw (only-zero (suc n) m f (omega arith) k, ne-eqb (suc n) 0 (λ e. omega arith))
+    (last (ltb (suc n) m) (f (suc n)) (f 0))
   where
     last : (a b c : Bool) → (c || (a && false && b)) ≡ c
     last true b c = or-false c
@@ -81,7 +82,8 @@ module _ (num : Bytes → ℕ) where
     from-root : (r : Rel) (y : ℕ) → selects d (relAfter num r term.Root) x y ≡ selects d (relOf num r) 0 y
     unfolding relAfter relOf selects
     from-root (one s) y = only-zero (length d) (length d) (λ z. selects d (stepOf num s) z y) some-node some-node
-    from-root (slash r w s) y = any-same (length d) _ _ (λ z. ap (λ (b : Bool). b && selects d (stepOf num s) z y) (from-root r z))
+    from-root (slash r w s) y =
+        any-same (length d) _ _ (λ z. ap (λ (b : Bool). b && selects d (stepOf num s) z y) (from-root r z))
     from-root (slashes r w s) y =
         any-same (length d) _ _
         (λ z. ap (λ (b : Bool). b && selects d (stepOf num s) z y)

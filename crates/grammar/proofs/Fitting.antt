@@ -1,4 +1,5 @@
--- The steps of a text's term have well-formed rows: axes and tests are of the tables, names of the list. Assumes nothing.
+-- The steps of a text's term have well-formed rows: axes and tests are of the tables, names of the list.
+-- Assumes nothing.
 use Prim.Native.Nat.{ℕ, zero, suc, _+_, _-_, _<_, _≤_}
 use mathlib.Core.Path.{_≡_, refl, sym, ap}
 use mathlib.Core.Bool.{Bool, true, false, cond}

@@ -61,7 +61,8 @@ mutual
   qualifier-longer (term.In p q) rs =
       row-longer rs _ _ _ (path-longer p rs) (path-longer q (putPath p rs .rows))
 
--- so of every answer; a refused text leaves the rows as they were, an accepted one leaves no more than there is room for
+-- so of every answer; a refused text leaves the rows as they were, an accepted one leaves no more than there is room
+-- for
 module _ (list t : Bytes) (rs : List Row) where
   pub answer-longer : (n v : ℕ) (ss : List Row) → Answers list t rs n v ss → Longer rs ss
   answer-longer n v ss (outside h) = none-new rs

@@ -24,7 +24,8 @@ module _ (list t : Bytes) (rs : List Row) (b : Built rs) where
   answer-built n v ss (deep s e h) = b
   answer-built n v ss (full s e h i) = b
   answer-built n v ss (held u s e h i) =
-      path-stands (unionOf (numberOf list) u) rs b (union-fits (numberOf list) (number-fits list) u 32 0 (s .fine) e) h .built
+      path-stands (unionOf (numberOf list) u) rs b (union-fits (numberOf list) (number-fits list) u 32 0 (s .fine) e)
+      h .built
 
 -- and their names have 16 bits
 module _ (list t : Bytes) (rs : List Row) (h : Every NameFits rs) where
@@ -52,5 +53,6 @@ module _ (list t : Bytes) (rs : List Row) (b : Built rs) where
       record {
         tree = u;
         spells = s;
-        stands = path-stands (unionOf (numberOf list) u) rs b (union-fits (numberOf list) (number-fits list) u 32 0 (s .fine) e) h;
+        stands = path-stands (unionOf (numberOf list) u) rs b (union-fits (numberOf list) (number-fits list) u 32 0
+            (s .fine) e) h;
       }

@@ -57,7 +57,8 @@ nestings-length rs = length-entries nestingBy rs
 pub nesting-stays : (rs ss : List Row) (i : ℕ) → i < length rs → getD (nestings (rs ++ ss)) i 0 ≡ getD (nestings rs) i 0
 nesting-stays rs ss i h =
     sym (getD-take (length rs) (nestings (rs ++ ss)) i 0 h)
-    ∙ ap (λ (ns : List ℕ). getD ns i 0) (sym (nestings-take (length rs) (rs ++ ss)) ∙ ap nestings (take-append-seam rs ss))
+    ∙ ap (λ (ns : List ℕ). getD ns i 0) (sym (nestings-take (length rs) (rs ++ ss))
+    ∙ ap nestings (take-append-seam rs ss))
 
 operand-same : (rs : List Row) (i : ℕ) (f : Field) (x t : ℕ) → FieldLaw rs i f x t
     → operandNesting (nestings (take i rs)) f x ≡ operandNesting (nestings rs) f x
@@ -239,9 +240,11 @@ mutual
   pub path-stands : (p : term.Path) (rs : List Row) → Built rs → PathFits p → nestPath p ≤ maxNesting
       → PathStands p rs
   path-stands term.Void rs b h l =
-      leaf-stands rs 0 (ofPath term.Void) b (well-formed rs 0 0 0 0 (omega arith) refl refl refl (omega arith)) refl refl
+      leaf-stands rs 0 (ofPath term.Void) b (well-formed rs 0 0 0 0 (omega arith) refl refl refl (omega arith)) refl
+      refl
   path-stands term.Root rs b h l =
-      leaf-stands rs 1 (ofPath term.Root) b (well-formed rs 1 0 0 0 (omega arith) refl refl refl (omega arith)) refl refl
+      leaf-stands rs 1 (ofPath term.Root) b (well-formed rs 1 0 0 0 (omega arith) refl refl refl (omega arith)) refl
+      refl
   path-stands (term.AxisStep a t c) rs b h l =
       let s = row-stands rs (row 2 a t c) b (h .0 rs) in
       record { built = s .built; held = s .held; term = s .term; nest = s .nest }
@@ -250,7 +253,8 @@ mutual
       let y = path-stands q (putPath p rs .rows) (x .built) (h .1) (omega arith) in
       let z = stands-on x (path-longer q (putPath p rs .rows)) (y .built) in
       over-stands _ 3 _ _ (nestPath p) (nestPath q) (ofPath p) (ofPath q) (ofPath (term.Union p q)) z y (omega arith)
-      (is-held-path z) (is-held-path y) refl (omega (arith, z .nest, y .nest)) (omega arith) (rw (z .term, y .term) refl)
+      (is-held-path z) (is-held-path y) refl (omega (arith, z .nest, y .nest)) (omega arith)
+      (rw (z .term, y .term) refl)
   path-stands (term.Composition p q) rs b h l =
       let x = path-stands p rs b (h .0) (omega arith) in
       let y = path-stands q (putPath p rs .rows) (x .built) (h .1) (omega arith) in
@@ -269,16 +273,23 @@ mutual
   pub qualifier-stands : (f : term.Qualifier) (rs : List Row) → Built rs → QualifierFits f → nestQual f ≤ maxNesting
       → QualifierStands f rs
   qualifier-stands term.True rs b h l =
-      leaf-stands rs 6 (ofQualifier term.True) b (well-formed rs 6 0 0 0 (omega arith) refl refl refl (omega arith)) refl
+      leaf-stands rs 6 (ofQualifier term.True) b (well-formed rs 6 0 0 0 (omega arith) refl refl refl (omega arith))
+      refl
       refl
   qualifier-stands term.False rs b h l =
-      leaf-stands rs 7 (ofQualifier term.False) b (well-formed rs 7 0 0 0 (omega arith) refl refl refl (omega arith)) refl
+      leaf-stands rs 7 (ofQualifier term.False) b (well-formed rs 7 0 0 0 (omega arith) refl refl refl (omega arith))
+      refl
       refl
   qualifier-stands (term.Not f) rs b h l =
       let x = qualifier-stands f rs b h (omega arith) in
       let ok = well-formed _ 8 _ 0 0 (omega arith) (is-held-qualifier x) refl refl (omega (arith, x .nest)) in
       let s = row-stands (putQual f rs .rows) (row 8 (putQual f rs .at) 0 0) (x .built) ok in
-      record { built = s .built; held = s .held; term = s .term ∙ rw (x .term) refl; nest = s .nest ∙ omega (arith, x .nest) }
+      record {
+        built = s .built;
+        held = s .held;
+        term = s .term ∙ rw (x .term) refl;
+        nest = s .nest ∙ omega (arith, x .nest);
+      }
   qualifier-stands (term.And f g) rs b h l =
       let x = qualifier-stands f rs b (h .0) (omega arith) in
       let y = qualifier-stands g (putQual f rs .rows) (x .built) (h .1) (omega arith) in
@@ -298,4 +309,5 @@ mutual
       let y = path-stands q (putPath p rs .rows) (x .built) (h .1) (omega arith) in
       let z = stands-on x (path-longer q (putPath p rs .rows)) (y .built) in
       over-stands _ 11 _ _ (nestPath p) (nestPath q) (ofPath p) (ofPath q) (ofQualifier (term.In p q)) z y (omega arith)
-      (is-held-path z) (is-held-path y) refl (omega (arith, z .nest, y .nest)) (omega arith) (rw (z .term, y .term) refl)
+      (is-held-path z) (is-held-path y) refl (omega (arith, z .nest, y .nest)) (omega arith)
+      (rw (z .term, y .term) refl)

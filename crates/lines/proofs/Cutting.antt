@@ -27,7 +27,8 @@ unfolding lacks
 lacks-free e [] t = tt
 lacks-free e (x ∷ xs) t = by-test (eqb x e) refl t (lacks-free e xs)
   where
-    by-test : (b : Bool) → eqb x e ≡ b → (not b && lacks e xs) ≡ true → (lacks e xs ≡ true → Free e xs) → (eqb x e ≡ false) × Free e xs
+    by-test : (b : Bool) → eqb x e ≡ b → (not b && lacks e xs) ≡ true → (lacks e xs ≡ true → Free e xs)
+        → (eqb x e ≡ false) × Free e xs
     by-test true s u later = absurd (false≢true u)
     by-test false s u later = (s, later u)
 
@@ -80,7 +81,8 @@ unfolding lines inFirstLine
 lines-whole x [] f = rw (f .0)
 lines-whole x (y ∷ w) f = rw (f .0, lines-whole y w (f .1))
 
-pub no-whole-line : {A : Type 0} (read : List (List ℕ) → Option A) (xs : List ℕ) → Free newline xs → firstParts read (lines xs) ≡ none
+pub no-whole-line : {A : Type 0} (read : List (List ℕ) → Option A) (xs : List ℕ) → Free newline xs
+    → firstParts read (lines xs) ≡ none
 unfolding firstParts lines
 no-whole-line read [] f = refl
 no-whole-line read (x ∷ xs) f = rw (lines-whole x xs f)

@@ -20,7 +20,12 @@ module _ (ns : List ℕ) (i v : ℕ) where
 module _ (ns : List ℕ) where
   pub first-four : 3 < length ns → take 4 ns ≡ getD ns 0 0 ∷ getD ns 1 0 ∷ getD ns 2 0 ∷ getD ns 3 0 ∷ []
   first-four h =
-      rw (take-suc ns 3 0 h, take-suc ns 2 0 (omega arith), take-suc ns 1 0 (omega arith), take-suc ns 0 0 (omega arith))
+      rw (
+        take-suc ns 3 0 h,
+        take-suc ns 2 0 (omega arith),
+        take-suc ns 1 0 (omega arith),
+        take-suc ns 0 0 (omega arith),
+      )
 
   pub first-five : 4 < length ns →
       take 5 ns ≡ getD ns 0 0 ∷ getD ns 1 0 ∷ getD ns 2 0 ∷ getD ns 3 0 ∷ getD ns 4 0 ∷ []

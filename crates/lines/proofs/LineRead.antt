@@ -11,10 +11,12 @@ use borrow.Author.Tests.{le-leb}
 use Rattle.lines.specs.declared.NumbersLine.{NumbersLine}
 use Rattle.lines.specs.Line.{newline, space, Line, lines}
 use Rattle.lines.specs.Number.{maxNumber, numberUpTo, numbersUpTo, lineNumbers}
-use Rattle.lines.specs.code.NumbersRead.{NumberMet, firstParts, firstNumbers, maxCount, noCounted, noLine, LineMet}
+use Rattle.lines.specs.code.NumbersRead.{NumberMet, firstParts, firstNumbers, maxCount, noCounted, noLine}
+use Rattle.lines.specs.code.NumbersRead.{LineMet}
 use Rattle.lines.proofs.Filled.{put-behind, rest-stays}
 use Rattle.lines.proofs.Cutting.{lines-at}
-use Rattle.lines.proofs.Parts.{prepended, Reads, first-none, no-newline-in, next-behind, number-before-space, number-before-newline, PartsMet, last-part, part-and-others}
+use Rattle.lines.proofs.Parts.{prepended, Reads, first-none, no-newline-in, next-behind, number-before-space}
+use Rattle.lines.proofs.Parts.{number-before-newline, PartsMet, last-part, part-and-others}
 
 reads-within : (b : ℕ) (bs : List ℕ) → Reads b (numbersUpTo (b ∷ bs)) (numbersUpTo bs)
 unfolding numbersUpTo
@@ -29,7 +31,8 @@ pub record Prepended (b : ℕ) (bs : List ℕ) (v : ℕ) (xs rest : List ℕ) : 
   pub numbers : firstParts (numbersUpTo (b ∷ bs)) (lines xs) ≡ prepended v (firstParts (numbersUpTo bs) (lines rest))
   pub next : drop 1 (lines xs) ≡ drop 1 (lines rest)
 
-pub number-and-space : (b : ℕ) (bs : List ℕ) (v : ℕ) (w r : List ℕ) → numberUpTo b w ≡ some v → Prepended b bs v (w ++ space ∷ r) r
+pub number-and-space : (b : ℕ) (bs : List ℕ) (v : ℕ) (w r : List ℕ) → numberUpTo b w ≡ some v
+    → Prepended b bs v (w ++ space ∷ r) r
 number-and-space b bs v w r s =
     record {
       numbers = number-before-space b v w r s (numbersUpTo (b ∷ bs)) (numbersUpTo bs) (reads-within b bs);
@@ -50,15 +53,20 @@ number-and-newline b v w r s =
     }
 
 -- one bound after the other
-pub last-within : (b : ℕ) (xs : List ℕ) (at : ℕ) (ok : Bool) (v next : ℕ) → NumberMet b newline xs at ok v next → PartsMet (numbersUpTo (b ∷ [])) xs at ok (v ∷ []) next
+pub last-within : (b : ℕ) (xs : List ℕ) (at : ℕ) (ok : Bool) (v next : ℕ) → NumberMet b newline xs at ok v next
+    → PartsMet (numbersUpTo (b ∷ [])) xs at ok (v ∷ []) next
 unfolding numbersUpTo
-last-within b xs at ok v next m = last-part b (numbersUpTo (b ∷ [])) (numbersUpTo []) (reads-within b []) xs at refl too-many ok v next m
+last-within b xs at ok v next m =
+    last-part b (numbersUpTo (b ∷ [])) (numbersUpTo []) (reads-within b []) xs at refl too-many ok v next m
 
-pub next-within : (b d : ℕ) (bs : List ℕ) (xs : List ℕ) (at : ℕ) (found : Bool) (v middle : ℕ) → NumberMet b space xs at found v middle
-    → (ok : Bool) (ns : List ℕ) (next : ℕ) → PartsMet (numbersUpTo (d ∷ bs)) xs middle ok ns next → PartsMet (numbersUpTo (b ∷ d ∷ bs)) xs at ok (v ∷ ns) next
+pub next-within : (b d : ℕ) (bs : List ℕ) (xs : List ℕ) (at : ℕ) (found : Bool) (v middle : ℕ)
+    → NumberMet b space xs at found v middle
+    → (ok : Bool) (ns : List ℕ) (next : ℕ) → PartsMet (numbersUpTo (d ∷ bs)) xs middle ok ns next
+    → PartsMet (numbersUpTo (b ∷ d ∷ bs)) xs at ok (v ∷ ns) next
 unfolding numbersUpTo
 next-within b d bs xs at found v middle m ok ns next others =
-    part-and-others b (numbersUpTo (b ∷ d ∷ bs)) (numbersUpTo (d ∷ bs)) (reads-within b (d ∷ bs)) xs at refl found v middle m ok ns next others
+    part-and-others b (numbersUpTo (b ∷ d ∷ bs)) (numbersUpTo (d ∷ bs)) (reads-within b (d ∷ bs)) xs at refl found v
+    middle m ok ns next others
 
 -- the line at `at` starts with the numbers ns and goes on at `from`, where `left` of its `count` numbers are to come
 abbrev pub GoesOn : (count : ℕ) (xs : List ℕ) (at from left : ℕ) (ns : List ℕ) → Type 0
@@ -86,7 +94,8 @@ module _ (count : ℕ) (xs : List ℕ) (at from left : ℕ) (numbers : List ℕ)
     pub ends-there : left ≡ 1 → NumberMet maxNumber newline xs from ok v next →
         PartsMet (lineNumbers count) xs at ok (take (i + 1) (set numbers i v)) next
     ends-there e m =
-        rw (put-behind numbers i v (omega arith)) (on ok (v ∷ []) next (rw e (last-within maxNumber xs from ok v next m)))
+        rw (put-behind numbers i v (omega arith))
+        (on ok (v ∷ []) next (rw e (last-within maxNumber xs from ok v next m)))
 
 -- from the line to its parts
 module _ (count : ℕ) (xs : List ℕ) (at : ℕ) (few : count ≤ maxCount) where
@@ -104,7 +113,8 @@ module _ (count : ℕ) (xs : List ℕ) (at : ℕ) (few : count ≤ maxCount) whe
   if-ok ns ok b e m =
       rw (le-leb count maxCount few) (subst (λ t. cond t (some ns) none ≡ firstNumbers count (lines (drop at xs))) e m)
 
-  pub not-met-there : (ok : Bool) (ns : List ℕ) (next : ℕ) → PartsMet (lineNumbers count) xs at ok ns next → ok ≡ false →
+  pub not-met-there : (ok : Bool) (ns : List ℕ) (next : ℕ) → PartsMet (lineNumbers count) xs at ok ns next
+      → ok ≡ false →
       none ≡ cond (leb count maxCount) (firstNumbers count (lines (drop at xs))) none
   not-met-there ok ns next m e = if-ok ns ok false e (m .numbers)
 

@@ -14,6 +14,7 @@ same-bytes [] (y ∷ ys) e = absurd (false≢true e)
 same-bytes (x ∷ xs) [] e = absurd (false≢true e)
 same-bytes (x ∷ xs) (y ∷ ys) e = by-test (eqb x y) refl e (same-bytes xs ys)
   where
-    by-test : (b : Bool) → eqb x y ≡ b → (b && sameBytes xs ys) ≡ true → (sameBytes xs ys ≡ true → xs ≡ ys) → x ∷ xs ≡ y ∷ ys
+    by-test : (b : Bool) → eqb x y ≡ b → (b && sameBytes xs ys) ≡ true → (sameBytes xs ys ≡ true → xs ≡ ys)
+        → x ∷ xs ≡ y ∷ ys
     by-test true s t later = λ i. eqb-true x y s i ∷ later t i
     by-test false s t later = absurd (false≢true t)

@@ -14,7 +14,8 @@ use Rattle.lines.specs.code.NumbersRead.{startsWith}
 use Rattle.lines.proofs.Cutting.{Free, lines-at}
 
 -- the first line after one byte more
-first-after : (x y : ℕ) (ys : List ℕ) (ls : List Line) → firstIs (y ∷ ys) (inFirstLine x ls) ≡ (eqb x y && firstIs ys ls)
+first-after : (x y : ℕ) (ys : List ℕ) (ls : List Line) → firstIs (y ∷ ys) (inFirstLine x ls)
+    ≡ (eqb x y && firstIs ys ls)
 unfolding firstIs isLine inFirstLine sameBytes
 first-after x y ys [] = by-test (eqb x y)
   where
@@ -38,7 +39,8 @@ not-empty-line x (l ∷ ls) = by-test (l .ended)
     by-test true = refl
     by-test false = refl
 
-pub starts-with-line : (ys : List ℕ) → Free newline ys → (xs : List ℕ) → startsWith (ys ++ newline ∷ []) xs ≡ firstIs ys (lines xs)
+pub starts-with-line : (ys : List ℕ) → Free newline ys → (xs : List ℕ) → startsWith (ys ++ newline ∷ []) xs ≡ firstIs ys
+    (lines xs)
 unfolding startsWith lines firstIs isLine sameBytes
 starts-with-line [] f [] = refl
 starts-with-line [] f (x ∷ xs) = by-test (eqb x newline)
@@ -47,9 +49,11 @@ starts-with-line [] f (x ∷ xs) = by-test (eqb x newline)
     by-test true = refl
     by-test false = sym (not-empty-line x (lines xs))
 starts-with-line (y ∷ ys) f [] = refl
-starts-with-line (y ∷ ys) f (x ∷ xs) = ap (λ b. eqb x y && b) (starts-with-line ys (f .1) xs) ∙ by-test (eqb x newline) refl
+starts-with-line (y ∷ ys) f (x ∷ xs) = ap (λ b. eqb x y && b) (starts-with-line ys (f .1) xs)
+    ∙ by-test (eqb x newline) refl
   where
-    by-test : (b : Bool) → eqb x newline ≡ b → (eqb x y && firstIs ys (lines xs)) ≡ firstIs (y ∷ ys) (cond b (line [] true ∷ lines xs) (inFirstLine x (lines xs)))
+    by-test : (b : Bool) → eqb x newline ≡ b → (eqb x y && firstIs ys (lines xs)) ≡ firstIs (y ∷ ys)
+        (cond b (line [] true ∷ lines xs) (inFirstLine x (lines xs)))
     by-test true e =
         let differ : ¬ (x ≡ y) = λ s. false≢true (sym (f .0) ∙ ap (λ z. eqb z newline) (sym s) ∙ e) in
         rw (ne-eqb x y differ)
@@ -62,7 +66,8 @@ starts-rest [] xs e = refl
 starts-rest (y ∷ ys) [] e = absurd (false≢true e)
 starts-rest (y ∷ ys) (x ∷ xs) e = by-test (eqb x y) refl e (starts-rest ys xs)
   where
-    by-test : (b : Bool) → eqb x y ≡ b → (b && startsWith ys xs) ≡ true → (startsWith ys xs ≡ true → xs ≡ ys ++ drop (length ys) xs)
+    by-test : (b : Bool) → eqb x y ≡ b → (b && startsWith ys xs) ≡ true
+        → (startsWith ys xs ≡ true → xs ≡ ys ++ drop (length ys) xs)
         → x ∷ xs ≡ y ∷ (ys ++ drop (length ys) xs)
     by-test true s t later = λ i. eqb-true x y s i ∷ later t i
     by-test false s t later = absurd (false≢true t)
@@ -89,7 +94,8 @@ module _ (xs ys : List ℕ) (at i : ℕ) (k : i < length ys) where
       let next : at + (i + 1) ≡ suc (at + i) = omega arith in
       rw (next, add-one, drop-cons xs (at + i) 0 h, drop-cons ys i 0 k, eq-eqb (getD xs (at + i) 0) (getD ys i 0) e)
 
-  pub starts-differ : at + i < length xs → ¬ (getD xs (at + i) 0 ≡ getD ys i 0) → startsWith (drop i ys) (drop (at + i) xs) ≡ false
+  pub starts-differ : at + i < length xs → ¬ (getD xs (at + i) 0 ≡ getD ys i 0)
+      → startsWith (drop i ys) (drop (at + i) xs) ≡ false
   unfolding startsWith
   starts-differ h f = rw (drop-cons xs (at + i) 0 h, drop-cons ys i 0 k, ne-eqb (getD xs (at + i) 0) (getD ys i 0) f)
 
@@ -109,18 +115,21 @@ starts-short [] (x ∷ xs) h = absurd (omega arith)
 starts-short (y ∷ ys) [] h = refl
 starts-short (y ∷ ys) (x ∷ xs) h = rw (starts-short ys xs (omega arith), and-false)
 
-starts-newline : (ys xs : List ℕ) → length ys < length xs → startsWith (ys ++ newline ∷ []) xs ≡ (startsWith ys xs && eqb (getD xs (length ys) 0) newline)
+starts-newline : (ys xs : List ℕ) → length ys < length xs → startsWith (ys ++ newline ∷ []) xs
+    ≡ (startsWith ys xs && eqb (getD xs (length ys) 0) newline)
 unfolding startsWith
 starts-newline [] [] h = absurd (omega arith)
 starts-newline [] (x ∷ xs) h = rw and-true
 starts-newline (y ∷ ys) [] h = absurd (omega arith)
-starts-newline (y ∷ ys) (x ∷ xs) h = rw (starts-newline ys xs (omega arith)) (sym (and-assoc (eqb x y) (startsWith ys xs) _))
+starts-newline (y ∷ ys) (x ∷ xs) h =
+    rw (starts-newline ys xs (omega arith)) (sym (and-assoc (eqb x y) (startsWith ys xs) _))
 
 module _ (ys xs : List ℕ) (at : ℕ) where
   pub no-line-there : length xs ≤ at + length ys → startsWith (ys ++ newline ∷ []) (drop at xs) ≡ false
   no-line-there h = starts-short ys (drop at xs) (omega (arith, length-drop at xs))
 
-  pub line-there : at + length ys < length xs → startsWith (ys ++ newline ∷ []) (drop at xs) ≡ (startsWith ys (drop at xs) && eqb (getD xs (at + length ys) 0) newline)
+  pub line-there : at + length ys < length xs → startsWith (ys ++ newline ∷ []) (drop at xs)
+      ≡ (startsWith ys (drop at xs) && eqb (getD xs (at + length ys) 0) newline)
   line-there h = starts-newline ys (drop at xs) (omega (arith, length-drop at xs)) ∙ rw (getD-drop at xs (length ys) 0)
 
 -- the lines after a known one

@@ -9,7 +9,8 @@ use lib.Dec.{ltb}
 use lib.ListN.{length, drop, replicate}
 use borrow.Author.Tests.{le-leb, ltb-true, ltb-false, ne-eqb}
 use Rattle.lines.specs.Line.{newline, space, lines}
-use Rattle.lines.specs.Number.{digit0, digit9, maxNumber, isDigit, areDigits, isDecimal, appendDigit, appendDigits, numberUpTo}
+use Rattle.lines.specs.Number.{digit0, digit9, maxNumber, isDigit, areDigits, isDecimal, appendDigit}
+use Rattle.lines.specs.Number.{appendDigits, numberUpTo}
 use Rattle.lines.specs.Written.{digitsOf, decimal, AllFit, lineText}
 use Rattle.lines.specs.code.NumbersRead.{firstNumbers}
 use Rattle.lines.proofs.LineRead.{number-and-space, number-and-newline}
@@ -23,7 +24,8 @@ unfolding areDigits
 digits-append [] ys a b = b
 digits-append (x ∷ xs) ys a b = by-test (isDigit x) a (λ e. digits-append xs ys e b)
   where
-    by-test : (d : Bool) → (d && areDigits xs) ≡ true → (areDigits xs ≡ true → areDigits (xs ++ ys) ≡ true) → (d && areDigits (xs ++ ys)) ≡ true
+    by-test : (d : Bool) → (d && areDigits xs) ≡ true → (areDigits xs ≡ true → areDigits (xs ++ ys) ≡ true)
+        → (d && areDigits (xs ++ ys)) ≡ true
     by-test true e later = later e
     by-test false e later = absurd (false≢true e)
 
@@ -77,7 +79,8 @@ decimals (suc k) n h = by-test (ltb n 10) refl (decimals k (n / 10))
           single = λ z. absurd (omega arith);
         }
 
-proper-decimal : (x : ℕ) (xs : List ℕ) → isDigit x ≡ true → areDigits xs ≡ true → ¬ (x ≡ digit0) → isDecimal (x ∷ xs) ≡ true
+proper-decimal : (x : ℕ) (xs : List ℕ) → isDigit x ≡ true → areDigits xs ≡ true → ¬ (x ≡ digit0) → isDecimal (x ∷ xs)
+    ≡ true
 unfolding isDecimal
 proper-decimal x [] d ds f = d
 proper-decimal x (y ∷ xs) d ds f = rw (d, ne-eqb x digit0 f) ds
@@ -85,7 +88,8 @@ proper-decimal x (y ∷ xs) d ds f = rw (d, ne-eqb x digit0 f) ds
 is-decimal : (n : ℕ) (w : List ℕ) → Decimal n w → isDecimal w ≡ true
 unfolding isDecimal
 is-decimal zero w d = rw (d .bytes, d .single refl) (d .digit)
-is-decimal (suc n) w d = rw (d .bytes) (proper-decimal (d .first) (d .others) (d .digit) (d .digits) (d .proper (omega arith)))
+is-decimal (suc n) w d =
+    rw (d .bytes) (proper-decimal (d .first) (d .others) (d .digit) (d .digits) (d .proper (omega arith)))
 
 pub decimal-reads-back : (n : ℕ) → n ≤ maxNumber → numberUpTo maxNumber (decimal n) ≡ some n
 unfolding decimal
@@ -106,6 +110,7 @@ line-reads-back n [] h xs =
     record { numbers = rw text (line .numbers); next = rw text (line .next) }
 line-reads-back n (m ∷ ns) h xs =
     let others = line-reads-back m ns (h .1) xs in
-    let line = number-and-space maxNumber (replicate (length (m ∷ ns)) maxNumber) n (decimal n) (lineText (m ∷ ns) ++ xs) (decimal-reads-back n (h .0)) in
+    let line = number-and-space maxNumber (replicate (length (m ∷ ns)) maxNumber) n (decimal n)
+    (lineText (m ∷ ns) ++ xs) (decimal-reads-back n (h .0)) in
     let text = append-assoc (decimal n) (space ∷ lineText (m ∷ ns)) xs in
     record { numbers = rw text (line .numbers ∙ rw (others .numbers)); next = rw text (line .next ∙ others .next) }

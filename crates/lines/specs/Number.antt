@@ -46,7 +46,8 @@ unfoldable pub numbersUpTo : (bounds : List ℕ) → List (List ℕ) → Option 
 numbersUpTo [] [] = some []
 numbersUpTo [] (w ∷ ws) = none
 numbersUpTo (b ∷ bs) [] = none
-numbersUpTo (b ∷ bs) (w ∷ ws) = Option·elim (numberUpTo b w) none (λ n. Option·elim (numbersUpTo bs ws) none (λ ns. some (n ∷ ns)))
+numbersUpTo (b ∷ bs) (w ∷ ws) =
+    Option·elim (numberUpTo b w) none (λ n. Option·elim (numbersUpTo bs ws) none (λ ns. some (n ∷ ns)))
 
 -- the numbers that the parts write, `count` of them, each at most 65535
 abbrev pub lineNumbers : (count : ℕ) → List (List ℕ) → Option (List ℕ)

@@ -8,7 +8,8 @@ use Rattle.terms.specs.Row.{Row}
 use Rattle.common.specs.Lists.{allOf}
 use Rattle.rules.specs.Form.{Condition}
 use Rattle.rules.specs.Instance.{Letters, meets}
-use Rattle.matching.specs.code.Unpack.{Entry, entryAt, claimPatternOf, conditionOf, conditionsOf, premisesAt, formAt}
+use Rattle.matching.specs.code.Unpack.{Entry, entryAt, claimPatternOf, conditionOf, conditionsOf, premisesAt}
+use Rattle.matching.specs.code.Unpack.{formAt}
 use Rattle.matching.specs.code.RowYields.{Sides, Match, matchClaim, matchClaims, emptyMatch, numbersIn}
 use Rattle.matching.specs.code.RowYields.{matchForm, formYields}
 

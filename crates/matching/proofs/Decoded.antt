@@ -48,7 +48,8 @@ same-below f g (suc k) n q h =
 
 decoded : valuesBelow tabled (suc tableRules) ≡ valuesBelow ruled (suc tableRules)
 unfolding valuesBelow rules formsOf formsIn premiseCount firstCount formPattern claimPattern pathPattern axisPattern
-    testPattern namePattern pathLetter qualifierLetter axisLetter testLetter nameLetter ruleForms ruleAt formsFrom formAt premisesAt
+    testPattern namePattern pathLetter qualifierLetter axisLetter testLetter nameLetter ruleForms ruleAt formsFrom
+    formAt premisesAt
     conditionsOf conditionOf decode patternAt unpacked firstPattern formPatterns ruleTable
 decoded = refl
 

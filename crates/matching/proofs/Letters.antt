@@ -16,7 +16,8 @@ use Rattle.terms.proofs.Terms.{path-term, qualifier-term}
 use Rattle.terms.proofs.Built.{built-terms-differ}
 use Rattle.rules.specs.Form.{PathLetter, QualifierLetter, AxisLetter, TestLetter}
 use Rattle.rules.specs.Instance.{Letters}
-use Rattle.matching.specs.code.Pattern.{letterCount, pathLetter, qualifierLetter, axisLetter, testLetter, nameLetter}
+use Rattle.matching.specs.code.Pattern.{letterCount, pathLetter, qualifierLetter, axisLetter, testLetter}
+use Rattle.matching.specs.code.Pattern.{nameLetter}
 use Rattle.matching.specs.code.RowYields.{suits}
 
 -- what a letter stands for
@@ -60,7 +61,8 @@ Means rs e k v = Stands rs (meant e k) v
 pub means-small : (rs : List Row) (e : Letters) (k v : ℕ) → Means rs e k v → k < letterCount
 unfolding Means meant
 means-small rs e k v s =
-    ⊎-elim (λ h. absurd (subst (λ m. Stands rs m v) (List·getD-eq-default (meanings e) nothing h) s)) (λ h. h) (le-or-lt letterCount k)
+    ⊎-elim (λ h. absurd (subst (λ m. Stands rs m v) (List·getD-eq-default (meanings e) nothing h) s)) (λ h. h)
+    (le-or-lt letterCount k)
 
 -- the choice of the letters by their values
 unfoldable pub lettersOf : List Row → List ℕ → Letters
@@ -73,7 +75,8 @@ lettersOf rs ys =
     }
 
 -- a letter's value is what it stands for in that choice
-pub value-means : (rs : List Row) (ys : List ℕ) (k : ℕ) → k < letterCount → T (suits rs k (getD ys k 0)) → Means rs (lettersOf rs ys) k (getD ys k 0)
+pub value-means : (rs : List Row) (ys : List ℕ) (k : ℕ) → k < letterCount → T (suits rs k (getD ys k 0))
+    → Means rs (lettersOf rs ys) k (getD ys k 0)
 unfolding Means meant lettersOf suits pathLetter qualifierLetter axisLetter testLetter nameLetter
 value-means rs ys zero h s = (s, refl)
 value-means rs ys (suc zero) h s = (s, refl)
@@ -88,7 +91,8 @@ value-means rs ys (suc (suc (suc (suc (suc (suc (suc (suc (suc zero))))))))) h s
 value-means rs ys (suc (suc (suc (suc (suc (suc (suc (suc (suc (suc zero)))))))))) h s = refl
 value-means rs ys (suc (suc (suc (suc (suc (suc (suc (suc (suc (suc (suc zero))))))))))) h s = refl
 value-means rs ys (suc (suc (suc (suc (suc (suc (suc (suc (suc (suc (suc (suc zero)))))))))))) h s = refl
-value-means rs ys (suc (suc (suc (suc (suc (suc (suc (suc (suc (suc (suc (suc (suc k))))))))))))) h s = absurd (omega arith)
+value-means rs ys (suc (suc (suc (suc (suc (suc (suc (suc (suc (suc (suc (suc (suc k))))))))))))) h s =
+    absurd (omega arith)
 
 -- a held path and a held qualifier, by their kinds
 module _ (rs : List Row) where
@@ -96,7 +100,8 @@ module _ (rs : List Row) where
   unfolding heldPath isPath
   held-path v t = simp facts at t
 
-  pub held-qualifier : (v : ℕ) → T (heldQualifier rs v) → (v < length rs) × ((6 ≤ rowAt rs v .kind) × (rowAt rs v .kind ≤ maxKind))
+  pub held-qualifier : (v : ℕ) → T (heldQualifier rs v) → (v < length rs)
+      × ((6 ≤ rowAt rs v .kind) × (rowAt rs v .kind ≤ maxKind))
   unfolding heldQualifier isQualifier
   held-qualifier v t = simp facts at t
 

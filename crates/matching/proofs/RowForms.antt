@@ -1,4 +1,5 @@
--- On a table of accepted rows, a row is an instance of a form's pattern just where its term is the form's term. Assumes nothing.
+-- On a table of accepted rows, a row is an instance of a form's pattern just where its term is the form's term.
+-- Assumes nothing.
 use Prim.Native.Nat.{ℕ, _<_}
 use mathlib.Core.Path.{_≡_, refl, sym, _∙_, ap}
 use mathlib.Core.Bool.{Bool, _&&_}
@@ -11,15 +12,20 @@ use mir.Facts.{yes-and, yes-ltb, leb-yes}
 use Rattle.xpath.specs.Term.{Path, Qualifier, AxisStep, Union, Composition, Filter}
 use Rattle.common.proofs.Reflect.{facts}
 use Rattle.terms.specs.Row.{Row, row, rowAt}
-use Rattle.terms.specs.Fields.{Field, unused, axis, test, name, path, qualifier, fieldsOf, maxKind, isPath, isQualifier, heldPath, heldQualifier}
+use Rattle.terms.specs.Fields.{Field, unused, axis, test, name, path, qualifier, fieldsOf, maxKind, isPath, isQualifier}
+use Rattle.terms.specs.Fields.{heldPath, heldQualifier}
 use Rattle.terms.specs.Terms.{Term, ofPath, ofQualifier, termBy, terms, termAt, pathAt, qualifierAt}
 use Rattle.terms.specs.AcceptedRows.{Built}
 use Rattle.terms.proofs.ByKind.{kindOf, kind-of, term-kind}
 use Rattle.terms.proofs.Terms.{path-term, qualifier-term}
 use Rattle.terms.proofs.Built.{FieldLaw, built-row, built-term}
-use Rattle.rules.specs.Form.{PathLetter, QualifierLetter, AxisLetter, TestLetter, AxisForm, axis-letter, TestForm, test-letter, PathForm, path-letter, _::_, _¦_, _∕_, _⟦_⟧, QualifierForm, qualifier-letter, Not_, _And_, _Or_, _In_}
+use Rattle.rules.specs.Form.{PathLetter, QualifierLetter, AxisLetter, TestLetter, AxisForm, axis-letter, TestForm}
+use Rattle.rules.specs.Form.{test-letter, PathForm, path-letter, _::_, _¦_, _∕_, _⟦_⟧, QualifierForm, qualifier-letter}
+use Rattle.rules.specs.Form.{Not_, _And_, _Or_, _In_}
 use Rattle.rules.specs.Instance.{Letters, axisFor, testFor, pathFor, qualifierFor}
-use Rattle.matching.specs.code.Pattern.{Pattern, number, letter, row-of, pathLetter, qualifierLetter, axisLetter, testLetter, nameLetter, axisPattern, testPattern, namePattern, pathPattern, qualifierPattern}
+use Rattle.matching.specs.code.Pattern.{Pattern, number, letter, row-of, pathLetter, qualifierLetter, axisLetter}
+use Rattle.matching.specs.code.Pattern.{testLetter, nameLetter, axisPattern, testPattern, namePattern}
+use Rattle.matching.specs.code.Pattern.{pathPattern, qualifierPattern}
 use Rattle.matching.specs.code.RowYields.{suits, isRow}
 use Rattle.matching.proofs.Agreement.{IsInstance}
 use Rattle.matching.proofs.Letters.{meant, Means, held-path, held-qualifier}
@@ -113,12 +119,16 @@ module _ {rs : List Row} (built : Built rs) (e : Letters) where
     at : (v : ℕ) → IsInstance rs (Means rs e) x v ↔ (IsPart rs p v × (t ≡ valueAt rs p v))
 
   -- rows of kind k: their terms are made of the values of their fields, have this kind, and tell these values
-  module _ (k : ℕ) {p : Part} (σ : Sort rs p) (sorted : T (σ .hasKind k)) (make : Value (partA k) → Value (partB k) → Value (partC k) → Value p)
-      (made : (a b c : ℕ) → termBy (terms rs) (row k a b c) ≡ σ .term (make (valueAt rs (partA k) a) (valueAt rs (partB k) b) (valueAt rs (partC k) c)))
+  module _ (k : ℕ) {p : Part} (σ : Sort rs p) (sorted : T (σ .hasKind k)) (make : Value (partA k) → Value (partB k)
+      → Value (partC k) → Value p)
+      (made : (a b c : ℕ) → termBy (terms rs) (row k a b c)
+      ≡ σ .term (make (valueAt rs (partA k) a) (valueAt rs (partB k) b) (valueAt rs (partC k) c)))
       (kind : (t : Value (partA k)) (u : Value (partB k)) (w : Value (partC k)) → kindOf (σ .term (make t u w)) ≡ k)
-      (tells : (t t₁ : Value (partA k)) (u u₁ : Value (partB k)) (w w₁ : Value (partC k)) → make t u w ≡ make t₁ u₁ w₁ → (t ≡ t₁) × (u ≡ u₁) × (w ≡ w₁)) where
+      (tells : (t t₁ : Value (partA k)) (u u₁ : Value (partB k)) (w w₁ : Value (partC k)) → make t u w ≡ make t₁ u₁ w₁
+      → (t ≡ t₁) × (u ≡ u₁) × (w ≡ w₁)) where
     made-at : (v : ℕ) → v < length rs → rowAt rs v .kind ≡ k →
-        IsPart rs p v × (valueAt rs p v ≡ make (valueAt rs (partA k) (rowAt rs v .a)) (valueAt rs (partB k) (rowAt rs v .b)) (valueAt rs (partC k) (rowAt rs v .c)))
+        IsPart rs p v × (valueAt rs p v ≡ make (valueAt rs (partA k) (rowAt rs v .a))
+        (valueAt rs (partB k) (rowAt rs v .b)) (valueAt rs (partC k) (rowAt rs v .c)))
     made-at v h q =
         let r : Row = rowAt rs v in
         let i : IsPart rs p v = σ .held-row v h (rw q sorted) in
@@ -126,7 +136,8 @@ module _ {rs : List Row} (built : Built rs) (e : Letters) where
         (i, σ .injective _ _ (sym (σ .row-term v i) ∙ built-term built v h ∙ m))
 
     -- a row that has such a term is of kind k
-    kind-at : (v : ℕ) → IsPart rs p v → (t : Value (partA k)) (u : Value (partB k)) (w : Value (partC k)) → make t u w ≡ valueAt rs p v → rowAt rs v .kind ≡ k
+    kind-at : (v : ℕ) → IsPart rs p v → (t : Value (partA k)) (u : Value (partB k)) (w : Value (partC k))
+        → make t u w ≡ valueAt rs p v → rowAt rs v .kind ≡ k
     kind-at v i t u w q =
         let h : v < length rs = σ .row-held v i in
         sym (term-kind (terms rs) _ _ _ (kind-of (rowAt rs v .kind) (built-row built v h .kind)))
@@ -142,8 +153,14 @@ module _ {rs : List Row} (built : Built rs) (e : Letters) where
               let r : Row = rowAt rs v in (
                 λ i.
                     let c = simp facts at (i .0) in
-                    let m = made-at v (c .0) (c .1) in
-                    (m .0, rw (f .at (r .a) .0 (i .1 .0) .1, g .at (r .b) .0 (i .1 .1 .0) .1, h .at (r .c) .0 (i .1 .1 .1) .1) (sym (m .1))),
+                    let m = made-at v (c .0) (c .1) in (
+                      m .0,
+                      rw (
+                        f .at (r .a) .0 (i .1 .0) .1,
+                        g .at (r .b) .0 (i .1 .1 .0) .1,
+                        h .at (r .c) .0 (i .1 .1 .1) .1,
+                      ) (sym (m .1)),
+                    ),
                 λ j.
                     let l : v < length rs = σ .row-held v (j .0) in
                     let c : r .kind ≡ k = kind-at v (j .0) t u w (j .1) in
@@ -203,24 +220,38 @@ module _ {rs : List Row} (built : Built rs) (e : Letters) where
 
     path-is : (w : PathForm) → FormIs path-part (pathPattern w) (pathFor e w)
     path-is (path-letter x) = path-letter-is x
-    path-is PathForm.Void = row-is 0 (path-sort rs) tt (λ t u w. Path.Void) (λ a b c. refl) (λ t u w. refl) (λ t t₁ u u₁ w w₁ q. (refl, refl, refl)) unused-is unused-is unused-is
-    path-is PathForm.Root = row-is 1 (path-sort rs) tt (λ t u w. Path.Root) (λ a b c. refl) (λ t u w. refl) (λ t t₁ u u₁ w w₁ q. (refl, refl, refl)) unused-is unused-is unused-is
-    path-is (u :: n) = row-is 2 (path-sort rs) tt AxisStep (λ a b c. refl) (λ t u w. refl) (λ t t₁ u u₁ w w₁ q. (cc, cc, cc)) (axis-is u) (test-is n) (name-is n)
-    path-is (u ¦ v) = row-is 3 (path-sort rs) tt (λ t u w. Union t u) (λ a b c. refl) (λ t u w. refl) (λ t t₁ u u₁ w w₁ q. (cc, cc, refl)) (path-is u) (path-is v) unused-is
-    path-is (u ∕ v) = row-is 4 (path-sort rs) tt (λ t u w. Composition t u) (λ a b c. refl) (λ t u w. refl) (λ t t₁ u u₁ w w₁ q. (cc, cc, refl)) (path-is u) (path-is v) unused-is
-    path-is (u ⟦ v ⟧) = row-is 5 (path-sort rs) tt (λ t u w. Filter t u) (λ a b c. refl) (λ t u w. refl) (λ t t₁ u u₁ w w₁ q. (cc, cc, refl)) (path-is u) (qualifier-is v) unused-is
+    path-is PathForm.Void = row-is 0 (path-sort rs) tt (λ t u w. Path.Void) (λ a b c. refl) (λ t u w. refl)
+        (λ t t₁ u u₁ w w₁ q. (refl, refl, refl)) unused-is unused-is unused-is
+    path-is PathForm.Root = row-is 1 (path-sort rs) tt (λ t u w. Path.Root) (λ a b c. refl) (λ t u w. refl)
+        (λ t t₁ u u₁ w w₁ q. (refl, refl, refl)) unused-is unused-is unused-is
+    path-is (u :: n) = row-is 2 (path-sort rs) tt AxisStep (λ a b c. refl) (λ t u w. refl)
+        (λ t t₁ u u₁ w w₁ q. (cc, cc, cc)) (axis-is u) (test-is n) (name-is n)
+    path-is (u ¦ v) = row-is 3 (path-sort rs) tt (λ t u w. Union t u) (λ a b c. refl) (λ t u w. refl)
+        (λ t t₁ u u₁ w w₁ q. (cc, cc, refl)) (path-is u) (path-is v) unused-is
+    path-is (u ∕ v) = row-is 4 (path-sort rs) tt (λ t u w. Composition t u) (λ a b c. refl) (λ t u w. refl)
+        (λ t t₁ u u₁ w w₁ q. (cc, cc, refl)) (path-is u) (path-is v) unused-is
+    path-is (u ⟦ v ⟧) = row-is 5 (path-sort rs) tt (λ t u w. Filter t u) (λ a b c. refl) (λ t u w. refl)
+        (λ t t₁ u u₁ w w₁ q. (cc, cc, refl)) (path-is u) (qualifier-is v) unused-is
 
     qualifier-is : (w : QualifierForm) → FormIs qualifier-part (qualifierPattern w) (qualifierFor e w)
     qualifier-is (qualifier-letter x) = qualifier-letter-is x
-    qualifier-is QualifierForm.True = row-is 6 (qualifier-sort rs) tt (λ t u w. Qualifier.True) (λ a b c. refl) (λ t u w. refl) (λ t t₁ u u₁ w w₁ q. (refl, refl, refl)) unused-is unused-is unused-is
-    qualifier-is QualifierForm.False = row-is 7 (qualifier-sort rs) tt (λ t u w. Qualifier.False) (λ a b c. refl) (λ t u w. refl) (λ t t₁ u u₁ w w₁ q. (refl, refl, refl)) unused-is unused-is unused-is
-    qualifier-is (Not u) = row-is 8 (qualifier-sort rs) tt (λ t u w. Qualifier.Not t) (λ a b c. refl) (λ t u w. refl) (λ t t₁ u u₁ w w₁ q. (cc, refl, refl)) (qualifier-is u) unused-is unused-is
-    qualifier-is (u And v) = row-is 9 (qualifier-sort rs) tt (λ t u w. Qualifier.And t u) (λ a b c. refl) (λ t u w. refl) (λ t t₁ u u₁ w w₁ q. (cc, cc, refl)) (qualifier-is u) (qualifier-is v) unused-is
-    qualifier-is (u Or v) = row-is 10 (qualifier-sort rs) tt (λ t u w. Qualifier.Or t u) (λ a b c. refl) (λ t u w. refl) (λ t t₁ u u₁ w w₁ q. (cc, cc, refl)) (qualifier-is u) (qualifier-is v) unused-is
-    qualifier-is (u In v) = row-is 11 (qualifier-sort rs) tt (λ t u w. Qualifier.In t u) (λ a b c. refl) (λ t u w. refl) (λ t t₁ u u₁ w w₁ q. (cc, cc, refl)) (path-is u) (path-is v) unused-is
+    qualifier-is QualifierForm.True = row-is 6 (qualifier-sort rs) tt (λ t u w. Qualifier.True) (λ a b c. refl)
+        (λ t u w. refl) (λ t t₁ u u₁ w w₁ q. (refl, refl, refl)) unused-is unused-is unused-is
+    qualifier-is QualifierForm.False = row-is 7 (qualifier-sort rs) tt (λ t u w. Qualifier.False) (λ a b c. refl)
+        (λ t u w. refl) (λ t t₁ u u₁ w w₁ q. (refl, refl, refl)) unused-is unused-is unused-is
+    qualifier-is (Not u) = row-is 8 (qualifier-sort rs) tt (λ t u w. Qualifier.Not t) (λ a b c. refl) (λ t u w. refl)
+        (λ t t₁ u u₁ w w₁ q. (cc, refl, refl)) (qualifier-is u) unused-is unused-is
+    qualifier-is (u And v) = row-is 9 (qualifier-sort rs) tt (λ t u w. Qualifier.And t u) (λ a b c. refl)
+        (λ t u w. refl) (λ t t₁ u u₁ w w₁ q. (cc, cc, refl)) (qualifier-is u) (qualifier-is v) unused-is
+    qualifier-is (u Or v) = row-is 10 (qualifier-sort rs) tt (λ t u w. Qualifier.Or t u) (λ a b c. refl) (λ t u w. refl)
+        (λ t t₁ u u₁ w w₁ q. (cc, cc, refl)) (qualifier-is u) (qualifier-is v) unused-is
+    qualifier-is (u In v) = row-is 11 (qualifier-sort rs) tt (λ t u w. Qualifier.In t u) (λ a b c. refl) (λ t u w. refl)
+        (λ t t₁ u u₁ w w₁ q. (cc, cc, refl)) (path-is u) (path-is v) unused-is
 
-  pub path-instance : (w : PathForm) (v : ℕ) → IsInstance rs (Means rs e) (pathPattern w) v ↔ (T (heldPath rs v) × (pathFor e w ≡ pathAt rs v))
+  pub path-instance : (w : PathForm) (v : ℕ) → IsInstance rs (Means rs e) (pathPattern w) v ↔
+      (T (heldPath rs v) × (pathFor e w ≡ pathAt rs v))
   path-instance w v = path-is w .at v
 
-  pub qualifier-instance : (w : QualifierForm) (v : ℕ) → IsInstance rs (Means rs e) (qualifierPattern w) v ↔ (T (heldQualifier rs v) × (qualifierFor e w ≡ qualifierAt rs v))
+  pub qualifier-instance : (w : QualifierForm) (v : ℕ) → IsInstance rs (Means rs e) (qualifierPattern w) v ↔
+      (T (heldQualifier rs v) × (qualifierFor e w ≡ qualifierAt rs v))
   qualifier-instance w v = qualifier-is w .at v

@@ -1,17 +1,18 @@
 -- One level of the way back on row numbers, and the ways through the code that finds it. Assumes nothing.
-use Prim.Native.Nat.{ℕ, zero, suc, _+_, _<_, _≤_}
+use Prim.Native.Nat.{ℕ, zero, suc, _<_, _≤_}
 use mathlib.Core.Path.{_≡_, refl, sym, _∙_, ap, ap₂, subst, subst₂}
 use mathlib.Core.Bool.{Bool, true, false, _&&_, _||_, false≢true}
 use mathlib.Core.List.{List, [], _∷_}
 use mathlib.Core.Logic.{⊎-elim}
 use native.Mathlib.Omega.{arith}
 use lib.Dec.{eqb, ltb}
-use lib.ListN.{length, getD, set, take, replicate, length-take, length-set, List·getD-eq-default}
-use lib.Seq.{set-out, getD-take, getD-set-same, getD-set-other}
+use lib.ListN.{length, getD, set, take, replicate, length-take, List·getD-eq-default}
+use lib.Seq.{getD-take}
 use borrow.Author.Tests.{eqb-true, ne-eqb, lt-ltb, le-ltb}
-use Rattle.common.proofs.Reflect.{eq-or-ne, le-or-lt, and-true, and-false}
+use Rattle.common.proofs.Reflect.{le-or-lt, and-true, and-false}
 use Rattle.terms.specs.Row.{Row, row, noRow, rowAt, sameRow}
 use Rattle.terms.proofs.Entries.{entries-take, entry-at, entry-past}
+use Rattle.terms.proofs.Noted.{note-there, nothing-noted, noted-more}
 use Rattle.rules.specs.Order.{isPair}
 use Rattle.rules.specs.WayBack.{opposites}
 use Rattle.matching.specs.declared.way_back.Reversal.{Reversal}
@@ -35,23 +36,6 @@ back-before bs i p q = ⊎-elim later earlier (le-or-lt i p)
 -- the entry of a kind that is known
 pub kind-is : (bs : List Bool) {k n : ℕ} → k ≡ n → getD bs k false ≡ getD bs n false
 kind-is bs e = ap (λ k. getD bs k false) e
-
-module _ (xs : List ℕ) (i j : ℕ) where
-  pub past-noted : {at : ℕ} → at ≡ i → length xs ≤ at → false ≡ eqb (getD xs i 0) (suc j)
-  past-noted {at} e h =
-      let z : getD xs i 0 ≡ 0 = List·getD-eq-default xs 0 (omega arith) in
-      sym (ne-eqb (getD xs i 0) (suc j) (λ q. absurd (omega arith)))
-
-  pub there-noted : {at k : ℕ} → at ≡ i → k ≡ j → eqb (getD xs at 0) (k + 1) ≡ eqb (getD xs i 0) (suc j)
-  there-noted {at} {k} e f = let h : k + 1 ≡ suc j = omega arith in ap₂ (λ at k. eqb (getD xs at 0) k) e h
-
-  pub set-there : {at k : ℕ} → at ≡ i → k ≡ j → set xs at (k + 1) ≡ set xs i (suc j)
-  set-there {at} {k} e f = let h : k + 1 ≡ suc j = omega arith in ap₂ (set xs) e h
-
-  pub note-there : {ys : List ℕ} → ys ≡ set xs i (suc j) → i < length ys → getD ys i 0 ≡ suc j
-  note-there {ys} q l =
-      let same : length ys ≡ length xs = ap length q ∙ length-set xs i (suc j) in
-      ap (λ ys. getD ys i 0) q ∙ getD-set-same xs i (suc j) 0 (omega arith)
 
 -- where no operand has a way back, a step alone can have one
 step-alone : (b₂ b₃ b₄ b₅ : Bool) (k : ℕ) →
@@ -160,27 +144,11 @@ module _ (rs : List Row) where
 
   pub note-keeps : (xs : List ℕ) (i j : ℕ) → Noted rs xs → isBack rs i j ≡ true → Noted rs (set xs i (suc j))
   unfolding Noted
-  note-keeps xs i j s e m n q =
-      ⊎-elim
-      (λ f. ⊎-elim
-      (λ h. s m n (sym (ap (λ ys. getD ys m 0) (set-out xs i (suc j) h)) ∙ q))
-      (λ h.
-      let there : getD (set xs i (suc j)) i 0 ≡ suc n = subst (λ k. getD (set xs i (suc j)) k 0 ≡ suc n) f q in
-      let next : suc j ≡ suc n = sym (getD-set-same xs i (suc j) 0 h) ∙ there in
-      let same : j ≡ n = omega arith in
-      subst₂ (λ k v. isBack rs k v ≡ true) (sym f) same e)
-      (le-or-lt (length xs) i))
-      (λ f. s m n (sym (getD-set-other xs i m (suc j) 0 f) ∙ q))
-      (eq-or-ne m i)
+  note-keeps xs i j s e = noted-more (λ i j. isBack rs i j ≡ true) xs i j s e
 
   pub none-noted : (k : ℕ) → Noted rs (replicate {A = ℕ} k 0)
   unfolding Noted
-  none-noted k i j q = let z : _≡_ {A = ℕ} 0 (suc j) = sym (at k i) ∙ q in absurd (omega arith)
-    where
-      at : (k i : ℕ) → _≡_ {A = ℕ} (getD (replicate k 0) i 0) 0
-      at zero i = refl
-      at (suc k) zero = refl
-      at (suc k) (suc i) = at k i
+  none-noted k i j q = nothing-noted k i j q
 
   pub is-noted : (xs : List ℕ) (i j : ℕ) → Noted rs xs → true ≡ eqb (getD xs i 0) (suc j) → BackFound rs i j true xs
   unfolding Noted

@@ -8,11 +8,10 @@ use common::row_kind;
 use common::wide;
 use terms::MAX_ROWS;
 use terms::Row;
+use terms::is_noted;
+use terms::note;
 use terms::row_at;
-ghost use Prim.Native.Nat.{suc};
 ghost use mathlib.Core.Path.{_≡_};
-ghost use lib.Dec.{eqb};
-ghost use lib.ListN.{getD, set};
 ghost use Rattle.terms.specs.Row.{rowAt, tableOf};
 ghost use Rattle.terms.specs.code.RowTypes.{rowOf};
 ghost use Rattle.rules.specs.Order.{isPair};
@@ -119,29 +118,6 @@ fn reversal_of(rows: &[u16], x: Row, y: Row) -> Reversal
             second: none,
         },
     }
-}
-
-// Whether it is noted that row j is the way back of row i.
-fn is_noted(noted: &[usize], i: u16, j: u16) -> bool
-    ensures { λ r. ⌜ r ≡ eqb (getD (now (noted .entry)) i 0) (suc j) ⌝ }
-{
-    let at = wide(i);
-    if noted.len() <= at {
-        return false;
-    }
-    let there = noted[at];
-    there == wide(j) + 1
-}
-
-// Notes that row j is the way back of row i.
-fn note(noted: &mut [usize], i: u16, j: u16)
-    ensures { λ r. ⌜ now (noted .exit) ≡ set (now (noted .entry)) i (suc j) ⌝ }
-{
-    let at = wide(i);
-    if noted.len() <= at {
-        return;
-    }
-    noted[at] = wide(j) + 1;
 }
 
 // Whether row j is the way back of row i. Its operands are earlier rows, and what was found is noted, so that a row is

@@ -1,18 +1,16 @@
 -- The ways through the code that compares two rows. Assumes nothing.
-use Prim.Native.Nat.{ℕ, zero, suc, _+_, _≤_, _<_}
-use mathlib.Core.Path.{_≡_, refl, sym, ap, ap₂, subst, subst₂, _∙_}
-use mathlib.Core.Bool.{true, false}
+use Prim.Native.Nat.{ℕ, suc}
+use mathlib.Core.Path.{_≡_, refl, sym, ap, ap₂, subst, _∙_}
+use mathlib.Core.Bool.{true}
 use mathlib.Core.List.{List}
-use mathlib.Core.Logic.{⊎-elim}
 use native.Mathlib.Omega.{arith}
 use lib.Dec.{eqb}
-use lib.ListN.{length, getD, set, take, replicate, List·getD-eq-default}
-use lib.Seq.{getD-set-same, getD-set-other, set-out}
-use borrow.Author.Tests.{eqb-true, ne-eqb}
-use Rattle.common.proofs.Reflect.{eq-or-ne, le-or-lt}
+use lib.ListN.{getD, set, take, replicate}
+use borrow.Author.Tests.{eqb-true}
 use Rattle.terms.specs.Row.{Row}
 use Rattle.terms.specs.code.RowTypes.{rowOf}
 use Rattle.terms.specs.Terms.{terms, termAt}
+use Rattle.terms.proofs.Noted.{nothing-noted, noted-more}
 use Rattle.ordering.specs.declared.Sort.{Sort}
 use Rattle.ordering.specs.declared.Pair.{Pair}
 use Rattle.ordering.specs.Order.{Order, less, equal, greater, _andThen_, numberOrder}
@@ -34,28 +32,10 @@ found-equal less e f = absurd (omega arith)
 found-equal equal e f = refl
 found-equal greater e f = absurd (omega arith)
 
--- what stands at i, in the table or past its end
-module _ (xs : List ℕ) (i j : ℕ) where
-  pub past-noted : {at : ℕ} → at ≡ i → length xs ≤ at → false ≡ eqb (getD xs i 0) (suc j)
-  past-noted {at} e h =
-      let z : getD xs i 0 ≡ 0 = List·getD-eq-default xs 0 (omega arith) in
-      sym (ne-eqb (getD xs i 0) (suc j) (λ q. absurd (omega arith)))
-
-  pub there-noted : {at k : ℕ} → at ≡ i → k ≡ j → eqb (getD xs at 0) (k + 1) ≡ eqb (getD xs i 0) (suc j)
-  there-noted {at} {k} e f = let h : k + 1 ≡ suc j = omega arith in ap₂ (λ at k. eqb (getD xs at 0) k) e h
-
-  pub set-there : {at k : ℕ} → at ≡ i → k ≡ j → set xs at (k + 1) ≡ set xs i (suc j)
-  set-there {at} {k} e f = let h : k + 1 ≡ suc j = omega arith in ap₂ (set xs) e h
-
 module _ (rs ss : List Row) where
   pub none-noted : (k : ℕ) → Noted rs ss (replicate {A = ℕ} k 0)
   unfolding Noted
-  none-noted k i j q = let z : _≡_ {A = ℕ} 0 (suc j) = sym (at k i) ∙ q in absurd (omega arith)
-    where
-      at : (k i : ℕ) → _≡_ {A = ℕ} (getD (replicate k 0) i 0) 0
-      at zero i = refl
-      at (suc k) zero = refl
-      at (suc k) (suc i) = at k i
+  none-noted k i j q = nothing-noted k i j q
 
   pub noted-equal : (xs : List ℕ) (i j : ℕ) → Noted rs ss xs → true ≡ eqb (getD xs i 0) (suc j)
       → Compared rs ss (termOrder (termAt rs i) (termAt ss j)) 1 xs
@@ -67,28 +47,12 @@ module _ (rs ss : List Row) where
         noted = s;
       }
 
-  pub noted-more : (xs : List ℕ) (i j : ℕ) → Noted rs ss xs → termOrder (termAt rs i) (termAt ss j) ≡ equal
+  pub equal-noted : (xs : List ℕ) (i j : ℕ) → Noted rs ss xs → termOrder (termAt rs i) (termAt ss j) ≡ equal
       → Noted rs ss (set xs i (suc j))
   unfolding Noted
-  noted-more xs i j s e m n q = ⊎-elim at-i elsewhere (eq-or-ne m i)
-    where
-      same : termAt rs i ≡ termAt ss j
-      same = terms-ordered .equal-same (termAt rs i) (termAt ss j) e
-
-      inside : m ≡ i → i < length xs → termAt rs m ≡ termAt ss n
-      inside f l =
-          let q′ : getD (set xs i (suc j)) i 0 ≡ suc n = subst (λ k. getD (set xs i (suc j)) k 0 ≡ suc n) f q in
-          let h : suc j ≡ suc n = sym (getD-set-same xs i (suc j) 0 l) ∙ q′ in
-          let z : j ≡ n = omega arith in
-          subst₂ (λ k v. termAt rs k ≡ termAt ss v) (sym f) z same
-
-      at-i : m ≡ i → termAt rs m ≡ termAt ss n
-      at-i f =
-          ⊎-elim (λ l. s m n (ap (λ ys. getD ys m 0) (sym (set-out xs i (suc j) l)) ∙ q)) (inside f)
-          (le-or-lt (length xs) i)
-
-      elsewhere : ¬ (m ≡ i) → termAt rs m ≡ termAt ss n
-      elsewhere f = s m n (sym (getD-set-other xs i m (suc j) 0 f) ∙ q)
+  equal-noted xs i j s e =
+      noted-more (λ i j. termAt rs i ≡ termAt ss j) xs i j s
+      (terms-ordered .equal-same (termAt rs i) (termAt ss j) e)
 
   -- rows i and j, as the code has them
   module _ (i j : ℕ) (p : Pair) (pair : Paired rs i ss j p) where
@@ -168,4 +132,4 @@ module _ (rs ss : List Row) where
               → ys ≡ set xs i (suc j) → Noted rs ss ys
           all-equal e third-equal xs ys noted stored =
               subst (Noted rs ss) (sym stored)
-              (noted-more xs i j noted (found-equal order (thirds-decide e) third-equal))
+              (equal-noted xs i j noted (found-equal order (thirds-decide e) third-equal))

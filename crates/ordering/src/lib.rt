@@ -3,12 +3,12 @@ use calls::Step;
 use common::row_kind;
 use common::wide;
 use terms::Row;
+use terms::is_noted;
+use terms::note;
 use terms::row_at;
-ghost use Prim.Native.Nat.{suc};
 ghost use mathlib.Core.Path.{_≡_};
-ghost use lib.Dec.{eqb};
 ghost use mathlib.Core.Bool.{cond};
-ghost use lib.ListN.{getD, set, take};
+ghost use lib.ListN.{getD, take};
 ghost use Rattle.terms.specs.Row.{rowAt, tableOf};
 ghost use Rattle.terms.specs.Terms.{terms, termAt};
 ghost use Rattle.calls.specs.Book.{noStep, book};
@@ -128,29 +128,6 @@ fn number_of(rows: &[u16], i: u16, sort: Sort, x: u16) -> u16
         Sort::Path => kind_or(rows, i, sort, x, row_kind::VOID),
         Sort::Qualifier => kind_or(rows, i, sort, x, row_kind::FALSE),
     }
-}
-
-// Whether it is noted that row i of the left and row j of the right have the same term.
-fn is_noted(noted: &[usize], i: u16, j: u16) -> bool
-    ensures { λ r. ⌜ r ≡ eqb (getD (now (noted .entry)) i 0) (suc j) ⌝ }
-{
-    let at = wide(i);
-    if noted.len() <= at {
-        return false;
-    }
-    let there = noted[at];
-    there == wide(j) + 1
-}
-
-// Notes that they have.
-fn note(noted: &mut [usize], i: u16, j: u16)
-    ensures { λ r. ⌜ now (noted .exit) ≡ set (now (noted .entry)) i (suc j) ⌝ }
-{
-    let at = wide(i);
-    if noted.len() <= at {
-        return;
-    }
-    noted[at] = wide(j) + 1;
 }
 
 // The rows i and j, the order of their kinds, and what the fields of the left one are.

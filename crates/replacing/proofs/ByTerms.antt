@@ -118,7 +118,8 @@ module _ (b : Book) (laws : HeldLaws (b .rows) (b .steps)) (new : List ℕ) (old
       let left = path-held (b .rows) (saying .left) (sides .left) is-path in
       let right = right-path (b .rows) saying sides left in
       let same-left : saying .left ≡ old =
-      same-path (laws .built) (saying .left) old (held-path (b .rows) (saying .left) left) (held-path (b .rows) old path)
+      same-path (laws .built) (saying .left) old (held-path (b .rows) (saying .left) left)
+      (held-path (b .rows) old path)
       from in
       let same-right : saying .right ≡ n =
       same-path (laws .built) (saying .right) n (held-path (b .rows) (saying .right) right) (held-path (b .rows) n held)

@@ -38,7 +38,8 @@ pair-at P (e ∷ es) h a b t =
 module _ (d : Document) (w : T (wellFormed d)) where
   -- what is on axis a of a node is on axis b of it, and a name or `*` selects the same kind on both
   abbrev Carries : ℕ → ℕ → Type 0
-  Carries a b = (principal a ≡ principal b) × ((x y : ℕ) → x < length d → y < length d → OnAxis a d x y → OnAxis b d x y)
+  Carries a b = (principal a ≡ principal b) × ((x y : ℕ) → x < length d → y < length d → OnAxis a d x y
+      → OnAxis b d x y)
 
   carries-itself : (a : ℕ) → Carries a a
   carries-itself a = (refl, λ x y k l o. o)
@@ -80,7 +81,8 @@ pub element-axis : (a : ℕ) → a ≢ attribute → principal a ≡ 1
 element-axis a h = rw (ne-eqb a attribute h)
 
 -- a test asks the same on axes of one kind
-pub same-test : (a b t c : ℕ) (d : Document) (y : ℕ) → principal a ≡ principal b → T (passes a t c d y) → T (passes b t c d y)
+pub same-test : (a b t c : ℕ) (d : Document) (y : ℕ) → principal a ≡ principal b → T (passes a t c d y)
+    → T (passes b t c d y)
 unfolding passes
 same-test a b t c d y e s = rw e at s
 
@@ -110,7 +112,8 @@ pub element-test : (a : ℕ) (n : Test) (d : Document) (y : ℕ) → T (eqb (n .
 unfolding passes
 element-test a n d y b s =
     ⊎-elim
-    (λ b. let r : n .test ≡ name-test = eqb-yes b in eqb-yes ((and-yes (eqb (kindAt d y) (principal a)) (eqb (nameAt d y) (n .name)) (rw r at s)) .0))
+    (λ b. let r : n .test ≡ name-test = eqb-yes b in eqb-yes
+    ((and-yes (eqb (kindAt d y) (principal a)) (eqb (nameAt d y) (n .name)) (rw r at s)) .0))
     (λ b. let r : n .test ≡ star-test = eqb-yes b in eqb-yes (rw r at s))
     (or-yes (eqb (n .test) name-test) (eqb (n .test) star-test) b)
 
@@ -119,14 +122,17 @@ unfolding passes
 yes-star a d y e = yes-eqb e
 
 -- only node() selects the root, and on axes but 11 only node() selects an attribute
-pub plain-kind : (t c : ℕ) (d : Document) (y : ℕ) → t ≢ node-test → T (passes self t c d y) → (0 < kindAt d y) × (kindAt d y < 5)
+pub plain-kind : (t c : ℕ) (d : Document) (y : ℕ) → t ≢ node-test → T (passes self t c d y) → (0 < kindAt d y)
+    × (kindAt d y < 5)
 unfolding passes
 plain-kind zero c d y h t = let r = simp facts at t in let e : kindAt d y ≡ 1 = r .0 in (omega arith, omega arith)
 plain-kind (suc zero) c d y h t = let r : kindAt d y ≡ 1 = simp facts at t in (omega arith, omega arith)
 plain-kind (suc (suc zero)) c d y h t = absurd (h refl)
 plain-kind (suc (suc (suc zero))) c d y h t = let r : kindAt d y ≡ 2 = simp facts at t in (omega arith, omega arith)
-plain-kind (suc (suc (suc (suc zero)))) c d y h t = let r : kindAt d y ≡ 3 = simp facts at t in (omega arith, omega arith)
-plain-kind (suc (suc (suc (suc (suc zero))))) c d y h t = let r : kindAt d y ≡ 4 = simp facts at t in (omega arith, omega arith)
+plain-kind (suc (suc (suc (suc zero)))) c d y h t = let r : kindAt d y ≡ 3 = simp facts at t in
+    (omega arith, omega arith)
+plain-kind (suc (suc (suc (suc (suc zero))))) c d y h t = let r : kindAt d y ≡ 4 = simp facts at t in
+    (omega arith, omega arith)
 plain-kind (suc (suc (suc (suc (suc (suc zero)))))) c d y h t =
     let r : kindAt d y ≡ 4 = has-target self c d y t .0 in (omega arith, omega arith)
 plain-kind (suc (suc (suc (suc (suc (suc (suc n))))))) c d y h t = absurd t

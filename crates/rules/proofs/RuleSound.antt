@@ -30,7 +30,8 @@ MeetsAll e ts = (t : Condition) → T (isAmong t ts) → T (meets e t)
 
 -- for every choice of the letters that meets the conditions, the conclusion follows from the premises
 abbrev pub FormSound : Document → Form → Type 0
-FormSound d w = (e : Letters) → MeetsAll e (w .conditions) → Every (Means d) (map (claimFor e) (w .premises)) → Means d (claimFor e (w .conclusion))
+FormSound d w = (e : Letters) → MeetsAll e (w .conditions) → Every (Means d) (map (claimFor e) (w .premises))
+    → Means d (claimFor e (w .conclusion))
 
 -- every form of rule n of the table is sound
 unfoldable pub RuleSound : Document → ℕ → Type 0

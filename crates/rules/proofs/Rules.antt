@@ -105,35 +105,59 @@ module _ (d : Document) (w : T (wellFormed d)) where
 
   pub rule32 : RuleSound d 32
   unfolding RuleSound
-  rule32 = each-way (λ e. (λ x y k l. ⊎-elim (λ (a, b). (a, inl b)) (λ (a, b). (a, inr b)), λ x y k l (a, b). ⊎-elim (λ c. inl (a, c)) (λ c. inr (a, c)) b))
+  rule32 = each-way (λ e. (
+    λ x y k l. ⊎-elim (λ (a, b). (a, inl b)) (λ (a, b). (a, inr b)),
+    λ x y k l (a, b). ⊎-elim (λ c. inl (a, c)) (λ c. inr (a, c)) b,
+  ))
 
   pub rule33 : RuleSound d 33
   unfolding RuleSound
-  rule33 = each-way (λ e. (λ x y k l (z, m, a, b). ⊎-elim (λ c. inl (z, m, c, b)) (λ c. inr (z, m, c, b)) a, λ x y k l. ⊎-elim (λ (z, m, a, b). (z, m, inl a, b)) (λ (z, m, a, b). (z, m, inr a, b))))
+  rule33 = each-way (λ e. (
+    λ x y k l (z, m, a, b). ⊎-elim (λ c. inl (z, m, c, b)) (λ c. inr (z, m, c, b)) a,
+    λ x y k l. ⊎-elim (λ (z, m, a, b). (z, m, inl a, b)) (λ (z, m, a, b). (z, m, inr a, b)),
+  ))
 
   pub rule34 : RuleSound d 34
   unfolding RuleSound
-  rule34 = each-way (λ e. (λ x y k l (z, m, a, b). ⊎-elim (λ c. inl (z, m, a, c)) (λ c. inr (z, m, a, c)) b, λ x y k l. ⊎-elim (λ (z, m, a, b). (z, m, a, inl b)) (λ (z, m, a, b). (z, m, a, inr b))))
+  rule34 = each-way (λ e. (
+    λ x y k l (z, m, a, b). ⊎-elim (λ c. inl (z, m, a, c)) (λ c. inr (z, m, a, c)) b,
+    λ x y k l. ⊎-elim (λ (z, m, a, b). (z, m, a, inl b)) (λ (z, m, a, b). (z, m, a, inr b)),
+  ))
 
   pub rule35 : RuleSound d 35
   unfolding RuleSound
-  rule35 = each-way (λ e. (λ x y k l (a, h). ⊎-elim (λ c. inl (c, h)) (λ c. inr (c, h)) a, λ x y k l. ⊎-elim (λ (a, h). (inl a, h)) (λ (a, h). (inr a, h))))
+  rule35 = each-way
+      (λ e. (
+        λ x y k l (a, h). ⊎-elim (λ c. inl (c, h)) (λ c. inr (c, h)) a,
+        λ x y k l. ⊎-elim (λ (a, h). (inl a, h))
+            (λ (a, h). (inr a, h)),
+      ))
 
   pub rule36 : RuleSound d 36
   unfolding RuleSound
-  rule36 = each-way (λ e. (λ x y k l (z, m, (u, n, a, b), c). (u, n, a, (z, m, b, c)), λ x y k l (u, n, a, (z, m, b, c)). (z, m, (u, n, a, b), c)))
+  rule36 = each-way
+      (λ e. (
+        λ x y k l (z, m, (u, n, a, b), c). (u, n, a, (z, m, b, c)),
+        λ x y k l (u, n, a, (z, m, b, c)). (z, m, (u, n, a, b), c),
+      ))
 
   pub rule37 : RuleSound d 37
   unfolding RuleSound
-  rule37 = each-way (λ e. (λ x y k l ((z, m, a, b), h). (z, m, a, (b, h)), λ x y k l (z, m, a, (b, h)). ((z, m, a, b), h)))
+  rule37 = each-way
+      (λ e. (λ x y k l ((z, m, a, b), h). (z, m, a, (b, h)), λ x y k l (z, m, a, (b, h)). ((z, m, a, b), h)))
 
   pub rule38 : RuleSound d 38
   unfolding RuleSound
-  rule38 = each-way (λ e. (λ x k i z m (a, h). h (λ y l b. i y l (z, m, a, b)), λ x k i y l (z, m, a, b). i z m (a, λ n. n y l b)))
+  rule38 = each-way
+      (λ e. (λ x k i z m (a, h). h (λ y l b. i y l (z, m, a, b)), λ x k i y l (z, m, a, b). i z m (a, λ n. n y l b)))
 
   pub rule39 : RuleSound d 39
   unfolding RuleSound
-  rule39 = each-way (λ e. (λ x k n. ⊎-elim (λ a. inr (λ b. n (a, b))) inl (holds-dec d w (e .qualifier QualifierLetter.f) x k), λ x k. ⊎-elim (λ n (a, b). n a) (λ n (a, b). n b)))
+  rule39 = each-way
+      (λ e. (
+        λ x k n. ⊎-elim (λ a. inr (λ b. n (a, b))) inl (holds-dec d w (e .qualifier QualifierLetter.f) x k),
+        λ x k. ⊎-elim (λ n (a, b). n a) (λ n (a, b). n b),
+      ))
 
   pub rule40 : RuleSound d 40
   unfolding RuleSound
@@ -141,15 +165,28 @@ module _ (d : Document) (w : T (wellFormed d)) where
 
   pub rule41 : RuleSound d 41
   unfolding RuleSound
-  rule41 = each-way (λ e. (λ x k (a, b). ⊎-elim (λ c. inl (a, c)) (λ c. inr (a, c)) b, λ x k. ⊎-elim (λ (a, b). (a, inl b)) (λ (a, b). (a, inr b))))
+  rule41 = each-way
+      (λ e. (
+        λ x k (a, b). ⊎-elim (λ c. inl (a, c)) (λ c. inr (a, c)) b,
+        λ x k. ⊎-elim (λ (a, b). (a, inl b))
+            (λ (a, b). (a, inr b)),
+      ))
 
   pub rule42 : RuleSound d 42
   unfolding RuleSound
-  rule42 = each-way (λ e. (λ x k. ⊎-elim (λ a. (inl a, inl a)) (λ (b, c). (inr b, inr c)), λ x k (a, b). ⊎-elim inl (λ c. ⊎-elim inl (λ h. inr (c, h)) b) a))
+  rule42 = each-way
+      (λ e. (
+        λ x k. ⊎-elim (λ a. (inl a, inl a)) (λ (b, c). (inr b, inr c)),
+        λ x k (a, b). ⊎-elim inl (λ c. ⊎-elim inl (λ h. inr (c, h)) b) a,
+      ))
 
   pub rule43 : RuleSound d 43
   unfolding RuleSound
-  rule43 = each-way (λ e. (λ x k n. ⊎-elim (λ a. a) (λ m. absurd (n m)) (holds-dec d w (e .qualifier QualifierLetter.f) x k), λ x k a n. n a))
+  rule43 = each-way
+      (λ e. (
+        λ x k n. ⊎-elim (λ a. a) (λ m. absurd (n m)) (holds-dec d w (e .qualifier QualifierLetter.f) x k),
+        λ x k a n. n a,
+      ))
 
   pub rule44 : RuleSound d 44
   unfolding RuleSound
@@ -161,7 +198,8 @@ module _ (d : Document) (w : T (wellFormed d)) where
 
   pub rule46 : RuleSound d 46
   unfolding RuleSound
-  rule46 = each-way (λ e. (λ x k i. (λ y l a. i y l (inl a), λ y l a. i y l (inr a)), λ x k (i, j) y l. ⊎-elim (i y l) (j y l)))
+  rule46 = each-way
+      (λ e. (λ x k i. (λ y l a. i y l (inl a), λ y l a. i y l (inr a)), λ x k (i, j) y l. ⊎-elim (i y l) (j y l)))
 
   pub rule47 : RuleSound d 47
   unfolding RuleSound

@@ -24,7 +24,8 @@ says rs left right =
     (Containment (pathAt rs left) (pathAt rs right))
     (Implication (qualifierAt rs left) (qualifierAt rs right))
 
--- on d, from every node: each node that the first path selects, the second selects; where the first qualifier holds, the second does
+-- on d, from every node: each node that the first path selects, the second selects;
+-- where the first qualifier holds, the second does
 unfoldable pub TrueOn : Document → Claim → Type 0
 TrueOn d (Containment p q) = (x : ℕ) → x < length d → (y : ℕ) → T (selects d p x y) → T (selects d q x y)
 TrueOn d (Implication f g) = (x : ℕ) → x < length d → T (holds d f x) → T (holds d g x)

@@ -1,4 +1,5 @@
--- A choice of the letters, the terms and claims that forms are for it, and the conditions that it meets. Assumes nothing.
+-- A choice of the letters, the terms and claims that forms are for it, and the conditions that it meets.
+-- Assumes nothing.
 use Prim.Native.Nat.{ℕ}
 use mathlib.Core.Bool.{Bool, not, _&&_, _||_}
 use lib.Dec.{leb, eqb}
@@ -6,7 +7,11 @@ use Rattle.common.specs.Axes.{descendant, preceding, attribute}
 use Rattle.common.specs.NodeTests.{name-test, star-test, node-test}
 use Rattle.xpath.specs.Term.{Path, Qualifier, AxisStep, Union, Composition, Filter}
 use Rattle.rules.specs.Order.{axisBelow, testBelow}
-use Rattle.rules.specs.Form.{PathLetter, QualifierLetter, AxisLetter, TestLetter, AxisForm, axis, axis-letter, TestForm, test, test-letter, PathForm, path-letter, _::_, _¦_, _∕_, _⟦_⟧, QualifierForm, qualifier-letter, Not_, _And_, _Or_, _In_, ClaimForm, _<=_, _=>_, Condition, a-below-b, N-below-M, b-from-3-to-10, N-a-name-or-star, N-not-node, a-not-attribute}
+use Rattle.rules.specs.Form.{PathLetter, QualifierLetter, AxisLetter, TestLetter, AxisForm, axis, axis-letter}
+use Rattle.rules.specs.Form.{TestForm, test, test-letter, PathForm, path-letter, _::_, _¦_, _∕_, _⟦_⟧}
+use Rattle.rules.specs.Form.{QualifierForm, qualifier-letter, Not_, _And_, _Or_, _In_, ClaimForm, _<=_, _=>_}
+use Rattle.rules.specs.Form.{Condition, a-below-b, N-below-M, b-from-3-to-10, N-a-name-or-star, N-not-node}
+use Rattle.rules.specs.Form.{a-not-attribute}
 use Rattle.rules.specs.Claim.{Claim, Containment, Implication}
 
 pub record Test : Type 0 where
@@ -53,7 +58,8 @@ claimFor e (u => v) = Implication (qualifierFor e u) (qualifierFor e v)
 -- the choice meets a condition
 unfoldable pub meets : Letters → Condition → Bool
 meets e a-below-b = axisBelow (e .axis AxisLetter.a) (e .axis AxisLetter.b)
-meets e N-below-M = testBelow (e .test TestLetter.N .test) (e .test TestLetter.N .name) (e .test TestLetter.M .test) (e .test TestLetter.M .name)
+meets e N-below-M = testBelow (e .test TestLetter.N .test) (e .test TestLetter.N .name) (e .test TestLetter.M .test)
+    (e .test TestLetter.M .name)
 meets e b-from-3-to-10 = leb descendant (e .axis AxisLetter.b) && leb (e .axis AxisLetter.b) preceding
 meets e N-a-name-or-star = eqb (e .test TestLetter.N .test) name-test || eqb (e .test TestLetter.N .test) star-test
 meets e N-not-node = not (eqb (e .test TestLetter.N .test) node-test)

@@ -3,7 +3,9 @@ use Prim.Native.Nat.{ℕ}
 use mathlib.Core.List.{List, [], _∷_, _++_}
 use Rattle.common.specs.Axes
 use Rattle.common.specs.NodeTests
-use Rattle.rules.specs.Form.{PathLetter, QualifierLetter, AxisLetter, TestLetter, AxisForm, axis, axis-letter, TestForm, test, test-letter, PathForm, path-letter, Void, QualifierForm, qualifier-letter, Not_, _In_, ClaimForm, _<=_, _=>_, Condition, Form, Rule}
+use Rattle.rules.specs.Form.{PathLetter, QualifierLetter, AxisLetter, TestLetter, AxisForm, axis, axis-letter}
+use Rattle.rules.specs.Form.{TestForm, test, test-letter, PathForm, path-letter, Void, QualifierForm}
+use Rattle.rules.specs.Form.{qualifier-letter, Not_, _In_, ClaimForm, _<=_, _=>_, Condition, Form, Rule}
 
 infix 79 _≐_ _⇔_
 infixl 66 _from_ _if_

@@ -1,8 +1,13 @@
--- The rule table: a line for each rule, its number, its conclusion, its premises in order, its conditions. Signs: `¦`, `∕`, `⟦ ⟧` are
--- document 01's `|`, `/`, `[ ]`; `≐` and `⇔` are `=`, of paths and of qualifiers; `self :: node-test` is `.`. Assumes nothing.
+-- The rule table: a line for each rule, its number, its conclusion, its premises in order, its conditions. Signs: `¦`,
+-- `∕`, `⟦ ⟧` are document 01's `|`, `/`, `[ ]`; `≐` and `⇔` are `=`, of paths and of qualifiers; `self :: node-test` is
+-- `.`. Assumes nothing.
 use mathlib.Core.List.{List, [], _∷_, _++_}
-use Rattle.rules.specs.Form.{Rule, Void, Root, _::_, _¦_, _∕_, _⟦_⟧, True, False, Not_, _And_, _Or_, _In_, _<=_, _=>_, a-below-b, N-below-M, b-from-3-to-10, N-a-name-or-star, N-not-node, a-not-attribute}
-use Rattle.rules.specs.Notation.{p, q, r, s, f, g, h, a, b, N, M, self, child, parent, descendant, ancestor, descendant-or-self, ancestor-or-self, following-sibling, preceding-sibling, following, preceding, star-test, node-test, some-of, _▸_, _from_, _if_, _≐_, _⇔_}
+use Rattle.rules.specs.Form.{Rule, Void, Root, _::_, _¦_, _∕_, _⟦_⟧, True, False, Not_, _And_, _Or_, _In_, _<=_}
+use Rattle.rules.specs.Form.{_=>_, a-below-b, N-below-M, b-from-3-to-10, N-a-name-or-star, N-not-node}
+use Rattle.rules.specs.Form.{a-not-attribute}
+use Rattle.rules.specs.Notation.{p, q, r, s, f, g, h, a, b, N, M, self, child, parent, descendant, ancestor}
+use Rattle.rules.specs.Notation.{descendant-or-self, ancestor-or-self, following-sibling, preceding-sibling}
+use Rattle.rules.specs.Notation.{following, preceding, star-test, node-test, some-of, _▸_, _from_, _if_, _≐_, _⇔_}
 
 unfoldable pub rules : List Rule
 rules =

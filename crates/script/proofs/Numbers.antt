@@ -12,7 +12,8 @@ use Rattle.lines.specs.Line.{newline, space, lines}
 use Rattle.lines.specs.Number.{maxNumber, numberUpTo, numbersUpTo}
 use Rattle.lines.specs.code.NumbersRead.{NumberMet, firstParts}
 use Rattle.lines.proofs.Cutting.{lines-at}
-use Rattle.lines.proofs.Parts.{prepended, Reads, first-none, first-mapped, no-newline-in, next-behind, number-before-space, number-before-newline, number-found, nothing-read, PartsMet}
+use Rattle.lines.proofs.Parts.{prepended, Reads, first-none, first-mapped, no-newline-in, next-behind}
+use Rattle.lines.proofs.Parts.{number-before-space, number-before-newline, number-found, nothing-read, PartsMet}
 use Rattle.script.specs.Command.{allNumbers, atMost}
 
 reads-all : Reads maxNumber allNumbers allNumbers
@@ -48,28 +49,38 @@ module _ (xs : List ℕ) (at from : ℕ) (ns : List ℕ) (so-far : SoFar xs at f
       let r = m .right refl in
       record {
         numbers = so-far .numbers
-            ∙ ap (appended ns) (ap (λ t. firstParts allNumbers (lines t)) (found .text) ∙ number-before-space maxNumber v (found .bytes) (drop next xs) (found .is-number) allNumbers allNumbers reads-all)
+            ∙ ap (appended ns) (ap (λ t. firstParts allNumbers (lines t)) (found .text)
+            ∙ number-before-space maxNumber v (found .bytes) (drop next xs) (found .is-number) allNumbers allNumbers
+            reads-all)
             ∙ appended-one ns v _;
-        next = so-far .next ∙ ap (λ t. drop 1 (lines t)) (found .text) ∙ next-behind (found .bytes) (drop next xs) (no-newline-in maxNumber v (found .bytes) (drop next xs) (found .is-number));
+        next = so-far .next ∙ ap (λ t. drop 1 (lines t)) (found .text) ∙ next-behind (found .bytes) (drop next xs)
+            (no-newline-in maxNumber v (found .bytes) (drop next xs) (found .is-number));
         onward = omega (arith, so-far .onward);
       }
 
-  pub last-of-all : (v next : ℕ) → NumberMet maxNumber newline xs from true v next → PartsMet allNumbers xs at true (ns ++ v ∷ []) next
+  pub last-of-all : (v next : ℕ) → NumberMet maxNumber newline xs from true v next → PartsMet allNumbers xs at true
+      (ns ++ v ∷ []) next
   unfolding numbersUpTo Option·elim
   last-of-all v next m =
       let found = number-found maxNumber newline (drop from xs) v (drop next xs) (m .number) in
       let r = m .right refl in
       record {
-        numbers = sym (so-far .numbers ∙ ap (appended ns) (ap (λ t. firstParts allNumbers (lines t)) (found .text) ∙ number-before-newline maxNumber v (found .bytes) (drop next xs) (found .is-number) allNumbers allNumbers reads-all));
-        rest = λ t. sym (so-far .next ∙ ap (λ t. drop 1 (lines t)) (found .text) ∙ rw (lines-at (found .bytes) (drop next xs) (no-newline-in maxNumber v (found .bytes) (drop next xs) (found .is-number))));
+        numbers = sym (so-far .numbers ∙ ap (appended ns) (ap (λ t. firstParts allNumbers (lines t)) (found .text)
+            ∙ number-before-newline maxNumber v (found .bytes) (drop next xs) (found .is-number) allNumbers allNumbers
+            reads-all));
+        rest = λ t. sym (so-far .next ∙ ap (λ t. drop 1 (lines t)) (found .text)
+            ∙ rw (lines-at (found .bytes) (drop next xs) (no-newline-in maxNumber v (found .bytes) (drop next xs)
+            (found .is-number))));
         right = λ t. (omega (arith, so-far .onward), r .1);
       }
 
-  pub no-number-more : (v next : ℕ) → NumberMet maxNumber space xs from false v next → (u last : ℕ) → NumberMet maxNumber newline xs from false u last
+  pub no-number-more : (v next : ℕ) → NumberMet maxNumber space xs from false v next → (u last : ℕ)
+      → NumberMet maxNumber newline xs from false u last
       → firstParts allNumbers (lines (drop at xs)) ≡ none
   unfolding Option·elim
   no-number-more v next m u last n =
-      so-far .numbers ∙ ap (appended ns) (nothing-read maxNumber allNumbers allNumbers reads-all (drop from xs) (inl (sym (n .number))) (inl (sym (m .number))))
+      so-far .numbers ∙ ap (appended ns) (nothing-read maxNumber allNumbers allNumbers reads-all (drop from xs)
+      (inl (sym (n .number))) (inl (sym (m .number))))
 
   -- the line goes on, and there is always one more part
   pub numbers-full : (most : ℕ) → length ns ≡ most → atMost most (firstParts allNumbers (lines (drop at xs))) ≡ none
@@ -77,7 +88,8 @@ module _ (xs : List ℕ) (at from : ℕ) (ns : List ℕ) (so-far : SoFar xs at f
   numbers-full most e =
       rw (so-far .numbers)
       (sym (first-mapped cut-off refl (λ ws. cut-off (allNumbers ws)) allNumbers (λ ws. refl) (lines (drop from xs)))
-      ∙ first-none (λ ws. cut-off (allNumbers ws)) (λ w ws. by-numbers (numberUpTo maxNumber w) (allNumbers ws)) (lines (drop from xs)))
+      ∙ first-none (λ ws. cut-off (allNumbers ws)) (λ w ws. by-numbers (numberUpTo maxNumber w) (allNumbers ws))
+      (lines (drop from xs)))
     where
       cut-off : Option (List ℕ) → Option (List ℕ)
       cut-off o = atMost most (appended ns o)

@@ -5,6 +5,7 @@ use mathlib.Core.List.{List, [], _∷_}
 use mathlib.Core.Option.{Option, none, some, Option·elim}
 use lib.Dec.{leb}
 use lib.ListN.{length}
+use Rattle.common.specs.Limits.{maxBytes}
 use Rattle.xpath.specs.Document.{maxNodes}
 use Rattle.lines.specs.Ascii.{ascii}
 use Rattle.lines.specs.Line.{sameBytes}
@@ -33,7 +34,7 @@ maxMarks = 1024
 
 -- the longest buffer of a write
 abbrev pub maxRoom : ℕ
-maxRoom = 65536
+maxRoom = maxBytes
 
 -- one node more than a select takes, three numbers a node
 abbrev pub maxNumbers : ℕ

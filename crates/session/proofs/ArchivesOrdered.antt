@@ -74,7 +74,8 @@ module _ (Ordered : OrderRelation) (order-tied : OrdersKept Ordered OrderMet)
   -- the session that calls leave holds what the plain book does
   holds : (cs : List Call) (os : List CallSeen) (s : Session) → CallsMade freshSession cs os s → view s ≡ bookAfter cs
   holds cs os s run =
-      let (shows, same, whole, reachable) = run-follows session-as-book (fresh-kept .whole) (fresh-kept .reachable) run in
+      let (shows, same, whole, reachable) = run-follows session-as-book (fresh-kept .whole)
+      (fresh-kept .reachable) run in
       same ∙ ap (λ b. final plainBook b cs) fresh-view
 
   -- so for every `new` and every calls that meet theirs

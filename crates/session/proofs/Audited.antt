@@ -5,6 +5,7 @@ use mathlib.Core.Bool.{cond}
 use mathlib.Core.List.{List}
 use lib.ListN.{length}
 use borrow.Author.Tests.{lt-ltb, le-ltb}
+use Rattle.common.specs.Limits.{maxBytes}
 use Rattle.matching.specs.code.RowYields.{Sides}
 use Rattle.session.specs.declared.read.ReadResult.{ReadResult}
 use Rattle.calls.specs.Book.{answer, accepted}
@@ -14,7 +15,7 @@ use Rattle.calls.specs.Promises.{sidesOf}
 use Rattle.calls.specs.Refusals.{wrong-form}
 use Rattle.session.specs.Reading.{reading}
 use Rattle.session.specs.ReadCall.{readAnswerOf, readingOf, ReadMet}
-use Rattle.session.specs.Audit.{maxBytes, reportBy, readReport, report}
+use Rattle.session.specs.Audit.{reportBy, readReport, report}
 
 module _ (bytes : List ℕ) where
   pub too-long : maxBytes < length bytes → reportBy wrong-form 0 0 0 0 ≡ report bytes
@@ -26,10 +27,12 @@ module _ (bytes : List ℕ) where
 
   -- what is printed of a result that read gives
   module _ (short : length bytes ≤ maxBytes) (t : ReadResult) (met : ReadMet bytes t) where
-    pub reported : (number value line steps : ℕ) (last : Sides) → number ≡ readAnswerOf (t .answer) .number → value ≡ readAnswerOf (t .answer) .value
+    pub reported : (number value line steps : ℕ) (last : Sides) → number ≡ readAnswerOf (t .answer) .number
+        → value ≡ readAnswerOf (t .answer) .value
         → line ≡ cond (accepted (answer number value)) 0 value → steps ≡ length (view (t .session) .steps)
         → last ≡ sidesOf (stepNumbered (view (t .session) .steps) (length (view (t .session) .steps)))
         → reportBy number line steps (last .left) (last .right) ≡ report bytes
     unfolding report sidesOf
     reported number value line steps last is-number is-value is-line is-steps is-last =
-        rw (is-line, is-number, is-value, is-steps, is-last, le-ltb maxBytes (length bytes) short) (ap readReport (met-reading t met))
+        rw (is-line, is-number, is-value, is-steps, is-last, le-ltb maxBytes (length bytes) short)
+        (ap readReport (met-reading t met))

@@ -7,6 +7,7 @@ use mathlib.Core.Option.{none, some, Option·elim, Option·none-ne-some}
 use native.Mathlib.Omega.{arith}
 use lib.ListN.{length}
 use Rattle.terms.specs.Row.{Row}
+use Rattle.common.specs.Limits.{maxBytes}
 use Rattle.common.specs.Lists.{Every, joined}
 use Rattle.lines.specs.Ascii.{ascii}
 use Rattle.lines.specs.Line.{newline, Line, line, inFirstPart, lines, parts, sameBytes, isLine, firstIs}
@@ -30,7 +31,6 @@ use Rattle.session.specs.Promises.{Met, CallsMade, SelectMet}
 use Rattle.session.specs.ReadCall.{ReadMet}
 use Rattle.session.specs.WriteCall.{sessionText, WriteRelation, WriteMet}
 use Rattle.session.specs.ReadDemand.{IsAccepted, callsOf, RowFits, StepFits, CallFits, ReadDemand}
-use Rattle.session.specs.Audit.{maxBytes}
 use Rattle.session.specs.SessionLaws.{sessionOf, withoutPoints}
 use Rattle.calls.proofs.Runs.{run-map, accepted-made}
 use Rattle.session.proofs.Demand3.{CallsKept, SelectsKept}
@@ -57,7 +57,9 @@ not-names [] ns e = refl
 not-names (l ∷ ls) ns e = by-test (isLine stepNames l) refl
   where
     by-test : (b : Bool) → isLine stepNames l ≡ b → b ≡ false
-    by-test true is = absurd (Option·none-ne-some ns (sym no-row-in-names ∙ sym (ap (numbersOf rowWidth) (is-line stepNames l is)) ∙ e))
+    by-test true is =
+        absurd (Option·none-ne-some ns (sym no-row-in-names ∙ sym (ap (numbersOf rowWidth) (is-line stepNames l is))
+        ∙ e))
     by-test false is = refl
 
 names-are-names : isLine stepNames (line stepNames true) ≡ true
@@ -72,7 +74,8 @@ first-names-are = refl
 abbrev allRead : Session → Reading
 allRead u = record { answer = answer 0 (length (view u .steps)); session = u }
 
-steps-written : (s : Session) (n : ℕ) (ps : List Step) (os : List CallSeen) (u : Session) → Every StepFits ps → CallsMade s (map step ps) os u → Every IsAccepted os
+steps-written : (s : Session) (n : ℕ) (ps : List Step) (os : List CallSeen) (u : Session) → Every StepFits ps
+    → CallsMade s (map step ps) os u → Every IsAccepted os
     → stepsRead rowStepAnswer s n (lines (stepsText ps)) ≡ allRead u
 unfolding stepsText stepsRead lines
 steps-written s n [] os u fits done taken = refl
@@ -81,8 +84,10 @@ steps-written s n (p ∷ ps) os u fits (then {os = rest} m run) taken =
     step-held s n _ (stepNumbers p) (sym (text .numbers)) _ _ m (taken .0)
     ∙ rw (text .next) (steps-written _ (n + 1) ps rest u (fits .1) run (taken .1))
 
-rows-written : (s : Session) (n : ℕ) (rs : List Row) (ps : List Step) (os : List CallSeen) (u : Session) → Every RowFits rs → Every StepFits ps
-    → CallsMade s (callsOf rs ps) os u → Every IsAccepted os → rowsRead rowStepAnswer s n (lines (rowsText rs ++ (stepNames ++ newline ∷ stepsText ps))) ≡ allRead u
+rows-written : (s : Session) (n : ℕ) (rs : List Row) (ps : List Step) (os : List CallSeen) (u : Session)
+    → Every RowFits rs → Every StepFits ps
+    → CallsMade s (callsOf rs ps) os u → Every IsAccepted os → rowsRead rowStepAnswer s n
+    (lines (rowsText rs ++ (stepNames ++ newline ∷ stepsText ps))) ≡ allRead u
 unfolding rowsText firstIs
 rows-written s n [] ps os u rows steps run taken =
     let text = lines-at stepNames (stepsText ps) step-names-free in
@@ -94,13 +99,21 @@ rows-written s n (r ∷ rs) ps os u rows steps (then {os = rest} m run) taken =
     (row-held s n _ (not-names _ (rowNumbers r) (text .numbers)) (rowNumbers r) (sym (text .numbers)) _ _ m (taken .0)
     ∙ rw (text .next) (rows-written _ (n + 1) rs ps rest u (rows .1) steps run (taken .1)))
 
-well-written : (rs : List Row) (ps : List Step) (os : List CallSeen) (u : Session) → Every RowFits rs → Every StepFits ps
-    → CallsMade freshSession (callsOf rs ps) os u → Every IsAccepted os → reading (bundleText rs ps) ≡ record { answer = answer 0 (length ps); session = u }
+well-written : (rs : List Row) (ps : List Step) (os : List CallSeen) (u : Session) → Every RowFits rs
+    → Every StepFits ps
+    → CallsMade freshSession (callsOf rs ps) os u → Every IsAccepted os → reading (bundleText rs ps) ≡ record {
+      answer = answer 0 (length ps);
+      session = u;
+    }
 unfolding bundleText linesRead
 well-written rs ps os u rows steps run taken =
     let text = lines-at rowNames (rowsText rs ++ (stepNames ++ newline ∷ stepsText ps)) row-names-free in
     let held = ap (λ b. length (b .steps)) (calls-held rs ps os u run taken) in
-    reading-by-rows (bundleText rs ps) ∙ rw (text, first-names-are) (rows-written freshSession 2 rs ps os u rows steps run taken ∙ ap (λ n. record { answer = answer 0 n; session = u }) held)
+    reading-by-rows (bundleText rs ps) ∙ rw (text, first-names-are)
+    (rows-written freshSession 2 rs ps os u rows steps run taken ∙ ap (λ n. record {
+      answer = answer 0 n;
+      session = u;
+    }) held)
 
 -- calls that the plain book accepts one after the other are made on a session of it
 record TakenRun (s : Session) (cs : List Call) : Type 0 where

@@ -1,4 +1,9 @@
--- Each clause of demand 3, written out once more: without one of them this fails. Assumes nothing.
+-- Each clause of demand 3, written out once more: without one of them this fails. Below it, those of the other demands.
+-- Assumes nothing.
+pub mod ReadClauses
+pub mod ReplaceClauses
+pub mod PointClauses
+pub mod OrderClauses
 use Prim.Native.Nat.{ℕ, _≤_, _<_}
 use mathlib.Core.Path.{_≡_}
 use mathlib.Core.Bool.{cond}

@@ -85,9 +85,11 @@ module _ (Selected : SelectRelation) (select-tied : SelectsKept Selected SelectM
             (subst (λ q. T (selects d q x y)) (sym (sides .2)) by-q);
       }
 
-  pub demanded : (cs : List Call) (os : List CallSeen) (s : Session) → CallsMade freshSession cs os s → Demand3 Selected cs os s
+  pub demanded : (cs : List Call) (os : List CallSeen) (s : Session) → CallsMade freshSession cs os s
+      → Demand3 Selected cs os s
   demanded cs os s run =
-      let (shows, holds, whole, reachable) = run-follows session-as-book (fresh-kept .whole) (fresh-kept .reachable) run in
+      let (shows, holds, whole, reachable) = run-follows session-as-book (fresh-kept .whole)
+      (fresh-kept .reachable) run in
       let same : view s ≡ bookAfter cs = holds ∙ ap (λ b. final plainBook b cs) fresh-view in
       record {
         seen = shows ∙ ap (λ b. shown plainBook b cs) fresh-view;

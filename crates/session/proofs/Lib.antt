@@ -1,10 +1,6 @@
 pub mod Theorems
 pub mod Source
 pub mod Clauses
-pub mod ReadClauses
-pub mod ReplaceClauses
-pub mod PointClauses
-pub mod OrderClauses
 pub mod Views
 pub mod PointsHeld
 pub mod Whole
@@ -13,10 +9,6 @@ pub mod Demand3
 pub mod SetsReplaced
 pub mod Restored
 pub mod ArchivesOrdered
-pub mod TermMade
-pub mod TextMade
-pub mod StepMade
-pub mod PointMade
 pub mod ReadByRows
 pub mod LinesRead
 pub mod LineCalls

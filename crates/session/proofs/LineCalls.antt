@@ -30,11 +30,12 @@ use Rattle.calls.specs.Refusals.{wrong-form}
 use Rattle.session.specs.Reading.{refusedAt, stepsRead, rowsRead}
 use Rattle.session.specs.ReadCall.{holding}
 use Rattle.calls.proofs.Tables.{rows-held, steps-held}
-use Rattle.session.proofs.LinesRead.{names-read, row-wrong, row-held, row-refused, step-wrong, step-held, step-refused}
+use Rattle.session.proofs.LinesRead.{names-read, row-wrong, row-held, row-refused, step-wrong, step-held}
+use Rattle.session.proofs.LinesRead.{step-refused}
 use Rattle.calls.proofs.StepJudged.{step-accepted}
-use Rattle.session.proofs.StepMade.{step-made-held, step-made-refused}
+use Rattle.session.proofs.session.StepMade.{step-made-held, step-made-refused}
 use Rattle.calls.proofs.TermJudged.{term-accepted}
-use Rattle.session.proofs.TermMade.{term-made-held, term-made-refused}
+use Rattle.session.proofs.session.TermMade.{term-made-held, term-made-refused}
 
 pub row-names-free : Free newline rowNames
 unfolding rowNames ascii lacks
@@ -45,7 +46,8 @@ unfolding stepNames ascii lacks
 step-names-free = lacks-free newline stepNames refl
 
 -- the numbers of a line, where the code has told whether it has them
-line-numbers : (count : ℕ) (xs : List ℕ) (at : ℕ) → count ≤ maxCount → (r : NumbersLine) (b : Bool) → LineMet count xs at r →
+line-numbers : (count : ℕ) (xs : List ℕ) (at : ℕ) → count ≤ maxCount → (r : NumbersLine) (b : Bool)
+    → LineMet count xs at r →
     r .ok ≡ b → cond b (some (take count (r .numbers))) none ≡ firstNumbers count (lines (drop at xs))
 line-numbers count xs at few r b m e =
     subst (λ t. cond t (some (take count (r .numbers))) none ≡ firstNumbers count (lines (drop at xs))) e
@@ -57,7 +59,8 @@ module _ (bytes xs : List ℕ) (n line at : ℕ) where
   here = holding xs n (freshSession .steps) 0
 
   pub names-there : firstIs stepNames (lines (drop at bytes)) ≡ true
-      → (rowsRead rowStepAnswer here line (lines (drop at bytes)) ≡ stepsRead rowStepAnswer here (line + 1) (lines (drop (at + 29) bytes))) × (at + 29 ≤ length bytes)
+      → (rowsRead rowStepAnswer here line (lines (drop at bytes)) ≡ stepsRead rowStepAnswer here (line + 1)
+      (lines (drop (at + 29) bytes))) × (at + 29 ≤ length bytes)
   unfolding stepNames ascii
   names-there e =
       let passed = line-passed stepNames bytes at step-names-free e in
@@ -67,8 +70,10 @@ module _ (bytes xs : List ℕ) (n line at : ℕ) where
   unfolding rowsRead
   row-end h = rw (no-lines bytes at h)
 
-  module _ (other : firstIs stepNames (lines (drop at bytes)) ≡ false) (r : NumbersLine) (m : LineMet rowWidth bytes at r) where
-    pub row-wrong-there : r .ok ≡ false → rowsRead rowStepAnswer here line (lines (drop at bytes)) ≡ refusedAt wrong-form line
+  module _ (other : firstIs stepNames (lines (drop at bytes)) ≡ false) (r : NumbersLine)
+      (m : LineMet rowWidth bytes at r) where
+    pub row-wrong-there : r .ok ≡ false → rowsRead rowStepAnswer here line (lines (drop at bytes))
+        ≡ refusedAt wrong-form line
     row-wrong-there e = row-wrong here line _ other (line-numbers rowWidth bytes at (omega arith) r false m e)
 
     -- the first four of the numbers are all that a row takes
@@ -90,15 +95,20 @@ module _ (bytes xs : List ℕ) (n line at : ℕ) where
         count : n ≡ min n maxRows
         count = omega arith
 
-        pub row-refused-there : ¬ (termAnswerOf t .number ≡ 0) → rowsRead rowStepAnswer here line (lines (drop at bytes)) ≡ refusedAt (termAnswerOf t .number) line
+        pub row-refused-there : ¬ (termAnswerOf t .number ≡ 0) → rowsRead rowStepAnswer here line
+            (lines (drop at bytes)) ≡ refusedAt (termAnswerOf t .number) line
         row-refused-there f =
-            row-refused here line _ other four four-read _ _ (term-made-refused here (rowOfNumbers four) n count ys t four-placed f) f
+            row-refused here line _ other four four-read _ _
+            (term-made-refused here (rowOfNumbers four) n count ys t four-placed f) f
 
         module _ (e : termAnswerOf t .number ≡ 0) where
-          pub row-held-there : rowsRead rowStepAnswer here line (lines (drop at bytes)) ≡ rowsRead rowStepAnswer (holding ys (n + 1) (freshSession .steps) 0) (line + 1) (lines (drop (r .next) bytes))
+          pub row-held-there : rowsRead rowStepAnswer here line (lines (drop at bytes)) ≡ rowsRead rowStepAnswer
+              (holding ys (n + 1) (freshSession .steps) 0) (line + 1) (lines (drop (r .next) bytes))
           row-held-there =
-              row-held here line _ other four four-read _ _ (term-made-held here (rowOfNumbers four) n count ys t four-placed e) e
-              ∙ ap (rowsRead rowStepAnswer (holding ys (n + 1) (freshSession .steps) 0) (line + 1)) (sym (m .rest right))
+              row-held here line _ other four four-read _ _
+              (term-made-held here (rowOfNumbers four) n count ys t four-placed e) e
+              ∙ ap (rowsRead rowStepAnswer (holding ys (n + 1) (freshSession .steps) 0) (line + 1))
+              (sym (m .rest right))
 
           pub row-room : length xs ≡ rowWidth * maxRows → n < maxRows
           row-room size =
@@ -111,7 +121,10 @@ module _ (bytes xs : List ℕ) (n : ℕ) (ys : List ℕ) (k line at : ℕ) where
   now-held = holding xs n ys k
 
   pub step-end : length bytes ≤ at → k ≤ maxSteps → length ys ≡ stepWidth * maxSteps
-      → stepsRead rowStepAnswer now-held line (lines (drop at bytes)) ≡ record { answer = answer 0 k; session = now-held }
+      → stepsRead rowStepAnswer now-held line (lines (drop at bytes)) ≡ record {
+        answer = answer 0 k;
+        session = now-held;
+      }
   unfolding stepsRead view
   step-end h few size =
       let held = steps-held ys (min k maxSteps) (omega arith) size in
@@ -119,8 +132,10 @@ module _ (bytes xs : List ℕ) (n : ℕ) (ys : List ℕ) (k line at : ℕ) where
       rw (no-lines bytes at h) (ap (λ j. record { answer = answer 0 j; session = now-held }) (held ∙ same))
 
   module _ (r : NumbersLine) (m : LineMet stepWidth bytes at r) where
-    pub step-wrong-there : at < length bytes → r .ok ≡ false → stepsRead rowStepAnswer now-held line (lines (drop at bytes)) ≡ refusedAt wrong-form line
-    step-wrong-there inside e = step-wrong now-held line _ (some-line bytes at inside) (line-numbers stepWidth bytes at (omega arith) r false m e)
+    pub step-wrong-there : at < length bytes → r .ok ≡ false → stepsRead rowStepAnswer now-held line
+        (lines (drop at bytes)) ≡ refusedAt wrong-form line
+    step-wrong-there inside e = step-wrong now-held line _ (some-line bytes at inside)
+        (line-numbers stepWidth bytes at (omega arith) r false m e)
 
     -- a step takes all five numbers
     abbrev five : List ℕ
@@ -141,14 +156,16 @@ module _ (bytes xs : List ℕ) (n : ℕ) (ys : List ℕ) (k line at : ℕ) where
         steps-counted : k ≡ min k maxSteps
         steps-counted = omega arith
 
-        pub step-refused-there : ¬ (stepAnswerOf t .number ≡ 0) → stepsRead rowStepAnswer now-held line (lines (drop at bytes)) ≡ refusedAt (stepAnswerOf t .number) line
+        pub step-refused-there : ¬ (stepAnswerOf t .number ≡ 0) → stepsRead rowStepAnswer now-held line
+            (lines (drop at bytes)) ≡ refusedAt (stepAnswerOf t .number) line
         step-refused-there f =
             step-refused now-held line _ five five-read _ _
             (step-made-refused now-held (stepOfNumbers five) t five-judged f) f
 
         module _ (e : stepAnswerOf t .number ≡ 0) where
           pub step-held-there : (zs : List ℕ) → zs ≡ sets ys (stepWidth * k) (stepNumbers (stepOfNumbers (r .numbers)))
-              → stepsRead rowStepAnswer now-held line (lines (drop at bytes)) ≡ stepsRead rowStepAnswer (holding xs n zs (k + 1)) (line + 1) (lines (drop (r .next) bytes))
+              → stepsRead rowStepAnswer now-held line (lines (drop at bytes)) ≡ stepsRead rowStepAnswer
+              (holding xs n zs (k + 1)) (line + 1) (lines (drop (r .next) bytes))
           step-held-there zs written =
               let five-written = written ∙ ap (λ q. sets ys (stepWidth * k) (stepNumbers q)) step-there in
               step-held now-held line _ five five-read _ _

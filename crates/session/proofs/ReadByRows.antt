@@ -1,4 +1,5 @@
--- Reading by the book's answers is reading by row numbers: every session on the way is one that calls lead to. Assumes nothing.
+-- Reading by the book's answers is reading by row numbers: every session on the way is one that calls lead to.
+-- Assumes nothing.
 use Prim.Native.Nat.{ℕ, _+_}
 use mathlib.Core.Path.{_≡_, refl, ap}
 use mathlib.Core.Bool.{Bool, true, false, cond}
@@ -30,47 +31,58 @@ same-if-accepted : (b : Bool) (t u v : Reading) → (b ≡ true → t ≡ u) →
 same-if-accepted true t u v same = same refl
 same-if-accepted false t u v same = refl
 
-steps-by-rows : (s : Session) → Kept s → (n : ℕ) (ls : List Line) → stepsRead stepAnswer s n ls ≡ stepsRead rowStepAnswer s n ls
+steps-by-rows : (s : Session) → Kept s → (n : ℕ) (ls : List Line) → stepsRead stepAnswer s n ls
+    ≡ stepsRead rowStepAnswer s n ls
 unfolding stepsRead Option·elim
 steps-by-rows s k n [] = refl
-steps-by-rows s k n (l ∷ ls) = by-form (stepOfLine l) (λ p e. steps-by-rows (withStep s p) (kept-with s k (step p) e) (n + 1) ls)
+steps-by-rows s k n (l ∷ ls) =
+    by-form (stepOfLine l) (λ p e. steps-by-rows (withStep s p) (kept-with s k (step p) e) (n + 1) ls)
   where
     after : (Book → Step → Answer) → Step → Reading
-    after judge p = cond (accepted (judge (view s) p)) (stepsRead judge (withStep s p) (n + 1) ls) (refusedAt (judge (view s) p .number) n)
+    after judge p = cond (accepted (judge (view s) p)) (stepsRead judge (withStep s p) (n + 1) ls)
+        (refusedAt (judge (view s) p .number) n)
 
     by-form : (o : Option Step)
         → ((p : Step) → accepted (rowStepAnswer (view s) p) ≡ true
         → stepsRead stepAnswer (withStep s p) (n + 1) ls ≡ stepsRead rowStepAnswer (withStep s p) (n + 1) ls)
-        → Option·elim o (refusedAt wrong-form n) (after stepAnswer) ≡ Option·elim o (refusedAt wrong-form n) (after rowStepAnswer)
+        → Option·elim o (refusedAt wrong-form n) (after stepAnswer) ≡ Option·elim o (refusedAt wrong-form n)
+        (after rowStepAnswer)
     by-form none later = refl
     by-form (some p) later =
-        rw (← row-answer-by-terms (view s) p (k .reachable)) (same-if-accepted (accepted (rowStepAnswer (view s) p)) _ _ _ (later p))
+        rw (← row-answer-by-terms (view s) p (k .reachable))
+        (same-if-accepted (accepted (rowStepAnswer (view s) p)) _ _ _ (later p))
 
-rows-by-rows : (s : Session) → Kept s → (n : ℕ) (ls : List Line) → rowsRead stepAnswer s n ls ≡ rowsRead rowStepAnswer s n ls
+rows-by-rows : (s : Session) → Kept s → (n : ℕ) (ls : List Line) → rowsRead stepAnswer s n ls
+    ≡ rowsRead rowStepAnswer s n ls
 unfolding rowsRead Option·elim
 rows-by-rows s k n [] = refl
 rows-by-rows s k n (l ∷ ls) =
-    by-names (isLine stepNames l) (by-form (rowOfLine l) (λ r e. rows-by-rows (withRow s r) (kept-with s k (term r) e) (n + 1) ls))
+    by-names (isLine stepNames l)
+    (by-form (rowOfLine l) (λ r e. rows-by-rows (withRow s r) (kept-with s k (term r) e) (n + 1) ls))
   where
     after : (Book → Step → Answer) → Row → Reading
     after judge r =
-        cond (accepted (termAnswer (view s .rows) r)) (rowsRead judge (withRow s r) (n + 1) ls) (refusedAt (termAnswer (view s .rows) r .number) n)
+        cond (accepted (termAnswer (view s .rows) r)) (rowsRead judge (withRow s r) (n + 1) ls)
+        (refusedAt (termAnswer (view s .rows) r .number) n)
 
     by-form : (o : Option Row)
         → ((r : Row) → accepted (termAnswer (view s .rows) r) ≡ true
         → rowsRead stepAnswer (withRow s r) (n + 1) ls ≡ rowsRead rowStepAnswer (withRow s r) (n + 1) ls)
-        → Option·elim o (refusedAt wrong-form n) (after stepAnswer) ≡ Option·elim o (refusedAt wrong-form n) (after rowStepAnswer)
+        → Option·elim o (refusedAt wrong-form n) (after stepAnswer) ≡ Option·elim o (refusedAt wrong-form n)
+        (after rowStepAnswer)
     by-form none later = refl
     by-form (some r) later = same-if-accepted (accepted (termAnswer (view s .rows) r)) _ _ _ (later r)
 
-    by-names : (b : Bool) {t u : Reading} → t ≡ u → cond b (stepsRead stepAnswer s (n + 1) ls) t ≡ cond b (stepsRead rowStepAnswer s (n + 1) ls) u
+    by-names : (b : Bool) {t u : Reading} → t ≡ u → cond b (stepsRead stepAnswer s (n + 1) ls) t
+        ≡ cond b (stepsRead rowStepAnswer s (n + 1) ls) u
     by-names true e = steps-by-rows s k (n + 1) ls
     by-names false e = e
 
 lines-by-rows : (ls : List Line) → linesRead stepAnswer ls ≡ linesRead rowStepAnswer ls
 unfolding linesRead
 lines-by-rows [] = refl
-lines-by-rows (l ∷ ls) = ap (λ t. cond (isLine rowNames l) t (refusedAt wrong-form 1)) (rows-by-rows freshSession fresh-kept 2 ls)
+lines-by-rows (l ∷ ls) = ap (λ t. cond (isLine rowNames l) t (refusedAt wrong-form 1))
+    (rows-by-rows freshSession fresh-kept 2 ls)
 
 pub reading-by-rows : (bytes : List ℕ) → reading bytes ≡ linesRead rowStepAnswer (lines bytes)
 unfolding reading

@@ -1,4 +1,5 @@
--- An accepted reading makes the calls of the lines, and demand 3 holds of them; a refused one leaves a fresh session. Assumes nothing.
+-- An accepted reading makes the calls of the lines, and demand 3 holds of them; a refused one leaves a fresh session.
+-- Assumes nothing.
 use Prim.Native.Nat.{ℕ, _+_}
 use mathlib.Core.Path.{_≡_, refl, sym, ap, subst, _∙_}
 use mathlib.Core.Bool.{Bool, true, false, cond, _&&_, false≢true}
@@ -49,7 +50,8 @@ record StepsMade (s : Session) (ls : List Line) (u : Session) : Type 0 where
   pub made : CallsMade s (map step steps) seen u
   pub accepted : Every IsAccepted seen
 
-one-step : (s : Session) (p : Step) (l : Line) (ls : List Line) (u : Session) → stepOfLine l ≡ some p → rowStepAnswer (view s) p .number ≡ 0
+one-step : (s : Session) (p : Step) (l : Line) (ls : List Line) (u : Session) → stepOfLine l ≡ some p
+    → rowStepAnswer (view s) p .number ≡ 0
     → StepsMade (withStep s p) ls u → StepsMade s (l ∷ ls) u
 one-step s p l ls u is e later =
     record {
@@ -63,26 +65,34 @@ one-step s p l ls u is e later =
 -- the reading from line n on, where that line is the step p
 abbrev afterStep : Session → ℕ → List Line → Step → Reading
 afterStep s n ls p =
-    cond (accepted (rowStepAnswer (view s) p)) (stepsRead rowStepAnswer (withStep s p) (n + 1) ls) (refusedAt (rowStepAnswer (view s) p .number) n)
+    cond (accepted (rowStepAnswer (view s) p)) (stepsRead rowStepAnswer (withStep s p) (n + 1) ls)
+    (refusedAt (rowStepAnswer (view s) p .number) n)
 
-step-line-made : (s : Session) (n : ℕ) (l : Line) (ls : List Line) (p : Step) → stepOfLine l ≡ some p → afterStep s n ls p .answer .number ≡ 0
-    → (stepsRead rowStepAnswer (withStep s p) (n + 1) ls .answer .number ≡ 0 → StepsMade (withStep s p) ls (stepsRead rowStepAnswer (withStep s p) (n + 1) ls .session))
+step-line-made : (s : Session) (n : ℕ) (l : Line) (ls : List Line) (p : Step) → stepOfLine l ≡ some p
+    → afterStep s n ls p .answer .number ≡ 0
+    → (stepsRead rowStepAnswer (withStep s p) (n + 1) ls .answer .number ≡ 0 → StepsMade (withStep s p) ls
+    (stepsRead rowStepAnswer (withStep s p) (n + 1) ls .session))
     → StepsMade s (l ∷ ls) (afterStep s n ls p .session)
 step-line-made s n l ls p is e later = by-answer (accepted (rowStepAnswer (view s) p)) refl e
   where
     by-answer : (b : Bool) → accepted (rowStepAnswer (view s) p) ≡ b
-        → cond b (stepsRead rowStepAnswer (withStep s p) (n + 1) ls) (refusedAt (rowStepAnswer (view s) p .number) n) .answer .number ≡ 0
-        → StepsMade s (l ∷ ls) (cond b (stepsRead rowStepAnswer (withStep s p) (n + 1) ls) (refusedAt (rowStepAnswer (view s) p .number) n) .session)
+        → cond b (stepsRead rowStepAnswer (withStep s p) (n + 1) ls)
+        (refusedAt (rowStepAnswer (view s) p .number) n) .answer .number ≡ 0
+        → StepsMade s (l ∷ ls) (cond b (stepsRead rowStepAnswer (withStep s p) (n + 1) ls)
+        (refusedAt (rowStepAnswer (view s) p .number) n) .session)
     by-answer true t u = one-step s p l ls _ is (eqb-true _ 0 t) (later u)
     by-answer false t u = absurd (eqb-false (rowStepAnswer (view s) p .number) 0 t u)
 
-steps-made : (s : Session) (n : ℕ) (ls : List Line) → stepsRead rowStepAnswer s n ls .answer .number ≡ 0 → StepsMade s ls (stepsRead rowStepAnswer s n ls .session)
+steps-made : (s : Session) (n : ℕ) (ls : List Line) → stepsRead rowStepAnswer s n ls .answer .number ≡ 0
+    → StepsMade s ls (stepsRead rowStepAnswer s n ls .session)
 unfolding stepsRead Option·elim
 steps-made s n [] e = record { steps = []; are-steps = refl; seen = []; made = done; accepted = tt }
 steps-made s n (l ∷ ls) e = by-form (stepOfLine l) refl e (λ p. steps-made (withStep s p) (n + 1) ls)
   where
-    by-form : (o : Option Step) → stepOfLine l ≡ o → Option·elim o (refusedAt wrong-form n) (afterStep s n ls) .answer .number ≡ 0
-        → ((p : Step) → stepsRead rowStepAnswer (withStep s p) (n + 1) ls .answer .number ≡ 0 → StepsMade (withStep s p) ls (stepsRead rowStepAnswer (withStep s p) (n + 1) ls .session))
+    by-form : (o : Option Step) → stepOfLine l ≡ o → Option·elim o (refusedAt wrong-form n)
+        (afterStep s n ls) .answer .number ≡ 0
+        → ((p : Step) → stepsRead rowStepAnswer (withStep s p) (n + 1) ls .answer .number ≡ 0
+        → StepsMade (withStep s p) ls (stepsRead rowStepAnswer (withStep s p) (n + 1) ls .session))
         → StepsMade s (l ∷ ls) (Option·elim o (refusedAt wrong-form n) (afterStep s n ls) .session)
     by-form none is e later = absurd (omega arith)
     by-form (some p) is e later = step-line-made s n l ls p is e (later p)
@@ -100,7 +110,8 @@ record RowsMade (s : Session) (ls : List Line) (u : Session) : Type 0 where
   pub made : CallsMade s (callsOf rows steps) seen u
   pub accepted : Every IsAccepted seen
 
-names-made : (s : Session) (l : Line) (ls : List Line) (u : Session) → isLine stepNames l ≡ true → StepsMade s ls u → RowsMade s (l ∷ ls) u
+names-made : (s : Session) (l : Line) (ls : List Line) (u : Session) → isLine stepNames l ≡ true → StepsMade s ls u
+    → RowsMade s (l ∷ ls) u
 names-made s l ls u is later =
     record {
       row-lines = [];
@@ -115,7 +126,8 @@ names-made s l ls u is later =
       accepted = later .accepted;
     }
 
-one-row : (s : Session) (r : Row) (l : Line) (ls : List Line) (u : Session) → rowOfLine l ≡ some r → termAnswer (view s .rows) r .number ≡ 0
+one-row : (s : Session) (r : Row) (l : Line) (ls : List Line) (u : Session) → rowOfLine l ≡ some r
+    → termAnswer (view s .rows) r .number ≡ 0
     → RowsMade (withRow s r) ls u → RowsMade s (l ∷ ls) u
 one-row s r l ls u is e later =
     record {
@@ -134,34 +146,45 @@ one-row s r l ls u is e later =
 -- the reading from line n on, where that line is the row r
 abbrev afterRow : Session → ℕ → List Line → Row → Reading
 afterRow s n ls r =
-    cond (accepted (termAnswer (view s .rows) r)) (rowsRead rowStepAnswer (withRow s r) (n + 1) ls) (refusedAt (termAnswer (view s .rows) r .number) n)
+    cond (accepted (termAnswer (view s .rows) r)) (rowsRead rowStepAnswer (withRow s r) (n + 1) ls)
+    (refusedAt (termAnswer (view s .rows) r .number) n)
 
-row-line-made : (s : Session) (n : ℕ) (l : Line) (ls : List Line) (r : Row) → rowOfLine l ≡ some r → afterRow s n ls r .answer .number ≡ 0
-    → (rowsRead rowStepAnswer (withRow s r) (n + 1) ls .answer .number ≡ 0 → RowsMade (withRow s r) ls (rowsRead rowStepAnswer (withRow s r) (n + 1) ls .session))
+row-line-made : (s : Session) (n : ℕ) (l : Line) (ls : List Line) (r : Row) → rowOfLine l ≡ some r
+    → afterRow s n ls r .answer .number ≡ 0
+    → (rowsRead rowStepAnswer (withRow s r) (n + 1) ls .answer .number ≡ 0 → RowsMade (withRow s r) ls
+    (rowsRead rowStepAnswer (withRow s r) (n + 1) ls .session))
     → RowsMade s (l ∷ ls) (afterRow s n ls r .session)
 row-line-made s n l ls r is e later = by-answer (accepted (termAnswer (view s .rows) r)) refl e
   where
     by-answer : (b : Bool) → accepted (termAnswer (view s .rows) r) ≡ b
-        → cond b (rowsRead rowStepAnswer (withRow s r) (n + 1) ls) (refusedAt (termAnswer (view s .rows) r .number) n) .answer .number ≡ 0
-        → RowsMade s (l ∷ ls) (cond b (rowsRead rowStepAnswer (withRow s r) (n + 1) ls) (refusedAt (termAnswer (view s .rows) r .number) n) .session)
+        → cond b (rowsRead rowStepAnswer (withRow s r) (n + 1) ls)
+        (refusedAt (termAnswer (view s .rows) r .number) n) .answer .number ≡ 0
+        → RowsMade s (l ∷ ls) (cond b (rowsRead rowStepAnswer (withRow s r) (n + 1) ls)
+        (refusedAt (termAnswer (view s .rows) r .number) n) .session)
     by-answer true t u = one-row s r l ls _ is (eqb-true _ 0 t) (later u)
     by-answer false t u = absurd (eqb-false (termAnswer (view s .rows) r .number) 0 t u)
 
-rows-made : (s : Session) (n : ℕ) (ls : List Line) → rowsRead rowStepAnswer s n ls .answer .number ≡ 0 → RowsMade s ls (rowsRead rowStepAnswer s n ls .session)
+rows-made : (s : Session) (n : ℕ) (ls : List Line) → rowsRead rowStepAnswer s n ls .answer .number ≡ 0
+    → RowsMade s ls (rowsRead rowStepAnswer s n ls .session)
 unfolding rowsRead Option·elim
 rows-made s n [] e = absurd (omega arith)
 rows-made s n (l ∷ ls) e = by-names (isLine stepNames l) refl e (λ r. rows-made (withRow s r) (n + 1) ls)
   where
-    by-form : (o : Option Row) → rowOfLine l ≡ o → Option·elim o (refusedAt wrong-form n) (afterRow s n ls) .answer .number ≡ 0
-        → ((r : Row) → rowsRead rowStepAnswer (withRow s r) (n + 1) ls .answer .number ≡ 0 → RowsMade (withRow s r) ls (rowsRead rowStepAnswer (withRow s r) (n + 1) ls .session))
+    by-form : (o : Option Row) → rowOfLine l ≡ o → Option·elim o (refusedAt wrong-form n)
+        (afterRow s n ls) .answer .number ≡ 0
+        → ((r : Row) → rowsRead rowStepAnswer (withRow s r) (n + 1) ls .answer .number ≡ 0 → RowsMade (withRow s r) ls
+        (rowsRead rowStepAnswer (withRow s r) (n + 1) ls .session))
         → RowsMade s (l ∷ ls) (Option·elim o (refusedAt wrong-form n) (afterRow s n ls) .session)
     by-form none is e later = absurd (omega arith)
     by-form (some r) is e later = row-line-made s n l ls r is e (later r)
 
     by-names : (b : Bool) → isLine stepNames l ≡ b
-        → cond b (stepsRead rowStepAnswer s (n + 1) ls) (Option·elim (rowOfLine l) (refusedAt wrong-form n) (afterRow s n ls)) .answer .number ≡ 0
-        → ((r : Row) → rowsRead rowStepAnswer (withRow s r) (n + 1) ls .answer .number ≡ 0 → RowsMade (withRow s r) ls (rowsRead rowStepAnswer (withRow s r) (n + 1) ls .session))
-        → RowsMade s (l ∷ ls) (cond b (stepsRead rowStepAnswer s (n + 1) ls) (Option·elim (rowOfLine l) (refusedAt wrong-form n) (afterRow s n ls)) .session)
+        → cond b (stepsRead rowStepAnswer s (n + 1) ls) (Option·elim (rowOfLine l) (refusedAt wrong-form n)
+        (afterRow s n ls)) .answer .number ≡ 0
+        → ((r : Row) → rowsRead rowStepAnswer (withRow s r) (n + 1) ls .answer .number ≡ 0 → RowsMade (withRow s r) ls
+        (rowsRead rowStepAnswer (withRow s r) (n + 1) ls .session))
+        → RowsMade s (l ∷ ls) (cond b (stepsRead rowStepAnswer s (n + 1) ls)
+        (Option·elim (rowOfLine l) (refusedAt wrong-form n) (afterRow s n ls)) .session)
     by-names true is e later = names-made s l ls _ is (steps-made s (n + 1) ls e)
     by-names false is e later = by-form (rowOfLine l) refl e later
 
@@ -174,7 +197,8 @@ record BundleMade (ls : List Line) (u : Session) : Type 0 where
   pub made : CallsMade freshSession (callsOf rows steps) seen u
   pub accepted : Every IsAccepted seen
 
-first-names-made : (l : Line) (ls : List Line) (u : Session) → isLine rowNames l ≡ true → RowsMade freshSession ls u → BundleMade (l ∷ ls) u
+first-names-made : (l : Line) (ls : List Line) (u : Session) → isLine rowNames l ≡ true → RowsMade freshSession ls u
+    → BundleMade (l ∷ ls) u
 first-names-made l ls u is m =
     record {
       rows = m .rows;
@@ -191,12 +215,14 @@ first-names-made l ls u is m =
       accepted = m .accepted;
     }
 
-lines-made : (ls : List Line) → linesRead rowStepAnswer ls .answer .number ≡ 0 → BundleMade ls (linesRead rowStepAnswer ls .session)
+lines-made : (ls : List Line) → linesRead rowStepAnswer ls .answer .number ≡ 0
+    → BundleMade ls (linesRead rowStepAnswer ls .session)
 unfolding linesRead
 lines-made [] e = absurd (omega arith)
 lines-made (l ∷ ls) e = by-names (isLine rowNames l) refl e
   where
-    by-names : (b : Bool) → isLine rowNames l ≡ b → cond b (rowsRead rowStepAnswer freshSession 2 ls) (refusedAt wrong-form 1) .answer .number ≡ 0
+    by-names : (b : Bool) → isLine rowNames l ≡ b → cond b (rowsRead rowStepAnswer freshSession 2 ls)
+        (refusedAt wrong-form 1) .answer .number ≡ 0
         → BundleMade (l ∷ ls) (cond b (rowsRead rowStepAnswer freshSession 2 ls) (refusedAt wrong-form 1) .session)
     by-names true is e = first-names-made l ls _ is (rows-made freshSession 2 ls e)
     by-names false is e = absurd (omega arith)
@@ -209,7 +235,8 @@ record Settled (r : Reading) : Type 0 where
 refused-settled : (k n : ℕ) → ¬ (k ≡ 0) → Settled (refusedAt k n)
 refused-settled k n f = record { held = λ e. absurd (f e); fresh = λ g. refl }
 
-judged-settled : (a : Answer) (n : ℕ) (r : Reading) → Settled r → Settled (cond (accepted a) r (refusedAt (a .number) n))
+judged-settled : (a : Answer) (n : ℕ) (r : Reading) → Settled r
+    → Settled (cond (accepted a) r (refusedAt (a .number) n))
 judged-settled a n r w = by-test (accepted a) refl
   where
     by-test : (b : Bool) → accepted a ≡ b → Settled (cond b r (refusedAt (a .number) n))
@@ -220,7 +247,8 @@ either-settled : (b : Bool) (r t : Reading) → Settled r → Settled t → Sett
 either-settled true r t w v = w
 either-settled false r t w v = v
 
-form-settled : {A : Type 0} (o : Option A) (n : ℕ) (after : A → Reading) → ((x : A) → Settled (after x)) → Settled (Option·elim o (refusedAt wrong-form n) after)
+form-settled : {A : Type 0} (o : Option A) (n : ℕ) (after : A → Reading) → ((x : A) → Settled (after x))
+    → Settled (Option·elim o (refusedAt wrong-form n) after)
 unfolding Option·elim
 form-settled none n after later = refused-settled wrong-form n (λ e. absurd (omega arith))
 form-settled (some x) n after later = later x
@@ -228,20 +256,23 @@ form-settled (some x) n after later = later x
 steps-settled : (s : Session) (n : ℕ) (ls : List Line) → Settled (stepsRead rowStepAnswer s n ls)
 unfolding stepsRead
 steps-settled s n [] = record { held = λ e. refl; fresh = λ f. absurd (f refl) }
-steps-settled s n (l ∷ ls) = form-settled (stepOfLine l) n _ (λ p. judged-settled (rowStepAnswer (view s) p) n _ (steps-settled (withStep s p) (n + 1) ls))
+steps-settled s n (l ∷ ls) = form-settled (stepOfLine l) n _ (λ p. judged-settled (rowStepAnswer (view s) p) n _
+    (steps-settled (withStep s p) (n + 1) ls))
 
 rows-settled : (s : Session) (n : ℕ) (ls : List Line) → Settled (rowsRead rowStepAnswer s n ls)
 unfolding rowsRead
 rows-settled s n [] = refused-settled wrong-form n (λ e. absurd (omega arith))
 rows-settled s n (l ∷ ls) =
     either-settled (isLine stepNames l) _ _ (steps-settled s (n + 1) ls)
-    (form-settled (rowOfLine l) n _ (λ r. judged-settled (termAnswer (view s .rows) r) n _ (rows-settled (withRow s r) (n + 1) ls)))
+    (form-settled (rowOfLine l) n _ (λ r. judged-settled (termAnswer (view s .rows) r) n _
+    (rows-settled (withRow s r) (n + 1) ls)))
 
 lines-settled : (ls : List Line) → Settled (linesRead rowStepAnswer ls)
 unfolding linesRead
 lines-settled [] = refused-settled wrong-form 1 (λ e. absurd (omega arith))
 lines-settled (l ∷ ls) =
-    either-settled (isLine rowNames l) _ _ (rows-settled freshSession 2 ls) (refused-settled wrong-form 1 (λ e. absurd (omega arith)))
+    either-settled (isLine rowNames l) _ _ (rows-settled freshSession 2 ls)
+    (refused-settled wrong-form 1 (λ e. absurd (omega arith)))
 
 -- where select meets its promise, and calls that meet theirs can be made
 module _ (Selected : SelectRelation) (Called : CallRelation)

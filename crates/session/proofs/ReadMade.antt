@@ -41,7 +41,8 @@ unfolding linesRead firstIs
 no-names-read [] e = refl
 no-names-read (l ∷ ls) e = rw e
 
-first-names-read : (ls : List Line) → firstIs rowNames ls ≡ true → linesRead rowStepAnswer ls ≡ rowsRead rowStepAnswer freshSession 2 (drop 1 ls)
+first-names-read : (ls : List Line) → firstIs rowNames ls ≡ true → linesRead rowStepAnswer ls
+    ≡ rowsRead rowStepAnswer freshSession 2 (drop 1 ls)
 unfolding linesRead firstIs
 first-names-read [] e = absurd (false≢true e)
 first-names-read (l ∷ ls) e = rw e
@@ -62,13 +63,16 @@ module _ (bytes : List ℕ) (e : firstIs rowNames (lines bytes) ≡ true) where
 
   from-line-2 : reading bytes ≡ rowsRead rowStepAnswer freshSession 2 (lines (drop 11 bytes))
   unfolding rowNames ascii
-  from-line-2 = reading-by-rows bytes ∙ first-names-read (lines bytes) e ∙ ap (rowsRead rowStepAnswer freshSession 2) (sym (line-passed rowNames bytes 0 row-names-free e .rest))
+  from-line-2 = reading-by-rows bytes ∙ first-names-read (lines bytes) e ∙ ap (rowsRead rowStepAnswer freshSession 2)
+      (sym (line-passed rowNames bytes 0 row-names-free e .rest))
 
-  module _ (xs ys : List ℕ) (fresh : xs ≡ freshSession .rows) (t u : RowsEnd) (m : RowsReadMet bytes 11 xs ys t) (is : t ≡ u) where
+  module _ (xs ys : List ℕ) (fresh : xs ≡ freshSession .rows) (t u : RowsEnd) (m : RowsReadMet bytes 11 xs ys t)
+      (is : t ≡ u) where
     pub rows-read : afterRows bytes ys u ≡ reading bytes
     rows-read =
         subst (λ v. afterRows bytes ys v ≡ reading bytes) is
-        (m .reading ∙ rw fresh (ap (λ s. rowsRead rowStepAnswer s 2 (lines (drop 11 bytes))) (sym fresh-tables)) ∙ sym from-line-2)
+        (m .reading ∙ rw fresh (ap (λ s. rowsRead rowStepAnswer s 2 (lines (drop 11 bytes))) (sym fresh-tables))
+        ∙ sym from-line-2)
 
     pub rows-bounds : RowsBounds bytes u
     rows-bounds = subst (RowsBounds bytes) is (m .bounds)
@@ -76,7 +80,8 @@ module _ (bytes : List ℕ) (e : firstIs rowNames (lines bytes) ≡ true) where
 module _ (bytes ys : List ℕ) (n line at : ℕ) (zs₀ zs : List ℕ) (fresh : zs₀ ≡ freshSession .steps) (t u : StepsEnd)
     (m : StepsReadMet bytes at line ys n zs₀ zs t) (is : t ≡ u)
   where
-    pub steps-read : stepsRead rowStepAnswer (holding ys n (freshSession .steps) 0) line (lines (drop at bytes)) ≡ reading bytes → afterSteps ys n zs u ≡ reading bytes
+    pub steps-read : stepsRead rowStepAnswer (holding ys n (freshSession .steps) 0) line (lines (drop at bytes))
+        ≡ reading bytes → afterSteps ys n zs u ≡ reading bytes
     steps-read e =
         subst (λ v. afterSteps ys n zs v ≡ reading bytes) is
         (m .reading ∙ ap (λ ws. stepsRead rowStepAnswer (holding ys n ws 0) line (lines (drop at bytes))) fresh ∙ e)

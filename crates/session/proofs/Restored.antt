@@ -23,9 +23,11 @@ use Rattle.session.proofs.Views.{fresh-view}
 use Rattle.session.proofs.Demand3.{CallsKept}
 use Rattle.session.proofs.Simulation.{session-as-book, Kept, fresh-kept, call-follows, kept-on}
 
-pub whole-left : (s : Session) (cs : List Call) (os : List CallSeen) → CallsMade freshSession cs os s → s ≡ sessionOf (bookAfter cs)
+pub whole-left : (s : Session) (cs : List Call) (os : List CallSeen) → CallsMade freshSession cs os s
+    → s ≡ sessionOf (bookAfter cs)
 whole-left s cs os run =
-    let (shows, holds, whole, reachable) = run-follows session-as-book (fresh-kept .whole) (fresh-kept .reachable) run in
+    let (shows, holds, whole, reachable) = run-follows session-as-book (fresh-kept .whole)
+    (fresh-kept .reachable) run in
     whole .same ∙ ap sessionOf (holds ∙ ap (λ b. final plainBook b cs) fresh-view)
 
 -- calls that set no point leave none
@@ -60,7 +62,8 @@ no-point-held s cs os run f =
     ∙ ap (λ qs. sessionOf (pointedBook (b .rows) (b .steps) qs)) (sym none-held) ∙ sym whole
 
 -- an accepted point changes nothing but the points
-point-kept : (s t : Session) (n : ℕ) (a : Answer) → Met s (point n) a t → a .number ≡ 0 → withoutPoints t ≡ withoutPoints s
+point-kept : (s t : Session) (n : ℕ) (a : Answer) → Met s (point n) a t → a .number ≡ 0 → withoutPoints t
+    ≡ withoutPoints s
 unfolding withPoint
 point-kept s t n a m e =
     let set : withPoint s n ≡ t = if-accepted a _ (m .answer) (withPoint s n) s e ∙ sym (m .left) in
@@ -103,6 +106,7 @@ module _ (New : Session → Type 0) (Called : CallRelation) (new-tied : (s : Ses
     pub restored-by : SessionRestored New Called
     restored-by s₀ s t u v cs ds os ps n a b new run set taken later keep back =
         let made = subst (λ z. CallsMade z cs os s) (new-tied s₀ new) (run-map call-tied run) in
-        let (shows, holds, whole, reachable) = run-follows session-as-book (fresh-kept .whole) (fresh-kept .reachable) made in
+        let (shows, holds, whole, reachable) = run-follows session-as-book (fresh-kept .whole)
+        (fresh-kept .reachable) made in
         restored s t u v ds ps n a b (record { whole = whole; reachable = reachable }) (call-tied _ _ _ _ set) taken
         (run-map call-tied later) keep (call-tied _ _ _ _ back)

@@ -54,7 +54,8 @@ module _ (Replaced : ReplaceRelation) (replace-tied : ReplacesKept Replaced Repl
   replaced : (cs : List Call) (os : List CallSeen) (s : Session) → CallsMade freshSession cs os s
       → SetsReplaced Replaced s (bookAfter cs)
   replaced cs os s run =
-      let (shows, holds, whole, reachable) = run-follows session-as-book (fresh-kept .whole) (fresh-kept .reachable) run in
+      let (shows, holds, whole, reachable) = run-follows session-as-book (fresh-kept .whole)
+      (fresh-kept .reachable) run in
       let same : view s ≡ bookAfter cs = holds ∙ ap (λ b. final plainBook b cs) fresh-view in
       sets-replaced s _ same (subst (λ b. HeldLaws (b .rows) (b .steps)) same (reachable-laws reachable .held))
 

@@ -20,7 +20,8 @@ pub record Whole (s : Session) : Type 0 where
   pub fits : Fits (view s)
 
 -- what an accepted call makes of the session, it makes of the book
-pub accepted-moves : (s : Session) (c : Call) → Whole s → sessionAnswer s c .number ≡ 0 → (view (sessionWith s c) ≡ bookWith (view s) c) × Whole (sessionWith s c)
+pub accepted-moves : (s : Session) (c : Call) → Whole s → sessionAnswer s c .number ≡ 0
+    → (view (sessionWith s c) ≡ bookWith (view s) c) × Whole (sessionWith s c)
 accepted-moves s c w e =
     let fits = fits-with (view s) c (w .fits) e in
     let moved : sessionWith s c ≡ sessionOf (bookWith (view s) c) =
@@ -46,7 +47,8 @@ fresh-kept =
       reachable = subst Reachable (sym fresh-view) first;
     }
 
-pub call-follows : {s t : Session} {c : Call} {a : Answer} → Kept s → Met s c a t → Follows view plainBook emptyBook Whole s c a t
+pub call-follows : {s t : Session} {c : Call} {a : Answer} → Kept s → Met s c a t
+    → Follows view plainBook emptyBook Whole s c a t
 call-follows k m = runs.call-follows session-as-book (k .whole) (k .reachable) m
 
 pub kept-on : {s t : Session} {c : Call} {a : Answer} → Kept s → Met s c a t → Kept t

@@ -1,4 +1,5 @@
--- What the contracts in the source say of each call, as the toolchain reads them off it, and demand 3 of them. Assumes nothing.
+-- What the contracts in the source say of each call, as the toolchain reads them off it, and demand 3 of them.
+-- Assumes nothing.
 use Prim.Native.Nat.{ℕ, zero, suc}
 use mathlib.Core.Path.{_≡_, refl, sym, subst, _∙_}
 use mathlib.Core.Bool.{Bool, true, false, cond}
@@ -81,7 +82,8 @@ pub data Called : Session → Call → Answer → Session → Type 0 where
   return-called : (κs : _) (a : _) (r : _) (x : _) → return-reads.Post κs a r x
       → Called (a .0) (return (a .1 .0)) (pointAnswerOf (r .answer)) (r .session)
 
--- `Session::select` on a session with a row, lent numbers, a node, a limit and a buffer has the answer r and leaves bytes
+-- `Session::select` on a session with a row, lent numbers, a node, a limit and a buffer has the answer r and leaves
+-- bytes
 pub data Selected : Session → (row : ℕ) → List ℕ → (x limit : ℕ) → List ℕ → SelectAnswer → List ℕ → Type 0 where
   select-called : (κs : _) (a : _) (r : _) (x : _) → select-reads.Post κs a r x
       → Selected (a .0) (a .1 .0) (now (a .1 .1 .0)) (a .1 .1 .1 .0) (a .1 .1 .1 .1 .0)
@@ -164,11 +166,17 @@ met-called s (text names t) a u m =
 met-called s (point n) a t m =
     let (o, e) = point-case (pointNames (view s .points)) n in
     subst (λ a. Called s (point n) a t) (e ∙ sym (m .answer))
-    (point-called tt (s, (n, tt)) (record { answer = o; session = t }) (s, (n, tt)) (record { answer = e; left = m .left }))
+    (point-called tt (s, (n, tt)) (record {
+      answer = o;
+      session = t;
+    }) (s, (n, tt)) (record { answer = e; left = m .left }))
 met-called s (return n) a t m =
     let (o, e) = return-case (pointNames (view s .points)) n in
     subst (λ a. Called s (return n) a t) (e ∙ sym (m .answer))
-    (return-called tt (s, (n, tt)) (record { answer = o; session = t }) (s, (n, tt)) (record { answer = e; left = m .left }))
+    (return-called tt (s, (n, tt)) (record {
+      answer = o;
+      session = t;
+    }) (s, (n, tt)) (record { answer = e; left = m .left }))
 
 pub demand3 : DemandThree Selected New Called
 demand3 = demand3-by Selected select-tied New Called new-tied call-tied

@@ -94,12 +94,13 @@ pub record Theorems : Type 0 where
   pub call : (s : Session) (c : Call) (a : Answer) (t : Session) → Called s c a t → Met s c a t
   -- on every session that calls lead to, their answers are those of the plain book, where steps are judged as terms
   pub by-terms : AnswersByTerms
-  -- a text call's number, value and rows are those of the grammar's definition, which has no others; an accepted one does
-  -- what term calls of its new rows do, and the row that it answers has the term of the text's tree
+  -- a text call's number, value and rows are those of the grammar's definition, which has no others; an accepted one
+  -- does what term calls of its new rows do, and the row that it answers has the term of the text's tree
   pub answers-as-defined : AnswersAsDefined
   pub as-term-calls : AsTermCalls
   pub gives-its-term : GivesItsTerm
-  -- an abbreviation has the term of what it stands for; what a leading `/`, a predicate and its parts mean on a document
+  -- an abbreviation has the term of what it stands for;
+  -- what a leading `/`, a predicate and its parts mean on a document
   pub expanded : Expanded
   pub meant : Meant
   -- select answers the first refusal that applies and leaves the buffer, or marks the nodes that the path selects and
@@ -114,8 +115,8 @@ pub record Theorems : Type 0 where
   -- order answers 5 for a row that is not held, or the order of the rows' terms; bundle order answers that of the steps
   pub order : (s : Session) (i : ℕ) (t : Session) (j : ℕ) (r : OrderAnswer) → Ordered s i t j r → OrderMet s i t j r
   pub bundle-order : (s t : Session) (r : OrderAnswer) → BundleOrdered s t r → BundleOrderMet s t r
-  -- write answers 0 with the length and leaves the bundle's text at the buffer's start, or 16 with the length needed and
-  -- the buffer as it was
+  -- write answers 0 with the length and leaves the bundle's text at the buffer's start, or 16 with the length needed
+  -- and the buffer as it was
   pub write : (s : Session) (buffer : List ℕ) (w : WriteAnswer) (left : List ℕ) → Write s buffer w left
       → WriteMet s buffer w left
   -- what the program audit prints is the report of the bytes, and what the C call answers is the number that read gives
@@ -131,8 +132,8 @@ pub record Theorems : Type 0 where
   pub session-restored : SessionRestored New Called
   pub return-restores : ReturnRestores
   -- what is demanded of read and write: read accepts just the bundles whose calls are all accepted, and demand 3 holds
-  -- of the calls; what is written of a session that calls lead to reads back as that session but for its points, and what
-  -- is read is written again as the same bytes
+  -- of the calls; what is written of a session that calls lead to reads back as that session but for its points, and
+  -- what is read is written again as the same bytes
   pub read-demand : ReadDemand Selected Called Read Write
   -- a whole set replaced: after every list of calls from a fresh session, each node that any path of a covered list
   -- selects is selected by some new one, from the same node of every document; an accepted replace is a case of it
@@ -162,7 +163,8 @@ pub record Theorems : Type 0 where
   pub marks-same-elsewhere : MarksSameElsewhere
   -- the visits of such a path are at most the bound
   pub chain-visits : ChainVisits
-  -- the ancestor test: its count ends the climb and is the least that does, and it answers as the climb to the root does
+  -- the ancestor test: its count ends the climb and is the least that does, and it answers as the climb to the root
+  -- does
   pub count-ends : CountEnds
   pub count-least : CountLeast
   pub answers-alike : AnswersAlike

@@ -34,7 +34,11 @@ names-viewed s = names-of (s .rows) (s .steps) (pointsIn s)
 -- a fresh session has its size, and holds nothing
 pub fresh-sized : Sized freshSession
 unfolding freshSession
-fresh-sized = record { rows = length-replicate {A = ℕ} (rowWidth * maxRows) 0; steps = length-replicate {A = ℕ} (stepWidth * maxSteps) 0 }
+fresh-sized =
+    record {
+      rows = length-replicate {A = ℕ} (rowWidth * maxRows) 0;
+      steps = length-replicate {A = ℕ} (stepWidth * maxSteps) 0;
+    }
 
 pub fresh-view : view freshSession ≡ emptyBook
 unfolding view freshSession tableOf stepsOf countsOf

@@ -20,7 +20,8 @@ use Rattle.calls.specs.PointCall.{pointNames, placeOf}
 use Rattle.calls.specs.Calls.{Call, term, step, text, point, return, bookWith, rowAnswer}
 use Rattle.calls.specs.Promises.{rowYielded, rowStepAnswer}
 use Rattle.calls.specs.code.Tables.{rowWidth, stepWidth, stepsOf, firstRows, firstSteps}
-use Rattle.calls.specs.code.Points.{pointWidth, counts, noCounts, countsOf, countsNames, pointNamed, firstPoints, cleared}
+use Rattle.calls.specs.code.Points.{pointWidth, counts, noCounts, countsOf, countsNames, pointNamed, firstPoints}
+use Rattle.calls.specs.code.Points.{cleared}
 use Rattle.session.specs.View.{pointsIn, pointOf, view, freshSession, rowNumbers, stepNumbers}
 use Rattle.session.specs.View.{withRow, withRows, withStep, withPoint, atPoint}
 use Rattle.session.specs.Promises.{sessionWith}
@@ -65,7 +66,8 @@ filled-first n xs ys =
     let zeros : List ℕ = replicate (n - length (xs ++ ys)) 0 in
     ap (take (length xs)) (append-assoc xs ys zeros) ∙ take-at xs (ys ++ zeros) (length xs) refl
 
-filled-cleared : (n : ℕ) (xs ys : List ℕ) → length (xs ++ ys) ≤ n → cleared (length xs) (filled n (xs ++ ys)) ≡ filled n xs
+filled-cleared : (n : ℕ) (xs ys : List ℕ) → length (xs ++ ys) ≤ n → cleared (length xs) (filled n (xs ++ ys))
+    ≡ filled n xs
 filled-cleared n xs ys h =
     let rest : length (filled n (xs ++ ys)) - length xs ≡ n - length xs = omega (arith, filled-length n (xs ++ ys) h) in
     ap (λ zs. zs ++ replicate (length (filled n (xs ++ ys)) - length xs) 0) (filled-first n xs ys)
@@ -292,7 +294,8 @@ module _ (b : Book) (fits : Fits b) where
         let rows = ap (λ c. cleared (rowWidth * c .rows) (sessionOf b .rows)) counts-of
         ∙ table-cleared rowWidth maxRows rowNumbers (λ r. refl) (there .rows) _ (b .rows) (w .rows) (fits .rows) in
         let steps = ap (λ c. cleared (stepWidth * c .steps) (sessionOf b .steps)) counts-of
-        ∙ table-cleared stepWidth maxSteps stepNumbers (λ p. refl) (there .steps) _ (b .steps) (w .steps) (fits .steps) in
+        ∙ table-cleared stepWidth maxSteps stepNumbers (λ p. refl) (there .steps) _ (b .steps) (w .steps)
+        (fits .steps) in
         let points = ap (λ i. cleared (pointWidth * (i + 1)) (sessionOf b .points)) place-of
         ∙ ap (λ k. cleared (pointWidth * k) (sessionOf b .points)) (sym first-count)
         ∙ table-cleared pointWidth maxPoints pointNumbers (λ q. refl) first _ (b .points) points-split (fits .points) in
@@ -307,7 +310,8 @@ module _ (b : Book) (fits : Fits b) where
         }
 
 -- an accepted call makes of the book's session the session of what it makes of the book
-pub with-of : (b : Book) (c : Call) → Fits b → rowAnswer b c .number ≡ 0 → sessionWith (sessionOf b) c ≡ sessionOf (bookWith b c)
+pub with-of : (b : Book) (c : Call) → Fits b → rowAnswer b c .number ≡ 0 → sessionWith (sessionOf b) c
+    ≡ sessionOf (bookWith b c)
 unfolding rowStepAnswer
 with-of b (term r) fits e = with-row-of b fits r (term-accepted (b .rows) r e .room)
 with-of b (step p) fits e = with-step-of b fits p (step-accepted (rowYielded b p) b p e .room)

@@ -9,6 +9,7 @@ use lib.ListN.{length, take, drop}
 use lib.Seq.{sets-eq, take-at, length-take-le}
 use borrow.Author.Tests.{le-leb, lt-leb}
 use Rattle.terms.specs.Row.{Row, maxRows}
+use Rattle.common.specs.Limits.{maxBytes}
 use Rattle.common.specs.Lists.{Every}
 use Rattle.lines.specs.Line.{newline, lines}
 use Rattle.session.specs.declared.session.Session.{Session}
@@ -27,7 +28,6 @@ use Rattle.session.specs.View.{rowsHeld, stepsHeld, view, freshSession}
 use Rattle.session.specs.Promises.{CallsMade}
 use Rattle.session.specs.WriteCall.{sessionText, writeAnswerOf, WriteMet}
 use Rattle.session.specs.ReadDemand.{IsAccepted, callsOf, IsBundle}
-use Rattle.session.specs.Audit.{maxBytes}
 use Rattle.session.proofs.Simulation.{fresh-kept}
 use Rattle.session.proofs.Sorted.{AllSorted}
 use Rattle.session.proofs.StepsAdded.{calls-held}

@@ -4,6 +4,7 @@ use mathlib.Core.Bool.{cond}
 use mathlib.Core.List.{List}
 use lib.Dec.{ltb}
 use lib.ListN.{length}
+use Rattle.common.specs.Limits.{maxBytes}
 use Rattle.session.specs.declared.report.Report.{Report}
 use Rattle.calls.specs.Book.{accepted}
 use Rattle.calls.specs.StepCall.{stepNumbered}
@@ -11,19 +12,23 @@ use Rattle.session.specs.View.{view}
 use Rattle.calls.specs.Refusals.{wrong-form}
 use Rattle.session.specs.Reading.{Reading, reading}
 
--- the most bytes of a bundle that a program takes
-abbrev pub maxBytes : ℕ
-maxBytes = 65536
-
 -- answer, refused line or 0, steps held, the rows of the last step or zeros
 abbrev pub reportBy : (answer line steps left right : ℕ) → Report
-reportBy answer line steps left right = record { answer = answer; line = line; steps = steps; left = left; right = right }
+reportBy answer line steps left right =
+    record {
+      answer = answer;
+      line = line;
+      steps = steps;
+      left = left;
+      right = right;
+    }
 
 abbrev pub readReport : Reading → Report
 readReport r =
     let held = view (r .session) .steps in
     let last = stepNumbered held (length held) in
-    reportBy (r .answer .number) (cond (accepted (r .answer)) 0 (r .answer .value)) (length held) (last .left) (last .right)
+    reportBy (r .answer .number) (cond (accepted (r .answer)) 0 (r .answer .value)) (length held) (last .left)
+    (last .right)
 
 unfoldable pub report : List ℕ → Report
 report bytes = cond (ltb maxBytes (length bytes)) (reportBy wrong-form 0 0 0 0) (readReport (reading bytes))

@@ -43,15 +43,16 @@ module _ (Selected : SelectRelation) where
     -- a refused select leaves the buffer
     pub refused : (row : ℕ) (xs : List ℕ) (x limit : ℕ) (buffer left : List ℕ) (t : SelectAnswer)
         → Selected s row xs x limit buffer t left → ¬ (selectAnswerOf t .number ≡ 0) → left ≡ buffer
-    -- where select accepts, the lent numbers are a well-formed document, its nodes are marked 1 or 0 as the path selects
-    -- them, and later bytes stay
+    -- where select accepts, the lent numbers are a well-formed document, its nodes are marked 1 or 0 as the path
+    -- selects them, and later bytes stay
     pub marks : (row : ℕ) (xs : List ℕ) (x limit : ℕ) (buffer left : List ℕ) (t : SelectAnswer)
         → Selected s row xs x limit buffer t left → selectAnswerOf t .number ≡ 0
         → T (wellFormed (documentOf xs))
         × ((y : ℕ) → y < length (documentOf xs)
         → getD left y 0 ≡ cond (selects (documentOf xs) (pathAt (b .rows) row) x y) 1 0)
         × ((y : ℕ) → length (documentOf xs) ≤ y → getD left y 0 ≡ getD buffer y 0)
-    -- where select accepts both paths of a held step for one document and node, no node is marked for p and unmarked for q
+    -- where select accepts both paths of a held step for one document and node, no node is marked for p and unmarked
+    -- for q
     pub marks-contained : (i : ℕ) → i < length (b .steps)
         → (p q : Path) → claimOf (b .rows) (getD (b .steps) i noStep) ≡ Containment p q
         → (xs : List ℕ) (x limit limit′ : ℕ) (buffer buffer′ left left′ : List ℕ) (t t′ : SelectAnswer)

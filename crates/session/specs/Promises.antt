@@ -23,8 +23,8 @@ use Rattle.session.specs.View.{view, rowNumbers, withRow, withRows, with
 abbrev pub CallRelation : Type 1
 CallRelation = Session → Call → Answer → Session → Type 0
 
--- what may be said of a select call: the session, the row, the lent numbers, the context node, the limit, the buffer, the
--- answer, and the bytes that it leaves
+-- what may be said of a select call: the session, the row, the lent numbers, the context node, the limit, the buffer,
+-- the answer, and the bytes that it leaves
 abbrev pub SelectRelation : Type 1
 SelectRelation = Session → (row : ℕ) → List ℕ → (x limit : ℕ) → List ℕ → SelectAnswer → List ℕ → Type 0
 

@@ -42,7 +42,8 @@ holding xs n ys m =
 
 -- what is still to be read after the term lines, which left the numbers xs
 abbrev pub afterRows : List ℕ → (xs : List ℕ) → RowsEnd → Reading
-afterRows bytes xs (RowsCases.Held n line at) = stepsRead rowStepAnswer (holding xs n (freshSession .steps) 0) line (lines (drop at bytes))
+afterRows bytes xs (RowsCases.Held n line at) = stepsRead rowStepAnswer (holding xs n (freshSession .steps) 0) line
+    (lines (drop at bytes))
 afterRows bytes xs (RowsCases.Refused k line) = refusedAt k line
 
 -- the numbers that the code goes on with; that of a refusal is not 0
@@ -52,7 +53,8 @@ RowsBounds bytes (RowsCases.Refused k line) = 0 < k
 
 -- the term lines from line 2 on, which starts at `start`, on the numbers xs, which become ys
 pub record RowsReadMet (bytes : List ℕ) (start : ℕ) (xs ys : List ℕ) (t : RowsEnd) : Type 0 where
-  pub reading : afterRows bytes ys t ≡ rowsRead rowStepAnswer (holding xs 0 (freshSession .steps) 0) 2 (lines (drop start bytes))
+  pub reading : afterRows bytes ys t ≡ rowsRead rowStepAnswer (holding xs 0 (freshSession .steps) 0) 2
+      (lines (drop start bytes))
   pub bounds : RowsBounds bytes t
 
 -- the reading after the step lines, which left the numbers ys
@@ -64,7 +66,9 @@ abbrev pub StepsBounds : StepsEnd → Type 0
 StepsBounds (StepsCases.Held m) = m ≤ maxSteps
 StepsBounds (StepsCases.Refused k line) = 0 < k
 
--- the step lines from line `first` on, which starts at `start`, on n rows with the numbers xs and the numbers ys, which become zs
-pub record StepsReadMet (bytes : List ℕ) (start first : ℕ) (xs : List ℕ) (n : ℕ) (ys zs : List ℕ) (t : StepsEnd) : Type 0 where
+-- the step lines from line `first` on, which starts at `start`, on n rows with the numbers xs and the numbers ys, which
+-- become zs
+pub record StepsReadMet (bytes : List ℕ) (start first : ℕ) (xs : List ℕ) (n : ℕ) (ys zs : List ℕ)
+    (t : StepsEnd) : Type 0 where
   pub reading : afterSteps xs n zs t ≡ stepsRead rowStepAnswer (holding xs n ys 0) first (lines (drop start bytes))
   pub bounds : StepsBounds t

@@ -5,6 +5,7 @@ use mathlib.Core.Bool.{true}
 use mathlib.Core.List.{List, _∷_, _++_, map}
 use mathlib.Core.Option.{some}
 use Rattle.terms.specs.Row.{Row}
+use Rattle.common.specs.Limits.{maxBytes}
 use Rattle.common.specs.Lists.{Every}
 use lib.ListN.{length, take}
 use Rattle.lines.specs.Line.{Line, line, lines}
@@ -20,7 +21,6 @@ use Rattle.session.specs.Promises.{CallRelation, SelectRelation}
 use Rattle.bundles.specs.Bundle.{rowNames, stepNames, rowOfLine, stepOfLine, bundleText}
 use Rattle.session.specs.ReadCall.{readAnswerOf}
 use Rattle.session.specs.WriteCall.{writeAnswerOf, WriteRelation}
-use Rattle.session.specs.Audit.{maxBytes}
 use Rattle.session.specs.Demand3.{Demand3}
 use Rattle.session.specs.SessionLaws.{withoutPoints}
 

@@ -29,7 +29,8 @@ module _ (judge : Book → Step → Answer) where
   stepsRead s n [] = record { answer = answer 0 (length (view s .steps)); session = s }
   stepsRead s n (l ∷ ls) =
       Option·elim (stepOfLine l) (refusedAt wrong-form n)
-      (λ p. let a = judge (view s) p in cond (accepted a) (stepsRead (withStep s p) (n + 1) ls) (refusedAt (a .number) n))
+      (λ p. let a = judge (view s) p in cond (accepted a) (stepsRead (withStep s p) (n + 1) ls)
+      (refusedAt (a .number) n))
 
   -- term calls on the session s, one for each line from line n on, until the second names line
   unfoldable pub rowsRead : Session → (n : ℕ) → List Line → Reading
@@ -37,7 +38,8 @@ module _ (judge : Book → Step → Answer) where
   rowsRead s n (l ∷ ls) =
       cond (isLine stepNames l) (stepsRead s (n + 1) ls)
       (Option·elim (rowOfLine l) (refusedAt wrong-form n)
-      (λ r. let a = termAnswer (view s .rows) r in cond (accepted a) (rowsRead (withRow s r) (n + 1) ls) (refusedAt (a .number) n)))
+      (λ r. let a = termAnswer (view s .rows) r in cond (accepted a) (rowsRead (withRow s r) (n + 1) ls)
+      (refusedAt (a .number) n)))
 
   -- the first names line, and then the others
   unfoldable pub linesRead : List Line → Reading

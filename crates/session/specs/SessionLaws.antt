@@ -68,9 +68,9 @@ module _ (New : Session → Type 0) (Called : CallRelation) where
   NoPointLeft = (s₀ s : Session) (cs : List Call) (os : List CallSeen)
       → New s₀ → Run view Called s₀ cs os s → Every SetsNoPoint cs → withoutPoints s ≡ s
 
-  -- on a session s that calls lead to a point is set, calls are made of which none returns to an earlier point, and then
-  -- one returns to it: it is accepted, and leaves the whole session as it was when the point was set, which is s but for
-  -- the points
+  -- on a session s that calls lead to a point is set, calls are made of which none returns to an earlier point, and
+  -- then one returns to it: it is accepted, and leaves the whole session as it was when the point was set, which is s
+  -- but for the points
   abbrev pub SessionRestored : Type 0
   SessionRestored = (s₀ s t u v : Session) (cs ds : List Call) (os ps : List CallSeen) (n : ℕ) (a b : Answer)
       → New s₀ → Run view Called s₀ cs os s

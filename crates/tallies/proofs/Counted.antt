@@ -12,7 +12,7 @@ use Rattle.session.specs.View.{view}
 use Rattle.session.specs.Reading.{reading}
 use Rattle.session.specs.ReadCall.{readAnswerOf, ReadMet}
 use Rattle.tallies.specs.declared.Tally.{Tally}
-use Rattle.session.specs.Audit.{maxBytes}
+use Rattle.common.specs.Limits.{maxBytes}
 use Rattle.tallies.specs.Count.{File, file, isAccepted}
 use Rattle.tallies.specs.code.Tally.{tally, plus, plusEach, columnOf, withSteps, withFile}
 

@@ -36,7 +36,8 @@ module _ (us : List ℕ) (n k : ℕ) (size : length us ≡ maxRule) where
       let place : k + 1 ≡ 1 + k = omega arith in
       let inside : k < length (ruleEntries 1 us) = omega (arith, rule-entries-length 1 us) in
       ap (λ r. entry r (getD us k 0)) place
-      ∙ sym (List·getD-append (ruleEntries 1 us) (entry 0 n ∷ []) noEntry k inside ∙ rule-entries-at 1 us k (omega arith))
+      ∙ sym (List·getD-append (ruleEntries 1 us) (entry 0 n ∷ []) noEntry k inside
+      ∙ rule-entries-at 1 us k (omega arith))
 
   pub total-line : k ≡ maxRule → entry 0 n ≡ getD (entriesBy us n) k noEntry
   unfolding entriesBy

@@ -25,7 +25,7 @@ use Rattle.session.specs.View.{view}
 use Rattle.session.specs.Reading.{reading}
 use Rattle.session.specs.ReadCall.{readAnswerOf}
 use Rattle.session.proofs.Source.{read-tied, reads-exist, read-demand}
-use Rattle.session.specs.Audit.{maxBytes}
+use Rattle.common.specs.Limits.{maxBytes}
 use Rattle.tallies.specs.Count.{File, isAccepted, countedSteps}
 
 -- the step is held by a rule of the table
@@ -54,8 +54,11 @@ rules-with : (b : Book) (c : Call) → RulesHeld b → bookAnswer b c .number �
 rules-with b (term r) held e = held
 rules-with b (step p) held e = (every-more RuleHeld (b .steps) p (held .0) (accepted-rule b p e), held .1)
 rules-with b (text names t) held e = held
-rules-with b (point n) held e =
-    (held .0, every-more (λ q. Every RuleHeld (q .steps)) (b .points) (books.point n (b .rows) (b .steps)) (held .1) (held .0))
+rules-with b (point n) held e = (
+  held .0,
+  every-more (λ q. Every RuleHeld (q .steps)) (b .points) (books.point n (b .rows) (b .steps)) (held .1)
+      (held .0),
+)
 rules-with b (return n) held e = (
   every-at (λ q. Every RuleHeld (q .steps)) noPoint (b .points) (placeOf (pointNames (b .points)) n) (held .1) tt,
   every-first (λ q. Every RuleHeld (q .steps)) (placeOf (pointNames (b .points)) n + 1) (b .points) (held .1),

@@ -9,7 +9,7 @@ use Rattle.calls.specs.Book.{Step, accepted}
 use Rattle.calls.specs.Uses.{usesOf}
 use Rattle.session.specs.View.{view}
 use Rattle.session.specs.Reading.{reading}
-use Rattle.session.specs.Audit.{maxBytes}
+use Rattle.common.specs.Limits.{maxBytes}
 
 -- what is read of a named file, and whether the reading failed
 pub record File : Type 0 where

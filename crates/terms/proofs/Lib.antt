@@ -5,3 +5,4 @@ pub mod Nesting
 pub mod Terms
 pub mod ByKind
 pub mod Built
+pub mod Noted

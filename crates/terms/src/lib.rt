@@ -1,13 +1,14 @@
 // Tables of rows lent as 16-bit numbers, four a row: what the fields of a row must be, its nesting, the search for an
-// equal row, and the putting of a row. An incomplete last row is no row.
+// equal row, and the putting of a row. An incomplete last row is no row. Notes of what a search found of rows.
 use common::axis;
 use common::node_test;
 use common::row_kind;
+use common::wide;
 ghost use mathlib.Core.Path.{_≡_};
 ghost use mathlib.Core.Bool.{cond};
-ghost use lib.Dec.{leb};
-ghost use Prim.Native.Nat.{_+_, _*_, _≤_, _<_};
-ghost use lib.ListN.{length, getD, take};
+ghost use lib.Dec.{leb, eqb};
+ghost use Prim.Native.Nat.{suc, _+_, _*_, _≤_, _<_};
+ghost use lib.ListN.{length, getD, set, take};
 ghost use lib.Seq.{sets};
 ghost use Rattle.terms.specs.Row.{rowAt, rowWidth, rowNumbers, tableOf, maxRows, sameRow, find};
 ghost use Rattle.terms.specs.Fields.{fieldsOf, heldPath, heldQualifier, fieldOk, badPlace};
@@ -272,4 +273,27 @@ pub fn put_row(rows: &mut [u16], n: usize, row: Row)
     rows[at + 1] = row.a;
     rows[at + 2] = row.b;
     rows[at + 3] = row.c;
+}
+
+// Whether it is noted that a search found row j for row i: at i stands j + 1.
+pub fn is_noted(noted: &[usize], i: u16, j: u16) -> bool
+    ensures { λ r. ⌜ r ≡ eqb (getD (now (noted .entry)) i 0) (suc j) ⌝ }
+{
+    let at = wide(i);
+    if noted.len() <= at {
+        return false;
+    }
+    let there = noted[at];
+    there == wide(j) + 1
+}
+
+// Notes it, where the table of notes reaches to i.
+pub fn note(noted: &mut [usize], i: u16, j: u16)
+    ensures { λ r. ⌜ now (noted .exit) ≡ set (now (noted .entry)) i (suc j) ⌝ }
+{
+    let at = wide(i);
+    if noted.len() <= at {
+        return;
+    }
+    noted[at] = wide(j) + 1;
 }

@@ -389,7 +389,13 @@ module _ (xs : List ℕ) (x : Reading) (h : Head) (ys : List ℕ) (y : Reading) 
         ok = a .text .ok ∙ rw e (both-yes (x .ok));
         made = λ _. let m = made-row (row 2 (h .axis) (h .test) (h .name)) 1 xs (movedTo x (h .at)) ys y a in
             record {
-              puts = record { held = m .puts .held; at = m .puts .at; keeps = m .puts .keeps; beyond = m .puts .beyond };
+              puts =
+                  record {
+                    held = m .puts .held;
+                    at = m .puts .at;
+                    keeps = m .puts .keeps;
+                    beyond = m .puts .beyond;
+                  };
               nest = m .nest;
               names = rw l (m .names);
             };
@@ -411,8 +417,12 @@ module _ (xs : List ℕ) (x : Reading) (h : Head) (ys : List ℕ) (y : Reading) 
         at = a .text .at;
         ok = a .text .ok ∙ rw e (both-yes (x .ok));
         made = λ _. record {
-          puts = record
-              { held = made-head .puts .held; at = made-head .puts .at; keeps = made-head .puts .keeps; beyond = made-head .puts .beyond };
+          puts = record {
+            held = made-head .puts .held;
+            at = made-head .puts .at;
+            keeps = made-head .puts .keeps;
+            beyond = made-head .puts .beyond;
+          };
           nest =
               made-head .nest;
           names = sym (rw (sym told ∙ f, l) refl);
@@ -423,8 +433,12 @@ module _ (xs : List ℕ) (x : Reading) (h : Head) (ys : List ℕ) (y : Reading) 
         at = a .text .at;
         ok = a .text .ok ∙ rw e (both-yes (x .ok));
         made = λ _. record {
-          puts = record
-              { held = made-head .puts .held; at = made-head .puts .at; keeps = made-head .puts .keeps; beyond = made-head .puts .beyond };
+          puts = record {
+            held = made-head .puts .held;
+            at = made-head .puts .at;
+            keeps = made-head .puts .keeps;
+            beyond = made-head .puts .beyond;
+          };
           nest =
               made-head .nest;
           names = sym (rw (sym told ∙ f, a .text .missing) refl);

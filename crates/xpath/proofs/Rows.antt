@@ -14,7 +14,8 @@ use Rattle.xpath.specs.Document.{Document, kindAt, parentAt, nameAt, isA
 use Rattle.xpath.specs.Document.{rowOkBy, documentOf, lentRows, badRowBy, maxNodes, documentRefusal}
 use Rattle.xpath.specs.Climb.{above, climbMet}
 use Rattle.xpath.specs.code.Ends.{Filled}
-use Rattle.xpath.specs.code.Check.{closed, closedBefore, closedInTurn, ClimbMade, Placed, FirstBad, DocumentChecked}
+use Rattle.xpath.specs.code.Check.{closed, closedBefore, closedInTurn, ClimbMade, Placed, FirstBad}
+use Rattle.xpath.specs.code.Check.{DocumentChecked}
 use Rattle.xpath.specs.declared.Climb.{Climb}
 use Rattle.xpath.specs.declared.DocumentCheck.the-variants.{Accepted, Refused}
 use Rattle.common.proofs.Reflect.{le-or-lt}

@@ -11,7 +11,8 @@ clamp-requires : tie.Need-clamp-requires
 clamp-requires c κs = search needs
 
 slice-aggregate-result : tie.Need-slice-aggregate-result
-slice-aggregate-result c = sym (length-take-le (c .before .clamp .result) (c .before .before .before .args .numbers .now) (omega arith))
+slice-aggregate-result c =
+    sym (length-take-le (c .before .clamp .result) (c .before .before .before .args .numbers .now) (omega arith))
 
 returns : tie.Need-returns
 returns c = take-clamped _ _ (c .before .before .before .args .numbers .now) (c .before .clamp .ensures)

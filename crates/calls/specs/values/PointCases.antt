@@ -1,18 +1,18 @@
 -- Points and returns, by computation: what is left, which names are free, and each refusal. Assumes nothing.
 use Prim.Native.Nat.{ℕ}
-use mathlib.Core.Path.{_≡_, refl}
-use mathlib.Core.List.{List, [], _∷_, _++_, map}
+use mathlib.Core.Path.{refl}
+use mathlib.Core.List.{List, [], _∷_, _++_}
 use native.Mathlib.Omega.{arith}
 use Rattle.common.specs.Lists.{Every}
 use Rattle.common.specs.values.Expected.{_is_, AllRight}
 use Rattle.terms.specs.Row.{Row, row}
 use Rattle.calls.specs.Book as books
-use Rattle.calls.specs.Book.{Point, Book, pointedBook, emptyBook, Answer, answer}
-use Rattle.calls.specs.Calls.{Call, point, return}
+use Rattle.calls.specs.Book.{Point, Book, pointedBook, emptyBook, answer}
+use Rattle.calls.specs.Calls.{point, return}
 use Rattle.calls.specs.code.Points.{counts, countsOf, countsNames, pointNamed, firstPoints, cleared}
 use Rattle.calls.specs.PointCall.{placeOf}
 use Rattle.calls.specs.PointLaws.{KeepsPoints}
-use Rattle.calls.specs.values.CallCases.{term, step, _leaving_, seenFrom}
+use Rattle.calls.specs.values.CallCases.{term, step, _leaving_, seenFrom, _gets_, AllSeen, Answered, Refused}
 
 -- child::2, descendant::*, and then true
 abbrev twoRows : List Row
@@ -41,64 +41,61 @@ abbrev withThree : Book
 withThree = pointedBook twoRows oneStep (five ∷ six ∷ seven ∷ [])
 
 points-set :
-    seenFrom emptyBook
-    (point 5 ∷ term 2 1 0 2 ∷ term 2 3 1 0 ∷ step 8 0 1 0 0 ∷ point 6 ∷ point 7 ∷ term 6 0 0 0 ∷ step 2 0 0 0 0 ∷ [])
-    ≡ answer 0 0 leaving pointedBook [] [] (five ∷ [])
-    ∷ answer 0 0 leaving pointedBook (row 2 1 0 2 ∷ []) [] (five ∷ [])
-    ∷ answer 0 1 leaving pointedBook twoRows [] (five ∷ [])
-    ∷ answer 0 1 leaving pointedBook twoRows oneStep (five ∷ [])
-    ∷ answer 0 0 leaving pointedBook twoRows oneStep (five ∷ six ∷ [])
-    ∷ answer 0 0 leaving withThree
-    ∷ answer 0 2 leaving pointedBook threeRows oneStep (five ∷ six ∷ seven ∷ [])
-    ∷ answer 0 2 leaving pointedBook threeRows twoSteps (five ∷ six ∷ seven ∷ [])
-    ∷ []
+    AllSeen emptyBook
+    (point 5 gets answer 0 0 leaving pointedBook [] [] (five ∷ [])
+    ∷ term 2 1 0 2 gets answer 0 0 leaving pointedBook (row 2 1 0 2 ∷ []) [] (five ∷ [])
+    ∷ term 2 3 1 0 gets answer 0 1 leaving pointedBook twoRows [] (five ∷ [])
+    ∷ step 8 0 1 0 0 gets answer 0 1 leaving pointedBook twoRows oneStep (five ∷ [])
+    ∷ point 6 gets answer 0 0 leaving pointedBook twoRows oneStep (five ∷ six ∷ [])
+    ∷ point 7 gets answer 0 0 leaving withThree
+    ∷ term 6 0 0 0 gets answer 0 2 leaving pointedBook threeRows oneStep (five ∷ six ∷ seven ∷ [])
+    ∷ step 2 0 0 0 0 gets answer 0 2 leaving pointedBook threeRows twoSteps (five ∷ six ∷ seven ∷ [])
+    ∷ [])
 unfolding seenFrom
 points-set = refl
 
 -- a return leaves just what was held, keeps the point and the earlier ones, and frees the later names; steps on the row
 -- and the step that are gone are refused, and both can be held again
 returns-made :
-    seenFrom (pointedBook threeRows twoSteps (five ∷ six ∷ seven ∷ []))
-    (return 6 ∷ step 2 2 2 0 0 ∷ step 3 0 1 1 2 ∷ return 7 ∷ point 7 ∷ term 6 0 0 0 ∷ step 2 0 0 0 0 ∷ return 7 ∷ return 6 ∷ return 6 ∷ [])
-    ≡ answer 0 0 leaving pointedBook twoRows oneStep (five ∷ six ∷ [])
-    ∷ answer 5 1 leaving pointedBook twoRows oneStep (five ∷ six ∷ [])
-    ∷ answer 6 2 leaving pointedBook twoRows oneStep (five ∷ six ∷ [])
-    ∷ answer 20 7 leaving pointedBook twoRows oneStep (five ∷ six ∷ [])
-    ∷ answer 0 0 leaving withThree
-    ∷ answer 0 2 leaving pointedBook threeRows oneStep (five ∷ six ∷ seven ∷ [])
-    ∷ answer 0 2 leaving pointedBook threeRows twoSteps (five ∷ six ∷ seven ∷ [])
-    ∷ answer 0 0 leaving withThree
-    ∷ answer 0 0 leaving pointedBook twoRows oneStep (five ∷ six ∷ [])
-    ∷ answer 0 0 leaving pointedBook twoRows oneStep (five ∷ six ∷ [])
-    ∷ []
+    AllSeen (pointedBook threeRows twoSteps (five ∷ six ∷ seven ∷ []))
+    (return 6 gets answer 0 0 leaving pointedBook twoRows oneStep (five ∷ six ∷ [])
+    ∷ step 2 2 2 0 0 gets answer 5 1 leaving pointedBook twoRows oneStep (five ∷ six ∷ [])
+    ∷ step 3 0 1 1 2 gets answer 6 2 leaving pointedBook twoRows oneStep (five ∷ six ∷ [])
+    ∷ return 7 gets answer 20 7 leaving pointedBook twoRows oneStep (five ∷ six ∷ [])
+    ∷ point 7 gets answer 0 0 leaving withThree
+    ∷ term 6 0 0 0 gets answer 0 2 leaving pointedBook threeRows oneStep (five ∷ six ∷ seven ∷ [])
+    ∷ step 2 0 0 0 0 gets answer 0 2 leaving pointedBook threeRows twoSteps (five ∷ six ∷ seven ∷ [])
+    ∷ return 7 gets answer 0 0 leaving withThree
+    ∷ return 6 gets answer 0 0 leaving pointedBook twoRows oneStep (five ∷ six ∷ [])
+    ∷ return 6 gets answer 0 0 leaving pointedBook twoRows oneStep (five ∷ six ∷ [])
+    ∷ [])
 unfolding seenFrom
 returns-made = refl
 
 -- a return to the first point forgets two, and their names are free
 two-forgotten :
-    seenFrom withThree (return 5 ∷ return 6 ∷ return 7 ∷ point 7 ∷ point 6 ∷ [])
-    ≡ answer 0 0 leaving pointedBook [] [] (five ∷ [])
-    ∷ answer 20 6 leaving pointedBook [] [] (five ∷ [])
-    ∷ answer 20 7 leaving pointedBook [] [] (five ∷ [])
-    ∷ answer 0 0 leaving pointedBook [] [] (five ∷ books.point 7 [] [] ∷ [])
-    ∷ answer 0 0 leaving pointedBook [] [] (five ∷ books.point 7 [] [] ∷ books.point 6 [] [] ∷ [])
-    ∷ []
+    AllSeen withThree
+    (return 5 gets answer 0 0 leaving pointedBook [] [] (five ∷ [])
+    ∷ return 6 gets answer 20 6 leaving pointedBook [] [] (five ∷ [])
+    ∷ return 7 gets answer 20 7 leaving pointedBook [] [] (five ∷ [])
+    ∷ point 7 gets answer 0 0 leaving pointedBook [] [] (five ∷ books.point 7 [] [] ∷ [])
+    ∷ point 6 gets answer 0 0 leaving pointedBook [] [] (five ∷ books.point 7 [] [] ∷ books.point 6 [] [] ∷ [])
+    ∷ [])
 unfolding seenFrom
 two-forgotten = refl
-
--- the calls, made in order on the book b, get these answers, and after each the book is as it was
-abbrev Refused : Book → List (Call × Answer) → Type 0
-Refused b cs = seenFrom b (map (λ c. c .0) cs) ≡ map (λ c. c .1 leaving b) cs
 
 -- names 0 and in use; no such point
 names-refused :
     Refused withThree
-    ((point 0, answer 20 0) ∷ (point 5, answer 20 5) ∷ (point 6, answer 20 6) ∷ (point 7, answer 20 7)
-    ∷ (return 0, answer 20 0) ∷ (return 8, answer 20 8) ∷ (return 65535, answer 20 65535) ∷ [])
+    (point 0 gets answer 20 0 ∷ point 5 gets answer 20 5 ∷ point 6 gets answer 20 6 ∷ point 7 gets answer 20 7
+    ∷ return 0 gets answer 20 0 ∷ return 8 gets answer 20 8 ∷ return 65535 gets answer 20 65535
+    ∷ [])
 unfolding seenFrom
 names-refused = refl
 
-none-refused : Refused emptyBook ((return 1, answer 20 1) ∷ (return 0, answer 20 0) ∷ (point 0, answer 20 0) ∷ [])
+none-refused :
+    Refused emptyBook
+    (return 1 gets answer 20 1 ∷ return 0 gets answer 20 0 ∷ point 0 gets answer 20 0 ∷ [])
 unfolding seenFrom
 none-refused = refl
 
@@ -116,17 +113,15 @@ none-earlier : Every (KeepsPoints []) (return 5 ∷ return 0 ∷ [])
 unfolding placeOf
 none-earlier = ((λ h. omega (arith, h)), ((λ h. omega (arith, h)), tt))
 
-abbrev eight : List Call
-eight = point 1 ∷ point 2 ∷ point 3 ∷ point 4 ∷ point 5 ∷ point 6 ∷ point 7 ∷ point 65535 ∷ []
-
 -- a ninth point is refused, though all are set at the same place; 20 comes before 21; a refused one does not count
 ninth-refused :
-    map (λ o. o .answer)
-    (seenFrom emptyBook
-    (eight ++ point 9 ∷ point 65535 ∷ point 0 ∷ return 9 ∷ return 7 ∷ point 9 ∷ point 65535 ∷ return 1 ∷ point 65535 ∷ []))
-    ≡ map (λ c. answer 0 0) eight
-    ++ answer 21 0 ∷ answer 20 65535 ∷ answer 20 0 ∷ answer 20 9 ∷ answer 0 0 ∷ answer 0 0 ∷ answer 21 0 ∷ answer 0 0
-    ∷ answer 0 0 ∷ []
+    Answered emptyBook
+    (point 1 gets answer 0 0 ∷ point 2 gets answer 0 0 ∷ point 3 gets answer 0 0 ∷ point 4 gets answer 0 0
+    ∷ point 5 gets answer 0 0 ∷ point 6 gets answer 0 0 ∷ point 7 gets answer 0 0 ∷ point 65535 gets answer 0 0
+    ∷ point 9 gets answer 21 0 ∷ point 65535 gets answer 20 65535 ∷ point 0 gets answer 20 0
+    ∷ return 9 gets answer 20 9 ∷ return 7 gets answer 0 0 ∷ point 9 gets answer 0 0
+    ∷ point 65535 gets answer 21 0 ∷ return 1 gets answer 0 0 ∷ point 65535 gets answer 0 0
+    ∷ [])
 unfolding seenFrom
 ninth-refused = refl
 

@@ -3,6 +3,7 @@ use Prim.Native.Nat.{ℕ}
 use mathlib.Core.Path.{_≡_, refl}
 use mathlib.Core.List.{List, [], _∷_}
 use lib.ListN.{length, replicate}
+use Rattle.common.specs.values.Expected.{_is_, AllRight}
 use Rattle.terms.specs.Row.{row, tableOf}
 use Rattle.calls.specs.Book.{step}
 use Rattle.calls.specs.code.Tables.{stepsOf, firstRows, firstSteps}
@@ -16,8 +17,12 @@ unfolding stepsOf
 incomplete-step = refl
 
 -- none, one, and more than there are
-rows-first : firstRows 0 twoRows ∷ firstRows 1 twoRows ∷ firstRows 3 twoRows ∷ []
-    ≡ [] ∷ (row 2 1 0 2 ∷ []) ∷ (row 2 1 0 2 ∷ row 6 0 0 0 ∷ []) ∷ []
+rows-first :
+    AllRight
+    (firstRows 0 twoRows is []
+    ∷ firstRows 1 twoRows is (row 2 1 0 2 ∷ [])
+    ∷ firstRows 3 twoRows is (row 2 1 0 2 ∷ row 6 0 0 0 ∷ [])
+    ∷ [])
 unfolding tableOf
 rows-first = refl
 

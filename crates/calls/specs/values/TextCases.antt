@@ -32,16 +32,9 @@ use Rattle.calls.specs.PointCall.{placeOf, pointAnswer, returnAnswer}
 use Rattle.calls.specs.TextCall.{textReply, textAnswer}
 use Rattle.calls.specs.Runs.{shown}
 use Rattle.calls.specs.Calls.{Call, CallSeen, plainBook}
+use Rattle.calls.specs.values.CallCases.{CallCase, _gets_, callsIn}
 
--- a call, and its number, its value and the rows held after it
-record Told : Type 0 where
-  call : Call
-  expected : List ℕ
-
-infix 70 _tells_
-abbrev _tells_ : Call → List ℕ → Told
-c tells ns = record { call = c; expected = ns }
-
+-- a call's number, its value and how many rows are held after it
 unfoldable told : CallSeen → List ℕ
 told o = o .answer .number ∷ o .answer .value ∷ length (o .held .rows) ∷ []
 
@@ -49,31 +42,31 @@ told o = o .answer .number ∷ o .answer .value ∷ length (o .held .rows) ∷ [
 abbrev text : String → Call
 text t = Call.text (ascii "a\nb") (ascii t)
 
-abbrev callsMade : List Told
+abbrev callsMade : List (CallCase (List ℕ))
 callsMade =
-    text "a" tells (0 ∷ 0 ∷ 1 ∷ [])
-    ∷ text "a/b" tells (0 ∷ 2 ∷ 3 ∷ [])
+    text "a" gets (0 ∷ 0 ∷ 1 ∷ [])
+    ∷ text "a/b" gets (0 ∷ 2 ∷ 3 ∷ [])
     -- a refused text adds nothing, whatever was read before the refused place
-    ∷ text "b/a/c" tells (19 ∷ 4 ∷ 3 ∷ [])
-    ∷ text "b/a/" tells (18 ∷ 4 ∷ 3 ∷ [])
+    ∷ text "b/a/c" gets (19 ∷ 4 ∷ 3 ∷ [])
+    ∷ text "b/a/" gets (18 ∷ 4 ∷ 3 ∷ [])
     -- rows that a text holds are held for term calls, and the other way round
-    ∷ Call.term (row 2 1 0 2) tells (12 ∷ 1 ∷ 3 ∷ [])
-    ∷ Call.term (row 3 1 0 0) tells (0 ∷ 3 ∷ 4 ∷ [])
-    ∷ text "b|a" tells (0 ∷ 3 ∷ 4 ∷ [])
+    ∷ Call.term (row 2 1 0 2) gets (12 ∷ 1 ∷ 3 ∷ [])
+    ∷ Call.term (row 3 1 0 0) gets (0 ∷ 3 ∷ 4 ∷ [])
+    ∷ text "b|a" gets (0 ∷ 3 ∷ 4 ∷ [])
     -- the list comes first, the selector second
-    ∷ Call.text (ascii "a") (ascii "b") tells (19 ∷ 0 ∷ 4 ∷ [])
+    ∷ Call.text (ascii "a") (ascii "b") gets (19 ∷ 0 ∷ 4 ∷ [])
     -- a return drops what a text held since, which can then be held again
-    ∷ Call.point 5 tells (0 ∷ 0 ∷ 4 ∷ [])
-    ∷ text "a/b/a" tells (0 ∷ 4 ∷ 5 ∷ [])
-    ∷ Call.return 5 tells (0 ∷ 0 ∷ 4 ∷ [])
-    ∷ text "a/b/a" tells (0 ∷ 4 ∷ 5 ∷ [])
+    ∷ Call.point 5 gets (0 ∷ 0 ∷ 4 ∷ [])
+    ∷ text "a/b/a" gets (0 ∷ 4 ∷ 5 ∷ [])
+    ∷ Call.return 5 gets (0 ∷ 0 ∷ 4 ∷ [])
+    ∷ text "a/b/a" gets (0 ∷ 4 ∷ 5 ∷ [])
     ∷ []
 
-calls-told : map told (shown plainBook emptyBook (map (λ c. c .call) callsMade)) ≡ map (λ c. c .expected) callsMade
-unfolding told shown pointAnswer returnAnswer placeOf textAnswer textReply answered termAnswer badPlace fieldsOf fieldOk heldPath
-    heldQualifier isPath isQualifier nesting nestings entriesFrom nestingBy operandNesting ascii lines inFirstLine
-    sameRow find run outcome follow step finish needByte afterByte pathByte unionByte unaryByte shut groupByte
-    leadByte callByte parenByte colonByte keywordByte leadEnd atTop room roomOf prefixOf join withPrefix joinAlt wrap
+calls-told : map told (shown plainBook emptyBook (callsIn callsMade)) ≡ map (λ c. c .expected) callsMade
+unfolding told shown pointAnswer returnAnswer placeOf textAnswer textReply answered termAnswer badPlace fieldsOf fieldOk
+    heldPath heldQualifier isPath isQualifier nesting nestings entriesFrom nestingBy operandNesting ascii lines
+    inFirstLine sameRow find run outcome follow step finish needByte afterByte pathByte unionByte unaryByte shut
+    groupByte leadByte callByte parenByte colonByte keywordByte leadEnd atTop room roomOf prefixOf join withPrefix joinAlt wrap
     leftOf andTo isSpace isStart isName isQuote same words.find next axes types isSome instructionWord orZero bytesOf
     numbered numberOf spellAxis spellTest spellBool spellStep spellRel spellPath spellUnion spellUnary spellAnd
     spellOr takesPredicate unlisted testNames stepNames relNames pathNames unionNames unaryNames andNames orNames

@@ -146,8 +146,8 @@ are-predicates : AllRight predicatesRead
 unfolding told
 are-predicates = refl
 
--- the lent list: the first of two equal lines counts, a line that is no name takes up its number, the last line may lack
--- its newline, and only a whole line is the name
+-- the lent list: the first of two equal lines counts, a line that is no name takes up its number, the last line may
+-- lack its newline, and only a whole line is the name
 abbrev namesRead : List (Case ℕ)
 namesRead =
     numberOf (ascii "a\nb\na\n") (ascii "a") is 1

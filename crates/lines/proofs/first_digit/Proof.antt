@@ -14,7 +14,8 @@ is-digit-requires : tie.Need-is-digit-requires
 is-digit-requires c κs = search needs
 
 returns-2 : tie.Need-returns-2
-returns-2 c = first-no-digit _ _ _ (c .before .before .if1 .left) (sym (c .before .is-digit .ensures) ∙ not-true _ (c .if2 .taken))
+returns-2 c = first-no-digit _ _ _ (c .before .before .if1 .left) (sym (c .before .is-digit .ensures)
+    ∙ not-true _ (c .if2 .taken))
 
 digit-requires : tie.Need-digit-requires
 digit-requires c κs = sym (c .before .is-digit .ensures) ∙ not-false _ (c .if2 .left)
@@ -23,7 +24,9 @@ up-to-requires : tie.Need-up-to-requires
 up-to-requires c κs = search needs
 
 returns-3 : tie.Need-returns-3
-returns-3 c = c .up-to .ensures ∙ ap (upTo (c .before .before .before .before .before .args .most)) (c .before .digit .ensures) ∙ first-is-digit _ _ _ (c .before .before .before .before .if1 .left) (sym (c .before .before .before .is-digit .ensures) ∙ not-false _ (c .before .before .if2 .left))
+returns-3 c = c .up-to .ensures ∙ ap (upTo (c .before .before .before .before .before .args .most))
+    (c .before .digit .ensures) ∙ first-is-digit _ _ _ (c .before .before .before .before .if1 .left)
+    (sym (c .before .before .before .is-digit .ensures) ∙ not-false _ (c .before .before .if2 .left))
 
 pub first-digit-spec : {M : Type 1} → statement M
 first-digit-spec =

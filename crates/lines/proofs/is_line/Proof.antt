@@ -8,20 +8,23 @@ use Rattle.lines.proofs.is_line.Statement.{statement}
 use Rattle.lines.proofs.is_line.Tie as tie
 
 returns : tie.Need-returns
-returns c = let a = c .before .before .before .args in sym (no-line-there (a .line .now) (a .bytes .now) (a .at) (omega arith))
+returns c = let a = c .before .before .before .args in
+    sym (no-line-there (a .line .now) (a .bytes .now) (a .at) (omega arith))
 
 sub-if2 : tie.Need-sub-if2
 sub-if2 c = search needs
 
 returns-2 : tie.Need-returns-2
-returns-2 c = let a = c .before .before .before .before .args in sym (no-line-there (a .line .now) (a .bytes .now) (a .at) (omega arith))
+returns-2 c = let a = c .before .before .before .before .args in
+    sym (no-line-there (a .line .now) (a .bytes .now) (a .at) (omega arith))
 
 starts-with-requires : tie.Need-starts-with-requires
 starts-with-requires c κs = search needs
 
 returns-3 : tie.Need-returns-3
 returns-3 c = let a = c .before .before .before .before .before .before .args in
-    sym (line-there (a .line .now) (a .bytes .now) (a .at) (omega arith) ∙ rw (sym (c .before .starts-with .ensures) ∙ not-true _ (c .if3 .taken)))
+    sym (line-there (a .line .now) (a .bytes .now) (a .at) (omega arith)
+    ∙ rw (sym (c .before .starts-with .ensures) ∙ not-true _ (c .if3 .taken)))
 
 add-result : tie.Need-add-result
 add-result c = search needs
@@ -31,7 +34,8 @@ shared-slice-read-result c = search needs
 
 returns-4 : tie.Need-returns-4
 returns-4 c = let a = c .before .before .before .before .before .before .before .args in
-    sym (line-there (a .line .now) (a .bytes .now) (a .at) (omega arith) ∙ rw (sym (c .before .before .starts-with .ensures) ∙ not-false _ (c .before .if3 .left)))
+    sym (line-there (a .line .now) (a .bytes .now) (a .at) (omega arith)
+    ∙ rw (sym (c .before .before .starts-with .ensures) ∙ not-false _ (c .before .if3 .left)))
 
 pub is-line-spec : {M : Type 1} → statement M
 is-line-spec =

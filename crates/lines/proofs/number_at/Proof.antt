@@ -1,17 +1,20 @@
--- `number_at` meets its contract. The loop's invariant: the number at `at` is the value so far with the digits from i on. Assumes nothing.
+-- `number_at` meets its contract. The loop's invariant:
+-- the number at `at` is the value so far with the digits from i on. Assumes nothing.
 use Prim.Native.Nat.{_+_, _-_, _≤_, _<_}
 use mathlib.Core.Path.{_≡_, sym, ap, _∙_}
 use native.Mathlib.Omega.{arith}
 use lib.ListN.{length, getD, drop}
 use Rattle.lines.specs.code.NumbersRead.{writtenNumber, numberCut}
 use borrow.Author.Needs.{needs}
-use Rattle.lines.proofs.Scan.{scan, number-met, no-number-met, nothing-there, no-digit-there, digit-there, end-there, stops-there, goes-on-there, first-digit-fits, one-more-fits, scan-past}
+use Rattle.lines.proofs.Scan.{scan, number-met, no-number-met, nothing-there, no-digit-there, digit-there}
+use Rattle.lines.proofs.Scan.{end-there, stops-there, goes-on-there, first-digit-fits, one-more-fits, scan-past}
 use Rattle.lines.proofs.number_at.Statement.{statement}
 use Rattle.lines.proofs.number_at.Tie as tie
 
 abbrev Inv-loop : tie.InvT-loop
 Inv-loop bytes at end most first value₀ i₀ value i =
-    (at < i) × (i ≤ length bytes) × (value ≤ most) × (numberCut most end (drop at bytes) ≡ scan most end value (drop i bytes))
+    (at < i) × (i ≤ length bytes) × (value ≤ most)
+    × (numberCut most end (drop at bytes) ≡ scan most end value (drop i bytes))
 
 abbrev μ-loop : tie.MeasureT-loop
 μ-loop bytes at end most first value₀ i₀ value i = length bytes - i
@@ -38,16 +41,22 @@ no-number-requires-2 : tie.Need-no-number-requires-2 Inv-loop μ-loop
 no-number-requires-2 c κs = search needs
 
 returns-2 : tie.Need-returns-2 Inv-loop μ-loop
-returns-2 c = let told = ap writtenNumber (sym (c .before .enum-told .given .1)) ∙ c .before .before .before .first-digit .ensures in
-    no-number-met _ _ _ _ _ _ _ (c .no-number2 .ensures) (no-digit-there _ _ _ _ (c .before .before .before .before .before .if1 .left) told)
+returns-2 c = let told = ap writtenNumber (sym (c .before .enum-told .given .1))
+    ∙ c .before .before .before .first-digit .ensures in
+    no-number-met _ _ _ _ _ _ _ (c .no-number2 .ensures)
+    (no-digit-there _ _ _ _ (c .before .before .before .before .before .if1 .left) told)
 
 add-i : tie.Need-add-i Inv-loop μ-loop
 add-i c = omega arith
 
 loop-holds : tie.Need-loop-holds Inv-loop μ-loop
 loop-holds c = let a = c .before .before .before .before .before .before .before .args in
-    let told = ap writtenNumber (sym (c .before .first .given .1)) ∙ c .before .before .before .first-digit .ensures in
-    (omega arith, omega arith, first-digit-fits (a .most) (a .end) (getD (a .bytes .now) (a .at) 0) _ told, digit-there _ _ _ _ (c .before .before .before .before .before .if1 .left) _ told)
+    let told = ap writtenNumber (sym (c .before .first .given .1)) ∙ c .before .before .before .first-digit .ensures in (
+      omega arith,
+      omega arith,
+      first-digit-fits (a .most) (a .end) (getD (a .bytes .now) (a .at) 0) _ told,
+      digit-there _ _ _ _ (c .before .before .before .before .before .if1 .left) _ told,
+    )
 
 shared-slice-read-b : tie.Need-shared-slice-read-b Inv-loop μ-loop
 shared-slice-read-b c = omega arith
@@ -56,8 +65,11 @@ add-t19 : tie.Need-add-t19 Inv-loop μ-loop
 add-t19 c = omega arith
 
 returns-3 : tie.Need-returns-3 Inv-loop μ-loop
-returns-3 c = let a = c .before .before .before .before .before .before .before .before .before .before .before .args in let l = c .before .before .before .loop in
-    number-met (a .most) (a .end) (a .bytes .now) (a .at) (l .value) (l .i + 1) (l .inv .2) (end-there (a .most) (a .end) (a .bytes .now) (a .at) (l .i) (l .value) (c .before .before .loop-test .taken) (l .inv .3) (c .if2 .taken)) (omega arith) (omega arith)
+returns-3 c = let a = c .before .before .before .before .before .before .before .before .before .before .before .args in
+    let l = c .before .before .before .loop in
+    number-met (a .most) (a .end) (a .bytes .now) (a .at) (l .value) (l .i + 1) (l .inv .2)
+    (end-there (a .most) (a .end) (a .bytes .now) (a .at) (l .i) (l .value) (c .before .before .loop-test .taken)
+    (l .inv .3) (c .if2 .taken)) (omega arith) (omega arith)
 
 one-more-requires : tie.Need-one-more-requires Inv-loop μ-loop
 one-more-requires c κs = search needs
@@ -72,10 +84,14 @@ no-number-requires-3 : tie.Need-no-number-requires-3 Inv-loop μ-loop
 no-number-requires-3 c κs = search needs
 
 returns-4 : tie.Need-returns-4 Inv-loop μ-loop
-returns-4 c = let a = c .before .before .before .before .before .before .before .before .before .before .before .before .before .before .before .args in let l = c .before .before .before .before .before .before .before .loop in
-    let told = ap writtenNumber (sym (c .before .enum-told2 .given .1)) ∙ c .before .before .before .one-more .ensures in
+returns-4 c =
+    let a = c .before .before .before .before .before .before .before .before .before .before .before .before .before .before .before .args in let l = c .before .before .before .before .before .before .before .loop in
+    let told = ap writtenNumber (sym (c .before .enum-told2 .given .1))
+    ∙ c .before .before .before .one-more .ensures in
     no-number-met _ _ _ _ _ _ _ (c .no-number3 .ensures)
-    (stops-there (a .most) (a .end) (a .bytes .now) (a .at) (l .i) (l .value) (c .before .before .before .before .before .before .loop-test .taken) (l .inv .3) (c .before .before .before .before .if2 .left) told)
+    (stops-there (a .most) (a .end) (a .bytes .now) (a .at) (l .i) (l .value)
+    (c .before .before .before .before .before .before .loop-test .taken) (l .inv .3)
+    (c .before .before .before .before .if2 .left) told)
 
 add-i-2 : tie.Need-add-i-2 Inv-loop μ-loop
 add-i-2 c = omega arith
@@ -84,19 +100,23 @@ loop-less : tie.Need-loop-less Inv-loop μ-loop
 loop-less c = omega arith
 
 loop-again : tie.Need-loop-again Inv-loop μ-loop
-loop-again c = let a = c .before .before .before .before .before .before .before .before .before .before .before .before .before .before .before .args in let l = c .before .before .before .before .before .before .before .loop in
+loop-again c =
+    let a = c .before .before .before .before .before .before .before .before .before .before .before .before .before .before .before .args in let l = c .before .before .before .before .before .before .before .loop in
     let told = ap writtenNumber (sym (c .before .more .given .1)) ∙ c .before .before .before .one-more .ensures in (
       omega arith,
       omega arith,
       one-more-fits (a .most) (l .value) (getD (a .bytes .now) (l .i) 0) _ told,
-      goes-on-there (a .most) (a .end) (a .bytes .now) (a .at) (l .i) (l .value) (c .before .before .before .before .before .before .loop-test .taken) (l .inv .3) (c .before .before .before .before .if2 .left) _ told,
+      goes-on-there (a .most) (a .end) (a .bytes .now) (a .at) (l .i) (l .value)
+          (c .before .before .before .before .before .before .loop-test .taken) (l .inv .3)
+          (c .before .before .before .before .if2 .left) _ told,
     )
 
 no-number-requires-4 : tie.Need-no-number-requires-4 Inv-loop μ-loop
 no-number-requires-4 c κs = search needs
 
 returns-5 : tie.Need-returns-5 Inv-loop μ-loop
-returns-5 c = no-number-met _ _ _ _ _ _ _ (c .no-number4 .ensures) (c .before .before .loop .inv .3 ∙ scan-past _ _ _ _ _ (c .before .loop-test .left))
+returns-5 c = no-number-met _ _ _ _ _ _ _ (c .no-number4 .ensures) (c .before .before .loop .inv .3
+    ∙ scan-past _ _ _ _ _ (c .before .loop-test .left))
 
 pub number-at-spec : {M : Type 1} → statement M
 number-at-spec =

@@ -1,5 +1,5 @@
--- `numbers_line` meets its contract. The loop's invariant: the line starts with the numbers so far and goes on at `from`.
--- Assumes nothing.
+-- `numbers_line` meets its contract. The loop's invariant: the line starts with the numbers so far and goes on at
+-- `from`. Assumes nothing.
 use Prim.Native.Nat.{_+_, _-_, _<_}
 use mathlib.Core.Path.{_≡_, refl, _∙_}
 use native.Mathlib.Omega.{arith}
@@ -9,7 +9,8 @@ use borrow.Author.Tests.{not-true, not-false, lt-leb}
 use Rattle.lines.specs.Line.{lines}
 use Rattle.lines.specs.code.NumbersRead.{maxCount, noCounted}
 use Rattle.lines.proofs.Filled.{rest-stays}
-use Rattle.lines.proofs.LineRead.{GoesOn, starts-there, goes-on, ends-there, line-at-end, not-met-there, no-line-met, no-numbers-met}
+use Rattle.lines.proofs.LineRead.{GoesOn, starts-there, goes-on, ends-there, line-at-end, not-met-there}
+use Rattle.lines.proofs.LineRead.{no-line-met, no-numbers-met}
 use Rattle.lines.proofs.numbers_line.Statement.{statement}
 use Rattle.lines.proofs.numbers_line.Tie as tie
 
@@ -63,7 +64,8 @@ loop-again c = let a = c .before .before .before .before .before .before .args i
       omega arith,
       length-set (l .numbers) (l .i) _ ∙ l .inv .1,
       rest-stays (l .numbers) (l .i) _ noCounted (l .inv .2),
-      goes-on (a .count) (a .bytes .now) (a .at) (l .from) (a .count - l .i) (l .numbers) (l .i) (l .inv .1) (omega arith) (l .inv .3) _ _ _
+      goes-on (a .count) (a .bytes .now) (a .at) (l .from) (a .count - l .i) (l .numbers) (l .i) (l .inv .1)
+          (omega arith) (l .inv .3) _ _ _
           (a .count - (l .i + 1)) (omega arith) (omega arith) (c .line-number-at .ensures),
     )
 
@@ -77,7 +79,8 @@ returns-3 : tie.Need-returns-3 Inv-loop μ-loop
 returns-3 c = let b = c .before .before .before .before .before in
     let a = b .before .before .before .before .args in
     let l = b .loop in
-    let line = ends-there (a .count) (a .bytes .now) (a .at) (l .from) (a .count - l .i) (l .numbers) (l .i) (l .inv .1) (omega arith) (l .inv .3)
+    let line = ends-there (a .count) (a .bytes .now) (a .at) (l .from) (a .count - l .i) (l .numbers) (l .i) (l .inv .1)
+    (omega arith) (l .inv .3)
     _ _ _ (omega arith) (c .before .before .before .line-number-at2 .ensures) in
     no-line-met _ _ _ _ (c .no-line3 .ensures)
     (not-met-there (a .count) _ _ (omega arith) _ _ _ line (not-true _ (c .before .if3 .taken)))
@@ -93,7 +96,8 @@ returns-4 c = let b = c .before .before .before .before in
     let a = b .before .before .before .before .args in
     let l = b .loop in
     let last = c .before .before .line-number-at2 in
-    line-at-end (a .count) (a .bytes .now) (a .at) (l .from) (a .count - l .i) (l .numbers) (l .i) (l .inv .1) (omega arith)
+    line-at-end (a .count) (a .bytes .now) (a .at) (l .from) (a .count - l .i) (l .numbers) (l .i) (l .inv .1)
+    (omega arith)
     (l .inv .3) _ _ _ (omega arith) (omega arith) (l .inv .2) (last .ensures) (not-false _ (c .if3 .left))
 
 pub numbers-line-spec : {M : Type 1} → statement M

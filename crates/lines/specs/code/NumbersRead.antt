@@ -39,7 +39,8 @@ bytesBefore xs ys = record { bytes = xs; rest = ys }
 unfoldable pub cut : (end : ℕ) → List ℕ → Option Cut
 cut end [] = none
 cut end (x ∷ xs) =
-    cond (eqb x end) (some (bytesBefore [] xs)) (Option·elim (cut end xs) none (λ c. some (bytesBefore (x ∷ c .bytes) (c .rest))))
+    cond (eqb x end) (some (bytesBefore [] xs))
+    (Option·elim (cut end xs) none (λ c. some (bytesBefore (x ∷ c .bytes) (c .rest))))
 
 -- a number, and the text after the byte that ends it
 pub record NumberCut : Type 0 where
@@ -52,10 +53,11 @@ numberBefore n xs = record { value = n; rest = xs }
 -- the number before the first `end`, which may be any byte
 unfoldable pub numberCut : (most end : ℕ) → List ℕ → Option NumberCut
 numberCut most end xs =
-    Option·elim (cut end xs) none (λ c. Option·elim (numberUpTo most (c .bytes)) none (λ n. some (numberBefore n (c .rest))))
+    Option·elim (cut end xs) none (λ c. Option·elim (numberUpTo most (c .bytes)) none
+    (λ n. some (numberBefore n (c .rest))))
 
--- the number up to `most` that stands at `at` of the text xs and that the byte `end` ends: whether there is one, which, and where the
--- text goes on
+-- the number up to `most` that stands at `at` of the text xs and that the byte `end` ends: whether there is one, which,
+-- and where the text goes on
 pub record NumberMet (most end : ℕ) (xs : List ℕ) (at : ℕ) (ok : Bool) (value next : ℕ) : Type 0 where
   pub number : cond ok (some (numberBefore value (drop next xs))) none ≡ numberCut most end (drop at xs)
   pub fits : value ≤ most

@@ -86,7 +86,8 @@ mark-children-requires c κs =
       (
         g .room,
         rw (c .before .before .before .wide .ensures, c .before .wide2 .ensures)
-            (later-siblings (documentOf (a .d .now)) (a .ends .now) (g .prepared) (a .x) (at-parent-at .parent-at .result)
+            (later-siblings (documentOf (a .d .now)) (a .ends .now) (g .prepared) (a .x)
+            (at-parent-at .parent-at .result)
             (g .row) (m .0) (at-parent-at .parent-at .ensures)),
       ),
     )

@@ -13,8 +13,8 @@ use Rattle.matching.specs.code.Pattern.{pathLetter, qualifierLetter, axi
 use Rattle.matching.specs.code.Pattern.{axisPattern, testPattern, namePattern, pathPattern, claimPattern}
 use Rattle.matching.specs.code.Pattern.{formPattern, formPatterns}
 
--- a pattern is a number: below 32 it is that number, below 64 a letter, from there on an entry; the entries are numbered
--- as they first appear
+-- a pattern is a number: below 32 it is that number, below 64 a letter, from there on an entry; the entries are
+-- numbered as they first appear
 abbrev pub firstLetter : ℕ
 firstLetter = 32
 

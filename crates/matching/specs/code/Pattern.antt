@@ -1,9 +1,13 @@
 -- Patterns of rows, and the forms of the rules as such patterns. Assumes nothing.
 use Prim.Native.Nat.{ℕ}
 use mathlib.Core.List.{List, [], _∷_, _++_, map}
-use Rattle.rules.specs.Form.{PathLetter, QualifierLetter, AxisLetter, TestLetter, AxisForm, axis, axis-letter, TestForm, test, test-letter, PathForm, path-letter, Void, Root, _::_, _¦_, _∕_, _⟦_⟧, QualifierForm, qualifier-letter, True, False, Not_, _And_, _Or_, _In_, ClaimForm, _<=_, _=>_, Condition, Form, Rule}
+use Rattle.rules.specs.Form.{PathLetter, QualifierLetter, AxisLetter, TestLetter, AxisForm, axis, axis-letter, TestForm}
+use Rattle.rules.specs.Form.{test, test-letter, PathForm, path-letter, Void, Root, _::_, _¦_, _∕_, _⟦_⟧, QualifierForm}
+use Rattle.rules.specs.Form.{qualifier-letter, True, False, Not_, _And_, _Or_, _In_, ClaimForm, _<=_, _=>_, Condition}
+use Rattle.rules.specs.Form.{Form, Rule}
 
--- of a number in a row: this number; the one that a letter stands for; the number of a held row of a kind, with patterns of its fields
+-- of a number in a row: this number; the one that a letter stands for;
+-- the number of a held row of a kind, with patterns of its fields
 pub data Pattern : Type 0 where
   number : ℕ → Pattern
   letter : ℕ → Pattern
@@ -95,7 +99,12 @@ pub record FormPattern : Type 0 where
 
 unfoldable pub formPattern : ℕ → Form → FormPattern
 formPattern n w =
-    record { rule = n; conclusion = claimPattern (w .conclusion); premises = map claimPattern (w .premises); conditions = w .conditions }
+    record {
+      rule = n;
+      conclusion = claimPattern (w .conclusion);
+      premises = map claimPattern (w .premises);
+      conditions = w .conditions;
+    }
 
 -- the forms of a table, in order
 unfoldable pub formPatterns : List Rule → List FormPattern

@@ -12,7 +12,9 @@ use Rattle.rules.specs.Claim.{Claim, says}
 use Rattle.rules.specs.Instance.{Letters, meets}
 use Rattle.rules.specs.Yields.{formsOf, wayBackRule}
 use Rattle.matching.specs.code.RowWayBack.{isWithBack}
-use Rattle.matching.specs.code.Pattern.{Pattern, number, letter, row-of, letterCount, firstQualifierLetter, firstAxisLetter, axisLetter, testLetter, nameLetter, ClaimPattern, FormPattern, formPattern}
+use Rattle.matching.specs.code.Pattern.{Pattern, number, letter, row-of, letterCount, firstQualifierLetter}
+use Rattle.matching.specs.code.Pattern.{firstAxisLetter, axisLetter, testLetter, nameLetter, ClaimPattern}
+use Rattle.matching.specs.code.Pattern.{FormPattern, formPattern}
 
 -- the rows that a step is about
 pub record Sides : Type 0 where
@@ -51,7 +53,8 @@ bind k v m =
 
 -- p, q, r, s stand for held paths, f, g, h for held qualifiers
 unfoldable pub suits : List Row → ℕ → ℕ → Bool
-suits rs k v = cond (ltb k firstQualifierLetter) (heldPath rs v) (cond (ltb k firstAxisLetter) (heldQualifier rs v) true)
+suits rs k v =
+    cond (ltb k firstQualifierLetter) (heldPath rs v) (cond (ltb k firstAxisLetter) (heldQualifier rs v) true)
 
 -- v is the number of a held row of this kind
 unfoldable pub isRow : List Row → ℕ → ℕ → Bool

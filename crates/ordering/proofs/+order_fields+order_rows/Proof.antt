@@ -9,13 +9,13 @@ use borrow.Fn.PlainCycle.{Measures, is, falls, and}
 use Rattle.common.proofs.and.Reads as and-reads
 use Rattle.common.proofs.wide.Reads as wide-reads
 use Rattle.terms.specs.Row.{tableOf}
+use Rattle.terms.proofs.is_noted.Reads as is-noted-reads
+use Rattle.terms.proofs.note.Reads as note-reads
 use Rattle.ordering.specs.Order.{numberOrder}
 use Rattle.ordering.specs.OrderCall.{orderValue}
 use Rattle.ordering.proofs.Rows as ways
 use Rattle.ordering.proofs.Compared as law
-use Rattle.ordering.proofs.is_noted.Reads as is-noted-reads
 use Rattle.ordering.proofs.is_operand.Reads as is-operand-reads
-use Rattle.ordering.proofs.note.Reads as note-reads
 use Rattle.ordering.proofs.number_of.Reads as number-of-reads
 use Rattle.ordering.proofs.order_numbers.Reads as order-numbers-reads
 use Rattle.ordering.proofs.pair_of.Reads as pair-of-reads

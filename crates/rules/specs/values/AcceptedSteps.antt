@@ -6,12 +6,14 @@ use lib.Dec.{T, eqb}
 use Rattle.common.specs.Axes.{self, child, parent, descendant, ancestor, descendant-or-self, ancestor-or-self}
 use Rattle.common.specs.Axes.{following-sibling, preceding-sibling, following, preceding, attribute}
 use Rattle.common.specs.NodeTests.{name-test, star-test, node-test, text-test, instruction-test, target-test}
-use Rattle.xpath.specs.Term.{Path, Qualifier, Void, Root, AxisStep, Union, Composition, Filter, True, False, Not, And, Or, In, some-of}
+use Rattle.xpath.specs.Term.{Path, Qualifier, Void, Root, AxisStep, Union, Composition, Filter, True, False, Not, And}
+use Rattle.xpath.specs.Term.{Or, In, some-of}
 use Rattle.rules.specs.Claim.{Claim, Containment, Implication}
 use Rattle.common.specs.Lists.{allOf, anyOf}
+use Rattle.common.proofs.Entries.{all-of-yes}
 use Rattle.rules.specs.RuleTable.{rules}
 use Rattle.rules.specs.Yields.{Yields}
-use Rattle.rules.specs.Decision.{fits, someFormFits, ruleFits, yielded-yes, all-of-yes}
+use Rattle.rules.specs.code.RuleFits.{fits, someFormFits, ruleFits, yielded-yes}
 
 -- a rule, what a step says, and what its premises say
 pub record Sample : Type 0 where
@@ -143,9 +145,12 @@ accepted =
     ∷ sample 8 (Containment (child ::target) (descendant ::instruction)) []
     ∷ sample 8 (Containment (child ::target) (descendant ::node)) []
     ∷ sample 9 (Containment (Filter p f) (Filter r g)) (Containment p r ∷ Implication f g ∷ [])
-    ∷ sample 10 (Containment (Composition p (child ::N)) (Composition r (descendant ::M))) (Containment (child ::N) (descendant ::M) ∷ Containment p (Composition r (descendant ::star)) ∷ [])
-    ∷ sample 10 (Containment (Composition p (child ::N)) (Composition r (preceding ::M))) (Containment (child ::N) (preceding ::M) ∷ Containment p (Composition r (preceding ::star)) ∷ [])
-    ∷ sample 11 (Containment (Composition p q) (Composition r s)) (Containment (Filter p (some-of q)) r ∷ Containment q s ∷ [])
+    ∷ sample 10 (Containment (Composition p (child ::N)) (Composition r (descendant ::M)))
+    (Containment (child ::N) (descendant ::M) ∷ Containment p (Composition r (descendant ::star)) ∷ [])
+    ∷ sample 10 (Containment (Composition p (child ::N)) (Composition r (preceding ::M)))
+    (Containment (child ::N) (preceding ::M) ∷ Containment p (Composition r (preceding ::star)) ∷ [])
+    ∷ sample 11 (Containment (Composition p q) (Composition r s))
+    (Containment (Filter p (some-of q)) r ∷ Containment q s ∷ [])
     ∷ sample 12 (Implication (In p q) (In r s)) (Containment r p ∷ Containment q s ∷ [])
     ∷ sample 13 (Implication (Not f) (Not g)) (Implication g f ∷ [])
     ∷ sample 14 (Implication f True) []
@@ -191,15 +196,22 @@ accepted =
     ++ implications 45 (Not False) True
     ++ implications 46 (In (Union p q) r) (And (In p r) (In q r))
     ++ implications 47 (And f (Not f)) False
-    ++ containments 48 (Composition (Filter (child ::N) f) (parent ::M)) (Filter (self ::M) (some-of (Filter (child ::N) f)))
-    ++ containments 49 (Composition (Filter (descendant ::N) f) (parent ::M)) (Filter (descendant-or-self ::M) (some-of (Filter (child ::N) f)))
-    ++ (sample 51 (Containment (Composition (Filter (descendant ::N) f) (child ::M)) (Filter (descendant ::M) (some-of (Filter (parent ::N) f)))) [] ∷ [])
+    ++ containments 48 (Composition (Filter (child ::N) f) (parent ::M))
+    (Filter (self ::M) (some-of (Filter (child ::N) f)))
+    ++ containments 49 (Composition (Filter (descendant ::N) f) (parent ::M))
+    (Filter (descendant-or-self ::M) (some-of (Filter (child ::N) f)))
+    ++ (sample 51 (Containment (Composition (Filter (descendant ::N) f) (child ::M))
+    (Filter (descendant ::M) (some-of (Filter (parent ::N) f)))) [] ∷ [])
     ++ containments 52 (descendant-or-self ::N) (Union (descendant ::N) (self ::N))
     ++ containments 53 (ancestor-or-self ::N) (Union (ancestor ::N) (self ::N))
-    ++ (sample 54 (Containment (Composition (Composition (ancestor-or-self ::node) (following-sibling ::node)) (descendant-or-self ::N)) (following ::N)) [] ∷ [])
-    ++ containments 55 (preceding ::N) (Composition (Composition (ancestor-or-self ::node) (preceding-sibling ::node)) (descendant-or-self ::N))
-    ++ (sample 56 (Containment (Composition p Root) Root) [] ∷ sample 57 (Containment Root (ancestor-or-self ::node)) [] ∷ [])
-    ++ map (λ a. sample 26 (Containment (Composition p (a ::N)) (Composition Root (descendant ::star))) []) otherThanAttribute
+    ++ (sample 54 (Containment (Composition (Composition (ancestor-or-self ::node) (following-sibling ::node))
+    (descendant-or-self ::N)) (following ::N)) [] ∷ [])
+    ++ containments 55 (preceding ::N) (Composition (Composition (ancestor-or-self ::node) (preceding-sibling ::node))
+    (descendant-or-self ::N))
+    ++ (sample 56 (Containment (Composition p Root) Root) [] ∷ sample 57 (Containment Root (ancestor-or-self ::node)) []
+    ∷ [])
+    ++ map (λ a. sample 26 (Containment (Composition p (a ::N)) (Composition Root (descendant ::star))) [])
+    otherThanAttribute
     ++ map (λ a. sample 58 (Containment (Composition (a ::node) (self ::N)) (a ::N)) []) otherThanAttribute
     ++ map (λ a. sample 58 (Containment (a ::N) (Composition (a ::node) (self ::N))) []) otherThanAttribute
     ++ containments 58 (Composition (child ::node) (self ::target)) (child ::target)
@@ -227,6 +239,8 @@ unfolding accepted allOf ruleFits
 accepted-yield {x} m = yielded-yes (x .rule) (x .claim) (x .premises) (all-of-yes sampleYielded accepted tt m)
 
 -- every form of the table fits a step of the list
-pub forms-covered : T (allOf (λ r. allOf (λ w. anyOf (λ x. eqb (x .rule) (r .number) && fits (x .claim ∷ x .premises) w) accepted) (r .forms)) rules)
+pub forms-covered : T (allOf
+    (λ r. allOf (λ w. anyOf (λ x. eqb (x .rule) (r .number) && fits (x .claim ∷ x .premises) w) accepted) (r .forms))
+    rules)
 unfolding accepted someFormFits
 forms-covered = tt

@@ -4,18 +4,21 @@ use Prim.Native.Nat.{ℕ}
 use mathlib.Core.List.{[], _∷_}
 use native.Mathlib.Omega.{arith}
 use Rattle.common.specs.Bounded.{anyBelow, allBelow}
-use Rattle.xpath.specs.Document.{Document, node, rootNode, kindAt, parentAt, nameAt, isChild, climbMeets, isAncestor, areSiblings, kindAndNameOk, rowOk, wellFormed}
+use Rattle.xpath.specs.Document.{Document, node, rootNode, kindAt, parentAt, nameAt, isChild, climbMeets, isAncestor}
+use Rattle.xpath.specs.Document.{areSiblings, kindAndNameOk, rowOk, wellFormed}
 use Rattle.common.specs.Axes.{self, child, parent, descendant, descendant-or-self, ancestor-or-self}
 use Rattle.common.specs.Axes.{following-sibling, preceding-sibling, following, attribute}
 use Rattle.common.specs.NodeTests.{name-test, star-test, node-test, text-test, instruction-test, target-test}
 use Rattle.xpath.specs.Axis.{onAxis, passes}
-use Rattle.xpath.specs.Term.{Path, Qualifier, Void, Root, AxisStep, Union, Composition, Filter, True, Not, And, Or, In, some-of}
+use Rattle.xpath.specs.Term.{Path, Qualifier, Void, Root, AxisStep, Union, Composition, Filter, True, Not, And, Or, In}
+use Rattle.xpath.specs.Term.{some-of}
 use Rattle.xpath.specs.Meaning.{selects}
 use Rattle.rules.specs.Claim.{Containment, Implication, TrueOn, IsTrue}
 
 -- not A; to unfold it is to unfold what computes on a document
 unfoldable pub IsFalse : Type 0 → Type 0
-unfolding IsTrue TrueOn selects onAxis passes kindAt parentAt nameAt isChild climbMeets isAncestor areSiblings anyBelow allBelow wellFormed rowOk kindAndNameOk
+unfolding IsTrue TrueOn selects onAxis passes kindAt parentAt nameAt isChild climbMeets isAncestor areSiblings anyBelow
+    allBelow wellFormed rowOk kindAndNameOk
 IsFalse A = ¬ A
 
 -- two elements under the root
@@ -26,18 +29,21 @@ twoChildren = rootNode ∷ node 1 0 1 ∷ node 1 0 2 ∷ []
 pub r3r-false :
     IsFalse ((p q r : Path) → IsTrue (Implication (In p (Union q r)) (Or (In p q) (In p r))))
 unfolding IsFalse
-r3r-false rule = rule (AxisStep child star-test 0) (AxisStep child name-test 1) (AxisStep child name-test 2) twoChildren tt 0 (omega arith) tt
+r3r-false rule = rule (AxisStep child star-test 0) (AxisStep child name-test 1) (AxisStep child name-test 2) twoChildren
+    tt 0 (omega arith) tt
 
 -- f3 orders the paths backwards
 pub f3-false :
     IsFalse ((p q : Path) (f g : Qualifier) → IsTrue (Containment p q) → IsTrue (Implication (Not f) (Not g)) →
     IsTrue (Implication (In (Filter p f) Void) (In (Filter q g) Void)))
 unfolding IsFalse
-f3-false rule = rule Void (AxisStep child star-test 0) True True (λ d w x k y t. absurd t) (λ d w x k t. t) twoChildren tt 0 (omega arith) tt
+f3-false rule = rule Void (AxisStep child star-test 0) True True (λ d w x k y t. absurd t) (λ d w x k t. t) twoChildren
+    tt 0 (omega arith) tt
 
 -- g2b takes "not f => g" in rule 25
 pub g2b-false :
-    IsFalse ((p : Path) (f g : Qualifier) → IsTrue (Implication (Not f) g) → IsTrue (Containment (Filter p (And f g)) Void))
+    IsFalse ((p : Path) (f g : Qualifier) → IsTrue (Implication (Not f) g)
+    → IsTrue (Containment (Filter p (And f g)) Void))
 unfolding IsFalse
 g2b-false rule = rule (AxisStep child star-test 0) True True (λ d w x k t. tt) twoChildren tt 0 (omega arith) 1 tt
 
@@ -62,7 +68,8 @@ withText = rootNode ∷ node 1 0 1 ∷ node 1 1 2 ∷ node 2 1 0 ∷ []
 pub r-a13-false :
     IsFalse (IsTrue (Containment
     (AxisStep following text-test 0)
-    (Composition (Composition (AxisStep ancestor-or-self star-test 0) (AxisStep following-sibling star-test 0)) (AxisStep descendant-or-self text-test 0))))
+    (Composition (Composition (AxisStep ancestor-or-self star-test 0) (AxisStep following-sibling star-test 0))
+    (AxisStep descendant-or-self text-test 0))))
 unfolding IsFalse
 r-a13-false claim = claim withText tt 2 (omega arith) 3 tt
 
@@ -74,14 +81,16 @@ withAttribute = rootNode ∷ node 1 0 1 ∷ node 5 1 2 ∷ node 2 1 0 ∷ []
 pub rule50-false :
     IsFalse (IsTrue (Containment
     (Composition (Filter (AxisStep parent node-test 0) True) (AxisStep child node-test 0))
-    (Filter (Union (Union (AxisStep preceding-sibling node-test 0) (AxisStep following-sibling node-test 0)) (AxisStep self node-test 0)) (some-of (Filter (AxisStep parent node-test 0) True)))))
+    (Filter (Union (Union (AxisStep preceding-sibling node-test 0) (AxisStep following-sibling node-test 0))
+    (AxisStep self node-test 0)) (some-of (Filter (AxisStep parent node-test 0) True)))))
 unfolding IsFalse
 rule50-false claim = claim withAttribute tt 2 (omega arith) 3 tt
 
 -- and the other direction: an attribute is itself, and no child of its parent
 pub rule50-back-false :
     IsFalse (IsTrue (Containment
-    (Filter (Union (Union (AxisStep preceding-sibling node-test 0) (AxisStep following-sibling node-test 0)) (AxisStep self node-test 0)) (some-of (Filter (AxisStep parent node-test 0) True)))
+    (Filter (Union (Union (AxisStep preceding-sibling node-test 0) (AxisStep following-sibling node-test 0))
+    (AxisStep self node-test 0)) (some-of (Filter (AxisStep parent node-test 0) True)))
     (Composition (Filter (AxisStep parent node-test 0) True) (AxisStep child node-test 0))))
 unfolding IsFalse
 rule50-back-false claim = claim withAttribute tt 2 (omega arith) 2 tt
@@ -90,18 +99,22 @@ rule50-back-false claim = claim withAttribute tt 2 (omega arith) 2 tt
 pub rule54-left-false :
     IsFalse (IsTrue (Containment
     (AxisStep following node-test 0)
-    (Composition (Composition (AxisStep ancestor-or-self node-test 0) (AxisStep following-sibling node-test 0)) (AxisStep descendant-or-self node-test 0))))
+    (Composition (Composition (AxisStep ancestor-or-self node-test 0) (AxisStep following-sibling node-test 0))
+    (AxisStep descendant-or-self node-test 0))))
 unfolding IsFalse
 rule54-left-false claim = claim withAttribute tt 2 (omega arith) 3 tt
 
 -- rule 26 with the attribute axis
 pub rule26-attribute-false :
-    IsFalse ((p : Path) → IsTrue (Containment (Composition p (AxisStep attribute star-test 0)) (Composition Root (AxisStep descendant star-test 0))))
+    IsFalse ((p : Path) → IsTrue (Containment (Composition p (AxisStep attribute star-test 0))
+    (Composition Root (AxisStep descendant star-test 0))))
 unfolding IsFalse
 rule26-attribute-false rule = rule (AxisStep self node-test 0) withAttribute tt 1 (omega arith) 2 tt
 
 -- rule 58 with the attribute axis: self::* selects no attribute
-pub rule58-attribute-false : IsFalse (IsTrue (Containment (AxisStep attribute star-test 0) (Composition (AxisStep attribute node-test 0) (AxisStep self star-test 0))))
+pub rule58-attribute-false : IsFalse (IsTrue
+    (Containment (AxisStep attribute star-test 0)
+    (Composition (AxisStep attribute node-test 0) (AxisStep self star-test 0))))
 unfolding IsFalse
 rule58-attribute-false claim = claim withAttribute tt 1 (omega arith) 2 tt
 

@@ -8,12 +8,14 @@ use Rattle.common.specs.values.Expected.{_is_, AllRight}
 use Rattle.common.specs.Axes.{self, child, parent, descendant, ancestor, descendant-or-self, ancestor-or-self}
 use Rattle.common.specs.Axes.{following-sibling, preceding-sibling, following, preceding, attribute}
 use Rattle.common.specs.NodeTests.{name-test, comment-test, instruction-test, target-test}
-use Rattle.xpath.specs.Term.{Path, Qualifier, Void, Root, AxisStep, Union, Composition, Filter, True, False, Not, And, Or, In, some-of}
+use Rattle.xpath.specs.Term.{Path, Qualifier, Void, Root, AxisStep, Union, Composition, Filter, True, False, Not, And}
+use Rattle.xpath.specs.Term.{Or, In, some-of}
 use Rattle.rules.specs.Claim.{Claim, Containment, Implication}
 use Rattle.rules.specs.RuleTable.{rules}
 use Rattle.common.specs.Lists.{allOf}
+use Rattle.common.proofs.Entries.{all-of-yes}
 use Rattle.rules.specs.Yields.{formsIn, formsOf}
-use Rattle.rules.specs.Decision.{ruleFits, yes-yielded, all-of-yes}
+use Rattle.rules.specs.code.RuleFits.{ruleFits, yes-yielded}
 use Rattle.rules.specs.values.AcceptedSteps.{Sample, sample, p, q, r, s, f, g, h, _::N, _::M, _::star, _::node}
 use Rattle.rules.specs.values.AcceptedSteps.{_::text, _::instruction, _::target, endingInNode, wayBackOf}
 use Rattle.rules.specs.values.AcceptedSteps.{stepBackOf, p-back, q-back, accepted, sampleYielded, SampleYields}
@@ -84,14 +86,23 @@ nearMisses =
     ∷ sample 58 (Containment (Composition (attribute ::node) (self ::text)) (attribute ::text)) []
     ∷ sample 58 (Containment (attribute ::text) (Composition (attribute ::node) (self ::text))) []
     -- rule 50, which has no form, and the direction that rule 54 doesn't have
-    ∷ sample 50 (Containment (Composition (Filter (parent ::N) f) (child ::M)) (Filter (Union (Union (preceding-sibling ::M) (following-sibling ::M)) (self ::M)) (some-of (Filter (parent ::N) f)))) []
-    ∷ sample 50 (Containment (Filter (Union (Union (preceding-sibling ::M) (following-sibling ::M)) (self ::M)) (some-of (Filter (parent ::N) f))) (Composition (Filter (parent ::N) f) (child ::M))) []
-    ∷ sample 54 (Containment (following ::N) (Composition (Composition (ancestor-or-self ::node) (following-sibling ::node)) (descendant-or-self ::N))) []
+    ∷ sample 50 (Containment (Composition (Filter (parent ::N) f) (child ::M))
+    (Filter (Union (Union (preceding-sibling ::M) (following-sibling ::M)) (self ::M))
+    (some-of (Filter (parent ::N) f)))) []
+    ∷ sample 50 (Containment (Filter (Union (Union (preceding-sibling ::M) (following-sibling ::M)) (self ::M))
+    (some-of (Filter (parent ::N) f))) (Composition (Filter (parent ::N) f) (child ::M))) []
+    ∷ sample 54
+    (Containment (following ::N) (Composition (Composition (ancestor-or-self ::node) (following-sibling ::node))
+    (descendant-or-self ::N))) []
     -- an axis letter has two values
-    ∷ sample 10 (Containment (Composition p (self ::N)) (Composition r (descendant ::M))) (Containment (child ::N) (descendant ::M) ∷ Containment p (Composition r (descendant ::star)) ∷ [])
-    ∷ sample 10 (Containment (Composition p (child ::N)) (Composition r (following ::M))) (Containment (child ::N) (descendant ::M) ∷ Containment p (Composition r (descendant ::star)) ∷ [])
-    ∷ sample 10 (Containment (Composition p (child ::N)) (Composition r (descendant ::M))) (Containment (child ::N) (following ::M) ∷ Containment p (Composition r (descendant ::star)) ∷ [])
-    ∷ sample 10 (Containment (Composition p (child ::N)) (Composition r (descendant ::M))) (Containment (child ::N) (descendant ::M) ∷ Containment p (Composition r (following ::star)) ∷ [])
+    ∷ sample 10 (Containment (Composition p (self ::N)) (Composition r (descendant ::M)))
+    (Containment (child ::N) (descendant ::M) ∷ Containment p (Composition r (descendant ::star)) ∷ [])
+    ∷ sample 10 (Containment (Composition p (child ::N)) (Composition r (following ::M)))
+    (Containment (child ::N) (descendant ::M) ∷ Containment p (Composition r (descendant ::star)) ∷ [])
+    ∷ sample 10 (Containment (Composition p (child ::N)) (Composition r (descendant ::M)))
+    (Containment (child ::N) (following ::M) ∷ Containment p (Composition r (descendant ::star)) ∷ [])
+    ∷ sample 10 (Containment (Composition p (child ::N)) (Composition r (descendant ::M)))
+    (Containment (child ::N) (descendant ::M) ∷ Containment p (Composition r (following ::star)) ∷ [])
     ∷ sample 58 (Containment (Composition (preceding ::node) (self ::N)) (following ::N)) []
     ∷ sample 58 (Containment (following ::N) (Composition (preceding ::node) (self ::N))) []
     -- a test letter has two tests
@@ -103,7 +114,8 @@ nearMisses =
     ∷ sample 10 (Containment (Composition p (child ::N)) (Composition r (descendant ::M)))
     (Containment (child ::N) (descendant ::M) ∷ Containment p (Composition r (AxisStep descendant comment-test 0)) ∷ [])
     ∷ sample 10 (Containment (Composition p (child ::N)) (Composition r (descendant ::M)))
-    (Containment (child ::N) (descendant ::M) ∷ Containment p (Composition r (AxisStep descendant instruction-test 0)) ∷ [])
+    (Containment (child ::N) (descendant ::M) ∷ Containment p (Composition r (AxisStep descendant instruction-test 0))
+    ∷ [])
     ∷ sample 10 (Containment (Composition p (child ::N)) (Composition r (descendant ::M)))
     (Containment (child ::N) (descendant ::M) ∷ Containment p (Composition r (descendant ::target)) ∷ [])
     ∷ sample 10 (Containment (Composition p (child ::N)) (Composition r (descendant ::M)))
@@ -114,10 +126,16 @@ nearMisses =
     ∷ sample 23 (Implication (In (parent ::N) Void) (In (ancestor ::N) Void)) []
     ∷ sample 28 (Containment (Composition (self ::star) p) p) []
     ∷ sample 29 (Containment (Composition p (self ::star)) p) []
-    ∷ sample 54 (Containment (Composition (Composition (ancestor-or-self ::star) (following-sibling ::node)) (descendant-or-self ::N)) (following ::N)) []
-    ∷ sample 54 (Containment (Composition (Composition (ancestor-or-self ::node) (following-sibling ::star)) (descendant-or-self ::N)) (following ::N)) []
-    ∷ sample 55 (Containment (preceding ::N) (Composition (Composition (ancestor-or-self ::star) (preceding-sibling ::node)) (descendant-or-self ::N))) []
-    ∷ sample 55 (Containment (preceding ::N) (Composition (Composition (ancestor-or-self ::node) (preceding-sibling ::star)) (descendant-or-self ::N))) []
+    ∷ sample 54 (Containment (Composition (Composition (ancestor-or-self ::star) (following-sibling ::node))
+    (descendant-or-self ::N)) (following ::N)) []
+    ∷ sample 54 (Containment (Composition (Composition (ancestor-or-self ::node) (following-sibling ::star))
+    (descendant-or-self ::N)) (following ::N)) []
+    ∷ sample 55
+    (Containment (preceding ::N) (Composition (Composition (ancestor-or-self ::star) (preceding-sibling ::node))
+    (descendant-or-self ::N))) []
+    ∷ sample 55
+    (Containment (preceding ::N) (Composition (Composition (ancestor-or-self ::node) (preceding-sibling ::star))
+    (descendant-or-self ::N))) []
     ∷ sample 57 (Containment Root (ancestor-or-self ::star)) []
     ∷ sample 58 (Containment (Composition (preceding ::star) (self ::N)) (preceding ::N)) []
     -- the other direction
@@ -132,13 +150,15 @@ nearMisses =
     ∷ sample 23 (Implication (In (ancestor ::text) Void) (In (parent ::node) Void)) []
     ∷ sample 24 (Containment Void p) (Implication True (In p Void) ∷ [])
     ∷ sample 26 (Containment (Composition Root (descendant ::star)) (Composition p (preceding ::N))) []
-    ∷ sample 51 (Containment (Filter (descendant ::M) (some-of (Filter (parent ::N) f))) (Composition (Filter (descendant ::N) f) (child ::M))) []
+    ∷ sample 51 (Containment (Filter (descendant ::M) (some-of (Filter (parent ::N) f)))
+    (Composition (Filter (descendant ::N) f) (child ::M))) []
     ∷ sample 56 (Containment Root (Composition p Root)) []
     ∷ sample 57 (Containment (ancestor-or-self ::node) Root) []
     -- the premise of the neighbouring rule
     ∷ sample 4 (Containment p (Union q r)) (Containment p r ∷ [])
     ∷ sample 5 (Containment p (Union q r)) (Containment p q ∷ [])
-    ∷ sample 7 (Containment (Composition p q) (Composition r s)) (Containment (Filter p (some-of q)) r ∷ Containment q s ∷ [])
+    ∷ sample 7 (Containment (Composition p q) (Composition r s)) (Containment (Filter p (some-of q)) r ∷ Containment q s
+    ∷ [])
     ∷ sample 11 (Containment (Composition p q) (Composition r s)) (Containment p r ∷ Containment q s ∷ [])
     ∷ sample 16 (Implication (And f g) h) (Implication f h ∷ [])
     ∷ sample 17 (Implication (And f g) h) (Implication g h ∷ [])
@@ -152,8 +172,12 @@ nearMisses =
     -- grouped otherwise
     ∷ sample 36 (Containment (Composition (Composition p q) r) (Composition (Composition p q) r)) []
     ∷ sample 37 (Containment (Filter (Composition p q) f) (Filter (Composition p q) f)) []
-    ∷ sample 54 (Containment (Composition (ancestor-or-self ::node) (Composition (following-sibling ::node) (descendant-or-self ::N))) (following ::N)) []
-    ∷ sample 55 (Containment (preceding ::N) (Composition (ancestor-or-self ::node) (Composition (preceding-sibling ::node) (descendant-or-self ::N)))) []
+    ∷ sample 54
+    (Containment (Composition (ancestor-or-self ::node)
+    (Composition (following-sibling ::node) (descendant-or-self ::N))) (following ::N)) []
+    ∷ sample 55
+    (Containment (preceding ::N) (Composition (ancestor-or-self ::node)
+    (Composition (preceding-sibling ::node) (descendant-or-self ::N)))) []
     -- paths that have no way back: the other axes, root, void, and what is built from them
     ∷ stepBackOf parent child
     ∷ stepBackOf ancestor descendant
@@ -227,9 +251,12 @@ otherPremises (c ∷ d ∷ cs) = [] ∷ (c ∷ []) ∷ (d ∷ []) ∷ (d ∷ c �
 unfoldable pub withOtherPremises : Sample → List Sample
 withOtherPremises x = map (λ cs. sample (x .rule) (x .claim) cs) (otherPremises (x .premises))
 
-pub other-premises-refused : {x : Sample} → List·Memᴰ x accepted → {y : Sample} → List·Memᴰ y (withOtherPremises x) → ¬ (SampleYields y)
+pub other-premises-refused : {x : Sample} → List·Memᴰ x accepted → {y : Sample} → List·Memᴰ y (withOtherPremises x)
+    → ¬ (SampleYields y)
 unfolding accepted withOtherPremises otherPremises allOf ruleFits
-other-premises-refused {x} m {y} k = refused y (all-of-yes sampleRefused (withOtherPremises x) (all-of-yes (λ x. allOf sampleRefused (withOtherPremises x)) accepted tt m) k)
+other-premises-refused {x} m {y} k =
+    refused y (all-of-yes sampleRefused (withOtherPremises x)
+    (all-of-yes (λ x. allOf sampleRefused (withOtherPremises x)) accepted tt m) k)
 
 -- A letter with two values: another name in place of one name or target.
 
@@ -260,7 +287,8 @@ unfoldable mutual
 
 unfoldable pub claimRenamings : Claim → List (ℕ × Claim)
 claimRenamings (Containment x y) = inside (λ x. Containment x y) (renamings x) ++ inside (Containment x) (renamings y)
-claimRenamings (Implication x y) = inside (λ x. Implication x y) (qualifierRenamings x) ++ inside (Implication x) (qualifierRenamings y)
+claimRenamings (Implication x y) = inside (λ x. Implication x y) (qualifierRenamings x) ++ inside (Implication x)
+    (qualifierRenamings y)
 
 unfoldable pub premiseRenamings : List Claim → List (ℕ × List Claim)
 premiseRenamings [] = []
@@ -279,7 +307,8 @@ occurrences n (e ∷ es) = cond (eqb (e .0) n) 1 0 + occurrences n es
 -- the step with another name is yielded just where the name stood nowhere else in it
 unfoldable pub lettersCompared : Sample → Bool
 lettersCompared x =
-    allOf (λ e. cond (eqb (occurrences (e .0) (sampleRenamings x)) 1) (sampleYielded (e .1)) (sampleRefused (e .1))) (sampleRenamings x)
+    allOf (λ e. cond (eqb (occurrences (e .0) (sampleRenamings x)) 1) (sampleYielded (e .1)) (sampleRefused (e .1)))
+    (sampleRenamings x)
 
 pub letters-compared : T (allOf lettersCompared accepted)
 unfolding lettersCompared occurrences sampleRenamings premiseRenamings claimRenamings renamings accepted allOf ruleFits

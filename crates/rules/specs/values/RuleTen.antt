@@ -9,14 +9,15 @@ use mir.Facts.{yes-and}
 use Rattle.common.specs.Axes.{descendant, preceding}
 use Rattle.common.specs.NodeTests.{star-test, node-test}
 use Rattle.xpath.specs.Term.{Path, Void, AxisStep, Composition, True}
-use Rattle.rules.specs.Form.{PathLetter, AxisLetter, TestLetter, TestForm, test, Form, _::_, _∕_, _<=_, b-from-3-to-10}
+use Rattle.rules.specs.Form.{PathLetter, AxisLetter, TestLetter, TestForm, test, Form, _::_, _∕_, _<=_}
+use Rattle.rules.specs.Form.{b-from-3-to-10}
 use Rattle.rules.specs.Notation.{p, r, a, b, N, M}
 use Rattle.rules.specs.RuleTable.{rules}
 use Rattle.rules.specs.Claim.{Containment}
 use Rattle.rules.specs.Instance.{Test, Letters, axisFor, testFor, pathFor, claimFor, meets}
 use Rattle.common.specs.Lists.{allOf}
 use Rattle.rules.specs.Yields.{formsIn, formsOf, Yields}
-use Rattle.rules.specs.Decision.{fits, someFormFits}
+use Rattle.rules.specs.code.RuleFits.{fits, someFormFits}
 use Rattle.rules.specs.values.AcceptedSteps.{Sample, endingsInNode}
 
 -- the form whose second premise ends in t
@@ -35,7 +36,8 @@ EndingYields t =
     (u v : Path) (x y : ℕ) (n m : Test) → T (leb descendant y && leb y preceding) →
     Yields 10
     (Containment (Composition u (AxisStep x (n .test) (n .name))) (Composition v (AxisStep y (m .test) (m .name))))
-    (Containment (AxisStep x (n .test) (n .name)) (AxisStep y (m .test) (m .name)) ∷ Containment u (Composition v (AxisStep y t 0)) ∷ [])
+    (Containment (AxisStep x (n .test) (n .name)) (AxisStep y (m .test) (m .name)) ∷ Containment u
+    (Composition v (AxisStep y t 0)) ∷ [])
 
 abbrev paths : Path → Path → PathLetter → Path
 paths u v PathLetter.p = u
@@ -76,7 +78,8 @@ node-ending-yields = ending-yields node-test (List·Memᴰ·tail (List·Memᴰ·
 -- on each axis from 3 to 10 there is a step that only the form ending in node() takes
 abbrev onlyEndingInNode : Sample → Bool
 onlyEndingInNode x =
-    fits (x .claim ∷ x .premises) (rule10Form (test node-test)) && not (fits (x .claim ∷ x .premises) (rule10Form (test star-test)))
+    fits (x .claim ∷ x .premises) (rule10Form (test node-test))
+    && not (fits (x .claim ∷ x .premises) (rule10Form (test star-test)))
 
 pub steps-only-ending-in-node : T (allOf onlyEndingInNode endingsInNode)
 unfolding someFormFits

@@ -13,7 +13,8 @@ use Rattle.xpath.specs.values.LogCases.{logDocument}
 use Rattle.terms.specs.Row.{Row, tableOf, entriesFrom}
 use Rattle.terms.specs.Terms.{asPath, termBy, terms, termAt}
 use Rattle.selection.specs.Marks.{written}
-use Rattle.selection.specs.Evaluation.{EvaluationAnswer, selected, no-room, too-many-visits, Outcome, outcome, pathEvaluated}
+use Rattle.selection.specs.Evaluation.{EvaluationAnswer, selected, no-room, too-many-visits, Outcome, outcome}
+use Rattle.selection.specs.Evaluation.{pathEvaluated}
 use Rattle.selection.specs.Evaluation.{evaluated}
 
 -- child::log, child::mark, child::log/child::mark, true
@@ -40,7 +41,8 @@ pub evaluations :
     ∷ on-log 3 1 8 is outcome (selected 1) (0 ∷ 0 ∷ 0 ∷ 0 ∷ 0 ∷ 0 ∷ 0 ∷ 7 ∷ [])
     ∷ on-log 4 1 8 is outcome (selected 1) (0 ∷ 0 ∷ 0 ∷ 0 ∷ 0 ∷ 0 ∷ 0 ∷ 7 ∷ [])
     ∷ [])
-unfolding pathEvaluated written selects visits onAxis passes documentOf kindAt parentAt nameAt isChild anyBelow sumBelow tableOf entriesFrom asPath termBy terms termAt
+unfolding pathEvaluated written selects visits onAxis passes documentOf kindAt parentAt nameAt isChild anyBelow sumBelow
+    tableOf entriesFrom asPath termBy terms termAt
 evaluations = refl
 
 -- the void path on so many rows

@@ -1,4 +1,5 @@
--- What audit reports at its limit: by computation at 65,536 and 65,537 bytes, and of every longer text. Assumes nothing.
+-- What audit reports at its limit: by computation at 65,536 and 65,537 bytes, and of every longer text.
+-- Assumes nothing.
 use Prim.Native.Nat.{ℕ, _≤_, _<_}
 use mathlib.Core.Path.{_≡_, refl}
 use mathlib.Core.List.{List}

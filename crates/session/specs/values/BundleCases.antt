@@ -1,8 +1,8 @@
 -- What audit prints of bundles and what read makes of them, by computation. Assumes nothing.
 use Prim.Native.String.{String, _++_}
-use mathlib.Core.Path.{_≡_, refl}
+use mathlib.Core.Path.{refl}
 use mathlib.Core.Bool.{decide}
-use mathlib.Core.List.{[], _∷_, map}
+use mathlib.Core.List.{[], _∷_}
 use mathlib.Core.Option.{Option·elim}
 use Rattle.common.specs.values.Expected.{_is_, AllRight}
 use Rattle.terms.specs.Row.{tableOf, entriesFrom, sameRow, find}
@@ -12,7 +12,7 @@ use Rattle.terms.specs.Terms.{asPath, asQualifier, termBy, terms, termAt}
 use Rattle.rules.specs.RuleTable.{rules}
 use Rattle.rules.specs.Claim.{says}
 use Rattle.rules.specs.Yields.{formsIn, formsOf, firstCount, premiseCount}
-use Rattle.rules.specs.Decision as decision
+use Rattle.rules.specs.code.RuleFits.{ruleFits}
 use Rattle.rules.specs.Decision.{yields-dec}
 use Rattle.lines.specs.Ascii.{ascii}
 use Rattle.lines.specs.Line.{inFirstLine, lines, inFirstPart, parts, sameBytes, isLine}
@@ -20,7 +20,8 @@ use Rattle.lines.specs.Number.{isDigit, areDigits, isDecimal, appendDigits, num
 use Rattle.session.specs.declared.report.Report.{Report}
 use Rattle.calls.specs.Book.{answer}
 use Rattle.calls.specs.TermCall.{termAnswer}
-use Rattle.calls.specs.StepCall.{sameSort, badSide, premiseOk, badPremise, claimOf, premisesOf, stepAnswerBy, isYielded, stepAnswer}
+use Rattle.calls.specs.StepCall.{sameSort, badSide, premiseOk, badPremise, claimOf, premisesOf, stepAnswerBy, isYielded}
+use Rattle.calls.specs.StepCall.{stepAnswer}
 use Rattle.calls.specs.code.Tables.{stepsOf}
 use Rattle.session.specs.View.{view, freshSession, withRow, withStep}
 use Rattle.bundles.specs.Bundle.{rowNames, stepNames, rowOfLine, stepOfLine}
@@ -44,7 +45,8 @@ example = rows ++ stepLines ++ "8 0 1 0 0\n"
 
 -- child::mark/following-sibling::node(), then following-sibling::zero, beside child::mark/following-sibling::zero
 abbrev throughComments : String
-throughComments = rowLines ++ "2 1 0 2\n2 7 2 0\n2 7 0 3\n4 0 1 0\n4 3 2 0\n4 0 2 0\n" ++ stepLines ++ "2 2 2 0 0\n2 3 3 0 0\n"
+throughComments = rowLines ++ "2 1 0 2\n2 7 2 0\n2 7 0 3\n4 0 1 0\n4 3 2 0\n4 0 2 0\n" ++ stepLines
+    ++ "2 2 2 0 0\n2 3 3 0 0\n"
 
 reports :
     AllRight
@@ -64,7 +66,8 @@ reports :
     ∷ audited "kind a b\n" is reportBy 10 1 0 0 0
     ∷ audited "kind a b c" is reportBy 10 1 0 0 0
     ∷ audited ("x\n" ++ rowLines) is reportBy 10 1 0 0 0
-    -- the second one is missing after the last line, at a line that is neither, at a step line; it lacks its newline; it is there twice
+    -- the second one is missing after the last line, at a line that is neither, at a step line; it lacks its newline;
+    -- it is there twice
     ∷ audited rowLines is reportBy 10 2 0 0 0
     ∷ audited rows is reportBy 10 4 0 0 0
     ∷ audited (rowLines ++ rowLines) is reportBy 10 2 0 0 0
@@ -73,7 +76,8 @@ reports :
     ∷ audited (rowLines ++ "rule left right first second") is reportBy 10 2 0 0 0
     ∷ audited (rowLines ++ stepLines ++ stepLines) is reportBy 10 3 0 0 0
     ∷ audited (example ++ stepLines) is reportBy 10 6 0 0 0
-    -- term lines: a leading zero, 65536, two spaces, a space at the end, three numbers, five, a carriage return, a letter, an empty line, no newline
+    -- term lines: a leading zero, 65536, two spaces, a space at the end, three numbers, five, a carriage return, a
+    -- letter, an empty line, no newline
     ∷ audited (rowLines ++ "2 1 0 02\n") is reportBy 10 2 0 0 0
     ∷ audited (rowLines ++ "2 1 0 65536\n") is reportBy 10 2 0 0 0
     ∷ audited (rowLines ++ "2 1  0 2\n") is reportBy 10 2 0 0 0
@@ -120,21 +124,26 @@ unfolding ascii report reading linesRead rowsRead stepsRead rowNames stepNames r
     fieldOk heldPath heldQualifier isPath isQualifier nesting nestings entriesFrom nestingBy operandNesting
     find sameRow stepAnswer stepAnswerBy sameSort badSide premiseOk badPremise claimOf premisesOf isYielded
     says termAt terms termBy asPath asQualifier premiseCount firstCount formsOf formsIn rules decide
-    yields-dec decision.ruleFits
+    yields-dec ruleFits
 reports = refl
 
--- what read answers is the number of steps, whatever the number of rows; a refused reading leaves a fresh session, also where rows or
--- steps were held before
+-- what read answers is the number of steps, whatever the number of rows; a refused reading leaves a fresh session, also
+-- where rows or steps were held before
 readings :
-    (map (λ text. reading (ascii text) .answer) ((rows ++ stepLines) ∷ example ∷ (example ++ "2 1 1 0 0\n") ∷ [])
-    ≡ answer 0 0 ∷ answer 0 1 ∷ answer 0 2 ∷ [])
-    × (map (λ text. reading (ascii text) .session) ((rows ++ "12 0 0 0\n") ∷ (example ++ "8 1 0 0 0\n") ∷ [])
-    ≡ freshSession ∷ freshSession ∷ [])
+    AllRight
+    (reading (ascii (rows ++ stepLines)) .answer is answer 0 0
+    ∷ reading (ascii example) .answer is answer 0 1
+    ∷ reading (ascii (example ++ "2 1 1 0 0\n")) .answer is answer 0 2
+    ∷ [])
+    × AllRight
+    (reading (ascii (rows ++ "12 0 0 0\n")) .session is freshSession
+    ∷ reading (ascii (example ++ "8 1 0 0 0\n")) .session is freshSession
+    ∷ [])
 unfolding ascii reading linesRead rowsRead stepsRead rowNames stepNames rowOfLine stepOfLine lines inFirstLine
     parts inFirstPart sameBytes isLine numbersOf numbersUpTo isDecimal areDigits isDigit appendDigits
     Option·elim view tableOf stepsOf freshSession withRow withStep termAnswer badPlace fieldsOf fieldOk
     heldPath heldQualifier isPath isQualifier nesting nestings entriesFrom nestingBy operandNesting find
     sameRow stepAnswer stepAnswerBy sameSort badSide premiseOk badPremise claimOf premisesOf isYielded says
     termAt terms termBy asPath asQualifier premiseCount firstCount formsOf formsIn rules decide yields-dec
-    decision.ruleFits
+    ruleFits
 readings = (refl, refl)

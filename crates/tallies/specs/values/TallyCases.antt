@@ -16,7 +16,7 @@ use Rattle.terms.specs.Terms.{asPath, asQualifier, termBy, terms, termAt}
 use Rattle.rules.specs.RuleTable.{rules}
 use Rattle.rules.specs.Claim.{says}
 use Rattle.rules.specs.Yields.{formsIn, formsOf, firstCount, premiseCount}
-use Rattle.rules.specs.Decision as decision
+use Rattle.rules.specs.code.RuleFits.{ruleFits}
 use Rattle.rules.specs.Decision.{yields-dec}
 use Rattle.lines.specs.Ascii.{ascii}
 use Rattle.lines.specs.Line.{inFirstLine, lines, inFirstPart, parts, sameBytes, isLine}
@@ -32,7 +32,7 @@ use Rattle.bundles.specs.Bundle.{rowNames, stepNames, rowOfLine, stepOfLine}
 use Rattle.session.specs.Reading.{stepsRead, rowsRead, linesRead, reading}
 use Rattle.tallies.specs.NameList.{isBadName, listAnswer}
 use Rattle.tallies.specs.Count.{File, file, isAccepted, countedSteps, uses, total, eachFrom, eachRule, sum}
-use Rattle.tallies.specs.Count.{entry, ruleEntries, entriesBy, entries}
+use Rattle.tallies.specs.Count.{Entry, entry, ruleEntries, entriesBy, entries}
 use Rattle.tallies.specs.code.Tally.{plus, plusEach, columnOf, freshTally, withSteps, noEntry}
 
 -- n names "a", each with its newline, and then a last line
@@ -127,7 +127,7 @@ unfolding counted one three twice refused failed bundle uses total usesOf counte
     stepsOf freshSession withRow withStep termAnswer badPlace fieldsOf fieldOk heldPath heldQualifier isPath
     isQualifier nesting nestings entriesFrom nestingBy operandNesting find sameRow stepAnswer stepAnswerBy
     sameSort badSide premiseOk badPremise claimOf premisesOf isYielded says termAt terms termBy asPath
-    asQualifier premiseCount firstCount formsOf formsIn rules decide yields-dec decision.ruleFits
+    asQualifier premiseCount firstCount formsOf formsIn rules decide yields-dec ruleFits
 counts = refl
 
 -- a file of more than 65,536 bytes counts nowhere; one of 65,536 is read
@@ -141,21 +141,35 @@ no-longer : (bytes : List ℕ) → length bytes ≤ 65536
 unfolding countedSteps isAccepted
 no-longer bytes h = rw (le-leb (length bytes) 65536 h)
 
+-- line k where each rule has as many uses as its number
+abbrev line : ℕ → Entry
+line k = getD (entriesBy (eachRule (λ r. r)) 7) k noEntry
+
 -- the lines: rule 1 first, rule 50 too, rule 59 last of the rules, then 0 and the total, 60 in all
-lines-of : map (λ k. getD (entriesBy (eachRule (λ r. r)) 7) k noEntry) (0 ∷ 1 ∷ 49 ∷ 58 ∷ 59 ∷ 60 ∷ [])
-    ≡ entry 1 1 ∷ entry 2 2 ∷ entry 50 50 ∷ entry 59 59 ∷ entry 0 7 ∷ entry 0 0 ∷ []
+lines-of :
+    AllRight
+    (line 0 is entry 1 1 ∷ line 1 is entry 2 2 ∷ line 49 is entry 50 50 ∷ line 58 is entry 59 59
+    ∷ line 59 is entry 0 7 ∷ line 60 is entry 0 0
+    ∷ [])
 unfolding entriesBy ruleEntries eachFrom
 lines-of = refl
 
-entries-of : map (λ k. getD (entries (three ∷ one ∷ [])) k noEntry) (0 ∷ 1 ∷ 2 ∷ 7 ∷ 58 ∷ 59 ∷ [])
-    ≡ entry 1 0 ∷ entry 2 1 ∷ entry 3 1 ∷ entry 8 2 ∷ entry 59 0 ∷ entry 0 4 ∷ []
+-- line k of two files
+abbrev fileLine : ℕ → Entry
+fileLine k = getD (entries (three ∷ one ∷ [])) k noEntry
+
+entries-of :
+    AllRight
+    (fileLine 0 is entry 1 0 ∷ fileLine 1 is entry 2 1 ∷ fileLine 2 is entry 3 1 ∷ fileLine 7 is entry 8 2
+    ∷ fileLine 58 is entry 59 0 ∷ fileLine 59 is entry 0 4
+    ∷ [])
 unfolding entries entriesBy ruleEntries eachFrom one three bundle uses total usesOf countedSteps isAccepted ascii
     reading linesRead rowsRead stepsRead rowNames stepNames rowOfLine stepOfLine lines inFirstLine parts inFirstPart
     sameBytes isLine numbersOf numbersUpTo isDecimal areDigits isDigit appendDigits Option·elim view tableOf
     stepsOf freshSession withRow withStep termAnswer badPlace fieldsOf fieldOk heldPath heldQualifier isPath
     isQualifier nesting nestings entriesFrom nestingBy operandNesting find sameRow stepAnswer stepAnswerBy
     sameSort badSide premiseOk badPremise claimOf premisesOf isYielded says termAt terms termBy asPath
-    asQualifier premiseCount firstCount formsOf formsIn rules decide yields-dec decision.ruleFits
+    asQualifier premiseCount firstCount formsOf formsIn rules decide yields-dec ruleFits
 entries-of = refl
 
 as-many-lines : length (entries []) ≡ 60

@@ -163,7 +163,8 @@ pub sorts :
 unfolding isPath isQualifier
 sorts = refl
 
--- a table's rows, each beside its nesting: either operand may be the deeper one, and the fields of a step are no operands
+-- a table's rows, each beside its nesting: either operand may be the deeper one, and the fields of a step are no
+-- operands
 abbrev nestedRows : List (Row × ℕ)
 nestedRows =
     (row 0 0 0 0, 1)
@@ -222,7 +223,8 @@ pub found :
 unfolding find sameRow
 found = refl
 
--- a table's rows, each beside its term: every kind; then kind 12, operands of the other sort, and numbers of no earlier row
+-- a table's rows, each beside its term: every kind; then kind 12, operands of the other sort, and numbers of no earlier
+-- row
 abbrev decodedRows : List (Row × Term)
 decodedRows =
     (row 0 0 0 0, ofPath Void)

@@ -26,22 +26,26 @@ use borrow.Fn.Kinds.{In}
 use borrow.Fn.PlainCycle.{Measures, is, falls, and}
 use Rattle.text.proofs.read_and.Reads as read-and
 use Rattle.text.proofs.read_and.Kinds as read-and-kinds
-use Rattle.text.proofs.+read_and+read_operand+read_or+read_path+read_predicate+read_step+read_union.Lts-read_and as read-and-lts
+use Rattle.text.proofs.+read_and+read_operand+read_or+read_path+read_predicate+read_step+read_union.Lts-read_and
+    as read-and-lts
 use Rattle.text.proofs.read_operand.Reads as read-operand
 use Rattle.text.proofs.read_operand.Kinds as read-operand-kinds
 use Rattle.text.proofs.+read_and+read_operand+read_or+read_path+read_predicate+read_step+read_union.Lts-read_operand as read-operand-lts
 use Rattle.text.proofs.read_or.Reads as read-or
 use Rattle.text.proofs.read_or.Kinds as read-or-kinds
-use Rattle.text.proofs.+read_and+read_operand+read_or+read_path+read_predicate+read_step+read_union.Lts-read_or as read-or-lts
+use Rattle.text.proofs.+read_and+read_operand+read_or+read_path+read_predicate+read_step+read_union.Lts-read_or
+    as read-or-lts
 use Rattle.text.proofs.read_path.Reads as read-path
 use Rattle.text.proofs.read_path.Kinds as read-path-kinds
-use Rattle.text.proofs.+read_and+read_operand+read_or+read_path+read_predicate+read_step+read_union.Lts-read_path as read-path-lts
+use Rattle.text.proofs.+read_and+read_operand+read_or+read_path+read_predicate+read_step+read_union.Lts-read_path
+    as read-path-lts
 use Rattle.text.proofs.read_predicate.Reads as read-predicate
 use Rattle.text.proofs.read_predicate.Kinds as read-predicate-kinds
 use Rattle.text.proofs.+read_and+read_operand+read_or+read_path+read_predicate+read_step+read_union.Lts-read_predicate as read-predicate-lts
 use Rattle.text.proofs.read_step.Reads as read-step
 use Rattle.text.proofs.read_step.Kinds as read-step-kinds
-use Rattle.text.proofs.+read_and+read_operand+read_or+read_path+read_predicate+read_step+read_union.Lts-read_step as read-step-lts
+use Rattle.text.proofs.+read_and+read_operand+read_or+read_path+read_predicate+read_step+read_union.Lts-read_step
+    as read-step-lts
 use Rattle.text.proofs.read_union.Reads as read-union
 use Rattle.text.proofs.read_union.Kinds as read-union-kinds
 use Rattle.text.proofs.+read_and+read_operand+read_or+read_path+read_predicate+read_step+read_union.Lts-read_union as read-union-lts

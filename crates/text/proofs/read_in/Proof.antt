@@ -29,7 +29,8 @@ returns c =
     let start = at-start .before .before in
     let a = start .args in
     let union = rw (at-union .before .nothing-read .ensures) at (at-union .read-union .ensures) in
-    rw (c .refused .ensures) (text-failed (a .s .now) (a .names .now) _ (a .count) (start .pre) _ (at-union .read-union .result) union
+    rw (c .refused .ensures) (text-failed (a .s .now) (a .names .now) _ (a .count) (start .pre) _
+    (at-union .read-union .result) union
     (not-true _ (c .before .if1 .taken)))
 
 refused-requires-2 : tie.Need-refused-requires-2
@@ -46,7 +47,8 @@ returns-2 c =
     let start = at-start .before .before in
     let a = start .args in
     let union = rw (at-union .before .nothing-read .ensures) at (at-union .read-union .ensures) in
-    rw (c .refused2 .ensures) (text-longer (a .s .now) (a .names .now) _ (a .count) (start .pre) _ (at-union .read-union .result) union
+    rw (c .refused2 .ensures) (text-longer (a .s .now) (a .names .now) _ (a .count) (start .pre) _
+    (at-union .read-union .result) union
     (not-false _ (c .before .before .if1 .left))
     (omega (arith, c .before .if2 .taken)))
 
@@ -64,7 +66,8 @@ returns-3 c =
     let start = at-start .before .before in
     let a = start .args in
     let union = rw (at-union .before .nothing-read .ensures) at (at-union .read-union .ensures) in
-    rw (c .refused3 .ensures) (text-unlisted (a .s .now) (a .names .now) _ (a .count) (start .pre) _ (at-union .read-union .result) union
+    rw (c .refused3 .ensures) (text-unlisted (a .s .now) (a .names .now) _ (a .count) (start .pre) _
+    (at-union .read-union .result) union
     (not-false _ (c .before .before .before .before .if1 .left))
     (omega (arith, c .before .before .before .if2 .left))
     (not-true _ (c .before .if3 .taken)))
@@ -88,7 +91,8 @@ returns-4 c =
     let at-if1 = at-if1-1 .before .before in
     let at-if2-1 = c .before .before .before .before in
     let at-if2 = at-if2-1 .before in
-    rw (c .refused4 .ensures) (text-deep (a .s .now) (a .names .now) _ (a .count) (start .pre) _ (at-union .read-union .result) union
+    rw (c .refused4 .ensures) (text-deep (a .s .now) (a .names .now) _ (a .count) (start .pre) _
+    (at-union .read-union .result) union
     (not-false _ (at-if1 .if1 .left))
     (omega (arith, at-if2 .if2 .left))
     (not-false _ (c .before .before .before .if3 .left))
@@ -115,7 +119,8 @@ returns-5 c =
     let at-if2 = at-if2-1 .before .before .before in
     let at-if3-1 = c .before .before .before .before in
     let at-if3 = at-if3-1 .before in
-    rw (c .refused5 .ensures) (text-full (a .s .now) (a .names .now) _ (a .count) (start .pre) _ (at-union .read-union .result) union
+    rw (c .refused5 .ensures) (text-full (a .s .now) (a .names .now) _ (a .count) (start .pre) _
+    (at-union .read-union .result) union
     (not-false _ (at-if1 .if1 .left))
     (omega (arith, at-if2 .if2 .left))
     (not-false _ (at-if3 .if3 .left))

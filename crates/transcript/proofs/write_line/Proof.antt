@@ -12,7 +12,8 @@ slice-reshare-prefix-write-all : tie.Need-slice-reshare-prefix-write-all
 slice-reshare-prefix-write-all c = search needs
 
 slice-aggregate-write-all : tie.Need-slice-aggregate-write-all
-slice-aggregate-write-all c = sym (length-take-le (c .before .before .before .before .put .result) (c .before .before .before .before .put .last .0) (search needs))
+slice-aggregate-write-all c = sym (length-take-le (c .before .before .before .before .put .result)
+    (c .before .before .before .before .put .last .0) (search needs))
 
 write-all-requires : tie.Need-write-all-requires
 write-all-requires c κs = search needs

@@ -135,7 +135,8 @@ pub axes-from-further-nodes :
     ∷ nodes attributed (attribute ::node) 10 is []
     ∷ nodes attributed (Composition (descendant ::node) (attribute :: 3)) 0 is (4 ∷ 7 ∷ [])
     ∷ [])
-unfolding nodes listBelow selects onAxis passes kindAt parentAt nameAt isChild climbMeets isAncestor areSiblings anyBelow
+unfolding nodes listBelow selects onAxis passes kindAt parentAt nameAt isChild climbMeets isAncestor areSiblings
+    anyBelow
 axes-from-further-nodes = refl
 
 -- each test on axis 11: a name or `*` selects attributes, node() too, any other test nothing

@@ -46,7 +46,8 @@ pub documents-accepted :
     ∷ documentRefusal (lent
     (rootNode ∷ node 1 0 1 ∷ node 1 1 1 ∷ node 1 2 1 ∷ node 1 3 1 ∷ node 2 1 0 ∷ node 2 0 0 ∷ [])) is none
     ∷ [])
-unfolding documentRefusal lentRows badRow firstBelow Option·elim documentOf rowOk kindAndNameOk kindAt parentAt nameAt isChild climbMeets isAncestor
+unfolding documentRefusal lentRows badRow firstBelow Option·elim documentOf rowOk kindAndNameOk kindAt parentAt nameAt
+    isChild climbMeets isAncestor
 documents-accepted = refl
 
 pub documents-refused :
@@ -110,7 +111,8 @@ pub documents-refused :
     ∷ documentRefusal (lent (rootNode ∷ node 1 0 1 ∷ node 1 0 0 ∷ node 6 0 0 ∷ [])) is some 2
     ∷ documentRefusal (lent (rootNode ∷ node 6 0 0 ∷ []) ++ (2 ∷ 0 ∷ [])) is some 1
     ∷ [])
-unfolding documentRefusal lentRows badRow firstBelow Option·elim documentOf rowOk kindAndNameOk kindAt parentAt nameAt isChild climbMeets isAncestor
+unfolding documentRefusal lentRows badRow firstBelow Option·elim documentOf rowOk kindAndNameOk kindAt parentAt nameAt
+    isChild climbMeets isAncestor
 documents-refused = refl
 
 pub most-nodes :
@@ -123,5 +125,6 @@ pub most-nodes :
     ∷ documentRefusal (lent (rootNode ∷ texts 511) ++ (2 ∷ [])) is some 512
     ∷ documentRefusal (lent (texts 513)) is some 512
     ∷ [])
-unfolding documentRefusal lentRows badRow firstBelow Option·elim documentOf rowOk kindAndNameOk kindAt parentAt nameAt isChild climbMeets isAncestor
+unfolding documentRefusal lentRows badRow firstBelow Option·elim documentOf rowOk kindAndNameOk kindAt parentAt nameAt
+    isChild climbMeets isAncestor
 most-nodes = refl

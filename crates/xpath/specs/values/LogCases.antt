@@ -44,7 +44,8 @@ logDocument = documentOf logNumbers
 
 -- calls take it: refusal 8 does not apply
 pub log-accepted : documentRefusal logNumbers ≡ none
-unfolding documentRefusal lentRows badRow firstBelow Option·elim documentOf rowOk kindAndNameOk kindAt parentAt nameAt isChild climbMeets isAncestor
+unfolding documentRefusal lentRows badRow firstBelow Option·elim documentOf rowOk kindAndNameOk kindAt parentAt nameAt
+    isChild climbMeets isAncestor
 log-accepted = refl
 
 -- the cases in document 01's order; the visits stand as a list of one number
@@ -61,5 +62,6 @@ pub log-cases :
     ∷ nodes logDocument (Composition (descendant :: run) (child :: mark)) 5 is []
     ∷ nodes logDocument (Filter (descendant :: mark) (some-of (parent :: run))) 5 is (6 ∷ [])
     ∷ [])
-unfolding nodes listBelow selects onAxis passes documentOf kindAt parentAt nameAt isChild climbMeets isAncestor areSiblings anyBelow allBelow visits sumBelow
+unfolding nodes listBelow selects onAxis passes documentOf kindAt parentAt nameAt isChild climbMeets isAncestor
+    areSiblings anyBelow allBelow visits sumBelow
 log-cases = refl

@@ -9,7 +9,8 @@ use Rattle.common.specs.Axes.{self, child, parent, descendant, ancestor, descen
 use Rattle.common.specs.Axes.{following-sibling, preceding-sibling, following, preceding, attribute}
 use Rattle.common.specs.NodeTests.{star-test, node-test, text-test, comment-test, instruction-test}
 use Rattle.xpath.specs.Axis.{onAxis, passes}
-use Rattle.xpath.specs.Term.{Void, Root, AxisStep, Union, Composition, Filter, True, False, Not, And, Or, In, some-of}
+use Rattle.xpath.specs.Term.{Void, Root, AxisStep, Union, Composition, Filter, True, False, Not, And, Or, In}
+use Rattle.xpath.specs.Term.{some-of}
 use Rattle.xpath.specs.Meaning.{selects, holds, nodes}
 use Rattle.common.specs.values.Expected.{_is_, AllRight}
 use Rattle.xpath.specs.values.StepNotation.{_::_, _::node}
@@ -135,7 +136,8 @@ pub nodes-of-each-path :
     ∷ nodes sample (Filter (child ::node) (some-of (child ::node))) 6 is (7 ∷ [])
     ∷ nodes sample (Filter (descendant ::node) (some-of (following-sibling ::node))) 6 is (7 ∷ [])
     ∷ [])
-unfolding nodes listBelow selects onAxis passes kindAt parentAt nameAt isChild climbMeets isAncestor areSiblings anyBelow allBelow
+unfolding nodes listBelow selects onAxis passes kindAt parentAt nameAt isChild climbMeets isAncestor areSiblings
+    anyBelow allBelow
 nodes-of-each-path = refl
 
 -- each kind of qualifier

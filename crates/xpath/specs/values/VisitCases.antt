@@ -33,7 +33,8 @@ pub path-visits :
     ∷ visits sample (Filter (Union Void Root) (Not False)) 6 is 6
     ∷ visits sample (Filter (child ::node) (Not True)) 8 is 2
     ∷ [])
-unfolding visits sumBelow selects onAxis passes kindAt parentAt nameAt isChild climbMeets isAncestor areSiblings anyBelow allBelow
+unfolding visits sumBelow selects onAxis passes kindAt parentAt nameAt isChild climbMeets isAncestor areSiblings
+    anyBelow allBelow
 path-visits = refl
 
 pub qualifier-visits :
@@ -55,5 +56,6 @@ pub qualifier-visits :
     ∷ qualifierVisits sample (In (Composition (child ::node) Root) Void) 7 is 5
     ∷ qualifierVisits sample (some-of (child ::node)) 6 is 4
     ∷ [])
-unfolding visits sumBelow selects onAxis passes kindAt parentAt nameAt isChild climbMeets isAncestor areSiblings anyBelow allBelow
+unfolding visits sumBelow selects onAxis passes kindAt parentAt nameAt isChild climbMeets isAncestor areSiblings
+    anyBelow allBelow
 qualifier-visits = refl

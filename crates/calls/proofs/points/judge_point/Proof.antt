@@ -32,7 +32,8 @@ returns-2 c =
     let at-place = at-or .before in
     let at-held = at-place .before .before in
     let count = at-place .before .point-count .ensures ∙ sym (names-count _) in
-    points-full _ _ _ _ (at-place .place-in .ensures) count _ (at-or .or .ensures) (c .before .if1 .left) (c .if2 .taken)
+    points-full _ _ _ _ (at-place .place-in .ensures) count _ (at-or .or .ensures) (c .before .if1 .left)
+    (c .if2 .taken)
     ∙ rw (at-held .first-points .ensures)
 
 returns-3 : tie.Need-returns-3

@@ -29,7 +29,8 @@ returns c =
     let d = c .before .before .before .before in
     let a = d .before .before .before .args in
     form-way (a .table .now) _ (sides (a .left) (a .right))
-    (take (a .count) (sidesIn (a .first) ∷ sidesIn (a .second) ∷ [])) (a .count) (a .at) (d .entry-at .ensures) (c .before .before .before .match-claim .ensures)
+    (take (a .count) (sidesIn (a .first) ∷ sidesIn (a .second) ∷ [])) (a .count) (a .at) (d .entry-at .ensures)
+    (c .before .before .before .match-claim .ensures)
     (c .before .before .match-premises .ensures) (c .before .meets-conditions .ensures) (c .and .ensures)
 
 pub form-yields-spec : {M : Type 1} → statement M

@@ -50,7 +50,8 @@ returns-2 : tie.Need-returns-2
 unfolding conditionOf meets numbersIn testLetter nameLetter
 returns-2 c =
     let a = c .before .before .before .before .before .before .before .before .args in
-    one-asked (a .t2 .value) (a .k) N-below-M (ap conditionOf (c .before .before .before .before .match .keys2)) (c .test-below .ensures)
+    one-asked (a .t2 .value) (a .k) N-below-M (ap conditionOf (c .before .before .before .before .match .keys2))
+    (c .test-below .ensures)
 
 returns-3 : tie.Need-returns-3
 unfolding conditionOf meets numbersIn axisLetter

@@ -17,7 +17,8 @@ is-held-qualifier-requires c κs = search needs
 
 returns-2 : tie.Need-returns-2
 unfolding suits
-returns-2 c = rw (le-ltb _ _ (c .before .before .if1 .left), lt-ltb _ _ (c .before .if2 .taken)) (c .is-held-qualifier .ensures)
+returns-2 c = rw (le-ltb _ _ (c .before .before .if1 .left), lt-ltb _ _ (c .before .if2 .taken))
+    (c .is-held-qualifier .ensures)
 
 returns-3 : tie.Need-returns-3
 unfolding suits

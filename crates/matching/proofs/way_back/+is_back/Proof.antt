@@ -8,10 +8,10 @@ use borrow.Fn.PlainCycle.{Measures, is, falls, and}
 use mathlib.Core.Path.{sym, _∙_}
 use Rattle.common.proofs.wide.Reads as wide-reads
 use Rattle.terms.specs.Row.{tableOf}
+use Rattle.terms.proofs.is_noted.Reads as is-noted-reads
+use Rattle.terms.proofs.note.Reads as note-reads
 use Rattle.terms.proofs.row_at.Reads as row-at-reads
 use Rattle.matching.proofs.RowWayBack as ways
-use Rattle.matching.proofs.way_back.is_noted.Reads as is-noted-reads
-use Rattle.matching.proofs.way_back.note.Reads as note-reads
 use Rattle.matching.proofs.way_back.reversal_of.Reads as reversal-of-reads
 use Rattle.matching.proofs.way_back.is_back.Reads as reads
 use Rattle.matching.proofs.way_back.is_back.Kinds as kinds

@@ -1,4 +1,5 @@
--- `read_rows` meets its contract. The loop's invariant: the reading is what is left to read from `at` on, on the rows held now. Assumes nothing.
+-- `read_rows` meets its contract. The loop's invariant:
+-- the reading is what is left to read from `at` on, on the rows held now. Assumes nothing.
 use Prim.Native.Nat.{_*_, _-_, _≤_}
 use mathlib.Core.Path.{_≡_, refl, sym, ap, _∙_}
 use native.Mathlib.Omega.{arith}
@@ -12,7 +13,8 @@ use Rattle.session.specs.View.{freshSession}
 use Rattle.calls.specs.Promises.{rowStepAnswer}
 use Rattle.session.specs.Reading.{refusedAt, rowsRead}
 use Rattle.session.specs.ReadCall.{holding}
-use Rattle.session.proofs.LineCalls.{names-there, row-end, row-wrong-there, row-refused-there, row-held-there, row-room}
+use Rattle.session.proofs.LineCalls.{names-there, row-end, row-wrong-there, row-refused-there, row-held-there}
+use Rattle.session.proofs.LineCalls.{row-room}
 use Rattle.session.proofs.read.read_rows.Statement.{statement}
 use Rattle.session.proofs.read.read_rows.Tie as tie
 
@@ -38,15 +40,22 @@ add-t16 : tie.Need-add-t16 Inv-loop μ-loop
 add-t16 c = search needs
 
 add-t17 : tie.Need-add-t17 Inv-loop μ-loop
-add-t17 c = let a = c .before .before .before .before .before .before .args in let l = c .before .before .before .loop in
-    omega (arith, names-there (a .bytes .now) (l .rows) (l .n) (l .line) (l .at) (sym (c .before .is-step-names .ensures) ∙ c .if1 .taken) .1)
+add-t17 c = let a = c .before .before .before .before .before .before .args in
+    let l = c .before .before .before .loop in
+    omega (
+      arith,
+      names-there (a .bytes .now) (l .rows) (l .n) (l .line) (l .at)
+          (sym (c .before .is-step-names .ensures) ∙ c .if1 .taken) .1,
+    )
 
 same-length : tie.Need-same-length Inv-loop μ-loop
 same-length c = omega arith
 
 returns : tie.Need-returns Inv-loop μ-loop
-returns c = let a = c .before .before .before .before .before .before .args in let l = c .before .before .before .loop in
-    let (reading, inside) = names-there (a .bytes .now) (l .rows) (l .n) (l .line) (l .at) (sym (c .before .is-step-names .ensures) ∙ c .if1 .taken) in
+returns c = let a = c .before .before .before .before .before .before .args in
+    let l = c .before .before .before .loop in
+    let (reading, inside) = names-there (a .bytes .now) (l .rows) (l .n) (l .line) (l .at)
+    (sym (c .before .is-step-names .ensures) ∙ c .if1 .taken) in
     record { reading = sym (l .inv .4 ∙ reading); bounds = (omega arith, inside) }
 
 numbers-line-requires : tie.Need-numbers-line-requires Inv-loop μ-loop
@@ -56,9 +65,12 @@ same-length-2 : tie.Need-same-length-2 Inv-loop μ-loop
 same-length-2 c = omega arith
 
 returns-2 : tie.Need-returns-2 Inv-loop μ-loop
-returns-2 c = let a = c .before .before .before .before .before .before .before .before .before .args in let l = c .before .before .before .before .before .before .loop in
+returns-2 c = let a = c .before .before .before .before .before .before .before .before .before .args in
+    let l = c .before .before .before .before .before .before .loop in
     record {
-      reading = sym (l .inv .4 ∙ row-wrong-there (a .bytes .now) (l .rows) (l .n) (l .line) (l .at) (sym (c .before .before .before .before .is-step-names .ensures) ∙ c .before .before .before .if1 .left) _ (c .before .before .numbers-line .ensures) (not-true _ (c .if2 .taken)));
+      reading = sym (l .inv .4 ∙ row-wrong-there (a .bytes .now) (l .rows) (l .n) (l .line) (l .at)
+          (sym (c .before .before .before .before .is-step-names .ensures) ∙ c .before .before .before .if1 .left) _
+          (c .before .before .numbers-line .ensures) (not-true _ (c .if2 .taken)));
       bounds = omega arith;
     }
 
@@ -84,10 +96,12 @@ same-length-3 : tie.Need-same-length-3 Inv-loop μ-loop
 same-length-3 c = omega arith
 
 returns-3 : tie.Need-returns-3 Inv-loop μ-loop
-returns-3 c = let a = c .before .before .before .before .before .before .before .before .before .before .before .before .before .before .before .before .args in let l = c .before .before .before .before .before .before .before .before .before .before .before .before .before .loop in
+returns-3 c =
+    let a = c .before .before .before .before .before .before .before .before .before .before .before .before .before .before .before .before .args in let l = c .before .before .before .before .before .before .before .before .before .before .before .before .before .loop in
     record {
       reading = ap (λ k. refusedAt k (l .line)) (c .before .number .ensures) ∙ sym (l .inv .4
-          ∙ row-refused-there (a .bytes .now) (l .rows) (l .n) (l .line) (l .at) (sym (c .before .before .before .before .before .before .before .before .before .before .before .is-step-names .ensures) ∙ c .before .before .before .before .before .before .before .before .before .before .if1 .left) _ (c .before .before .before .before .before .before .before .before .before .numbers-line .ensures) (not-false _ (c .before .before .before .before .before .before .before .if2 .left)) (l .inv .0) _ _ (c .before .before .before .before .term-in-place .ensures)
+          ∙ row-refused-there (a .bytes .now) (l .rows) (l .n) (l .line) (l .at)
+          (sym (c .before .before .before .before .before .before .before .before .before .before .before .is-step-names .ensures) ∙ c .before .before .before .before .before .before .before .before .before .before .if1 .left) _ (c .before .before .before .before .before .before .before .before .before .numbers-line .ensures) (not-false _ (c .before .before .before .before .before .before .before .if2 .left)) (l .inv .0) _ _ (c .before .before .before .before .term-in-place .ensures)
           (λ e. c .if3 .taken (c .before .number .ensures ∙ e)));
       bounds = omega arith;
     }
@@ -99,20 +113,29 @@ add-line : tie.Need-add-line Inv-loop μ-loop
 add-line c = omega arith
 
 loop-less : tie.Need-loop-less Inv-loop μ-loop
-loop-less c = let bounds = c .before .before .before .before .before .before .before .before .before .numbers-line .ensures .right (not-false _ (c .before .before .before .before .before .before .before .if2 .left)) in omega arith
+loop-less c =
+    let bounds = c .before .before .before .before .before .before .before .before .before .numbers-line .ensures .right
+    (not-false _ (c .before .before .before .before .before .before .before .if2 .left)) in omega arith
 
 loop-again : tie.Need-loop-again Inv-loop μ-loop
-loop-again c = let a = c .before .before .before .before .before .before .before .before .before .before .before .before .before .before .before .before .args in let l = c .before .before .before .before .before .before .before .before .before .before .before .before .before .loop in
+loop-again c =
+    let a = c .before .before .before .before .before .before .before .before .before .before .before .before .before .before .before .before .args in let l = c .before .before .before .before .before .before .before .before .before .before .before .before .before .loop in
     let held = sym (c .before .number .ensures) ∙ c .if3 .left in
-    let other = sym (c .before .before .before .before .before .before .before .before .before .before .before .is-step-names .ensures) ∙ c .before .before .before .before .before .before .before .before .before .before .if1 .left in
+    let other =
+    sym (c .before .before .before .before .before .before .before .before .before .before .before .is-step-names .ensures) ∙ c .before .before .before .before .before .before .before .before .before .before .if1 .left in
     let right = not-false _ (c .before .before .before .before .before .before .before .if2 .left) in
-    let bounds = c .before .before .before .before .before .before .before .before .before .numbers-line .ensures .right right in
-    let room = row-room (a .bytes .now) (l .rows) (l .n) (l .line) (l .at) other _ (c .before .before .before .before .before .before .before .before .before .numbers-line .ensures) right (l .inv .0) _ _ (c .before .before .before .before .term-in-place .ensures) held (l .inv .1) in (
+    let bounds = c .before .before .before .before .before .before .before .before .before .numbers-line .ensures .right
+    right in
+    let room = row-room (a .bytes .now) (l .rows) (l .n) (l .line) (l .at) other _
+    (c .before .before .before .before .before .before .before .before .before .numbers-line .ensures) right
+    (l .inv .0) _ _ (c .before .before .before .before .term-in-place .ensures) held (l .inv .1) in (
       omega arith,
       omega arith,
       omega arith,
       omega arith,
-      l .inv .4 ∙ row-held-there (a .bytes .now) (l .rows) (l .n) (l .line) (l .at) other _ (c .before .before .before .before .before .before .before .before .before .numbers-line .ensures) right (l .inv .0) _ _ (c .before .before .before .before .term-in-place .ensures) held,
+      l .inv .4 ∙ row-held-there (a .bytes .now) (l .rows) (l .n) (l .line) (l .at) other _
+          (c .before .before .before .before .before .before .before .before .before .numbers-line .ensures) right
+          (l .inv .0) _ _ (c .before .before .before .before .term-in-place .ensures) held,
     )
 
 same-length-4 : tie.Need-same-length-4 Inv-loop μ-loop
@@ -120,7 +143,10 @@ same-length-4 c = omega arith
 
 returns-4 : tie.Need-returns-4 Inv-loop μ-loop
 returns-4 c = let a = c .before .before .before .before .args in let l = c .before .loop in
-    record { reading = sym (l .inv .4 ∙ row-end (a .bytes .now) (l .rows) (l .n) (l .line) (l .at) (c .loop-test .left)); bounds = omega arith }
+    record {
+      reading = sym (l .inv .4 ∙ row-end (a .bytes .now) (l .rows) (l .n) (l .line) (l .at) (c .loop-test .left));
+      bounds = omega arith;
+    }
 
 pub read-rows-spec : {M : Type 1} → statement M
 read-rows-spec =

@@ -1,4 +1,5 @@
--- `read_steps` meets its contract. The loop's invariant: the reading is what is left to read from `at` on, on the steps held now. Assumes nothing.
+-- `read_steps` meets its contract. The loop's invariant:
+-- the reading is what is left to read from `at` on, on the steps held now. Assumes nothing.
 use Prim.Native.Nat.{_*_, _-_, _≤_}
 use mathlib.Core.Path.{_≡_, refl, sym, ap, _∙_}
 use native.Mathlib.Omega.{arith}
@@ -18,7 +19,8 @@ use Rattle.session.proofs.read.read_steps.Tie as tie
 abbrev Inv-loop : tie.InvT-loop
 Inv-loop bytes start first rows n steps₀ m₀ line₀ at₀ steps m line at =
     (m ≤ maxSteps) × (length steps ≡ stepWidth * maxSteps) × (line ≤ at) × (at ≤ length bytes)
-    × (stepsRead rowStepAnswer (holding rows n steps₀ 0) first (lines (drop start bytes)) ≡ stepsRead rowStepAnswer (holding rows n steps m) line (lines (drop at bytes)))
+    × (stepsRead rowStepAnswer (holding rows n steps₀ 0) first (lines (drop start bytes)) ≡ stepsRead rowStepAnswer
+    (holding rows n steps m) line (lines (drop at bytes)))
 
 abbrev μ-loop : tie.MeasureT-loop
 μ-loop bytes start first rows n steps₀ m₀ line₀ at₀ steps m line at = length bytes - at
@@ -33,9 +35,12 @@ same-length : tie.Need-same-length Inv-loop μ-loop
 same-length c = omega arith
 
 returns : tie.Need-returns Inv-loop μ-loop
-returns c = let a = c .before .before .before .before .before .before .before .before .args in let l = c .before .before .before .before .loop in
+returns c = let a = c .before .before .before .before .before .before .before .before .args in
+    let l = c .before .before .before .before .loop in
     record {
-      reading = sym (l .inv .4 ∙ step-wrong-there (a .bytes .now) (a .rows .now) (a .n) (l .steps) (l .m) (l .line) (l .at) _ (c .before .before .numbers-line .ensures) (c .before .before .before .loop-test .taken) (not-true _ (c .if1 .taken)));
+      reading = sym (l .inv .4 ∙ step-wrong-there (a .bytes .now) (a .rows .now) (a .n) (l .steps) (l .m) (l .line)
+          (l .at) _ (c .before .before .numbers-line .ensures) (c .before .before .before .loop-test .taken)
+          (not-true _ (c .if1 .taken)));
       bounds = omega arith;
     }
 
@@ -64,18 +69,28 @@ same-length-2 : tie.Need-same-length-2 Inv-loop μ-loop
 same-length-2 c = omega arith
 
 returns-2 : tie.Need-returns-2 Inv-loop μ-loop
-returns-2 c = let a = c .before .before .before .before .before .before .before .before .before .before .before .before .before .args in let l = c .before .before .before .before .before .before .before .before .before .loop in
+returns-2 c =
+    let a = c .before .before .before .before .before .before .before .before .before .before .before .before .before .args in let l = c .before .before .before .before .before .before .before .before .before .loop in
     record {
       reading = ap (λ k. refusedAt k (l .line)) (c .before .number .ensures) ∙ sym (l .inv .4
-          ∙ step-refused-there (a .bytes .now) (a .rows .now) (a .n) (l .steps) (l .m) (l .line) (l .at) _ (c .before .before .before .before .before .before .before .numbers-line .ensures) (not-false _ (c .before .before .before .before .before .if1 .left)) (l .inv .0) (c .before .before .judge-step .result) (c .before .before .judge-step .ensures)
+          ∙ step-refused-there (a .bytes .now) (a .rows .now) (a .n) (l .steps) (l .m) (l .line) (l .at) _
+          (c .before .before .before .before .before .before .before .numbers-line .ensures)
+          (not-false _ (c .before .before .before .before .before .if1 .left)) (l .inv .0)
+          (c .before .before .judge-step .result) (c .before .before .judge-step .ensures)
           (λ e. c .if2 .taken (c .before .number .ensures ∙ e)));
       bounds = omega arith;
     }
 
 put-step-requires : tie.Need-put-step-requires Inv-loop μ-loop
-put-step-requires c κs = let a = c .before .before .before .before .before .before .before .before .before .before .before .before .before .before .args in let l = c .before .before .before .before .before .before .before .before .before .before .loop in
-    let held = sym (c .before .before .number .ensures) ∙ c .before .if2 .left in
-    (step-room (a .bytes .now) (a .rows .now) (a .n) (l .steps) (l .m) (l .line) (l .at) _ (c .before .before .before .before .before .before .before .before .numbers-line .ensures) (not-false _ (c .before .before .before .before .before .before .if1 .left)) (l .inv .0) (c .before .before .before .judge-step .result) (c .before .before .before .judge-step .ensures) held (l .inv .1), l .inv .1)
+put-step-requires c κs =
+    let a = c .before .before .before .before .before .before .before .before .before .before .before .before .before .before .args in let l = c .before .before .before .before .before .before .before .before .before .before .loop in
+    let held = sym (c .before .before .number .ensures) ∙ c .before .if2 .left in (
+      step-room (a .bytes .now) (a .rows .now) (a .n) (l .steps) (l .m) (l .line) (l .at) _
+          (c .before .before .before .before .before .before .before .before .numbers-line .ensures)
+          (not-false _ (c .before .before .before .before .before .before .if1 .left)) (l .inv .0)
+          (c .before .before .before .judge-step .result) (c .before .before .before .judge-step .ensures) held (l .inv .1),
+      l .inv .1,
+    )
 
 add-m : tie.Need-add-m Inv-loop μ-loop
 add-m c = omega arith
@@ -84,19 +99,26 @@ add-line : tie.Need-add-line Inv-loop μ-loop
 add-line c = omega arith
 
 loop-less : tie.Need-loop-less Inv-loop μ-loop
-loop-less c = let bounds = c .before .before .before .before .before .before .before .before .before .before .before .numbers-line .ensures .right (not-false _ (c .before .before .before .before .before .before .before .before .before .if1 .left)) in omega arith
+loop-less c =
+    let bounds =
+    c .before .before .before .before .before .before .before .before .before .before .before .numbers-line .ensures .right (not-false _ (c .before .before .before .before .before .before .before .before .before .if1 .left)) in omega arith
 
 loop-again : tie.Need-loop-again Inv-loop μ-loop
-loop-again c = let a = c .before .before .before .before .before .before .before .before .before .before .before .before .before .before .before .before .before .args in let l = c .before .before .before .before .before .before .before .before .before .before .before .before .before .loop in
-    let held = sym (c .before .before .before .before .before .number .ensures) ∙ c .before .before .before .before .if2 .left in
+loop-again c =
+    let a = c .before .before .before .before .before .before .before .before .before .before .before .before .before .before .before .before .before .args in let l = c .before .before .before .before .before .before .before .before .before .before .before .before .before .loop in
+    let held = sym (c .before .before .before .before .before .number .ensures)
+    ∙ c .before .before .before .before .if2 .left in
     let right = not-false _ (c .before .before .before .before .before .before .before .before .before .if1 .left) in
-    let bounds = c .before .before .before .before .before .before .before .before .before .before .before .numbers-line .ensures .right right in
-    let room = step-room (a .bytes .now) (a .rows .now) (a .n) (l .steps) (l .m) (l .line) (l .at) _ (c .before .before .before .before .before .before .before .before .before .before .before .numbers-line .ensures) right (l .inv .0) (c .before .before .before .before .before .before .judge-step .result) (c .before .before .before .before .before .before .judge-step .ensures) held (l .inv .1) in (
+    let bounds =
+    c .before .before .before .before .before .before .before .before .before .before .before .numbers-line .ensures .right right in
+    let room = step-room (a .bytes .now) (a .rows .now) (a .n) (l .steps) (l .m) (l .line) (l .at) _
+    (c .before .before .before .before .before .before .before .before .before .before .before .numbers-line .ensures) right (l .inv .0) (c .before .before .before .before .before .before .judge-step .result) (c .before .before .before .before .before .before .judge-step .ensures) held (l .inv .1) in (
       omega arith,
       omega arith,
       omega arith,
       omega arith,
-      l .inv .4 ∙ step-held-there (a .bytes .now) (a .rows .now) (a .n) (l .steps) (l .m) (l .line) (l .at) _ (c .before .before .before .before .before .before .before .before .before .before .before .numbers-line .ensures) right (l .inv .0) (c .before .before .before .before .before .before .judge-step .result) (c .before .before .before .before .before .before .judge-step .ensures) held _ (c .before .before .put-step .ensures),
+      l .inv .4 ∙ step-held-there (a .bytes .now) (a .rows .now) (a .n) (l .steps) (l .m) (l .line) (l .at) _
+          (c .before .before .before .before .before .before .before .before .before .before .before .numbers-line .ensures) right (l .inv .0) (c .before .before .before .before .before .before .judge-step .result) (c .before .before .before .before .before .before .judge-step .ensures) held _ (c .before .before .put-step .ensures),
     )
 
 same-length-3 : tie.Need-same-length-3 Inv-loop μ-loop
@@ -104,7 +126,11 @@ same-length-3 c = omega arith
 
 returns-3 : tie.Need-returns-3 Inv-loop μ-loop
 returns-3 c = let a = c .before .before .before .before .before .args in let l = c .before .loop in
-    record { reading = sym (l .inv .4 ∙ step-end (a .bytes .now) (a .rows .now) (a .n) (l .steps) (l .m) (l .line) (l .at) (c .loop-test .left) (l .inv .0) (l .inv .1)); bounds = l .inv .0 }
+    record {
+      reading = sym (l .inv .4 ∙ step-end (a .bytes .now) (a .rows .now) (a .n) (l .steps) (l .m) (l .line) (l .at)
+          (c .loop-test .left) (l .inv .0) (l .inv .1));
+      bounds = l .inv .0;
+    }
 
 pub read-steps-spec : {M : Type 1} → statement M
 read-steps-spec =

@@ -27,7 +27,10 @@ last-step-requires c κs = search needs
 
 returns-2 : tie.Need-returns-2
 returns-2 c = let bytes = c .before .before .before .before .before .before .before .before .before .args .bytes .now in
-    reported bytes (c .before .before .before .before .before .before .before .if1 .left) _ (c .before .before .before .before .before .before .read .ensures) _ _ _ _ _ (c .before .before .before .before .number .ensures) (c .before .before .before .value .ensures) (c .before .before .refused-line .ensures) (c .before .steps-held .ensures) (c .last-step .ensures)
+    reported bytes (c .before .before .before .before .before .before .before .if1 .left) _
+    (c .before .before .before .before .before .before .read .ensures) _ _ _ _ _
+    (c .before .before .before .before .number .ensures) (c .before .before .before .value .ensures)
+    (c .before .before .refused-line .ensures) (c .before .steps-held .ensures) (c .last-step .ensures)
 
 pub audit-spec : {M : Type 1} → statement M
 audit-spec =

@@ -26,7 +26,11 @@ returns : tie.Need-returns
 unfolding view
 returns c = let s = c .before .before .before .before .before .before .args .t1 in
     let size : length (s .steps) ≡ stepWidth * maxSteps = search needs in
-    c .sides-of .ensures ∙ rw (c .before .first-steps .ensures, steps-viewed s size, c .before .before .before .before .before .clamp .ensures)
+    c .sides-of .ensures ∙ rw (
+      c .before .first-steps .ensures,
+      steps-viewed s size,
+      c .before .before .before .before .before .clamp .ensures,
+    )
 
 pub last-step-spec : {M : Type 1} → statement M
 last-step-spec =

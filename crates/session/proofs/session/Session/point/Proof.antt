@@ -1,11 +1,12 @@
--- `Session::point` meets its contract: the point is written, and the count grows, just where it is accepted. Assumes nothing.
+-- `Session::point` meets its contract: the point is written, and the count grows, just where it is accepted.
+-- Assumes nothing.
 use Prim.Native.Nat.{_*_}
 use mathlib.Core.Path.{_≡_, sym, _∙_}
 use lib.ListN.{length}
 use borrow.Author.Needs.{needs}
 use Rattle.calls.specs.Book.{maxPoints}
 use Rattle.calls.specs.code.Points.{pointWidth}
-use Rattle.session.proofs.PointMade.{point-room, point-made-held, point-made-refused}
+use Rattle.session.proofs.session.PointMade.{point-room, point-made-held, point-made-refused}
 use Rattle.session.proofs.session.Session.point.Statement.{statement}
 use Rattle.session.proofs.session.Session.point.Tie as tie
 
@@ -38,8 +39,11 @@ put-point-requires c κs =
     let at-clamp = at-self .before in
     let s = at-clamp .before .before .before .args .t1 in
     let size : length (s .points) ≡ pointWidth * maxPoints = search needs in
-    let held = sym (at-number .number .ensures) ∙ c .before .if1 .taken in
-    (point-room s _ (at-judge .judge-point .result) (at-judge .judge-point .ensures) held size _ (at-clamp .clamp3 .ensures), size)
+    let held = sym (at-number .number .ensures) ∙ c .before .if1 .taken in (
+      point-room s _ (at-judge .judge-point .result) (at-judge .judge-point .ensures) held size _
+          (at-clamp .clamp3 .ensures),
+      size,
+    )
 
 add-self : tie.Need-add-self
 add-self c = search needs

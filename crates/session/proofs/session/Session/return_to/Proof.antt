@@ -1,8 +1,9 @@
--- `Session::return_to` meets its contract: the tables are cleared, and the counts set, just where it is accepted. Assumes nothing.
+-- `Session::return_to` meets its contract: the tables are cleared, and the counts set, just where it is accepted.
+-- Assumes nothing.
 use mathlib.Core.Path.{sym, _∙_}
 use native.Mathlib.Omega.{arith}
 use borrow.Author.Needs.{needs}
-use Rattle.session.proofs.PointMade.{few-places, return-made-held, return-made-refused}
+use Rattle.session.proofs.session.PointMade.{few-places, return-made-held, return-made-refused}
 use Rattle.session.proofs.session.Session.return_to.Statement.{statement}
 use Rattle.session.proofs.session.Session.return_to.Tie as tie
 

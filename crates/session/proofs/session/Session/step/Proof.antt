@@ -1,4 +1,5 @@
--- `Session::step` meets its contract: the step is written, and the count grows, just where the step is held. Assumes nothing.
+-- `Session::step` meets its contract: the step is written, and the count grows, just where the step is held.
+-- Assumes nothing.
 use Prim.Native.Nat.{_*_, min}
 use mathlib.Core.Path.{_≡_, sym, ap, _∙_}
 use native.Mathlib.Omega.{arith}
@@ -9,7 +10,7 @@ use Rattle.calls.specs.code.Tables.{stepWidth}
 use Rattle.calls.specs.Promises.{rowStepAnswer}
 use Rattle.calls.proofs.Tables.{steps-held}
 use Rattle.calls.proofs.StepJudged.{step-accepted}
-use Rattle.session.proofs.StepMade.{step-made-held, step-made-refused}
+use Rattle.session.proofs.session.StepMade.{step-made-held, step-made-refused}
 use Rattle.session.proofs.session.Session.step.Statement.{statement}
 use Rattle.session.proofs.session.Session.step.Tie as tie
 

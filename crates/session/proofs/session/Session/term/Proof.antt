@@ -1,6 +1,6 @@
 -- `Session::term` meets its contract: the count grows just where the row is held. Assumes nothing.
 use mathlib.Core.Path.{sym, _∙_}
-use Rattle.session.proofs.TermMade.{term-made-held, term-made-refused}
+use Rattle.session.proofs.session.TermMade.{term-made-held, term-made-refused}
 use borrow.Author.Needs.{needs}
 use Rattle.session.proofs.session.Session.term.Statement.{statement}
 use Rattle.session.proofs.session.Session.term.Tie as tie

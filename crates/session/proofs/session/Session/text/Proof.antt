@@ -1,6 +1,6 @@
 -- `Session::text` meets its contract: the rows and their count are those of an accepted text. Assumes nothing.
 use borrow.Author.Needs.{needs}
-use Rattle.session.proofs.TextMade.{text-made-held, text-made-refused}
+use Rattle.session.proofs.session.TextMade.{text-made-held, text-made-refused}
 use Rattle.session.proofs.session.Session.text.Statement.{statement}
 use Rattle.session.proofs.session.Session.text.Tie as tie
 

@@ -1,0 +1,118 @@
+-- `step_answer` meets its contract, test by test in the order of the definition. Assumes nothing.
+use mathlib.Core.Path.{sym, _∙_}
+use borrow.Author.Tests.{not-true, not-false}
+use Rattle.calls.specs.Promises.{rowStepAnswer}
+use Rattle.calls.proofs.StepJudged.{no-rule, bad-side, bad-premise, not-yielded, steps-full, step-held}
+use borrow.Author.Needs.{needs}
+use Rattle.calls.proofs.step.step_answer.Statement.{statement}
+use Rattle.calls.proofs.step.step_answer.Tie as tie
+
+or-requires : tie.Need-or-requires
+or-requires c κs = search needs
+
+returns : tie.Need-returns
+unfolding rowStepAnswer
+returns c = no-rule _ _ _ (sym (c .before .or .ensures) ∙ c .if1 .taken)
+
+bad-side-requires : tie.Need-bad-side-requires
+bad-side-requires c κs = search needs
+
+returns-2 : tie.Need-returns-2
+unfolding rowStepAnswer
+returns-2 c =
+    let at-side = c .before in
+    let at-rule = at-side .before in
+    let is-rule = sym (at-rule .before .or .ensures) ∙ at-rule .if1 .left in
+    bad-side _ _ _ is-rule _ (at-side .bad-side .ensures) (c .if2 .taken)
+
+step-count-requires : tie.Need-step-count-requires
+step-count-requires c κs = search needs
+
+bad-premise-requires : tie.Need-bad-premise-requires
+bad-premise-requires c κs = search needs
+
+returns-3 : tie.Need-returns-3
+unfolding rowStepAnswer
+returns-3 c =
+    let at-premise = c .before in
+    let at-count = at-premise .before in
+    let at-side-test = at-count .before in
+    let at-side = at-side-test .before in
+    let at-rule = at-side .before in
+    let is-rule = sym (at-rule .before .or .ensures) ∙ at-rule .if1 .left in
+    bad-premise _ _ _ is-rule _ (at-side .bad-side .ensures) (at-side-test .if2 .left)
+    _ (at-count .step-count .ensures) _ (at-premise .bad-premise .ensures) (c .if3 .taken)
+
+is-yielded-requires : tie.Need-is-yielded-requires
+is-yielded-requires c κs = search needs
+
+returns-4 : tie.Need-returns-4
+unfolding rowStepAnswer
+returns-4 c =
+    let at-yielded = c .before in
+    let at-premise-test = at-yielded .before in
+    let at-premise = at-premise-test .before in
+    let at-count = at-premise .before in
+    let at-side-test = at-count .before in
+    let at-side = at-side-test .before in
+    let at-rule = at-side .before in
+    let is-rule = sym (at-rule .before .or .ensures) ∙ at-rule .if1 .left in
+    not-yielded _ _ _ is-rule _ (at-side .bad-side .ensures) (at-side-test .if2 .left)
+    _ (at-count .step-count .ensures) _ (at-premise .bad-premise .ensures) (at-premise-test .if3 .left)
+    (sym (at-yielded .is-yielded .ensures) ∙ not-true _ (c .if4 .taken))
+
+returns-5 : tie.Need-returns-5
+unfolding rowStepAnswer
+returns-5 c =
+    let at-yielded-test = c .before in
+    let at-yielded = at-yielded-test .before in
+    let at-premise-test = at-yielded .before in
+    let at-premise = at-premise-test .before in
+    let at-count = at-premise .before in
+    let at-side-test = at-count .before in
+    let at-side = at-side-test .before in
+    let at-rule = at-side .before in
+    let is-rule = sym (at-rule .before .or .ensures) ∙ at-rule .if1 .left in
+    steps-full _ _ _ is-rule _ (at-side .bad-side .ensures) (at-side-test .if2 .left)
+    _ (at-count .step-count .ensures) _ (at-premise .bad-premise .ensures) (at-premise-test .if3 .left)
+    (sym (at-yielded .is-yielded .ensures) ∙ not-false _ (at-yielded-test .if4 .left)) (c .if5 .taken)
+
+add-next : tie.Need-add-next
+add-next c = search needs
+
+cast-number : tie.Need-cast-number
+cast-number c = search needs
+
+returns-6 : tie.Need-returns-6
+unfolding rowStepAnswer
+returns-6 c =
+    let at-yielded-test = c .before in
+    let at-yielded = at-yielded-test .before in
+    let at-premise-test = at-yielded .before in
+    let at-premise = at-premise-test .before in
+    let at-count = at-premise .before in
+    let at-side-test = at-count .before in
+    let at-side = at-side-test .before in
+    let at-rule = at-side .before in
+    let is-rule = sym (at-rule .before .or .ensures) ∙ at-rule .if1 .left in
+    step-held _ _ _ is-rule _ (at-side .bad-side .ensures) (at-side-test .if2 .left)
+    _ (at-count .step-count .ensures) _ (at-premise .bad-premise .ensures) (at-premise-test .if3 .left)
+    (sym (at-yielded .is-yielded .ensures) ∙ not-false _ (at-yielded-test .if4 .left)) (c .if5 .left)
+
+pub step-answer-spec : {M : Type 1} → statement M
+step-answer-spec =
+    tie.close
+    (tie.spec
+    or-requires
+    returns
+    bad-side-requires
+    returns-2
+    step-count-requires
+    bad-premise-requires
+    returns-3
+    is-yielded-requires
+    returns-4
+    returns-5
+    add-next
+    cast-number
+    returns-6)

@@ -1,0 +1,2 @@
+pub mod LettersRead
+pub mod RuleFits
