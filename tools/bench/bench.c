@@ -679,13 +679,18 @@ static void bench_visits(const Document *d) {
 
 /* Selectors as text */
 
-enum { TEXT = 65536, LISTED = 10000, NAME = 5, TRIES = 5 };
+enum { TEXT = 65536, LISTED = 10000, LONG = 50, TRIES = 5 };
 
-/* 10,000 names of five bytes, n0000 to n9999. */
-static char list[LISTED * (NAME + 1) + 1];
+/* A list of 10,000 names; all but the last are made by the format, which may take the line's number. */
+static char list[LISTED * (LONG + 1) + 1];
 
-static void make_names(void) {
-    for (int i = 0; i < LISTED; i++) sprintf(list + i * (NAME + 1), "n%04d\n", i);
+static size_t make_names(const char *format, const char *last) {
+    size_t length = 0;
+    for (int i = 0; i < LISTED - 1; i++) {
+        length += (size_t)sprintf(list + length, format, i);
+        list[length++] = '\n';
+    }
+    return length + (size_t)sprintf(list + length, "%s\n", last);
 }
 
 /* The piece over and over, and then spaces, 65,536 bytes in all. */
@@ -696,26 +701,41 @@ static void make_text(char *text, const char *start, const char *piece) {
     memset(text + length, ' ', TEXT - length);
 }
 
+/* All names n0000 to n9999, from the last on, one after the other. */
+static void make_all(char *text) {
+    memset(text, ' ', TEXT);
+    memcpy(text, "n9999", 5);
+    for (int i = LISTED - 2; i >= 0; i--) sprintf(text + 6 * (LISTED - 1 - i) - 1, "/n%04d", i);
+    text[6 * LISTED - 1] = ' ';
+}
+
 static void bench_texts(void) {
     static char text[TEXT + 1];
-    static const struct { const char *what, *start, *piece; } shapes[] = {
-        {"spaces after a name", "n0000", " "},
-        {"`/..` over and over", ".", "/.."},
-        {"`[.]` over and over", "*", "[.]"},
-        {"the first name of the list over and over", "n0000", "/n0000"},
-        {"the last name of the list over and over", "n9999", "/n9999"},
-        {"a name that isn't listed over and over", "x", "/x"},
+    static const char five[] = "n%04d", fifty[] = "q%049d";
+    static const struct { const char *what, *format, *last, *start, *piece; } shapes[] = {
+        {"spaces after a name", five, "n9999", "n0000", " "},
+        {"`/..` over and over", five, "n9999", ".", "/.."},
+        {"`[.]` over and over", five, "n9999", "*", "[.]"},
+        {"the first name of the list over and over", five, "n9999", "n0000", "/n0000"},
+        {"the last name of the list over and over", five, "n9999", "n9999", "/n9999"},
+        {"all names of the list, from the last on", five, "n9999", NULL, NULL},
+        {"a name that isn't listed over and over", five, "n9999", "x", "/x"},
+        {"a name of one byte over and over, the last of the list", five, "x", "x", "/x"},
+        {"a name over and over, the last of the list, where all others differ from it in one byte", "abbbzc", "abbbbc",
+         "abbbbc", "/abbbbc"},
+        {"a name of one byte over and over, the last of a list of names of 50 bytes", fifty, "x", "x", "/x"},
     };
-    make_names();
     printf("\nA text of 65,536 bytes with a list of 10,000 names, in seconds, and the nanoseconds for one byte:\n\n");
     printf("| text | answer | shortest of 5 | a byte |\n|---|---|---|---|\n");
     for (size_t i = 0; i < sizeof shapes / sizeof *shapes; i++) {
         double best = 1e9;
         uint16_t answer = 0;
-        make_text(text, shapes[i].start, shapes[i].piece);
+        size_t length = make_names(shapes[i].format, shapes[i].last);
+        if (shapes[i].piece) make_text(text, shapes[i].start, shapes[i].piece);
+        else make_all(text);
         for (int n = 0; n < TRIES; n++) {
             double start = now();
-            answer = bench_text((uint8_t *)list, LISTED * (NAME + 1), (uint8_t *)text, TEXT);
+            answer = bench_text((uint8_t *)list, length, (uint8_t *)text, TEXT);
             double took = now() - start;
             if (took < best) best = took;
         }

@@ -18,7 +18,7 @@ use Rattle.terms.proofs.Built.{built-at, Accepted}
 use Rattle.grammar.specs.Bytes.{Bytes}
 use Rattle.grammar.specs.Words.{numberOf}
 use Rattle.grammar.specs.Grammar.{Union, Spells}
-use Rattle.grammar.specs.Denotes.{unionOf}
+use Rattle.grammar.specs.Denotes.{unionOf, nestPath}
 use Rattle.grammar.specs.Answer.{Reply, reply, Answers}
 use Rattle.grammar.proofs.Answered.{answered, only}
 use Rattle.grammar.proofs.Place.{one-tree}
@@ -29,7 +29,7 @@ use Rattle.calls.specs.TermCall.{termAnswer}
 use Rattle.calls.specs.TextCall.{textReply, textAnswer, textBook}
 use Rattle.calls.specs.Runs.{next, shown, final}
 use Rattle.calls.specs.Calls.{Call, term, CallSeen, plainBook, Reachable}
-use Rattle.calls.specs.TextLaws.{AnswersAsDefined, newRows, AsTermCalls, GivesItsTerm}
+use Rattle.calls.specs.TextLaws.{AnswersAsDefined, newRows, AsTermCalls, GivesItsTerm, GivesItsNesting}
 use Rattle.calls.proofs.Accepted.{if-accepted}
 use Rattle.calls.proofs.TermJudged.{row-held}
 use Rattle.calls.proofs.Reached.{reachable-laws}
@@ -108,3 +108,11 @@ gives-its-term b h names t e u s =
     let known = accepted names t (b .rows) (reachable-laws h .held .built) _ _ _ told e in
     known .stands .term
     ∙ ap (λ (q : Union). ofPath (unionOf (numberOf names) q)) (one-tree t (known .tree) u (known .spells) s)
+
+pub gives-its-nesting : GivesItsNesting
+unfolding textAnswer
+gives-its-nesting b h names t e u s =
+    let told = answers-as-defined names t (b .rows) _ _ _ .1 refl in
+    let known = accepted names t (b .rows) (reachable-laws h .held .built) _ _ _ told e in
+    known .stands .nest
+    ∙ ap (λ (q : Union). nestPath (unionOf (numberOf names) q)) (one-tree t (known .tree) u (known .spells) s)

@@ -3,14 +3,15 @@ use Prim.Native.Nat.{ℕ}
 use mathlib.Core.Path.{_≡_}
 use mathlib.Core.List.{List, map}
 use mathlib.Core.Logic.{_↔_}
-use lib.ListN.{length, drop}
+use lib.ListN.{length, getD, drop}
 use Rattle.common.specs.Lists.{Every}
 use Rattle.terms.specs.Row.{Row}
+use Rattle.terms.specs.Nesting.{nestings}
 use Rattle.terms.specs.Terms.{ofPath, termAt}
 use Rattle.grammar.specs.Bytes.{Bytes}
 use Rattle.grammar.specs.Words.{numberOf}
 use Rattle.grammar.specs.Grammar.{Union, Spells}
-use Rattle.grammar.specs.Denotes.{unionOf}
+use Rattle.grammar.specs.Denotes.{unionOf, nestPath}
 use Rattle.grammar.specs.Answer.{reply, Answers}
 use Rattle.calls.specs.Book.{Book}
 use Rattle.calls.specs.TextCall.{textReply, textAnswer, textBook}
@@ -40,3 +41,10 @@ abbrev pub GivesItsTerm : Type 0
 GivesItsTerm = (b : Book) → Reachable b → (names t : Bytes) → textAnswer (b .rows) names t .number ≡ 0
     → (u : Union) → Spells t u
     → termAt (textBook b names t .rows) (textAnswer (b .rows) names t .value) ≡ ofPath (unionOf (numberOf names) u)
+
+-- and its nesting as a row is that of the term by which the text was judged
+abbrev pub GivesItsNesting : Type 0
+GivesItsNesting = (b : Book) → Reachable b → (names t : Bytes) → textAnswer (b .rows) names t .number ≡ 0
+    → (u : Union) → Spells t u
+    → getD (nestings (textBook b names t .rows)) (textAnswer (b .rows) names t .value) 0
+    ≡ nestPath (unionOf (numberOf names) u)

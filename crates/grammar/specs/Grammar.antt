@@ -9,13 +9,14 @@ use Rattle.grammar.specs.Bytes.{Bytes, isSpace, isQuote, every, isWord, 
 use Rattle.grammar.specs.Bytes.{trueWord, falseWord}
 use Rattle.grammar.specs.Words.{isAxis, isType, instructionWord}
 
--- [5] AxisSpecifier: nothing, `@`, or a name and `::`
+-- [5] AxisSpecifier: nothing or `@`, [13] AbbreviatedAxisSpecifier, or [6] AxisName and `::`
 pub data Axis : Type 0 where
   implied : Axis
   attribute : (w : Bytes) → Axis
   axis : (w n v : Bytes) → Axis
 
--- [7] NodeTest: `*`, a name, a node type and `( )`, or `processing-instruction ( )` with a target m in quotes q (T-09)
+-- [7] NodeTest: [37] NameTest, `*` or a name; [38] NodeType and `( )`; or `processing-instruction ( )` with a target m
+-- in quotes q (T-09)
 pub data Test : Type 0 where
   any : (w : Bytes) → Test
   called : (w n : Bytes) → Test
@@ -23,7 +24,7 @@ pub data Test : Type 0 where
   target : (w v u : Bytes) (q : ℕ) (m y : Bytes) → Test
 
 mutual
-  -- [4] Step, [12] AbbreviatedStep, [8] Predicate
+  -- [4] Step, [12] AbbreviatedStep, [8] Predicate, whose [9] PredicateExpr is an Or
   pub data Step : Type 0 where
     dot dots : (w : Bytes) → Step
     test : Axis → Test → Step
@@ -45,7 +46,7 @@ mutual
     single : Path → Union
     union : Union → (w : Bytes) → Path → Union
 
-  -- [15] PrimaryExpr, [16] FunctionCall: `( )`, `not( )`, `true()`, `false()`
+  -- [19] PathExpr: paths, or a [15] PrimaryExpr: `( )`, or a [16] FunctionCall: `not( )`, `true()`, `false()`
   pub data Unary : Type 0 where
     paths : Union → Unary
     group : (w : Bytes) → Or → (v : Bytes) → Unary
@@ -57,7 +58,7 @@ mutual
     operand : Unary → And
     conj : And → (w : Bytes) → Unary → And
 
-  -- [21] OrExpr
+  -- [14] Expr, [21] OrExpr
   pub data Or : Type 0 where
     alone : And → Or
     disj : Or → (w : Bytes) → And → Or

@@ -23,8 +23,8 @@ use Rattle.calls.specs.Book.{Answer}
 use Rattle.calls.specs.Runs.{Run}
 use Rattle.calls.specs.SelectLaws.{LimitSuffices, MarksSameElsewhere}
 use Rattle.calls.proofs.SelectLaws.{limit-suffices, marks-same-elsewhere}
-use Rattle.calls.specs.TextLaws.{AnswersAsDefined, AsTermCalls, GivesItsTerm}
-use Rattle.calls.proofs.TextLaws.{answers-as-defined, as-term-calls, gives-its-term}
+use Rattle.calls.specs.TextLaws.{AnswersAsDefined, AsTermCalls, GivesItsTerm, GivesItsNesting}
+use Rattle.calls.proofs.TextLaws.{answers-as-defined, as-term-calls, gives-its-term, gives-its-nesting}
 use Rattle.grammar.specs.Abbreviations.{Expanded, Meant}
 use Rattle.grammar.proofs.Abbreviated.{expanded, meant}
 use Rattle.calls.specs.PointLaws.{ReturnRestores}
@@ -95,10 +95,12 @@ pub record Theorems : Type 0 where
   -- on every session that calls lead to, their answers are those of the plain book, where steps are judged as terms
   pub by-terms : AnswersByTerms
   -- a text call's number, value and rows are those of the grammar's definition, which has no others; an accepted one
-  -- does what term calls of its new rows do, and the row that it answers has the term of the text's tree
+  -- does what term calls of its new rows do, and the row that it answers has the term of the text's tree, and its
+  -- nesting
   pub answers-as-defined : AnswersAsDefined
   pub as-term-calls : AsTermCalls
   pub gives-its-term : GivesItsTerm
+  pub gives-its-nesting : GivesItsNesting
   -- an abbreviation has the term of what it stands for;
   -- what a leading `/`, a predicate and its parts mean on a document
   pub expanded : Expanded
@@ -199,6 +201,7 @@ theorems =
       answers-as-defined = answers-as-defined;
       as-term-calls = as-term-calls;
       gives-its-term = gives-its-term;
+      gives-its-nesting = gives-its-nesting;
       expanded = expanded;
       meant = meant;
       select = source.select-tied;

@@ -10,7 +10,7 @@ use lib.Seq.{sets, sets-eq, take-at, drop-append-add, drop-append-seam, length-t
 use Rattle.common.specs.Lists.{Every, joined}
 use Rattle.common.proofs.Entries.{every-there}
 use Rattle.terms.specs.Row.{Row, tableOf, maxRows}
-use Rattle.text.specs.Build.{tableWith}
+use Rattle.text.specs.Readers.{tableWith}
 use Rattle.session.specs.declared.session.Session.{Session}
 use Rattle.calls.specs.declared.points.PointCounts.{PointCounts}
 use Rattle.calls.specs.Book as books

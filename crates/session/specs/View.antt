@@ -4,7 +4,7 @@ use mathlib.Core.List.{List, [], _∷_, map}
 use lib.ListN.{length, replicate}
 use lib.Seq.{sets}
 use Rattle.terms.specs.Row.{Row, maxRows}
-use Rattle.text.specs.Build.{tableWith}
+use Rattle.text.specs.Readers.{tableWith}
 use Rattle.session.specs.declared.session.Session.{Session}
 use Rattle.calls.specs.declared.points.PointCounts.{PointCounts}
 use Rattle.calls.specs.Book.{Step, maxSteps, Point, point, maxPoints, Book, pointedBook}

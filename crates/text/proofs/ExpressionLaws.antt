@@ -13,12 +13,13 @@ use Rattle.grammar.specs.Grammar.{Unary, operand, conj, Or, alone, disj, spellA
 use Rattle.grammar.specs.Denotes.{unaryOf, andOf, orOf, andNames, orNames, putQual, nestQual}
 use Rattle.grammar.specs.Reader.{need, inside, Open, first, begin, Left, nothing, either, Pend, plain, both}
 use Rattle.grammar.specs.Reader.{leftOf, andTo, orTo, wrap, roomOf, enter, run, unaryByte}
-use Rattle.text.specs.declared.build.Reading.{Reading}
-use Rattle.text.specs.Scan.{byteAt}
-use Rattle.text.specs.Build.{capped, movedTo, failedAt, PutMet}
-use Rattle.text.specs.Readers.{proceed, MadeQual, Ready, Reached, WordMet, afterAnd, afterOr, UnaryMet}
-use Rattle.text.specs.Readers.{AndRead, AndFails, AndMet, OrFails, OrMet}
-use Rattle.text.proofs.Built.{refuse, unlisted-append, made-from, made-join}
+use Rattle.readings.specs.declared.Reading.{Reading}
+use Rattle.words.specs.code.Scan.{byteAt}
+use Rattle.heads.specs.code.Head.{proceed}
+use Rattle.readings.specs.code.Build.{capped, movedTo, failedAt, PutMet}
+use Rattle.readings.specs.code.Passing.{WordMet, afterAnd, afterOr}
+use Rattle.text.specs.Readers.{MadeQual, Ready, Reached, UnaryMet, AndRead, AndFails, AndMet, OrFails, OrMet}
+use Rattle.readings.proofs.Built.{refuse, unlisted-append, made-from, made-join}
 
 -- an operator name changes only the place
 module _ (s : Bytes) (y q : Reading) (n : ℕ) (next : Open → Pend → Unary → Bytes → Pend)

@@ -7,9 +7,9 @@ use lib.ListN.{length, take, drop, length-append, take-append-drop}
 use lib.Seq.{sets, sets-eq, length-take-le, drop-at}
 use Rattle.common.specs.Lists.{joined as numbersOf}
 use Rattle.terms.specs.Row.{Row, tableOf}
-use Rattle.text.specs.Build.{rowWidth, rowNumbers, rowsNumbers, tableWith, Sized, Beyond}
-use Rattle.text.specs.Readers.{heldRows}
-use Rattle.text.proofs.Built.{table-count}
+use Rattle.readings.specs.code.Build.{rowWidth, rowNumbers, Sized, Beyond}
+use Rattle.text.specs.Readers.{rowsNumbers, tableWith, heldRows}
+use Rattle.readings.proofs.Built.{table-count}
 
 -- whole rows are their numbers
 numbers-of : (k : ℕ) (zs : List ℕ) → length zs ≡ 4 * k → rowsNumbers (tableOf zs) ≡ zs

@@ -1,9 +1,3 @@
-pub mod Scanned
-pub mod Named
-pub mod Built
-pub mod Ran
-pub mod Headed
-pub mod Worded
 pub mod StepLaws
 pub mod PathLaws
 pub mod ExpressionLaws

@@ -8,12 +8,13 @@ use lib.Dec.{eqb}
 use lib.ListN.{length}
 use Rattle.grammar.specs.Bytes.{Bytes, isSpace}
 use Rattle.grammar.proofs.Basics.{and-out, eq-byte}
-use Rattle.text.specs.declared.build.Reading.{Reading}
-use Rattle.text.specs.Scan.{byteAt}
-use Rattle.text.specs.Build.{movedTo, Sized}
-use Rattle.text.specs.Readers.{Ready, Reached, CloseMet, SlashPut, PredicateMet}
-use Rattle.text.proofs.Headed.{byte-there}
-use Rattle.text.proofs.Built.{refuse}
+use Rattle.readings.specs.declared.Reading.{Reading}
+use Rattle.words.specs.code.Scan.{byteAt}
+use Rattle.readings.specs.code.Build.{movedTo, Sized}
+use Rattle.readings.specs.code.Passing.{CloseMet, SlashPut}
+use Rattle.text.specs.Readers.{Ready, Reached, PredicateMet}
+use Rattle.heads.proofs.Headed.{byte-there}
+use Rattle.readings.proofs.Built.{refuse}
 
 -- a loop has gone on from v to y: what P says of any reading up to v, it says of that up to y
 pub record Carried (s : Bytes) (P : List ℕ → Reading → List ℕ → Reading → Type 0)

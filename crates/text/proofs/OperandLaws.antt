@@ -21,18 +21,18 @@ use Rattle.grammar.specs.Reader.{first, begin, Pend, step, finish, follow, run,
 use Rattle.grammar.specs.Reader.{roomOf, enter, shut, needByte, leadByte, groupByte, afterByte, parenByte}
 use Rattle.grammar.specs.Reader.{callByte, unionByte, unaryByte}
 use Rattle.grammar.proofs.Basics.{eq-byte}
-use Rattle.text.specs.declared.build.Reading.{Reading}
-use Rattle.text.specs.declared.head.Opens.{Opens}
-use Rattle.text.specs.declared.head.Opens.the-variants as Opening
-use Rattle.text.specs.Scan.{byteAt, Passed}
-use Rattle.text.specs.Head.{NoCall, CallAt, OperandMet}
-use Rattle.text.specs.Build.{capped, movedTo, failedAt, Sized, Made, PutMet, Grown, someOf}
-use Rattle.text.specs.Readers.{proceed, afterUnion, unionAtTop, MadeQual, NoOperand}
-use Rattle.text.specs.Readers.{UnionMet, UnaryMet, ConstPut, NegatePut}
-use Rattle.text.proofs.Scanned.{past, head-drop}
-use Rattle.text.proofs.Ran.{on-here, on-pass, on-stop, over, need-over, closed-over}
-use Rattle.text.proofs.Headed.{differs, byte-there, passed-length, on-fail, same-split}
-use Rattle.text.proofs.Built.{refuse, made-row, made-over, made-from}
+use Rattle.readings.specs.declared.Reading.{Reading}
+use Rattle.heads.specs.declared.Opens.{Opens}
+use Rattle.heads.specs.declared.Opens.the-variants as Opening
+use Rattle.words.specs.code.Scan.{byteAt, Passed}
+use Rattle.heads.specs.code.Head.{NoCall, CallAt, OperandMet, proceed}
+use Rattle.readings.specs.code.Build.{capped, movedTo, failedAt, Sized, Made, PutMet, Grown, someOf}
+use Rattle.readings.specs.code.Passing.{ConstPut, NegatePut}
+use Rattle.text.specs.Readers.{afterUnion, unionAtTop, MadeQual, NoOperand, UnionMet, UnaryMet}
+use Rattle.words.proofs.Scanned.{past, head-drop}
+use Rattle.heads.proofs.Ran.{on-here, on-pass, on-stop, over, need-over, closed-over}
+use Rattle.heads.proofs.Headed.{differs, byte-there, passed-length, on-fail, same-split}
+use Rattle.readings.proofs.Built.{refuse, made-row, made-over, made-from}
 use Rattle.text.proofs.StepLaws.{has-room, Enclosed}
 
 -- whitespace ends at one place

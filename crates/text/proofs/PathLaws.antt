@@ -23,19 +23,19 @@ use Rattle.grammar.specs.Reader.{bare, atRoot, atAny, prefixOf, join, withPrefi
 use Rattle.grammar.specs.Reader.{finish, run, room, shut, needByte, leadByte, leadEnd, groupByte}
 use Rattle.grammar.specs.Reader.{afterByte, pathByte, unionByte, unaryByte, atTop}
 use Rattle.grammar.proofs.Basics.{eq-byte}
-use Rattle.text.specs.declared.build.Reading.{Reading}
-use Rattle.text.specs.declared.build.Start.{Start}
-use Rattle.text.specs.Scan.{byteAt, Passed, beginsStep}
-use Rattle.text.specs.Head.{callable, Due}
-use Rattle.text.specs.Build.{capped, movedTo, failedAt, PutMet, Grown, belowOf, onlyInStep}
-use Rattle.text.specs.Readers.{afterPath, afterUnion, unionAtTop, MadePath, Ready, Reached, StepMet}
-use Rattle.text.specs.Readers.{NoOperand, PathFails, PathMet, UnionFails, UnionMet}
-use Rattle.text.specs.Readers.{FirstPut, SlashPut, BeginPut, startOf, rootStart}
-use Rattle.text.proofs.Scanned.{head-drop}
-use Rattle.text.proofs.Ran.{on-pass, need-over}
-use Rattle.text.proofs.Headed.{differs, byte-there, passed-length, on-fail}
-use Rattle.text.proofs.Worded.{root-step, root-slash, root-alone}
-use Rattle.text.proofs.Built.{refuse, unlisted-append, made-row, made-from, made-to, made-join}
+use Rattle.readings.specs.declared.Reading.{Reading}
+use Rattle.readings.specs.declared.Start.{Start}
+use Rattle.words.specs.code.Scan.{byteAt, Passed, beginsStep}
+use Rattle.heads.specs.code.Head.{callable, Due}
+use Rattle.readings.specs.code.Build.{capped, movedTo, failedAt, PutMet, Grown, belowOf, onlyInStep}
+use Rattle.readings.specs.code.Passing.{FirstPut, SlashPut, BeginPut, startOf, rootStart}
+use Rattle.text.specs.Readers.{afterPath, afterUnion, unionAtTop, MadePath, Ready, Reached, StepMet, NoOperand}
+use Rattle.text.specs.Readers.{PathFails, PathMet, UnionFails, UnionMet}
+use Rattle.words.proofs.Scanned.{head-drop}
+use Rattle.heads.proofs.Ran.{on-pass, need-over}
+use Rattle.heads.proofs.Headed.{differs, byte-there, passed-length, on-fail}
+use Rattle.readings.proofs.Worded.{root-step, root-slash, root-alone}
+use Rattle.readings.proofs.Built.{refuse, unlisted-append, made-row, made-from, made-to, made-join}
 
 -- only an operand's first step may be a call
 unfoldable isBegin : Lead → Bool

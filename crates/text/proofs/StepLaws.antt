@@ -17,17 +17,17 @@ use Rattle.grammar.specs.Denotes.{stepOf, orOf, stepNames, orNames, putPath, pu
 use Rattle.grammar.specs.Reader.{State, after, Ctx, Open, bracket, Alt, Lead, step, follow, run, bad}
 use Rattle.grammar.specs.Reader.{room, roomOf, enter, shut, afterByte, parenByte, colonByte}
 use Rattle.grammar.proofs.Basics.{is-true, eq-byte, or-out}
-use Rattle.text.specs.declared.build.Reading.{Reading}
-use Rattle.text.specs.declared.head.Head.{Head}
-use Rattle.text.specs.Scan.{byteAt, Passed}
-use Rattle.text.specs.Head.{callable, NoCall, Due, HeadMet}
-use Rattle.text.specs.Build.{capped, movedTo, failedAt, PutMet, HeadPut, onlyInStep}
-use Rattle.text.specs.Readers.{proceed, MadeQual, Ready, Reached, CloseMet, PredicateMet}
-use Rattle.text.specs.Readers.{StepRead, StepFails, StepMet, OrMet}
-use Rattle.text.proofs.Scanned.{there}
-use Rattle.text.proofs.Ran.{on-pass, over}
-use Rattle.text.proofs.Headed.{differs, byte-there, passed-length, on-fail}
-use Rattle.text.proofs.Built.{refuse, unlisted-append, made-from, made-to, made-join}
+use Rattle.readings.specs.declared.Reading.{Reading}
+use Rattle.heads.specs.declared.Head.{Head}
+use Rattle.words.specs.code.Scan.{byteAt, Passed}
+use Rattle.heads.specs.code.Head.{callable, NoCall, Due, HeadMet, proceed}
+use Rattle.readings.specs.code.Build.{capped, movedTo, failedAt, PutMet, HeadPut, onlyInStep}
+use Rattle.readings.specs.code.Passing.{CloseMet}
+use Rattle.text.specs.Readers.{MadeQual, Ready, Reached, PredicateMet, StepRead, StepFails, StepMet, OrMet}
+use Rattle.words.proofs.Scanned.{there}
+use Rattle.heads.proofs.Ran.{on-pass, over}
+use Rattle.heads.proofs.Headed.{differs, byte-there, passed-length, on-fail}
+use Rattle.readings.proofs.Built.{refuse, unlisted-append, made-from, made-to, made-join}
 
 -- there is room for one more level
 pub has-room : (n left : ℕ) → n ≡ left → 0 < left → ltb 0 n ≡ true

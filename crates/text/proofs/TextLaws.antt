@@ -19,14 +19,14 @@ use Rattle.grammar.specs.ReaderAnswer.{termAnswer, namesAnswer, readAnswer, ans
 use Rattle.grammar.proofs.Basics.{so, is-true}
 use Rattle.grammar.proofs.Answered.{given}
 use Rattle.grammar.proofs.Longer.{answer-longer, refused-stays}
-use Rattle.text.specs.declared.build.Reading.{Reading}
+use Rattle.readings.specs.declared.Reading.{Reading}
 use Rattle.text.specs.declared.TextEnd.{TextEnd}
-use Rattle.text.specs.Head.{callable}
+use Rattle.heads.specs.code.Head.{callable}
+use Rattle.readings.specs.code.Build.{Sized, Holds, missingOf, firstOf, nothingRead}
+use Rattle.text.specs.Readers.{tableWith, afterUnion, unionAtTop, refusalOf, heldRows, UnionRead, UnionMet}
+use Rattle.text.specs.Readers.{TextMet, TextRead}
 use Rattle.common.specs.Lists.{joined as numbersOf}
-use Rattle.text.specs.Build.{tableWith, Sized, Holds, missingOf, firstOf, nothingRead}
-use Rattle.text.specs.Readers.{afterUnion, unionAtTop, refusalOf, heldRows, UnionRead, UnionMet, TextMet}
-use Rattle.text.specs.Readers.{TextRead}
-use Rattle.text.proofs.Built.{refuse, table-count}
+use Rattle.readings.proofs.Built.{refuse, table-count}
 use Rattle.text.proofs.Left.{left-table}
 
 -- tests as facts

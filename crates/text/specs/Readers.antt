@@ -7,8 +7,10 @@ use mathlib.Core.List.{List, [], _∷_, _++_}
 use mathlib.Core.Option.{Option, none, some}
 use lib.Dec.{eqb}
 use lib.ListN.{length, drop, take}
+use lib.Seq.{sets}
 use Rattle.xpath.specs.Term as term
-use Rattle.terms.specs.Row.{Row, row, tableOf}
+use Rattle.common.specs.Lists.{joined as numbersOf}
+use Rattle.terms.specs.Row.{Row, row, tableOf, rowWidth, rowNumbers}
 use Rattle.grammar.specs.Bytes.{Bytes, isSpace}
 use Rattle.grammar.specs.Words.{numberOf}
 use Rattle.grammar.specs.Grammar.{Step, Path, Union, Unary, And, Or, filter, takesPredicate, spellStep}
@@ -22,20 +24,13 @@ use Rattle.grammar.specs.Reader.{follow, run, outcome, Outcome, bad, atTop, pat
 use Rattle.grammar.specs.Reader.{shut, Text}
 use Rattle.grammar.specs.Answer.{Answers}
 use Rattle.grammar.specs.ReaderAnswer.{answer}
-use Rattle.text.specs.declared.build.Reading.{Reading}
+use Rattle.readings.specs.declared.Reading.{Reading}
 use Rattle.text.specs.declared.TextEnd.{TextEnd}
 use Rattle.text.specs.declared.TextResult.{TextResult}
-use Rattle.text.specs.declared.build.Start.{Start}
-use Rattle.text.specs.declared.head.Opens.{Opens}
-use Rattle.text.specs.declared.head.Opens.the-variants as Opening
-use Rattle.text.specs.Scan.{byteAt, Passed, beginsStep}
-use Rattle.text.specs.Head.{Between, callable, NoCall, Due}
-use Rattle.text.specs.Build.{rowWidth, capped, movedTo, failedAt, Sized, Made, PutMet, Grown}
-use Rattle.text.specs.Build.{joined, belowOf, onlyInStep, firstOf, Beyond, tableWith}
-
--- the run goes on with the byte at a place
-unfoldable pub proceed : Bytes → ℕ → Next → Outcome
-proceed s at n = follow n (bad (length s - at)) (λ st. run (drop (suc at) s) st)
+use Rattle.words.specs.code.Scan.{byteAt, Passed, beginsStep}
+use Rattle.heads.specs.code.Head.{proceed, callable, NoCall, Due}
+use Rattle.readings.specs.code.Build.{capped, movedTo, failedAt, Sized, Made, PutMet, Grown, joined}
+use Rattle.readings.specs.code.Build.{belowOf, onlyInStep, firstOf, Beyond}
 
 -- what follows a path, and a union
 unfoldable pub afterPath : Ctx → Alt → Path → Bytes → Bytes → Outcome
@@ -68,23 +63,6 @@ pub record Reached (s : Bytes) (at : ℕ) (ys : List ℕ) (y : Reading) : Type 0
   pub from : at ≤ y .at
   pub fits : y .at ≤ length s
   pub sized : Sized ys (y .count)
-
--- `and` and `or`, of n bytes: only the place changes
-pub record WordMet (s : Bytes) (r q : Reading) (n : ℕ) (next : Open → Pend → Unary → Bytes → Pend) : Type 0 where
-  pub between : Between s (r .at + 1) (q .at)
-  pub same : q ≡ cond (q .ok) (movedTo r (q .at)) (failedAt r (q .at))
-  pub place : q .ok ≡ true → q .at ≡ r .at + n
-  pub read : q .ok ≡ true → (x : Open) (p : Pend) (u : Unary) (w : Bytes)
-      → proceed s (r .at) (unaryByte x p u w (byteAt s (r .at)))
-      ≡ run (drop (q .at) s) (need (inside x (next x p u w)) first begin [])
-  pub failed : q .ok ≡ false → (x : Open) (p : Pend) (u : Unary) (w : Bytes)
-      → proceed s (r .at) (unaryByte x p u w (byteAt s (r .at))) ≡ bad (length s - q .at)
-
-abbrev pub afterAnd : Open → Pend → Unary → Bytes → Pend
-afterAnd x p u w = both (leftOf p) (andTo p u) w
-
-abbrev pub afterOr : Open → Pend → Unary → Bytes → Pend
-afterOr x p u w = plain (either (orTo p u) w)
 
 -- a predicate, after any step that takes one: the expression in it, and whitespace after its `]`
 pub record PredicateRead (s list : Bytes) (left : ℕ) (xs : List ℕ) (x : Reading) (ys : List ℕ) (y : Reading)
@@ -242,6 +220,14 @@ pub record OrMet (s list : Bytes) (left : ℕ) (xs : List ℕ) (x : Reading) (ys
 abbrev pub refusalOf : (number value count : ℕ) → TextEnd
 refusalOf n v k = record { number = n; value = v; count = k }
 
+-- the numbers of rows, in order
+abbrev pub rowsNumbers : List Row → List ℕ
+rowsNumbers rs = numbersOf rowNumbers rs
+
+-- the table xs, of which the first n rows are held, with those of the rows rs that come after them
+unfoldable pub tableWith : List ℕ → ℕ → List Row → List ℕ
+tableWith xs n rs = sets xs (rowWidth * n) (rowsNumbers (drop n rs))
+
 -- the rows that a table holds, as many as are counted
 abbrev pub heldRows : List ℕ → ℕ → List Row
 heldRows xs count = tableOf (take (rowWidth * count) xs)
@@ -261,63 +247,3 @@ pub record TextRead (list t : Bytes) (xs : List ℕ) (n : ℕ) (r : TextResult) 
   pub answers : Answers list t (heldRows xs n) (r .number) (r .value) after
   pub rows : r .rows ≡ tableWith xs n after
   pub count : r .count ≡ length after
-
--- the closing byte b is due where r ends; a refused reading stays as it is
-pub record CloseMet (s : Bytes) (r : Reading) (b : ℕ) (q : Reading) : Type 0 where
-  pub count : q .count ≡ r .count
-  pub kept : r .ok ≡ false → q ≡ r
-  pub wrong : r .ok ≡ true → (byteAt s (r .at) ≡ b → ⊥) → q ≡ failedAt r (r .at)
-  pub right : r .ok ≡ true → byteAt s (r .at) ≡ b → (to : ℕ) × (q ≡ movedTo r to) × Passed isSpace s (r .at + 1) to
-
--- the first step of a path, over what stands before it
-pub record FirstPut (rooted : Bool) (lead step : Reading) (xs ys : List ℕ) (q : Reading) : Type 0 where
-  pub sized : Sized ys (q .count)
-  pub joins : rooted ≡ true
-      → PutMet (row 4 (lead .row) (step .row) 0) (capped (suc (max (lead .nesting) (step .nesting)))) xs step ys q
-  pub stays : rooted ≡ false → (ys ≡ xs) × (q ≡ step)
-
--- the whitespace, the `)` and the row of `true()` or `false()`
-pub record ConstPut (s : Bytes) (kind : ℕ) (xs : List ℕ) (r : Reading) (ys : List ℕ) (q : Reading) : Type 0 where
-  pub to : ℕ
-  pub passed : Passed isSpace s (r .at) to
-  pub shut : Reading
-  pub closes : CloseMet s (movedTo r to) 41 shut
-  pub puts : PutMet (row kind 0 0 0) 1 xs shut ys q
-
--- `/` or `//` after a path, and whitespace
-pub record SlashPut (s : Bytes) (xs : List ℕ) (r : Reading) (ys : List ℕ) (q : Reading) : Type 0 where
-  pub sized : Sized ys (q .count)
-  pub two : byteAt s (r .at + 1) ≡ 47
-      → (to : ℕ) × (b : Reading) × Passed isSpace s (r .at + 1 + 1) to
-      × Grown belowOf (λ n. suc (max n 1)) xs r ys b × (q ≡ movedTo b to)
-  pub one : (byteAt s (r .at + 1) ≡ 47 → ⊥)
-      → (to : ℕ) × Passed isSpace s (r .at + 1) to × (ys ≡ xs) × (q ≡ movedTo r to)
-
--- a row of `not` over the expression in `not ( )`; a group is what it holds
-abbrev pub NegatePut : Opens → List ℕ → Reading → List ℕ → Reading → Type 0
-NegatePut Opening.Not xs r ys q = PutMet (row 8 (r .row) 0 0) (capped (suc (r .nesting))) xs r ys q
-NegatePut Opening.Group xs r ys q = (ys ≡ xs) × (q ≡ r)
-NegatePut Opening.Paths xs r ys q = (ys ≡ xs) × (q ≡ r)
-NegatePut Opening.True xs r ys q = (ys ≡ xs) × (q ≡ r)
-NegatePut Opening.False xs r ys q = (ys ≡ xs) × (q ≡ r)
-
--- what stands before a path's first step, if any does
-abbrev pub startOf : Reading → (rooted steps : Bool) → Start
-startOf r x y = record { lead = r; rooted = x; steps = y }
-
--- after `/` and whitespace: a step, or nothing more of this path; a second `/` can't follow
-unfoldable pub rootStart : Bytes → Reading → Start
-rootStart s r = cond (beginsStep (byteAt s (r .at))) (startOf r true true)
-    (cond (eqb (byteAt s (r .at)) 47) (startOf (failedAt r (r .at)) true false) (startOf r true false))
-
-pub record BeginPut (s : Bytes) (xs : List ℕ) (r : Reading) (ys : List ℕ) (q : Start) : Type 0 where
-  pub to : ℕ
-  pub passed : Passed isSpace s (r .at) to
-  pub bare : (byteAt s to ≡ 47 → ⊥) → (ys ≡ xs) × (q ≡ startOf (movedTo r to) false true)
-  pub root : byteAt s to ≡ 47 → (byteAt s (to + 1) ≡ 47 → ⊥)
-      → (p : Reading) × (end : ℕ) × PutMet (row 1 0 0 0) 1 xs (movedTo r to) ys p × Passed isSpace s (to + 1) end
-      × (q ≡ rootStart s (movedTo p end))
-  pub any : byteAt s to ≡ 47 → byteAt s (to + 1) ≡ 47
-      → (p b : Reading) × (zs : List ℕ) × (end : ℕ) × PutMet (row 1 0 0 0) 1 xs (movedTo r to) zs p
-      × Grown belowOf (λ n. suc (max n 1)) zs p ys b × Passed isSpace s (to + 1 + 1) end
-      × (q ≡ startOf (movedTo b end) true true)

@@ -1,26 +1,21 @@
 // Reads a selector typed as text and puts the rows of its term into a lent table. The readers go from left to right,
 // one byte at a time; each takes where the reading stands and gives where it stands afterwards. A refused reading
 // leaves rows of no use in the table that it works on, which is a copy.
-mod build;
-mod bytes;
-mod head;
-mod words;
-
-use crate::build::Reading;
-use crate::bytes::byte_at;
-use crate::bytes::skip;
-use crate::head::Opens;
 use common::refusal;
 use common::row_kind;
+use heads::Opens;
+use readings::Reading;
+use words::bytes;
+use words::bytes::skip;
 ghost use mathlib.Core.Path.{_≡_};
 ghost use mathlib.Core.Bool.{false};
 ghost use Prim.Native.Nat.{min};
 ghost use Rattle.terms.specs.Row.{maxRows};
 ghost use Rattle.grammar.specs.Bytes.{isSpace};
-ghost use Rattle.text.specs.Scan.{byteAt};
-ghost use Rattle.text.specs.Readers.{Ready, PredicateMet, StepMet, PathMet, UnionMet};
-ghost use Rattle.text.specs.Readers.{UnaryMet, AndMet, OrMet, TextMet, TextRead, refusalOf};
-ghost use Rattle.text.specs.Build.{Sized};
+ghost use Rattle.words.specs.code.Scan.{byteAt};
+ghost use Rattle.readings.specs.code.Build.{Sized};
+ghost use Rattle.text.specs.Readers.{Ready, PredicateMet, StepMet, PathMet, UnionMet, UnaryMet, AndMet, OrMet};
+ghost use Rattle.text.specs.Readers.{TextMet, TextRead, refusalOf};
 
 // How deep predicates, groups and negations may nest.
 const MAX_LEVELS: usize = 32;
@@ -48,51 +43,54 @@ pub struct TextResult {
 fn read_predicate(s: &[u8], names: &[u8], rows: &mut [u16], from: Reading, left: usize) -> Reading
     requires { ⌜ Ready (now s) (now rows) from ⌝ }
     requires { ⌜ byteAt (now s) (from .at) ≡ 91 ⌝ }
-    ensures { λ q. ⌜ PredicateMet (now (s .entry)) (now (names .entry)) left (now (rows .entry)) from (now (rows .exit)) q ⌝ }
+    ensures { λ q. ⌜ PredicateMet (now (s .entry)) (now (names .entry))
+        left (now (rows .entry)) from (now (rows .exit)) q ⌝ }
 {
     let open = from.at;
     if left == 0 {
-        return build::fail(from, open);
+        return readings::fail(from, open);
     }
-    let inner = read_or(s, names, rows, build::moved(from, open + 1), left - 1);
-    let shut = build::close(s, inner, bytes::CLOSE_BRACKET);
-    build::join(rows, row_kind::FILTER, from, shut)
+    let inner = read_or(s, names, rows, readings::moved(from, open + 1), left - 1);
+    let shut = readings::close(s, inner, bytes::CLOSE_BRACKET);
+    readings::join(rows, row_kind::FILTER, from, shut)
 }
 
 // A step that begins at a place without whitespace: its head and predicates.
 fn read_step(s: &[u8], names: &[u8], rows: &mut [u16], from: Reading, left: usize) -> Reading
     requires { ⌜ Ready (now s) (now rows) from ⌝ }
     requires { ⌜ isSpace (byteAt (now s) (from .at)) ≡ false ⌝ }
-    ensures { λ q. ⌜ StepMet (now (s .entry)) (now (names .entry)) left (now (rows .entry)) from (now (rows .exit)) q ⌝ }
+    ensures { λ q. ⌜ StepMet (now (s .entry)) (now (names .entry))
+        left (now (rows .entry)) from (now (rows .exit)) q ⌝ }
 {
-    let head = head::read_head(s, names, from.at);
-    let mut got = build::put_head(rows, from, head);
+    let head = heads::read_head(s, names, from.at);
+    let mut got = readings::put_head(rows, from, head);
     if !head.filters {
-        return build::step_end(s, got);
+        return readings::step_end(s, got);
     }
-    while build::next_is(s, got, bytes::OPEN_BRACKET) {
+    while readings::next_is(s, got, bytes::OPEN_BRACKET) {
         let next = read_predicate(s, names, rows, got, left);
         got = next;
     }
-    build::step_end(s, got)
+    readings::step_end(s, got)
 }
 
 // Steps joined by `/` and `//`, which may stand in front of them too; or `/` alone.
 fn read_path(s: &[u8], names: &[u8], rows: &mut [u16], from: Reading, left: usize) -> Reading
     requires { ⌜ Ready (now s) (now rows) from ⌝ }
-    ensures { λ q. ⌜ PathMet (now (s .entry)) (now (names .entry)) left (now (rows .entry)) from (now (rows .exit)) q ⌝ }
+    ensures { λ q. ⌜ PathMet (now (s .entry)) (now (names .entry))
+        left (now (rows .entry)) from (now (rows .exit)) q ⌝ }
 {
-    let start = build::begin_path(s, rows, from);
+    let start = readings::begin_path(s, rows, from);
     let lead = start.lead;
     if !start.steps {
         return lead;
     }
     let first = read_step(s, names, rows, lead, left);
-    let mut got = build::first_step(rows, start.rooted, lead, first);
-    while build::next_is(s, got, bytes::SLASH) {
-        let before = build::pass_slash(s, rows, got);
+    let mut got = readings::first_step(rows, start.rooted, lead, first);
+    while readings::next_is(s, got, bytes::SLASH) {
+        let before = readings::pass_slash(s, rows, got);
         let step = read_step(s, names, rows, before, left);
-        let next = build::join(rows, row_kind::COMPOSITION, before, step);
+        let next = readings::join(rows, row_kind::COMPOSITION, before, step);
         got = next;
     }
     got
@@ -101,13 +99,14 @@ fn read_path(s: &[u8], names: &[u8], rows: &mut [u16], from: Reading, left: usiz
 // Paths joined by `|`.
 fn read_union(s: &[u8], names: &[u8], rows: &mut [u16], from: Reading, left: usize) -> Reading
     requires { ⌜ Ready (now s) (now rows) from ⌝ }
-    ensures { λ q. ⌜ UnionMet (now (s .entry)) (now (names .entry)) left (now (rows .entry)) from (now (rows .exit)) q ⌝ }
+    ensures { λ q. ⌜ UnionMet (now (s .entry)) (now (names .entry))
+        left (now (rows .entry)) from (now (rows .exit)) q ⌝ }
 {
     let mut got = read_path(s, names, rows, from, left);
-    while build::next_is(s, got, bytes::BAR) {
+    while readings::next_is(s, got, bytes::BAR) {
         let bar = got.at;
-        let path = read_path(s, names, rows, build::moved(got, bar + 1), left);
-        let next = build::join(rows, row_kind::UNION, got, path);
+        let path = read_path(s, names, rows, readings::moved(got, bar + 1), left);
+        let next = readings::join(rows, row_kind::UNION, got, path);
         got = next;
     }
     got
@@ -117,32 +116,33 @@ fn read_union(s: &[u8], names: &[u8], rows: &mut [u16], from: Reading, left: usi
 // `false ( )`.
 fn read_operand(s: &[u8], names: &[u8], rows: &mut [u16], from: Reading, left: usize) -> Reading
     requires { ⌜ Ready (now s) (now rows) from ⌝ }
-    ensures { λ q. ⌜ UnaryMet (now (s .entry)) (now (names .entry)) left (now (rows .entry)) from (now (rows .exit)) q ⌝ }
+    ensures { λ q. ⌜ UnaryMet (now (s .entry)) (now (names .entry))
+        left (now (rows .entry)) from (now (rows .exit)) q ⌝ }
 {
-    let start = build::moved(from, skip(s, from.at));
-    let operand = head::operand_at(s, start.at);
+    let start = readings::moved(from, skip(s, from.at));
+    let operand = heads::operand_at(s, start.at);
     let opens = operand.opens;
     let paren = operand.paren;
     match opens {
         Opens::Paths => {
             let paths = read_union(s, names, rows, from, left);
-            return build::some_of(rows, paths);
+            return readings::some_of(rows, paths);
         }
         Opens::True => {
-            return build::constant(s, rows, build::moved(start, paren + 1), row_kind::TRUE);
+            return readings::constant(s, rows, readings::moved(start, paren + 1), row_kind::TRUE);
         }
         Opens::False => {
-            return build::constant(s, rows, build::moved(start, paren + 1), row_kind::FALSE);
+            return readings::constant(s, rows, readings::moved(start, paren + 1), row_kind::FALSE);
         }
         Opens::Group => {}
         Opens::Not => {}
     }
     if left == 0 {
-        return build::fail(start, paren);
+        return readings::fail(start, paren);
     }
-    let inner = read_or(s, names, rows, build::moved(start, paren + 1), left - 1);
-    let shut = build::close(s, inner, bytes::CLOSE);
-    build::negate_if(rows, opens, shut)
+    let inner = read_or(s, names, rows, readings::moved(start, paren + 1), left - 1);
+    let shut = readings::close(s, inner, bytes::CLOSE);
+    readings::negate_if(rows, opens, shut)
 }
 
 // Operands joined by `and`.
@@ -151,13 +151,13 @@ fn read_and(s: &[u8], names: &[u8], rows: &mut [u16], from: Reading, left: usize
     ensures { λ q. ⌜ AndMet (now (s .entry)) (now (names .entry)) left (now (rows .entry)) from (now (rows .exit)) q ⌝ }
 {
     let mut got = read_operand(s, names, rows, from, left);
-    while build::next_is(s, got, bytes::LETTER_A) {
-        let word = build::pass_and(s, got);
+    while readings::next_is(s, got, bytes::LETTER_A) {
+        let word = readings::pass_and(s, got);
         if !word.ok {
             return word;
         }
         let right = read_operand(s, names, rows, word, left);
-        let next = build::join(rows, row_kind::AND, got, right);
+        let next = readings::join(rows, row_kind::AND, got, right);
         got = next;
     }
     got
@@ -169,13 +169,13 @@ fn read_or(s: &[u8], names: &[u8], rows: &mut [u16], from: Reading, left: usize)
     ensures { λ q. ⌜ OrMet (now (s .entry)) (now (names .entry)) left (now (rows .entry)) from (now (rows .exit)) q ⌝ }
 {
     let mut got = read_and(s, names, rows, from, left);
-    while build::next_is(s, got, bytes::LETTER_O) {
-        let word = build::pass_or(s, got);
+    while readings::next_is(s, got, bytes::LETTER_O) {
+        let word = readings::pass_or(s, got);
         if !word.ok {
             return word;
         }
         let right = read_and(s, names, rows, word, left);
-        let next = build::join(rows, row_kind::OR, got, right);
+        let next = readings::join(rows, row_kind::OR, got, right);
         got = next;
     }
     got
@@ -197,7 +197,7 @@ fn read_in(s: &[u8], names: &[u8], rows: &mut [u16], count: usize) -> TextEnd
     requires { ⌜ Sized (now rows) count ⌝ }
     ensures { λ a. ⌜ TextMet (now (s .entry)) (now (names .entry)) (now (rows .entry)) count (now (rows .exit)) a ⌝ }
 {
-    let got = read_union(s, names, rows, build::nothing_read(count), MAX_LEVELS);
+    let got = read_union(s, names, rows, readings::nothing_read(count), MAX_LEVELS);
     let at = got.at;
     if !got.ok {
         return refused(refusal::OUTSIDE_GRAMMAR, at, count);
@@ -232,8 +232,8 @@ fn rows_counted(count: usize) -> usize
     }
 }
 
-// The answer to the text `s` with the lent list of names, where the first rows of the table are held, as many as `count`
-// says.
+// The answer to the text `s` with the lent list of names, where the first rows of the table are held, as many as
+// `count` says.
 pub fn read_text(s: &[u8], names: &[u8], rows: [u16; TABLE_SIZE], count: usize) -> TextResult
     ensures { λ r. ⌜ TextRead (now (names .entry)) (now (s .entry)) rows (min count maxRows) r ⌝ }
 {

@@ -5,8 +5,7 @@ use lib.ListN.{length}
 use Rattle.grammar.specs.Bytes.{Bytes}
 use Rattle.grammar.specs.Answer.{Reply, reply}
 use Rattle.text.specs.declared.TextResult.{TextResult}
-use Rattle.text.specs.Build.{tableWith}
-use Rattle.text.specs.Readers.{TextRead}
+use Rattle.text.specs.Readers.{tableWith, TextRead}
 use Rattle.calls.specs.Book.{answer}
 use Rattle.calls.specs.TextCall.{textReply, textAnswer}
 use Rattle.calls.specs.Calls.{text}

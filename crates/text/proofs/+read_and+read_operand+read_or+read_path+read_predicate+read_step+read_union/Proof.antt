@@ -6,11 +6,11 @@ use Prim.Native.Nat.{_+_, _-_, _*_}
 use lib.ListN.{length}
 use borrow.Author.Needs.{needs}
 use borrow.Author.Tests.{not-true, not-false}
-use Rattle.text.specs.Scan.{byteAt}
-use Rattle.text.specs.Build.{movedTo}
-use Rattle.text.specs.Readers.{afterAnd, afterOr}
-use Rattle.text.proofs.Built.{refuse}
-use Rattle.text.proofs.Headed.{byte-there}
+use Rattle.words.specs.code.Scan.{byteAt}
+use Rattle.readings.specs.code.Build.{movedTo}
+use Rattle.readings.specs.code.Passing.{afterAnd, afterOr}
+use Rattle.readings.proofs.Built.{refuse}
+use Rattle.heads.proofs.Headed.{byte-there}
 use Rattle.text.proofs.LoopLaws.{Carried, carried-none, carried-on, next-taken, next-left, next-ready}
 use Rattle.text.proofs.LoopLaws.{close-sized, after-slash, leftover, predicate-falls}
 use Rattle.text.proofs.StepLaws.{enclosed, predicate-full, predicate-joined}
@@ -49,24 +49,24 @@ use Rattle.text.proofs.+read_and+read_operand+read_or+read_path+read_pr
 use Rattle.text.proofs.read_union.Reads as read-union
 use Rattle.text.proofs.read_union.Kinds as read-union-kinds
 use Rattle.text.proofs.+read_and+read_operand+read_or+read_path+read_predicate+read_step+read_union.Lts-read_union as read-union-lts
-use Rattle.text.proofs.build.begin_path.Reads as begin-path-reads
-use Rattle.text.proofs.build.close.Reads as close-reads
-use Rattle.text.proofs.build.constant.Reads as constant-reads
-use Rattle.text.proofs.build.fail.Reads as fail-reads
-use Rattle.text.proofs.build.first_step.Reads as first-step-reads
-use Rattle.text.proofs.build.join.Reads as join-reads
-use Rattle.text.proofs.build.moved.Reads as moved-reads
-use Rattle.text.proofs.build.negate_if.Reads as negate-if-reads
-use Rattle.text.proofs.build.next_is.Reads as next-is-reads
-use Rattle.text.proofs.build.pass_and.Reads as pass-and-reads
-use Rattle.text.proofs.build.pass_or.Reads as pass-or-reads
-use Rattle.text.proofs.build.pass_slash.Reads as pass-slash-reads
-use Rattle.text.proofs.build.put_head.Reads as put-head-reads
-use Rattle.text.proofs.build.some_of.Reads as some-of-reads
-use Rattle.text.proofs.build.step_end.Reads as step-end-reads
-use Rattle.text.proofs.bytes.skip.Reads as skip-reads
-use Rattle.text.proofs.head.operand_at.Reads as operand-at-reads
-use Rattle.text.proofs.head.read_head.Reads as read-head-reads
+use Rattle.readings.proofs.begin_path.Reads as begin-path-reads
+use Rattle.readings.proofs.close.Reads as close-reads
+use Rattle.readings.proofs.constant.Reads as constant-reads
+use Rattle.readings.proofs.fail.Reads as fail-reads
+use Rattle.readings.proofs.first_step.Reads as first-step-reads
+use Rattle.readings.proofs.join.Reads as join-reads
+use Rattle.readings.proofs.moved.Reads as moved-reads
+use Rattle.readings.proofs.negate_if.Reads as negate-if-reads
+use Rattle.readings.proofs.next_is.Reads as next-is-reads
+use Rattle.readings.proofs.pass_and.Reads as pass-and-reads
+use Rattle.readings.proofs.pass_or.Reads as pass-or-reads
+use Rattle.readings.proofs.pass_slash.Reads as pass-slash-reads
+use Rattle.readings.proofs.put_head.Reads as put-head-reads
+use Rattle.readings.proofs.some_of.Reads as some-of-reads
+use Rattle.readings.proofs.step_end.Reads as step-end-reads
+use Rattle.words.proofs.bytes.skip.Reads as skip-reads
+use Rattle.heads.proofs.operand_at.Reads as operand-at-reads
+use Rattle.heads.proofs.read_head.Reads as read-head-reads
 use Rattle.text.proofs.+read_and+read_operand+read_or+read_path+read_predicate+read_step+read_union.{
   statement,
 }

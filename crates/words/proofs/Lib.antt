@@ -1,0 +1,3 @@
+pub mod Scanned
+pub mod Named
+pub mod Listed
