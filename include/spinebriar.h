@@ -39,7 +39,8 @@ enum spinebriar_answer {
     SPINEBRIAR_BAD_RECORD = 23,
     SPINEBRIAR_FULL_OR_IN_USE = 24,
     SPINEBRIAR_BAD_LISTS = 25, /* 25 and 26 are the call replace's */
-    SPINEBRIAR_NOT_COVERED = 26
+    SPINEBRIAR_NOT_COVERED = 26,
+    SPINEBRIAR_NO_RECORD = 27 /* of a release */
 };
 
 /* What an answer says, in English; null for a number that no answer has. */
@@ -68,6 +69,7 @@ static inline const char *spinebriar_answer_text(uint16_t answer)
     case SPINEBRIAR_UNLISTED_NAME: return "a name of the text is not in the list";
     case SPINEBRIAR_BAD_LISTS: return "more than 64 old or new rows, or not as many steps as old rows";
     case SPINEBRIAR_NOT_COVERED: return "an old row whose step doesn't say that it is contained in a new row";
+    case SPINEBRIAR_NO_RECORD: return "the register has no record at the place";
     case SPINEBRIAR_BAD_POINT: return "no point has the name, or a point to be set has the name 0 or one in use";
     case SPINEBRIAR_POINTS_FULL: return "the session holds eight points already";
     case SPINEBRIAR_NOT_NEXT: return "the edition is not the next one of its series";

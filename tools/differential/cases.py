@@ -34,7 +34,9 @@ ODD_LINES = [b"", b"fresh", b"document", b"document ", b"document" + b" 0" * MOS
              b"text a", b"text a[b or .]", b"texts a", b"names" + b" a" * 2000, b"other", b"other 0",
              b"order 0 0", b"order 0", b"order 65536 0", b"bundle-order", b"bundle-order 0", b"bundle",
              b"record", b"record 7 1 0", b"record 7 1 0 0", b"record 7 1 0 0 0", b"record 65536 1 0 0",
-             b"record 7 1 0 65536", b"current", b"current 7", b"current 65536", b"current 7 7", b"records",
+             b"record 7 1 0 65536", b"current", b"current 7", b"current 65536", b"current 7 7", b"release",
+             b"release 0", b"release 1", b"release 65536", b"records", b"records 1", b"released", b"released 0",
+             b"crew-current", b"crew-current 7",
              *(word + b" 1" * count for word in (b"old", b"new", b"replace")
                for count in (MOST_LISTED, MOST_LISTED + 1))]
 # Words that are names, and lines that are none; a text's names are among the first, so some of them aren't listed.
@@ -157,19 +159,32 @@ class Session:
             record[place] = rng.choice([rng.randrange(held + 3), record[place] ^ 1, *EDGES[:6], 65535])
         self.call("record", record, book.record(tuple(record)))
         self.current()
+        if rng.random() < 0.5:
+            self.release()
 
     def records(self):
-        """As many records as there can be, and a few more."""
+        """As many records as there can be, and a few more; sometimes all released."""
         paths = [row for row, term in enumerate(self.book.terms) if term.is_path()]
         for series in range(1000, 1000 + MOST_RECORDS if paths else 1000):
             record = (series, 1, self.rng.choice(paths), 0)
             self.call("record", record, self.book.record(record))
         for _ in range(8):
             self.record()
+        if self.rng.random() < 0.3:
+            for place in range(1, MOST_RECORDS + 2):
+                self.call("release", (place,), place <= len(self.book.records))
+            self.call("released", (), True)
 
     def current(self):
         series = self.rng.choice([0, 1, 2, 3, 7, 1000, 1250, 65535])
-        self.call("current", (series,), True)
+        self.call(self.rng.choice(["current", "crew-current"]), (series,), True)
+
+    def release(self):
+        """A release, mostly of a record, and what is then listed."""
+        rng, held = self.rng, len(self.book.records)
+        place = rng.choice([rng.randrange(held + 2), rng.randrange(held + 2), rng.choice(EDGES)])
+        self.call("release", (place,), 1 <= place <= held)
+        self.call(rng.choice(["records", "released", "released"]), (), True)
 
     def hold(self, term):
         """The term's row, after the calls that it takes; nothing if they are refused."""
@@ -667,7 +682,7 @@ def resized(rng, text):
     """The text made as long as the longest input, or a byte or more longer, by its last term or step over and over."""
     size = MOST_BYTES + rng.choice([0, 0, 1, 1, 2, 5000])
     others = (b"select", b"document", b"old", b"new", b"replace", b"write", b"names", b"text", b"other", b"order",
-              b"bundle-order", b"record", b"current")
+              b"bundle-order", b"record", b"current", b"release", b"crew-current")
     line = next((line for line in reversed(text.splitlines(True)) if not line.startswith(others)), b"\n")
     return (text + line * (size // len(line) + 1))[:size - 1] + rng.choice([b"\n", b"0"])
 

@@ -123,6 +123,9 @@ EDITS = [
     ("register.rs", "(l, r) == (previous, row)", "(r, l) == (previous, row)"),
     ("register.rs", "(row as usize) < rows && step as usize <= steps", "(row as usize) < rows"),
     ("register.rs", "(row as usize) < rows && step as usize <= steps", "step as usize <= steps"),
+    ("register.rs", "at < self.records.len()", "at <= self.records.len() && at > 0"),
+    ("register.rs", "self.released.iter().map", "self.released.iter().rev().map"),
+    ("register.rs", "highest(&self.crew_listing(), series)", "highest(&self.records, series)"),
 ]
 
 

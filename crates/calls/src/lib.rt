@@ -17,6 +17,7 @@ pub use common::refusal::BAD_RECORD;
 pub use common::refusal::BAD_SIDE;
 pub use common::refusal::FULL_OR_IN_USE;
 pub use common::refusal::LIMIT_PASSED;
+pub use common::refusal::NO_RECORD;
 pub use common::refusal::NO_RULE;
 pub use common::refusal::NOT_COVERED;
 pub use common::refusal::NOT_NEXT;

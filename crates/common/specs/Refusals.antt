@@ -104,3 +104,7 @@ bad-lists = 25
 -- an old row whose step isn't as it must be: its place
 abbrev pub not-covered : ℕ
 not-covered = 26
+
+-- no record at the place: the place
+abbrev pub no-record : ℕ
+no-record = 27

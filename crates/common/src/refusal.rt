@@ -50,3 +50,5 @@ pub const FULL_OR_IN_USE: u16 = 24;
 pub const BAD_LISTS: u16 = 25;
 
 pub const NOT_COVERED: u16 = 26;
+
+pub const NO_RECORD: u16 = 27;

@@ -23,12 +23,12 @@ module _ (rs : List Record) (n : ℕ) (fits : n ≤ length rs) where
   count : length first ≡ n
   count = length-take-le n rs fits
 
-  from-place : (i : ℕ) → i < n → drop i first ≡ getD rs i noRecord ∷ drop (suc i) first
+  pub from-place : (i : ℕ) → i < n → drop i first ≡ getD rs i noRecord ∷ drop (suc i) first
   from-place i h =
       drop-cons first i noRecord (omega (arith, count))
       ∙ ap (λ r. r ∷ drop (suc i) first) (getD-take n rs i noRecord h)
 
-  none-left : (i : ℕ) → n ≤ i → drop i first ≡ []
+  pub none-left : (i : ℕ) → n ≤ i → drop i first ≡ []
   none-left i h = drop-of-length-le first {i = i} (omega (arith, count))
 
   -- the highest edition, from the last place down

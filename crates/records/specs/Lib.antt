@@ -1,4 +1,6 @@
 pub mod Records
 pub mod Held
 pub mod Register
+pub mod Releases
+pub mod Listed
 pub mod values

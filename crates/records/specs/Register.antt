@@ -14,7 +14,7 @@ use Rattle.records.specs.declared.Record.{Record}
 use Rattle.calls.specs.Book.{noPoint, Book, emptyBook, answer}
 use Rattle.calls.specs.Refusals.{full-or-in-use}
 use Rattle.calls.specs.PointCall.{pointNames, placeOf}
-use Rattle.calls.specs.Runs.{Machine, Seen, shown, final}
+use Rattle.calls.specs.Runs.{Machine}
 use Rattle.calls.specs.Calls.{Call, term, step, text, point, return, plainBook}
 use Rattle.calls.specs.Above.{Both, both, Above, Layer, above}
 use Rattle.records.specs.Records.{noRecord, recordAnswer, allKept}
@@ -52,17 +52,6 @@ plainRegister = above plainBook plainRecords
 
 abbrev pub emptyRegister : Holdings
 emptyRegister = both emptyBook []
-
--- what is seen of a call: its answer, and all that is held after it
-abbrev pub RegisterSeen : Type 0
-RegisterSeen = Seen Holdings
-
--- what is seen of calls made in order on a fresh register, and the register after them
-abbrev pub registerSeen : List RegisterCall → List RegisterSeen
-registerSeen cs = shown plainRegister emptyRegister cs
-
-abbrev pub registerAfter : List RegisterCall → Holdings
-registerAfter cs = final plainRegister emptyRegister cs
 
 -- the path in row p is contained in that in row q: on every document of any size, from every node, each node that p's
 -- selects, q's selects

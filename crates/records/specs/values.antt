@@ -1,1 +1,2 @@
 pub mod RecordCases
+pub mod ReleaseCases

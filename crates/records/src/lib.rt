@@ -1,12 +1,15 @@
-// The records of the register, editions of series, held by value, and the answers of the calls record and current.
+// The records of the register, editions of series, and which of them are released, held by value; the answers of the
+// calls record, current and release, and listings.
 ghost use mathlib.Core.Path.{_≡_};
 ghost use Prim.Native.Nat.{_<_};
 ghost use lib.Dec.{leb};
-ghost use lib.ListN.{length};
+ghost use lib.ListN.{length, set};
 ghost use Rattle.terms.specs.Row.{tableOf};
 ghost use Rattle.calls.specs.code.Tables.{stepsOf};
 ghost use Rattle.records.specs.Records.{current, rowOf, isFitStep, recordAnswer, allKept, noRecord, maxRecords};
 ghost use Rattle.records.specs.Held.{recordAnswerOf, sizeOf, recordsIn, noRecords, withRecord, RecordMade};
+ghost use Rattle.records.specs.Releases.{released};
+ghost use Rattle.records.specs.Listed.{releaseAnswerOf, flagged, noReleases, allReleases, listed, ReleaseMade};
 
 pub const MAX_RECORDS: usize = 256;
 
@@ -35,6 +38,22 @@ pub enum RecordAnswer {
 pub struct RecordsMade {
     pub answer: RecordAnswer,
     pub records: Records,
+}
+
+// Which records are released: 1 at the place of each that is.
+pub struct Releases {
+    pub flags: [u8; MAX_RECORDS],
+}
+
+// The answer of a release.
+pub enum ReleaseAnswer {
+    Released,
+    NoRecord(u16),
+}
+
+pub struct ReleasesMade {
+    pub answer: ReleaseAnswer,
+    pub releases: Releases,
 }
 
 fn no_record() -> Record
@@ -189,6 +208,109 @@ impl Records {
         RecordsMade {
             answer,
             records: self,
+        }
+    }
+}
+
+impl Records {
+    // A listing of the released records, in their order.
+    pub fn released(self, releases: Releases) -> Records
+        ensures { λ r. ⌜ r ≡ listed (released (recordsIn self) (releases .flags)) ⌝ }
+    {
+        let n = self.size();
+        let held = self.held;
+        let flags = releases.flags;
+        let mut shown = Records::new();
+        let mut i = 0;
+        while i < n {
+            let here = held[i];
+            let flag = flags[i];
+            if flag == 1 {
+                let next = shown.put(here);
+                shown = next;
+            }
+            i += 1;
+        }
+        shown
+    }
+
+    // A listing of all records.
+    pub fn listing(self) -> Records
+        ensures { λ r. ⌜ r ≡ listed (recordsIn self) ⌝ }
+    {
+        let all = Releases::all();
+        self.released(all)
+    }
+}
+
+impl Releases {
+    pub fn new() -> Releases
+        ensures { λ r. ⌜ r ≡ noReleases ⌝ }
+    {
+        Releases {
+            flags: [0u8; MAX_RECORDS],
+        }
+    }
+
+    fn all() -> Releases
+        ensures { λ r. ⌜ r ≡ allReleases ⌝ }
+    {
+        Releases {
+            flags: [1u8; MAX_RECORDS],
+        }
+    }
+
+    // Also the record at that place, counted from 0.
+    fn put(mut self, at: usize) -> Releases
+        requires { ⌜ at < maxRecords ⌝ }
+        ensures { λ r. ⌜ r ≡ flagged (set (self .flags) at 1) ⌝ }
+    {
+        self.flags[at] = 1;
+        self
+    }
+
+    // A release of the record at a place, counted from 1: the answer, and the releases left.
+    pub fn release(self, records: Records, place: u16) -> ReleasesMade
+        ensures { λ r. ⌜ ReleaseMade (recordsIn records) self place r ⌝ }
+    {
+        let n = records.size();
+        let p = common::wide(place);
+        if p == 0 {
+            return ReleasesMade {
+                answer: ReleaseAnswer::NoRecord(place),
+                releases: self,
+            };
+        }
+        if n < p {
+            return ReleasesMade {
+                answer: ReleaseAnswer::NoRecord(place),
+                releases: self,
+            };
+        }
+        let releases = self.put(p - 1);
+        ReleasesMade {
+            answer: ReleaseAnswer::Released,
+            releases,
+        }
+    }
+}
+
+impl ReleaseAnswer {
+    pub fn number(self) -> u16
+        ensures { λ r. ⌜ r ≡ releaseAnswerOf self .number ⌝ }
+    {
+        match self {
+            ReleaseAnswer::Released => 0,
+            ReleaseAnswer::NoRecord(_) => calls::NO_RECORD,
+        }
+    }
+
+    pub fn value(self) -> u32
+        ensures { λ r. ⌜ r ≡ releaseAnswerOf self .value ⌝ }
+    {
+        match self {
+            ReleaseAnswer::Released => 0,
+            ReleaseAnswer::NoRecord(place) => place as u32,
         }
     }
 }

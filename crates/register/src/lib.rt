@@ -1,8 +1,11 @@
-// A register above a session: records of editions, whose rows and steps no return drops, and every call of the session
-// passed on.
+// A register above a session: records of editions, whose rows and steps no return drops, which of them are released,
+// and every call of the session passed on. A crew's calls are `crew_listing` and `crew_current`; all others are the
+// office's.
 pub use records::Record;
 pub use records::RecordAnswer;
-use records::Records;
+pub use records::Records;
+pub use records::ReleaseAnswer;
+use records::Releases;
 use session::OrderAnswer;
 use session::PointAnswer;
 use session::ReadAnswer;
@@ -26,11 +29,15 @@ ghost use Rattle.session.specs.Promises.{SelectMet, textAnswerOf};
 ghost use Rattle.session.specs.ReplaceDemand.{ReplaceMet};
 ghost use Rattle.session.specs.OrderDemand.{OrderMet, BundleOrderMet};
 ghost use Rattle.session.specs.WriteCall.{WriteMet};
-ghost use Rattle.register.specs.Promises.{returnAnswerOf, freshRegister, RegisterMet, RegisterReadMet};
+ghost use Rattle.records.specs.Releases.{crewListing, crewCurrent};
+ghost use Rattle.records.specs.Listed.{releaseAnswerOf, listed};
+ghost use Rattle.register.specs.Promises.{returnAnswerOf, freshRegister, releasedIn, RegisterMet};
+ghost use Rattle.register.specs.Promises.{RegisterReadMet};
 
 pub struct Register {
     session: Session,
     records: Records,
+    releases: Releases,
 }
 
 // The answer of a return: the session's, or that a row or step is in use.
@@ -70,6 +77,11 @@ pub struct RecordResult {
     pub register: Register,
 }
 
+pub struct ReleaseResult {
+    pub answer: ReleaseAnswer,
+    pub register: Register,
+}
+
 pub struct ReadResult {
     pub answer: ReadAnswer,
     pub register: Register,
@@ -83,16 +95,22 @@ impl Register {
     {
         let session = Session::new();
         let records = Records::new();
-        Register { session, records }
+        let releases = Releases::new();
+        Register {
+            session,
+            records,
+            releases,
+        }
     }
 
     // Records an edition of a series: its path row, and the step by which the previous edition's path is contained in
     // it.
     pub fn record(self, series: u16, edition: u16, row: u16, step: u16) -> RecordResult
-        ensures { λ r. ⌜ RegisterMet self (Above.own (recorded series edition row step))
+        ensures { λ r. ⌜ RegisterMet self (Above.passed (Above.own (recorded series edition row step)))
             (recordAnswerOf (r .answer)) (r .register) ⌝ }
     {
         let session = self.session;
+        let releases = self.releases;
         let given = Record {
             series,
             edition,
@@ -102,7 +120,11 @@ impl Register {
         let made = session.record(self.records, given);
         let answer = made.answer;
         let records = made.records;
-        let register = Register { session, records };
+        let register = Register {
+            session,
+            records,
+            releases,
+        };
         RecordResult { answer, register }
     }
 
@@ -114,13 +136,57 @@ impl Register {
         records.current(series)
     }
 
+    // Releases the record at a place, counted from 1.
+    pub fn release(self, place: u16) -> ReleaseResult
+        ensures { λ r. ⌜ RegisterMet self (Above.own place) (releaseAnswerOf (r .answer)) (r .register) ⌝ }
+    {
+        let session = self.session;
+        let records = self.records;
+        let released = self.releases;
+        let made = released.release(records, place);
+        let answer = made.answer;
+        let releases = made.releases;
+        let register = Register {
+            session,
+            records,
+            releases,
+        };
+        ReleaseResult { answer, register }
+    }
+
+    // All records, in the order of recording.
+    pub fn listing(self) -> Records
+        ensures { λ r. ⌜ r ≡ listed (recordsIn (self .records)) ⌝ }
+    {
+        let records = self.records;
+        records.listing()
+    }
+
+    // The released records, in that order.
+    pub fn crew_listing(self) -> Records
+        ensures { λ r. ⌜ r ≡ listed (crewListing (releasedIn self)) ⌝ }
+    {
+        let records = self.records;
+        records.released(self.releases)
+    }
+
+    // The highest released edition of a series, 0 if it has none.
+    pub fn crew_current(self, series: u16) -> u16
+        ensures { λ r. ⌜ r ≡ crewCurrent (releasedIn self) series ⌝ }
+    {
+        let records = self.records;
+        let shown = records.released(self.releases);
+        shown.current(series)
+    }
+
     // Returns to the point of that name, where that drops no row and no step in use.
     pub fn return_to(self, name: u16) -> ReturnResult
-        ensures { λ r. ⌜ RegisterMet self (Above.passed (Call.return name))
+        ensures { λ r. ⌜ RegisterMet self (Above.passed (Above.passed (Call.return name)))
             (returnAnswerOf (r .answer)) (r .register) ⌝ }
     {
         let session = self.session;
         let records = self.records;
+        let releases = self.releases;
         let made = session.return_to(name);
         let told = made.answer;
         let used = session.drops_in_use(records, name);
@@ -135,6 +201,7 @@ impl Register {
             let register = Register {
                 session: next,
                 records,
+                releases,
             };
             return ReturnResult {
                 answer: ReturnAnswer::Accepted,
@@ -148,65 +215,74 @@ impl Register {
     }
 
     pub fn term(self, kind: u16, a: u16, b: u16, c: u16) -> TermResult
-        ensures { λ r. ⌜ RegisterMet self (Above.passed (Call.term (row kind a b c)))
+        ensures { λ r. ⌜ RegisterMet self (Above.passed (Above.passed (Call.term (row kind a b c))))
             (termAnswerOf (r .answer)) (r .register) ⌝ }
     {
         let session = self.session;
         let records = self.records;
+        let releases = self.releases;
         let made = session.term(kind, a, b, c);
         let answer = made.answer;
         let next = made.session;
         let register = Register {
             session: next,
             records,
+            releases,
         };
         TermResult { answer, register }
     }
 
     pub fn step(self, rule: u16, left: u16, right: u16, first: u16, second: u16) -> StepResult
-        ensures { λ r. ⌜ RegisterMet self (Above.passed (Call.step (step rule left right first second)))
+        ensures { λ r. ⌜ RegisterMet self (Above.passed (Above.passed (Call.step (step rule left right first second))))
             (stepAnswerOf (r .answer)) (r .register) ⌝ }
     {
         let session = self.session;
         let records = self.records;
+        let releases = self.releases;
         let made = session.step(rule, left, right, first, second);
         let answer = made.answer;
         let next = made.session;
         let register = Register {
             session: next,
             records,
+            releases,
         };
         StepResult { answer, register }
     }
 
     pub fn text(self, names: &[u8], selector: &[u8]) -> TextResult
-        ensures { λ r. ⌜ RegisterMet self (Above.passed (Call.text (now (names .entry)) (now (selector .entry))))
+        ensures { λ r. ⌜ RegisterMet self
+            (Above.passed (Above.passed (Call.text (now (names .entry)) (now (selector .entry)))))
             (textAnswerOf (r .answer)) (r .register) ⌝ }
     {
         let session = self.session;
         let records = self.records;
+        let releases = self.releases;
         let made = session.text(names, selector);
         let answer = made.answer;
         let next = made.session;
         let register = Register {
             session: next,
             records,
+            releases,
         };
         TextResult { answer, register }
     }
 
     pub fn point(self, name: u16) -> PointResult
-        ensures { λ r. ⌜ RegisterMet self (Above.passed (Call.point name))
+        ensures { λ r. ⌜ RegisterMet self (Above.passed (Above.passed (Call.point name)))
             (pointAnswerOf (r .answer)) (r .register) ⌝ }
     {
         let session = self.session;
         let records = self.records;
+        let releases = self.releases;
         let made = session.point(name);
         let answer = made.answer;
         let next = made.session;
         let register = Register {
             session: next,
             records,
+            releases,
         };
         PointResult { answer, register }
     }
@@ -264,7 +340,12 @@ impl Register {
         let answer = read.answer;
         let session = read.session;
         let records = Records::new();
-        let register = Register { session, records };
+        let releases = Releases::new();
+        let register = Register {
+            session,
+            records,
+            releases,
+        };
         ReadResult { answer, register }
     }
 }

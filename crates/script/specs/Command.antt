@@ -14,7 +14,7 @@ use Rattle.calls.specs.code.Tables.{rowWidth, stepWidth}
 use Rattle.script.specs.declared.Word.{Word}
 use Rattle.script.specs.declared.Word.the-variants.{Term, Step, Select, Document, Fresh, Old, New, Replace}
 use Rattle.script.specs.declared.Word.the-variants.{Write, Point, Return, Other, Order, BundleOrder, Names, Text}
-use Rattle.script.specs.declared.Word.the-variants.{Record, Current}
+use Rattle.script.specs.declared.Word.the-variants.{Record, Current, Release, Records, Released, CrewCurrent}
 use Rattle.script.specs.declared.Shape.{Shape}
 use Rattle.script.specs.declared.Shape.the-variants.{Counted, Listed, Selection, Room, Rest}
 
@@ -65,6 +65,10 @@ words =
     ∷ (ascii "text", Text)
     ∷ (ascii "record", Record)
     ∷ (ascii "current", Current)
+    ∷ (ascii "release", Release)
+    ∷ (ascii "records", Records)
+    ∷ (ascii "released", Released)
+    ∷ (ascii "crew-current", CrewCurrent)
     ∷ []
 
 -- what stands after a word
@@ -87,6 +91,10 @@ shapeOf Names = Rest
 shapeOf Text = Rest
 shapeOf Record = Counted 4
 shapeOf Current = Counted 1
+shapeOf Release = Counted 1
+shapeOf Records = Counted 0
+shapeOf Released = Counted 0
+shapeOf CrewCurrent = Counted 1
 
 -- as many numbers as there are parts
 abbrev pub allNumbers : List (List ℕ) → Option (List ℕ)

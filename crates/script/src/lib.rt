@@ -42,6 +42,10 @@ pub enum Word {
     Text,
     Record,
     Current,
+    Release,
+    Records,
+    Released,
+    CrewCurrent,
 }
 
 // What stands after a word: so many numbers of 16 bits, a list of up to so many, the numbers of a select, the length of a
@@ -60,7 +64,7 @@ pub struct Entry(pub [u8; WORD_WIDTH], pub usize, pub Word, pub Shape);
 // One byte more than the longest word has.
 const WORD_WIDTH: usize = 13;
 
-const WORD_COUNT: usize = 18;
+const WORD_COUNT: usize = 22;
 
 const WORDS: [Entry; WORD_COUNT] = [
     Entry(*b"term         ", 4, Word::Term, Shape::Counted(ROW_WIDTH)),
@@ -91,6 +95,10 @@ const WORDS: [Entry; WORD_COUNT] = [
     Entry(*b"text         ", 4, Word::Text, Shape::Rest),
     Entry(*b"record       ", 6, Word::Record, Shape::Counted(4)),
     Entry(*b"current      ", 7, Word::Current, Shape::Counted(1)),
+    Entry(*b"release      ", 7, Word::Release, Shape::Counted(1)),
+    Entry(*b"records      ", 7, Word::Records, Shape::Counted(0)),
+    Entry(*b"released     ", 8, Word::Released, Shape::Counted(0)),
+    Entry(*b"crew-current ", 12, Word::CrewCurrent, Shape::Counted(1)),
 ];
 
 // The numbers after a word, by its shape: `a` to `e` are those that are counted, in their order; `size` says how many

@@ -7,13 +7,13 @@ use Rattle.lines.specs.Line.{Line, partsRead}
 use Rattle.script.specs.declared.Word.{Word}
 use Rattle.script.specs.declared.Word.the-variants.{Term, Step, Select, Document, Fresh, Old, New, Replace, Write}
 use Rattle.script.specs.declared.Word.the-variants.{Point, Return, Other, Order, BundleOrder, Names, Text}
-use Rattle.script.specs.declared.Word.the-variants.{Record, Current}
+use Rattle.script.specs.declared.Word.the-variants.{Record, Current, Release, Records, Released, CrewCurrent}
 use Rattle.script.specs.Command.{Command, commandOf}
 use Rattle.transcript.specs.declared.Style.{Style}
 use Rattle.transcript.specs.declared.Style.the-variants.{Answers, Nodes}
 
--- where answers are printed, a script has a register and another one; where nodes are, no bundle and no order is
--- printed
+-- where answers are printed, a script has a register and another one; where nodes are, no bundle,
+-- no order and no listing is printed
 abbrev pub printsAnswers : Style → Bool
 printsAnswers Answers = true
 printsAnswers Nodes = false
@@ -41,6 +41,10 @@ wordTaken s Names = true
 wordTaken s Text = true
 wordTaken s Record = true
 wordTaken s Current = true
+wordTaken s Release = true
+wordTaken s Records = printsAnswers s
+wordTaken s Released = printsAnswers s
+wordTaken s CrewCurrent = true
 
 -- a line that is no command is never taken
 abbrev pub isTaken : Style → Option Command → Bool

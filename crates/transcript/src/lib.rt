@@ -1,5 +1,7 @@
 // Makes the calls of a script on a register, a call a line, and prints the answers in one of two styles.
 use common::and;
+use records::Record;
+use register::Records;
 use register::Register;
 use script::CallLine;
 use script::Values;
@@ -13,14 +15,15 @@ ghost use Rattle.transcript.specs.Transcript.{printsAnswers, printsNodes
 // What the lent marks hold before a select, and a lent buffer before a write.
 const FILL: u8 = 7;
 
-// Longer than the longest line: a word, two numbers, and 512 nodes of at most three digits.
-const LINE: usize = 4096;
+// Longer than the longest line: two numbers, and 256 records of four numbers of at most five digits.
+const LINE: usize = 8192;
 
 // What is printed. `Answers`: `NUMBER VALUE` for each call but document, old and new, after an accepted select the
-// marked nodes, and after an accepted write the bundle's lines; `other` sets the register aside and starts a new one,
-// `order` and `bundle-order` compare the one set aside with it, and `fresh` is no call. Other and what is lent print
-// nothing. `Nodes`: the marked nodes of each accepted select, and `refused NUMBER VALUE` for what is refused; `fresh`
-// starts a new register, and `write`, `other`, `order` and `bundle-order` are no calls.
+// marked nodes, after a listing the records' numbers, and after an accepted write the bundle's lines; `other` sets
+// the register aside and starts a new one, `order` and `bundle-order` compare the one set aside with it, and `fresh`
+// is no call. Other and what is lent print nothing. `Nodes`: the marked nodes of each accepted select, and `refused
+// NUMBER VALUE` for what is refused; `fresh` starts a new register, and `write`, `other`, `order`, `bundle-order` and
+// the listings are no calls.
 pub enum Style {
     Answers,
     Nodes,
@@ -32,8 +35,8 @@ struct NumberList {
     count: usize,
 }
 
-// What later calls are lent: the document, the old rows and the new rows; the names stand in the script, from `names` on
-// to the line's end.
+// What later calls are lent: the document, the old rows and the new rows; the names stand in the script, from `names`
+// on to the line's end.
 struct Lent {
     document: NumberList,
     old: NumberList,
@@ -282,6 +285,48 @@ fn current(r: Register, v: Values, style: Style) {
     print(style, 0, r.current(v.a) as u64);
 }
 
+fn release(r: Register, v: Values, style: Style) -> Register {
+    let made = r.release(v.a);
+    let answer = made.answer;
+    print(style, answer.number(), answer.value() as u64);
+    made.register
+}
+
+fn crew_current(r: Register, v: Values, style: Style) {
+    print(style, 0, r.crew_current(v.a) as u64);
+}
+
+fn put_record(line: &mut [u8], used: usize, shown: bool, given: Record) -> usize {
+    if !shown {
+        return used;
+    }
+    let series = put_number(line, used, given.series as u64);
+    let edition = put_number(line, series, given.edition as u64);
+    let row = put_number(line, edition, given.row as u64);
+    put_number(line, row, given.step as u64)
+}
+
+fn put_records(line: &mut [u8], used: usize, listing: Records) -> usize {
+    let n = listing.size();
+    let held = listing.held;
+    let mut end = used;
+    let mut i = 0;
+    while i < records::MAX_RECORDS {
+        let here = held[i];
+        end = put_record(line, end, i < n, here);
+        i += 1;
+    }
+    end
+}
+
+// How many records are listed, and their numbers.
+fn print_listing(listing: Records) {
+    let mut line = [0u8; LINE];
+    let used = put_pair(&mut line, 0, 0, listing.size() as u64);
+    let end = put_records(&mut line, used, listing);
+    write_line(&mut line, end);
+}
+
 fn order(other: Register, v: Values, r: Register) {
     let answer = other.order(v.a, r, v.b);
     print(Style::Answers, answer.number(), answer.value() as u64);
@@ -333,6 +378,10 @@ fn is_taken(word: Word, style: Style) -> bool
         Word::Text => true,
         Word::Record => true,
         Word::Current => true,
+        Word::Release => true,
+        Word::Records => prints_answers(style),
+        Word::Released => prints_answers(style),
+        Word::CrewCurrent => true,
     }
 }
 
@@ -395,6 +444,9 @@ fn ask(r: Register, other: Register, lent: Lent, read: CallLine, style: Style) {
         Word::Order => order(other, values, r),
         Word::BundleOrder => bundle_order(other, r),
         Word::Current => current(r, values, style),
+        Word::Records => print_listing(r.listing()),
+        Word::Released => print_listing(r.crew_listing()),
+        Word::CrewCurrent => crew_current(r, values, style),
         _ => {}
     }
 }
@@ -418,6 +470,7 @@ fn make(
         Word::Point => point(r, values, style),
         Word::Return => return_to(r, values, style),
         Word::Record => record(r, values, style),
+        Word::Release => release(r, values, style),
         Word::Other => Register::new(),
         Word::Fresh => Register::new(),
         _ => {

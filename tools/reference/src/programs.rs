@@ -5,7 +5,7 @@
 //! what is lent; a last line that lacks its newline is of another form; empty input prints nothing.
 
 use crate::bundle::{lines, number, read, write};
-use crate::register::Register;
+use crate::register::{Record, Register};
 
 pub const MOST_BYTES: usize = 65536;
 const MOST_NUMBERS: usize = 1539;
@@ -71,6 +71,10 @@ impl Run {
                 self.register.record([small(series)?, small(edition)?, small(row)?, small(step)?])
             }
             [b"current", series] => self.register.current(small(series)?),
+            [b"release", place] => self.register.release(small(place)?),
+            [b"crew-current", series] => self.register.crew_current(small(series)?),
+            [b"records"] => return Some(listing(self.register.listing())),
+            [b"released"] => return Some(listing(self.register.crew_listing())),
             [b"document", ref numbers @ ..] if numbers.len() <= MOST_NUMBERS => {
                 self.document = numbers.iter().map(|word| small(word)).collect::<Option<_>>()?;
                 return Some(String::new());
@@ -114,6 +118,12 @@ impl Run {
         };
         Some(format!("{number} {value}\n"))
     }
+}
+
+/// How many records are listed, and the numbers of each.
+fn listing(records: Vec<Record>) -> String {
+    let numbers: String = records.iter().flatten().map(|number| format!(" {number}")).collect();
+    format!("0 {}{numbers}\n", records.len())
 }
 
 /// The marked nodes, each after a space, if the select was accepted.

@@ -1,7 +1,9 @@
-//! 02's register: records of editions above a book. A return drops no row and no step that a record has.
+//! 02's register: records of editions above a book. A return drops no row and no step that a record has. The office
+//! sees all records, a crew the released ones.
 
 use crate::book::Book;
 use crate::Answer;
+use std::collections::BTreeSet;
 
 pub const MOST_RECORDS: usize = 256;
 
@@ -12,6 +14,8 @@ pub type Record = [u16; 4];
 pub struct Register {
     pub book: Book,
     records: Vec<Record>,
+    /// The places, from 0, of the records that are released.
+    released: BTreeSet<usize>,
 }
 
 impl Register {
@@ -56,8 +60,38 @@ impl Register {
         self.book.return_to(name)
     }
 
-    /// The highest edition of a series.
-    fn last(&self, series: u16) -> Option<Record> {
-        self.records.iter().copied().filter(|record| record[0] == series).max_by_key(|record| record[1])
+    /// Releases the record at a place, which counts from 1.
+    pub fn release(&mut self, place: u16) -> Answer {
+        match (place as usize).checked_sub(1).filter(|&at| at < self.records.len()) {
+            Some(at) => {
+                self.released.insert(at);
+                (0, 0)
+            }
+            None => (27, place as u64),
+        }
     }
+
+    /// All records, in the order of recording.
+    pub fn listing(&self) -> Vec<Record> {
+        self.records.clone()
+    }
+
+    /// The released ones, in that order.
+    pub fn crew_listing(&self) -> Vec<Record> {
+        self.released.iter().map(|&at| self.records[at]).collect()
+    }
+
+    /// The highest released edition of a series, 0 if none.
+    pub fn crew_current(&self, series: u16) -> Answer {
+        (0, highest(&self.crew_listing(), series).map_or(0, |[_, edition, ..]| edition as u64))
+    }
+
+    fn last(&self, series: u16) -> Option<Record> {
+        highest(&self.records, series)
+    }
+}
+
+/// The record of the highest edition of a series.
+fn highest(records: &[Record], series: u16) -> Option<Record> {
+    records.iter().copied().filter(|record| record[0] == series).max_by_key(|record| record[1])
 }

@@ -419,6 +419,18 @@ fn most_records() {
 }
 
 #[test]
+fn office_and_crew() {
+    let calls = "records\nreleased\nrelease 1\nrecord 7 1 0 0\nrecord 9 1 0 0\nrecord 7 2 1 1\nreleased\n\
+                 release 0\nrelease 4\nrelease 3\nreleased\ncrew-current 7\ncrew-current 9\nrecord 7 3 2 2\n\
+                 crew-current 7\ncurrent 7\nrelease 1\nrelease 1\nreleased\nrecords\n";
+    let answers = [
+        "0 0", "0 0", "27 1", "0 0", "0 0", "0 0", "0 0", "27 0", "27 4", "0 0", "0 1 7 2 1 1", "0 2", "0 0", "0 0",
+        "0 2", "0 3", "0 0", "0 0", "0 2 7 1 0 0 7 2 1 1", "0 4 7 1 0 0 9 1 0 0 7 2 1 1 7 3 2 2",
+    ];
+    assert_eq!(replayed(&format!("{PATHS}{calls}"))[7..], answers);
+}
+
+#[test]
 fn written_after_a_return() {
     let calls = "term 1 0 0 0\npoint 7\nterm 6 0 0 0\nstep 2 0 0 0 0\nreturn 7\nwrite 100\n";
     let answers = ["0 0", "0 0", "0 1", "0 1", "0 0", "0 48", "kind a b c", "1 0 0 0", "rule left right first second"];

@@ -47,7 +47,7 @@ pub recorded-next :
     ∷ recordAnswer (rows ++ (row 5 0 3 0 ∷ [])) steps [] (recorded 7 1 5 0) is answer 0 0
     -- by a step that another series has, and by the last step held, to the same row
     ∷ recordAnswer rows steps (recorded 7 1 0 0 ∷ recorded 7 2 1 1 ∷ recorded 9 1 0 0 ∷ []) (recorded 9 2 1 1)
-      is answer 0 0
+    is answer 0 0
     ∷ recordAnswer rows (step 2 0 0 0 0 ∷ []) (recorded 7 1 0 0 ∷ []) (recorded 7 2 0 1) is answer 0 0
     ∷ [])
 unfolding recordAnswer current rowOf isFitStep heldPath isPath
@@ -200,7 +200,7 @@ pub left :
     ∷ leaves (passed (return 3)) is both pointed held
     ∷ leaves (passed (return 5)) is both pointed held
     ∷ leaves (passed (return 4))
-      is both (pointedBook rows (take 1 steps) (take 4 (pointed .points))) held
+    is both (pointedBook rows (take 1 steps) (take 4 (pointed .points))) held
     ∷ [])
 unfolding recordAnswer current rowOf isFitStep heldPath isPath allKept allOf returnAnswer placeOf
 left = refl

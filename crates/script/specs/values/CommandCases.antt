@@ -12,7 +12,7 @@ use Rattle.lines.specs.Number.{isDigit, areDigits, isDecimal, appendDigits, num
 use Rattle.lines.specs.code.NumbersRead.{firstParts}
 use Rattle.script.specs.declared.Word.the-variants.{Term, Step, Select, Document, Fresh, Old, New, Replace}
 use Rattle.script.specs.declared.Word.the-variants.{Write, Point, Return, Other, Order, BundleOrder, Names, Text}
-use Rattle.script.specs.declared.Word.the-variants.{Record, Current}
+use Rattle.script.specs.declared.Word.the-variants.{Record, Current, Release, Records, Released, CrewCurrent}
 use Rattle.script.specs.Command.{Command, command, words, shapeOf, atMost, named, wordFor, commandBy, commandOf}
 
 -- the command of a text's first line
@@ -49,6 +49,10 @@ pub commands :
     ∷ first "text\n" is some (command Text [])
     ∷ first "record 65535 1 0 2048\n" is some (command Record (65535 ∷ 1 ∷ 0 ∷ 2048 ∷ []))
     ∷ first "current 65535\n" is some (command Current (65535 ∷ []))
+    ∷ first "release 256\n" is some (command Release (256 ∷ []))
+    ∷ first "records\n" is some (command Records [])
+    ∷ first "released\n" is some (command Released [])
+    ∷ first "crew-current 7\n" is some (command CrewCurrent (7 ∷ []))
     ∷ [])
 unfolding ascii words wordFor shapeOf commandBy named atMost firstParts lines inFirstLine parts inFirstPart sameBytes
     numbersUpTo Option·elim isDecimal areDigits isDigit appendDigits
@@ -128,8 +132,18 @@ pub no-commands :
     ∷ first "current 65536\n" is none
     ∷ first "current 7 1\n" is none
     ∷ first "current 7 \n" is none
-    ∷ first "records 7 1 0 0\n" is none
     ∷ first "currents 7\n" is none
+    -- a release alone, with two places, with 65536; listings with a number, with a space at their end; a crew's
+    -- current edition without a series, with two; another word
+    ∷ first "release\n" is none
+    ∷ first "release 1 1\n" is none
+    ∷ first "release 65536\n" is none
+    ∷ first "records 7 1 0 0\n" is none
+    ∷ first "records \n" is none
+    ∷ first "released 1\n" is none
+    ∷ first "crew-current\n" is none
+    ∷ first "crew-current 7 7\n" is none
+    ∷ first "crew\n" is none
     ∷ [])
 unfolding ascii words wordFor shapeOf commandBy named atMost firstParts lines inFirstLine parts inFirstPart sameBytes
     numbersUpTo Option·elim isDecimal areDigits isDigit appendDigits

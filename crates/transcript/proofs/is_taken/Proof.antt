@@ -73,6 +73,24 @@ enum-told-17 c = search needs
 enum-told-18 : tie.Need-enum-told-18
 enum-told-18 c = search needs
 
+enum-told-19 : tie.Need-enum-told-19
+enum-told-19 c = search needs
+
+enum-told-20 : tie.Need-enum-told-20
+enum-told-20 c = search needs
+
+prints-answers-requires-5 : tie.Need-prints-answers-requires-5
+prints-answers-requires-5 c κs = search needs
+
+enum-told-21 : tie.Need-enum-told-21
+enum-told-21 c = search needs
+
+prints-answers-requires-6 : tie.Need-prints-answers-requires-6
+prints-answers-requires-6 c κs = search needs
+
+enum-told-22 : tie.Need-enum-told-22
+enum-told-22 c = search needs
+
 returns : tie.Need-returns
 returns c = rw (c .enum-told .given .1) refl
 
@@ -127,6 +145,18 @@ returns-17 c = rw (c .enum-told17 .given .1) refl
 returns-18 : tie.Need-returns-18
 returns-18 c = rw (c .enum-told18 .given .1) refl
 
+returns-19 : tie.Need-returns-19
+returns-19 c = rw (c .enum-told19 .given .1) refl
+
+returns-20 : tie.Need-returns-20
+returns-20 c = rw (c .before .enum-told20 .given .1) (c .prints-answers5 .ensures)
+
+returns-21 : tie.Need-returns-21
+returns-21 c = rw (c .before .enum-told21 .given .1) (c .prints-answers6 .ensures)
+
+returns-22 : tie.Need-returns-22
+returns-22 c = rw (c .enum-told22 .given .1) refl
+
 pub is-taken-spec : {M : Type 1} → statement M
 is-taken-spec =
     tie.close
@@ -154,6 +184,12 @@ is-taken-spec =
     enum-told-16
     enum-told-17
     enum-told-18
+    enum-told-19
+    enum-told-20
+    prints-answers-requires-5
+    enum-told-21
+    prints-answers-requires-6
+    enum-told-22
     returns
     returns-2
     returns-3
@@ -171,4 +207,8 @@ is-taken-spec =
     returns-15
     returns-16
     returns-17
-    returns-18)
+    returns-18
+    returns-19
+    returns-20
+    returns-21
+    returns-22)

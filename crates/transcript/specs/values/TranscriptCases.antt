@@ -48,6 +48,10 @@ pub endings :
     -- records and current editions, in both styles
     ∷ ends Answers "record 7 1 0 0\ncurrent 7\nrecord 7 1 0\n" is 3
     ∷ ends Nodes "record 7 1 0 0\ncurrent 7\ncurrent\n" is 3
+    -- releases and a crew's current edition in both, listings where answers are printed
+    ∷ ends Answers "release 1\nrecords\nreleased\ncrew-current 7\nrelease\n" is 5
+    ∷ ends Nodes "release 1\ncrew-current 7\nrecords\n" is 3
+    ∷ ends Nodes "released\n" is 1
     ∷ [])
 unfolding endingLine ascii words shapeOf wordFor commandBy named atMost numbersUpTo lines inFirstLine parts
     inFirstPart sameBytes Option·elim isDecimal areDigits isDigit appendDigits

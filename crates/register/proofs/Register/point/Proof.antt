@@ -9,7 +9,9 @@ point-requires : tie.Need-point-requires
 point-requires c κs = search needs
 
 returns : tie.Need-returns
-returns c = on-made (c .before .before .before .before .args .self) _ _ _ (c .before .point .ensures) refl
+returns c =
+    let at-made = c .before in
+    on-made (at-made .before .before .before .before .args .self) _ _ _ (at-made .point .ensures) refl
 
 pub point-spec : {M : Type 1} → statement M
 point-spec = tie.close (tie.spec point-requires returns)

@@ -10,7 +10,7 @@ record-requires c κs = search needs
 returns : tie.Need-returns
 returns c =
     let at-made = c .before in
-    record-made (at-made .before .before .args .self) _ _ (at-made .«record» .ensures)
+    record-made (at-made .before .before .before .args .self) _ _ (at-made .«record» .ensures)
 
 pub record-spec : {M : Type 1} → statement M
 record-spec = tie.close (tie.spec record-requires returns)

@@ -19,7 +19,7 @@ returns c =
     let at-number = c .before .before in
     let at-used = at-number .before in
     let at-made = at-used .before in
-    let r = at-made .before .before .before .args .self in
+    let r = at-made .before .before .before .before .args .self in
     return-barred r _ _ _ (at-made .return-to .ensures) _ (at-used .drops-in-use .ensures)
     (sym (at-number .number .ensures) ∙ c .before .if1 .taken) (c .if2 .taken)
 
@@ -29,7 +29,7 @@ returns-2 c =
     let at-number = at-if .before in
     let at-used = at-number .before in
     let at-made = at-used .before in
-    let r = at-made .before .before .before .args .self in
+    let r = at-made .before .before .before .before .args .self in
     return-on r _ _ _ (at-made .return-to .ensures) _ (at-used .drops-in-use .ensures)
     (sym (at-number .number .ensures) ∙ at-if .if1 .taken) (c .before .if2 .left)
 
@@ -38,7 +38,7 @@ returns-3 c =
     let at-number = c .before in
     let at-used = at-number .before in
     let at-made = at-used .before in
-    let r = at-made .before .before .before .args .self in
+    let r = at-made .before .before .before .before .args .self in
     return-not r _ _ _ (at-made .return-to .ensures) _ (at-used .drops-in-use .ensures)
     (λ e. c .if1 .left (at-number .number .ensures ∙ e))
 

@@ -9,7 +9,9 @@ step-requires : tie.Need-step-requires
 step-requires c κs = search needs
 
 returns : tie.Need-returns
-returns c = on-made (c .before .before .before .before .args .self) _ _ _ (c .before .step .ensures) refl
+returns c =
+    let at-made = c .before in
+    on-made (at-made .before .before .before .before .args .self) _ _ _ (at-made .step .ensures) refl
 
 pub step-spec : {M : Type 1} → statement M
 step-spec = tie.close (tie.spec step-requires returns)

@@ -9,7 +9,9 @@ term-requires : tie.Need-term-requires
 term-requires c κs = search needs
 
 returns : tie.Need-returns
-returns c = on-made (c .before .before .before .before .args .self) _ _ _ (c .before .term .ensures) refl
+returns c =
+    let at-made = c .before in
+    on-made (at-made .before .before .before .before .args .self) _ _ _ (at-made .term .ensures) refl
 
 pub term-spec : {M : Type 1} → statement M
 term-spec = tie.close (tie.spec term-requires returns)

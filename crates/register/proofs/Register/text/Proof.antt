@@ -11,7 +11,7 @@ text-requires c κs = search needs
 returns : tie.Need-returns
 returns c =
     let at-text = c .before .before in
-    let at-session = at-text .before .before in
+    let at-session = at-text .before .before .before in
     on-made (at-session .before .before .before .args .self) _ _ _ (at-text .text .ensures) refl
 
 pub text-spec : {M : Type 1} → statement M
