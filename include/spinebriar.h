@@ -1,4 +1,10 @@
-/* Spinebriar for a host in C. Link target/staticlib/libsession.a, which `rt staticlib session` makes for Linux on x86-64. */
+/* Spinebriar for a host in C. Link target/staticlib/libexports.a, which `rt staticlib exports` makes for Linux on
+   x86-64.
+
+   Of every call: the number of the answer is the result, 0 for acceptance. A pointer may not be null, also where its
+   length is 0; nothing writes to what is lent for reading meanwhile, and what is lent for writing overlaps nothing
+   else. Nothing is kept between calls, so threads may call at the same time. A length is a number of elements.
+   Stack: up to 170 KiB for spinebriar_claim, 135 KiB for each other call. */
 #ifndef SPINEBRIAR_H
 #define SPINEBRIAR_H
 
@@ -79,11 +85,39 @@ static inline const char *spinebriar_answer_text(uint16_t answer)
     }
 }
 
-/* Reads a bundle: SPINEBRIAR_ACCEPTED if every line is accepted, else the number of the first refusal, 1 to 7 or 10 to 13.
-
-   `bytes` points to `length` bytes that nothing writes meanwhile. It may not be null, also where `length` is 0. Nothing is kept
-   between calls, so threads may call it at the same time. A call takes about 40 KiB of stack. */
+/* Reads a bundle: SPINEBRIAR_ACCEPTED if every line is accepted, else the number of the first refusal, 1 to 7 or 10 to
+   13. An accepted bundle that says something else is no answer to the question whether one selector is contained in
+   another: ask spinebriar_claim. */
 uint16_t spinebriar_read(const uint8_t *bytes, size_t length);
+
+/* The same; *value is the number of steps held, or the refused line, from 1. */
+uint16_t spinebriar_read_line(const uint8_t *bytes, size_t length, size_t *value);
+
+/* What an answer of spinebriar_claim is about. */
+enum spinebriar_part {
+    SPINEBRIAR_THE_CLAIM = 0,
+    SPINEBRIAR_THE_BUNDLE = 1,
+    SPINEBRIAR_OLD_SELECTOR = 2,
+    SPINEBRIAR_NEW_SELECTOR = 3
+};
+
+/* Whether an accepted bundle has a step that says just that the old selector is contained in the new one, both as
+   text, with the names of a list, one a line. *part says what the answer is about:
+   the claim: 0, yes, and *value is the first such step, from 1; or SPINEBRIAR_NOT_COVERED, no step says so, *value 1;
+   the bundle, which is refused: 1 to 7 or 10 to 13, *value is the line, from 1;
+   the old or the new selector, which is refused: 18 or 19 with a place in it, from 0, for *value, 3, or 11, where its
+   rows don't fit beside the bundle's. */
+uint16_t spinebriar_claim(const uint8_t *bundle, size_t bundle_length, const uint8_t *names, size_t names_length,
+                          const uint8_t *old_selector, size_t old_length,
+                          const uint8_t *new_selector, size_t new_length, size_t *value, size_t *part);
+
+/* Marks the nodes that a selector as text selects from a context node of a document, whose rows are lent as numbers,
+   three a row: kind, parent, name. 0: *value is the visits made, marks[n] is 1 or 0 for each node n, and later bytes
+   stay. The selector is refused, 18, 19, 3 or 11, or then the selection, 8, 9, 14 or 15, and all marks stay; *value is
+   the refusal's. */
+uint16_t spinebriar_select(const uint8_t *names, size_t names_length, const uint8_t *selector, size_t length,
+                           const uint16_t *document, size_t document_length, uint16_t context, uint32_t limit,
+                           uint8_t *marks, size_t marks_length, size_t *value);
 
 #ifdef __cplusplus
 }

@@ -8,7 +8,7 @@
 # undefined behaviour sanitizers, if they link. The last line says how many bundles passed; a failure ends it with status 1.
 set -eu
 cd "$(dirname "$0")/../.."
-archive=$(tools/archive.sh session)
+archive=$(tools/archive.sh exports)
 out=target/host_test
 bundle=$out/bundle
 mkdir -p $out

@@ -10,7 +10,7 @@ cd "$(dirname "$0")/../.."
 out=target/bench
 
 [ -e /usr/bin/xml2-config ] || apt-get install -q -y --no-install-recommends libxml2-dev >&2
-session=$(tools/archive.sh session)
+session=$(tools/archive.sh exports)
 selection=$(tools/archive.sh bench_select)
 
 mkdir -p $out

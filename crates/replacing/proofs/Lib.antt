@@ -1,4 +1,5 @@
 pub mod In
+pub mod Saying
 pub mod Judged
 pub mod ByTerms
 pub mod NoneLost

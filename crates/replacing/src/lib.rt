@@ -1,9 +1,12 @@
 // The answer of the call replace, on lent rows and steps: whether a list of old rows is covered by a list of new ones.
 ghost use mathlib.Core.Path.{_≡_};
+ghost use mathlib.Core.List.{[], _∷_};
+ghost use Prim.Native.Nat.{_≤_};
+ghost use lib.ListN.{length};
 ghost use Rattle.terms.specs.Row.{tableOf};
-ghost use Rattle.calls.specs.Book.{book};
-ghost use Rattle.calls.specs.code.Tables.{stepsOf};
-ghost use Rattle.replacing.specs.Covered.{isHeldStep, isIn, isReplaced};
+ghost use Rattle.calls.specs.Book.{book, maxSteps};
+ghost use Rattle.calls.specs.code.Tables.{stepsOf, firstRows, firstSteps};
+ghost use Rattle.replacing.specs.Covered.{isHeldStep, isIn, isReplaced, stepSaying};
 ghost use Rattle.replacing.specs.ReplaceCall.{areBadLists, replaceAnswer, replaceAnswerOf};
 
 // The most old rows of a call, and the most new ones.
@@ -40,7 +43,7 @@ fn is_in(list: &[u16], n: u16) -> bool
 }
 
 // Whether step i is held and says that the row `old`, a path, is contained in some row of `new`.
-fn is_replaced<'a>(rows: &'a [u16], steps: &'a [u16], new: &'a [u16], old: u16, i: u16) -> bool
+fn is_replaced(rows: &[u16], steps: &[u16], new: &[u16], old: u16, i: u16) -> bool
     ensures { λ r. ⌜ r ≡ isReplaced (book (tableOf (now (rows .entry))) (stepsOf (now (steps .entry))))
         (now (new .entry)) old i ⌝ }
 {
@@ -89,6 +92,50 @@ pub fn replace_on<'a>(
         k += 1;
     }
     ReplaceAnswer::Covered
+}
+
+// Whether step i is held and says that the row `old`, a path, is contained in the row `new`.
+fn says(rows: &[u16], steps: &[u16], old: u16, new: u16, i: u16) -> bool
+    ensures { λ r. ⌜ r ≡ isReplaced (book (tableOf (now (rows .entry))) (stepsOf (now (steps .entry))))
+        (new ∷ []) old i ⌝ }
+{
+    let list = [new];
+    is_replaced(rows, steps, &list, old, i)
+}
+
+// The first step, counted from 1, that says so; 0 where none does.
+fn first_saying(rows: &[u16], steps: &[u16], old: u16, new: u16) -> u16
+    requires { ⌜ length (stepsOf (now steps)) ≤ maxSteps ⌝ }
+    ensures { λ r. ⌜ r ≡ stepSaying (book (tableOf (now (rows .entry))) (stepsOf (now (steps .entry)))) old new ⌝ }
+{
+    let held = steps.len() / calls::STEP_WIDTH;
+    let mut n = 0;
+    while n < held {
+        let next = n + 1;
+        let i = next as u16;
+        if says(rows, steps, old, new, i) {
+            return i;
+        }
+        n += 1;
+    }
+    0
+}
+
+// The same of the first n rows of a table and the first m steps of another.
+pub fn step_saying<'a>(
+    rows: &'a [u16],
+    n: usize,
+    steps: &'a [u16],
+    m: usize,
+    old: u16,
+    new: u16,
+) -> u16
+    ensures { λ r. ⌜ r ≡ stepSaying (book (firstRows n (now (rows .entry))) (firstSteps m (now (steps .entry))))
+        old new ⌝ }
+{
+    let held_rows = calls::first_rows(rows, n);
+    let held_steps = calls::first_steps(steps, m);
+    first_saying(held_rows, held_steps, old, new)
 }
 
 impl ReplaceAnswer {

@@ -37,7 +37,6 @@ use Rattle.session.specs.View.{view, freshSession}
 use Rattle.session.specs.Promises.{Met, SelectMet, AnswersByTerms}
 use Rattle.session.specs.Demand3.{DemandThree}
 use Rattle.session.specs.SessionLaws.{WholeSession, NoPointLeft, SessionRestored}
-use Rattle.session.specs.Reading.{reading}
 use Rattle.session.specs.ReadCall.{ReadMet}
 use Rattle.session.specs.WriteCall.{WriteMet}
 use Rattle.session.specs.ReadDemand.{ReadDemand}
@@ -69,7 +68,6 @@ use Rattle.session.proofs.session.Session.order.Reads as order-reads
 use Rattle.session.proofs.session.Session.bundle_order.Reads as bundle-order-reads
 use Rattle.session.proofs.session.Session.write.Reads as write-reads
 use Rattle.session.proofs.report.audit.Reads as audit-reads
-use Rattle.session.proofs.c.spinebriar_read.Reads as c-reads
 
 pub record Theorems : Type 0 where
   -- every call takes every input: the contracts in the source ask nothing
@@ -86,7 +84,6 @@ pub record Theorems : Type 0 where
   pub bundle-order-takes : (κs : _) (a : _) → bundle-order-reads.Pre κs a
   pub write-takes : (κs : _) (a : _) → write-reads.Pre κs a
   pub audit-takes : (κs : _) (a : _) → audit-reads.Pre κs a
-  pub c-takes : (κs : _) (a : _) → c-reads.Pre κs a
   -- `Session::new` gives a session without rows, steps and points
   pub new : (s : Session) → New s → s ≡ freshSession
   -- term, step, text, point and return answer the first refusal that applies and leave the session, or accept and add
@@ -121,9 +118,8 @@ pub record Theorems : Type 0 where
   -- and the buffer as it was
   pub write : (s : Session) (buffer : List ℕ) (w : WriteAnswer) (left : List ℕ) → Write s buffer w left
       → WriteMet s buffer w left
-  -- what the program audit prints is the report of the bytes, and what the C call answers is the number that read gives
+  -- what the program audit prints is the report of the bytes
   pub audit : (κs : _) (a : _) (r : _) (s : _) → audit-reads.Post κs a r s → r ≡ report (now (a .0))
-  pub c-read : (κs : _) (a : _) (r : _) (s : _) → c-reads.Post κs a r s → r ≡ reading (now (a .0)) .answer .number
   -- demand 3: after every list of calls from a fresh session all is as in the plain book, what is held is true on every
   -- document, and select marks by it
   pub demand3 : DemandThree Selected New Called
@@ -194,7 +190,6 @@ theorems =
       bundle-order-takes = λ κs a. tt;
       write-takes = λ κs a. tt;
       audit-takes = λ κs a. tt;
-      c-takes = λ κs a. tt;
       new = source.new-tied;
       call = source.call-tied;
       by-terms = simulation.answers-by-terms;
@@ -211,7 +206,6 @@ theorems =
       bundle-order = source.bundle-order-tied;
       write = source.write-tied;
       audit = λ κs a r s m. m;
-      c-read = λ κs a r s m. m;
       demand3 = source.demand3;
       whole-session = source.whole-session;
       no-point-left = source.no-point-left;

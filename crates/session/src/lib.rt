@@ -1,5 +1,4 @@
-// A session of terms and steps, the calls on it, the reading and writing of bundles, and what a host in C calls.
-mod c;
+// A session of terms and steps, the calls on it, and the reading and writing of bundles.
 mod order;
 mod read;
 mod record;

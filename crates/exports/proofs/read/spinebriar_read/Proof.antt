@@ -1,8 +1,8 @@
 -- `spinebriar_read` meets its contract. Assumes nothing.
 use mathlib.Core.Path.{ap, _∙_}
 use borrow.Author.Needs.{needs}
-use Rattle.session.proofs.c.spinebriar_read.Statement.{statement}
-use Rattle.session.proofs.c.spinebriar_read.Tie as tie
+use Rattle.exports.proofs.read.spinebriar_read.Statement.{statement}
+use Rattle.exports.proofs.read.spinebriar_read.Tie as tie
 
 read-requires : tie.Need-read-requires
 read-requires c κs = search needs

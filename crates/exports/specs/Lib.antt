@@ -1,0 +1,6 @@
+pub mod ClaimCall
+pub mod ClaimDemand
+pub mod TextSelect
+pub mod SelectDemand
+pub mod code
+pub mod values

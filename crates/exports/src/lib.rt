@@ -1,0 +1,4 @@
+// What a host in C calls: the number of each answer is the result, and values go into what it lends.
+mod claim;
+mod read;
+mod select;
