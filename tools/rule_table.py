@@ -523,6 +523,8 @@ pub const FIRST_ROW: u16 = %d;
 
 pub const FIRST_PATTERN: usize = %d;
 
+pub const TABLE_SIZE: usize = %d;
+
 // How deep the patterns are.
 pub const PATTERN_DEPTH: usize = 6;
 
@@ -531,7 +533,7 @@ pub const PATTERN_DEPTH: usize = 6;
 // The rules, by their numbers: the place of the first form, how many forms there are, how many premises. The forms, two
 // entries each: the rule, the two sides of the conclusion, and the conditions, a digit each, the last digit first; then
 // the two sides of the first premise, and of the second. The patterns that are rows: a kind, and a pattern of each field.
-pub const TABLE: [u64; %d] = [
+pub const TABLE: [u64; TABLE_SIZE] = [
 %s];
 """
 

@@ -20,8 +20,10 @@ pub extern "C" fn bench_select(
     limit: u32,
     marks: &mut [u8],
 ) -> u16
-    ensures { λ r. ⌜ r ≡ selectAnswer (tableOf (now (rows .entry))) row (now (document .entry)) context limit (length (now (marks .entry))) .number ⌝ }
-    ensures { λ _. ⌜ now (marks .exit) ≡ selectBuffer (tableOf (now (rows .entry))) row (now (document .entry)) context limit (now (marks .entry)) ⌝ }
+    ensures { λ r. ⌜ r ≡ selectAnswer (tableOf (now (rows .entry))) row (now (document .entry)) context limit
+        (length (now (marks .entry))) .number ⌝ }
+    ensures { λ _. ⌜ now (marks .exit) ≡ selectBuffer (tableOf (now (rows .entry))) row (now (document .entry))
+        context limit (now (marks .entry)) ⌝ }
 {
     let answer = calls::select_on(rows, row, document, context, limit, marks);
     answer.number()

@@ -47,6 +47,7 @@ pub use step::Step;
 pub use step::judge_step;
 pub use step::rule_uses;
 pub use step::sides_of;
+pub use term::judge_kept;
 pub use term::judge_term;
 ghost use mathlib.Core.Path.{_≡_};
 ghost use Prim.Native.Nat.{min};

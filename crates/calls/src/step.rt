@@ -9,6 +9,7 @@ ghost use lib.ListN.{length};
 ghost use Rattle.terms.specs.Row.{rowAt, tableOf};
 ghost use Rattle.terms.specs.Fields.{isPath};
 ghost use Rattle.matching.specs.code.MatchTypes.{sidesIn};
+ghost use Rattle.matching.specs.code.Encode.{ruleTable};
 ghost use Rattle.calls.specs.Book.{maxSteps, book};
 ghost use Rattle.calls.specs.StepCall.{sameSort, badSide, premiseOk, badPremise, stepNumbered};
 ghost use Rattle.calls.specs.Uses.{usesOf};
@@ -119,10 +120,11 @@ fn premise_ok(needed: bool, held: usize, i: u16) -> bool
 }
 
 // The place of refusal 6, 0 if there is none.
-fn bad_premise(held: usize, step: Step) -> u16
+fn bad_premise(table: &[u64], held: usize, step: Step) -> u16
+    requires { ⌜ now table ≡ ruleTable ⌝ }
     ensures { λ r. ⌜ r ≡ badPremise held (stepOf step) ⌝ }
 {
-    let count = matching::premise_count(step.rule);
+    let count = matching::premise_count(table, step.rule);
     if !premise_ok(1 <= count, held, step.first) {
         return 1;
     }
@@ -133,18 +135,19 @@ fn bad_premise(held: usize, step: Step) -> u16
 }
 
 // Whether the rule yields the step, judged by row numbers.
-fn is_yielded(rows: &[u16], steps: &[u16], step: Step) -> bool
+fn is_yielded(rows: &[u16], steps: &[u16], table: &[u64], step: Step) -> bool
+    requires { ⌜ now table ≡ ruleTable ⌝ }
     ensures { λ r. ⌜ r ≡ rowYielded
         (book (tableOf (now (rows .entry))) (stepsOf (now (steps .entry)))) (stepOf step) ⌝ }
 {
     let first = sides_of(steps, step.first);
     let second = sides_of(steps, step.second);
-    matching::yields(rows, step.rule, step.left, step.right, first, second)
+    matching::yields(rows, table, step.rule, step.left, step.right, first, second)
 }
 
 // The answer of a step call on the rows and steps: the first refusal that applies, or the new step's number.
-fn step_answer(rows: &[u16], steps: &[u16], step: Step) -> StepAnswer
-    requires { ⌜ length (stepsOf (now steps)) ≤ maxSteps ⌝ }
+fn step_answer(rows: &[u16], steps: &[u16], table: &[u64], step: Step) -> StepAnswer
+    requires { ⌜ (length (stepsOf (now steps)) ≤ maxSteps) × (now table ≡ ruleTable) ⌝ }
     ensures { λ r. ⌜ stepAnswerOf r ≡ rowStepAnswer
         (book (tableOf (now (rows .entry))) (stepsOf (now (steps .entry)))) (stepOf step) ⌝ }
 {
@@ -156,11 +159,11 @@ fn step_answer(rows: &[u16], steps: &[u16], step: Step) -> StepAnswer
         return StepAnswer::BadSide(side);
     }
     let held = step_count(steps);
-    let premise = bad_premise(held, step);
+    let premise = bad_premise(table, held, step);
     if 0 < premise {
         return StepAnswer::BadPremise(premise);
     }
-    if !is_yielded(rows, steps, step) {
+    if !is_yielded(rows, steps, table, step) {
         return StepAnswer::NotYielded;
     }
     if MAX_STEPS <= held {
@@ -171,18 +174,20 @@ fn step_answer(rows: &[u16], steps: &[u16], step: Step) -> StepAnswer
     StepAnswer::Held(number)
 }
 
-// The same on the first n rows of a table and the first m steps of another.
+// The same on the first n rows of a table and the first m steps of another, by the rule table, which is lent.
 pub fn judge_step<'a>(
     rows: &'a [u16],
     n: usize,
     steps: &'a [u16],
     m: usize,
+    table: &'a [u64],
     step: Step,
 ) -> StepAnswer
+    requires { ⌜ now table ≡ ruleTable ⌝ }
     ensures { λ r. ⌜ stepAnswerOf r ≡ rowStepAnswer
         (book (firstRows n (now (rows .entry))) (firstSteps m (now (steps .entry)))) (stepOf step) ⌝ }
 {
     let held_rows = first_rows(rows, n);
     let held_steps = first_steps(steps, m);
-    step_answer(held_rows, held_steps, step)
+    step_answer(held_rows, held_steps, table, step)
 }

@@ -5,15 +5,19 @@ use terms::Row;
 ghost use mathlib.Core.Path.{_≡_};
 ghost use Prim.Native.Nat.{_≤_};
 ghost use lib.ListN.{length};
-ghost use Rattle.terms.specs.Row.{tableOf, maxRows};
+ghost use Rattle.terms.specs.Row.{tableOf, maxRows, find};
+ghost use Rattle.terms.specs.Nesting.{nesting};
 ghost use Rattle.terms.specs.code.RowTypes.{rowOf};
+ghost use Rattle.terms.specs.code.Kept.{Kept};
 ghost use Rattle.calls.specs.TermCall.{termAnswer};
 ghost use Rattle.calls.specs.code.Tables.{firstRows};
 ghost use Rattle.calls.specs.code.Answers.{termAnswerOf};
 
-// The answer of a term call on the rows: the first refusal that applies, or the new row's number.
-fn term_answer(rows: &[u16], row: Row) -> TermAnswer
-    requires { ⌜ length (tableOf (now rows)) ≤ maxRows ⌝ }
+// The answer of a term call on the rows, by the row's nesting and the search for an equal row: the first refusal that
+// applies, or the new row's number.
+fn term_answer(rows: &[u16], depth: u16, found: usize, row: Row) -> TermAnswer
+    requires { ⌜ (length (tableOf (now rows)) ≤ maxRows) × (depth ≡ nesting (tableOf (now rows)) (rowOf row))
+        × (found ≡ find (tableOf (now rows)) (rowOf row)) ⌝ }
     ensures { λ r. ⌜ termAnswerOf r ≡ termAnswer (tableOf (now (rows .entry))) (rowOf row) ⌝ }
 {
     if terms::MAX_KIND < row.kind {
@@ -23,11 +27,9 @@ fn term_answer(rows: &[u16], row: Row) -> TermAnswer
     if 0 < place {
         return TermAnswer::BadField(place);
     }
-    let nesting = terms::nesting_of(rows, row);
-    if terms::MAX_NESTING < nesting {
+    if terms::MAX_NESTING < depth {
         return TermAnswer::TooDeep;
     }
-    let found = terms::find_row(rows, row);
     let count = terms::row_count(rows);
     if found < count {
         return TermAnswer::AlreadyHeld(found as u16);
@@ -43,5 +45,18 @@ pub fn judge_term(rows: &[u16], n: usize, row: Row) -> TermAnswer
     ensures { λ r. ⌜ termAnswerOf r ≡ termAnswer (firstRows n (now (rows .entry))) (rowOf row) ⌝ }
 {
     let held = first_rows(rows, n);
-    term_answer(held, row)
+    let depth = terms::nesting_of(held, row);
+    let found = terms::find_row(held, row);
+    term_answer(held, depth, found, row)
+}
+
+// The same by what is kept of these rows, which its caller has: their nestings and a filter.
+pub fn judge_kept(rows: &[u16], n: usize, table: &[u16], filter: &[u8], row: Row) -> TermAnswer
+    requires { ⌜ Kept (firstRows n (now rows)) (now table) (now filter) ⌝ }
+    ensures { λ r. ⌜ termAnswerOf r ≡ termAnswer (firstRows n (now (rows .entry))) (rowOf row) ⌝ }
+{
+    let held = first_rows(rows, n);
+    let depth = terms::nesting_kept(held, table, row);
+    let found = terms::find_kept(held, filter, row);
+    term_answer(held, depth, found, row)
 }

@@ -23,7 +23,7 @@ use Rattle.terms.specs.AcceptedRows.{isWellFormed, isNew, Built, more}
 use Rattle.terms.proofs.ByKind.{kindOf}
 use Rattle.terms.proofs.Built.{FieldLaw, built-row, built-term, built-kind}
 use Rattle.terms.proofs.Entries.{entries-take, length-entries}
-use Rattle.terms.proofs.Find.{row-equal, find-le}
+use Rattle.terms.proofs.Find.{same-is, find-le}
 use Rattle.terms.proofs.Nesting.{nestings-snoc, nesting-at}
 use Rattle.terms.proofs.Terms.{term-at, term-stays}
 use Rattle.grammar.specs.Denotes.{Put, put, putPath, putQual, nestPath, nestQual}
@@ -31,10 +31,6 @@ use Rattle.grammar.proofs.Basics.{so, is-true}
 use Rattle.grammar.proofs.Longer.{Longer, path-longer, qualifier-longer}
 
 -- a row that is found is the row sought
-same-is : (s r : Row) → T (sameRow s r) → s ≡ r
-unfolding sameRow
-same-is s r t = let u = simp facts at t in row-equal (u .0 .0 .0) (u .0 .0 .1) (u .0 .1) (u .1)
-
 pub found-row : (rs : List Row) (r : Row) → find rs r < length rs → rowAt rs (find rs r) ≡ r
 unfolding find
 found-row [] r h = absurd (omega arith)

@@ -1,5 +1,5 @@
-// Each limit of a session, met and then passed by one. Prints the limits that a session names, on a line, and then what the calls
-// answer, `NUMBER VALUE` a line, in pairs: the last call within the limit, and the one beyond it.
+// Each limit of a session, met and then passed by one. Prints the limits that a session names, on a line, and then
+// what the calls answer, `NUMBER VALUE` a line, in pairs: the last call within the limit, and the one beyond it.
 use common::axis;
 use common::node_kind;
 use common::node_test;
@@ -118,7 +118,8 @@ fn nodes() {
     print_select(s, 0, script::MAX_NUMBERS, 1);
 }
 
-// descendant::node()/descendant::node() from the root of a document of 511 texts makes 513 visits: the limit met, and one too few.
+// descendant::node()/descendant::node() from the root of a document of 511 texts makes 513 visits: the limit met, and
+// one too few.
 fn visits() {
     let path = Session::new().term(row_kind::STEP, axis::DESCENDANT, node_test::NODE, 0);
     let made = path.session.term(row_kind::COMPOSITION, 0, 0, 0);

@@ -44,7 +44,8 @@ struct LineNumber {
     next: usize,
 }
 
-// A line of numbers, zeros after them, and the position of the next line; where there is none, zeros and the text's length.
+// A line of numbers, zeros after them, and the position of the next line; where there is none, zeros and the text's
+// length.
 pub struct NumbersLine {
     pub ok: bool,
     pub numbers: [u16; MAX_COUNT],

@@ -1,7 +1,7 @@
 -- The ways through the matcher's functions, over the results of their calls. Assumes nothing.
 use Prim.Native.Nat.{ℕ, zero, suc, _+_, _-_, _<_, _≤_}
-use mathlib.Core.Path.{_≡_, refl}
-use mathlib.Core.Bool.{Bool, true, false, not, _&&_, _||_}
+use mathlib.Core.Path.{_≡_, refl, sym, ap}
+use mathlib.Core.Bool.{Bool, true, false, not, and-false, _&&_, _||_}
 use mathlib.Core.List.{List, [], _∷_}
 use native.Mathlib.Omega.{arith}
 use lib.Dec.{ltb, eqb}
@@ -13,6 +13,7 @@ use Rattle.matching.specs.code.Pattern.{row-of, letterCount}
 use Rattle.matching.specs.code.Encode.{firstLetter, firstRow, patternDepth}
 use Rattle.matching.specs.code.Unpack.{Entry, entryAt, patternAt, decode, claimPatternOf, premisesAt}
 use Rattle.matching.specs.code.RowYields.{Sides, Match, check, bind, suits, isRow, match, matchClaim, matchClaims}
+use Rattle.matching.specs.code.MatchTypes.{matched}
 
 pub row-way : (rs : List Row) (kind v i n : ℕ) (r : Row) (b : Bool)
     → i ≡ v → n ≡ length rs → r ≡ rowAt rs i → b ≡ (ltb i n && eqb (r .kind) kind) → b ≡ isRow rs kind v
@@ -22,16 +23,29 @@ row-way rs kind v i n r b q₀ q₁ q₂ q = rw (← q₀, ← q₁, ← q₂) q
 -- a letter that there is
 pub bind-way : (k v : ℕ) (m : Match) (a b : Bool) → k < letterCount
     → a ≡ (not (getD (m .known) k false) || eqb (getD (m .value) k 0) v) → b ≡ (m .fits && a)
-    → record { fits = b; known = set (m .known) k true; value = set (m .value) k v } ≡ bind k v m
+    → matched b (set (m .known) k true) (set (m .value) k v) ≡ bind k v m
 unfolding bind
 bind-way k v m a b h p q = rw (lt-ltb k letterCount h, ← p, ← q)
 
 -- a letter that there isn't
 pub no-bind : (k v : ℕ) (m : Match) → letterCount ≤ k → length (m .known) ≡ letterCount
-    → length (m .value) ≡ letterCount → check false m ≡ bind k v m
-unfolding bind check
+    → length (m .value) ≡ letterCount → matched false (m .known) (m .value) ≡ bind k v m
+unfolding bind
 no-bind k v m h p q =
-    rw (le-ltb k letterCount h, set-out (m .known) k true (omega arith), set-out (m .value) k v (omega arith))
+    rw (
+      le-ltb k letterCount h,
+      set-out (m .known) k true (omega arith),
+      set-out (m .value) k v (omega arith),
+      and-false (m .fits),
+    )
+
+-- the letters stay as they are
+pub checked : (m : Match) (b : Bool) {r : Bool} → r ≡ (m .fits && b) → matched r (m .known) (m .value) ≡ check b m
+unfolding check
+checked m b q = ap (λ r. matched r (m .known) (m .value)) q
+
+pub failed : (m : Match) → matched false (m .known) (m .value) ≡ check false m
+failed m = checked m false (sym (and-false (m .fits)))
 
 module _ (t : List ℕ) where
   -- a pattern that is a row

@@ -9,7 +9,8 @@ use matcher::rule_at;
 use matcher::some_form_yields;
 pub use order::axis_below;
 pub use order::test_below;
-pub use tables::TABLE;
+use tables::TABLE;
+pub use tables::TABLE_SIZE;
 use way_back::WAY_BACK_RULE;
 use way_back::is_with_back;
 ghost use mathlib.Core.Path.{_≡_};
@@ -24,23 +25,23 @@ ghost use Rattle.matching.specs.code.MatchTypes.{sidesIn};
 // The last rule.
 pub const MAX_RULE: u16 = WAY_BACK_RULE;
 
+// The rule table as numbers. A constant is built where it is named: bound once, it is lent to the calls below.
+pub fn rule_table() -> [u64; TABLE_SIZE]
+    ensures { λ r. ⌜ r ≡ ruleTable ⌝ }
+{
+    TABLE
+}
+
 // How many premises a rule has, by the rule table; 0 where it has no such rule.
-pub fn premise_count_in(table: &[u64], rule: u16) -> u16
+pub fn premise_count(table: &[u64], rule: u16) -> u16
     ensures { λ r. ⌜ (now (table .entry) ≡ ruleTable → r ≡ premiseCount rule) ⌝ }
 {
     rule_at(table, rule).2
 }
 
-pub fn premise_count(rule: u16) -> u16
-    ensures { λ r. ⌜ r ≡ premiseCount rule ⌝ }
-{
-    let table = TABLE;
-    premise_count_in(&table, rule)
-}
-
 // Whether the rule, by the rule table or by the way back, yields the step, whose rows are left and right, from premises
 // with the rows given. The rows of a premise that the rule doesn't have don't matter.
-pub fn yields_in(
+pub fn yields(
     rows: &[u16],
     table: &[u64],
     rule: u16,
@@ -58,12 +59,4 @@ pub fn yields_in(
     }
     let e = rule_at(table, rule);
     some_form_yields(rows, table, e.0, e.1, e.2, left, right, first, second)
-}
-
-pub fn yields(rows: &[u16], rule: u16, left: u16, right: u16, first: Sides, second: Sides) -> bool
-    ensures { λ r. ⌜ r ≡ rowYields (tableOf (now (rows .entry))) rule (sides left right)
-        (take (premiseCount rule) (sidesIn first ∷ sidesIn second ∷ [])) ⌝ }
-{
-    let table = TABLE;
-    yields_in(rows, &table, rule, left, right, first, second)
 }

@@ -17,17 +17,18 @@ use terms::row_count;
 ghost use Prim.Native.Nat.{ℕ, suc, _+_, _^_, _%_, _≤_, _<_};
 ghost use mathlib.Core.Path.{_≡_};
 ghost use mathlib.Core.List.{List, [], _∷_};
-ghost use lib.ListN.{take};
+ghost use lib.ListN.{length, take};
 ghost use Rattle.terms.specs.Row.{tableOf};
 ghost use Rattle.common.specs.Lists.{allOf, anyOf};
 ghost use Rattle.rules.specs.Instance.{meets};
+ghost use Rattle.matching.specs.code.Pattern.{letterCount};
 ghost use Rattle.matching.specs.code.Encode.{firstRow};
 ghost use Rattle.matching.specs.code.Unpack.{unpacked, entryAt, ruleAt, patternAt, decode, claimPatternOf};
 ghost use Rattle.matching.specs.code.Unpack.{premisesAt, formAt, formsFrom};
 ghost use Rattle.matching.specs.code.Unpack.{conditionOf, conditionsOf};
-ghost use Rattle.matching.specs.code.RowYields.{sides, check, bind, suits, isRow, match, matchClaim, matchClaims};
+ghost use Rattle.matching.specs.code.RowYields.{sides, bind, suits, isRow, match, matchClaim, matchClaims};
 ghost use Rattle.matching.specs.code.RowYields.{numbersIn, formYields};
-ghost use Rattle.matching.specs.code.MatchTypes.{sidesIn, matchOf, entryOf};
+ghost use Rattle.matching.specs.code.MatchTypes.{sidesIn, entryOf, matched, ForLetters};
 
 // The last rule of the table.
 const TABLE_RULES: u16 = 58;
@@ -68,13 +69,6 @@ const A_NOT_ATTRIBUTE: u16 = 6;
 pub struct Sides {
     pub left: u16,
     pub right: u16,
-}
-
-// Whether all that was compared so far fits; which letters have a value, and that value.
-struct Match {
-    fits: bool,
-    known: [bool; LETTER_COUNT],
-    value: [u16; LETTER_COUNT],
 }
 
 // An entry of a table: four numbers of three digits each.
@@ -125,29 +119,20 @@ fn pattern_at(table: &[u64], x: u16) -> Entry
     entry_at(table, FIRST_PATTERN + wide(x - FIRST_ROW))
 }
 
-// What was matched so far, and a failure unless `pass`.
-fn checked(pass: bool, m: Match) -> Match
-    ensures { λ r. ⌜ matchOf r ≡ check pass (matchOf m) ⌝ }
-{
-    let mut next = m;
-    next.fits = and(m.fits, pass);
-    next
-}
-
 // Letter k has no value yet, or v; from now on it has v.
-fn bound(k: usize, v: u16, m: Match) -> Match
-    ensures { λ r. ⌜ matchOf r ≡ bind k v (matchOf m) ⌝ }
+fn bound(k: usize, v: u16, fits: bool, known: &mut [bool], value: &mut [u16]) -> bool
+    requires { ⌜ ForLetters (now known) (now value) ⌝ }
+    ensures { λ r. ⌜ matched r (now (known .exit)) (now (value .exit))
+        ≡ bind k v (matched fits (now (known .entry)) (now (value .entry))) ⌝ }
 {
-    if k < LETTER_COUNT {
-        let known = m.known[k];
-        let value = m.value[k];
-        let mut next = m;
-        next.fits = and(m.fits, or(!known, value == v));
-        next.known[k] = true;
-        next.value[k] = v;
-        return next;
+    if LETTER_COUNT <= k {
+        return false;
     }
-    checked(false, m)
+    let has_value = known[k];
+    let old = value[k];
+    known[k] = true;
+    value[k] = v;
+    and(fits, or(!has_value, old == v))
 }
 
 // Whether letter k can stand for v: p, q, r, s for held paths, f, g, h for held qualifiers.
@@ -172,47 +157,79 @@ fn is_row(rows: &[u16], kind: u16, v: u16) -> bool
 }
 
 // The number v against the pattern x, which is a number or a letter.
-fn match_leaf(rows: &[u16], x: u16, v: u16, m: Match) -> Match
-    requires { ⌜ x < firstRow ⌝ }
+fn match_leaf(
+    rows: &[u16],
+    x: u16,
+    v: u16,
+    fits: bool,
+    known: &mut [bool],
+    value: &mut [u16],
+) -> bool
+    requires { ⌜ (x < firstRow) × ForLetters (now known) (now value) ⌝ }
     ensures { λ r. ⌜ ((t : List ℕ) (depth : ℕ)
-        → matchOf r ≡ match (tableOf (now (rows .entry))) (decode t (suc depth) x) v (matchOf m)) ⌝ }
+        → matched r (now (known .exit)) (now (value .exit))
+        ≡ match (tableOf (now (rows .entry))) (decode t (suc depth) x) v
+        (matched fits (now (known .entry)) (now (value .entry)))) ⌝ }
 {
     if x < FIRST_LETTER {
-        return checked(v == x, m);
+        return and(fits, v == x);
     }
     let k = wide(x - FIRST_LETTER);
-    bound(k, v, checked(suits_letter(rows, k, v), m))
+    let suits = suits_letter(rows, k, v);
+    bound(k, v, and(fits, suits), known, value)
 }
 
 // The number v against the pattern x, read to a depth.
-fn match_at(rows: &[u16], table: &[u64], depth: usize, x: u16, v: u16, m: Match) -> Match
-    ensures { λ r. ⌜ matchOf r
-        ≡ match (tableOf (now (rows .entry))) (decode (now (table .entry)) depth x) v (matchOf m) ⌝ }
+fn match_at(
+    rows: &[u16],
+    table: &[u64],
+    depth: usize,
+    x: u16,
+    v: u16,
+    fits: bool,
+    known: &mut [bool],
+    value: &mut [u16],
+) -> bool
+    requires { ⌜ ForLetters (now known) (now value) ⌝ }
+    ensures { λ r. ⌜ matched r (now (known .exit)) (now (value .exit))
+        ≡ match (tableOf (now (rows .entry))) (decode (now (table .entry)) depth x) v
+        (matched fits (now (known .entry)) (now (value .entry))) ⌝ }
 {
     if depth == 0 {
-        return checked(v == x, m);
+        return and(fits, v == x);
     }
     if x < FIRST_ROW {
-        return match_leaf(rows, x, v, m);
+        return match_leaf(rows, x, v, fits, known, value);
     }
     let pattern = pattern_at(table, x);
     if !is_row(rows, pattern.0, v) {
-        return checked(false, m);
+        return false;
     }
     let row = row_at(rows, wide(v));
     let below = depth - 1;
-    let first = match_at(rows, table, below, pattern.1, row.a, m);
-    let second = match_at(rows, table, below, pattern.2, row.b, first);
-    match_at(rows, table, below, pattern.3, row.c, second)
+    let first = match_at(rows, table, below, pattern.1, row.a, fits, known, value);
+    let second = match_at(rows, table, below, pattern.2, row.b, first, known, value);
+    match_at(rows, table, below, pattern.3, row.c, second, known, value)
 }
 
 // The rows of a step against the patterns x and y.
-fn match_claim(rows: &[u16], table: &[u64], x: u16, y: u16, s: Sides, m: Match) -> Match
-    ensures { λ r. ⌜ matchOf r
-        ≡ matchClaim (tableOf (now (rows .entry))) (claimPatternOf (now (table .entry)) x y) (sidesIn s) (matchOf m) ⌝ }
+fn match_claim(
+    rows: &[u16],
+    table: &[u64],
+    x: u16,
+    y: u16,
+    s: Sides,
+    fits: bool,
+    known: &mut [bool],
+    value: &mut [u16],
+) -> bool
+    requires { ⌜ ForLetters (now known) (now value) ⌝ }
+    ensures { λ r. ⌜ matched r (now (known .exit)) (now (value .exit))
+        ≡ matchClaim (tableOf (now (rows .entry))) (claimPatternOf (now (table .entry)) x y) (sidesIn s)
+        (matched fits (now (known .entry)) (now (value .entry))) ⌝ }
 {
-    let half = match_at(rows, table, PATTERN_DEPTH, x, s.left, m);
-    match_at(rows, table, PATTERN_DEPTH, y, s.right, half)
+    let half = match_at(rows, table, PATTERN_DEPTH, x, s.left, fits, known, value);
+    match_at(rows, table, PATTERN_DEPTH, y, s.right, half, known, value)
 }
 
 // The rows of as many premises as there are against those of the form at a place.
@@ -223,34 +240,38 @@ fn match_premises(
     count: u16,
     first: Sides,
     second: Sides,
-    m: Match,
-) -> Match
-    requires { ⌜ at < 2 ^ 32 ⌝ }
-    ensures { λ r. ⌜ matchOf r
+    fits: bool,
+    known: &mut [bool],
+    value: &mut [u16],
+) -> bool
+    requires { ⌜ (at < 2 ^ 32) × ForLetters (now known) (now value) ⌝ }
+    ensures { λ r. ⌜ matched r (now (known .exit)) (now (value .exit))
         ≡ matchClaims (tableOf (now (rows .entry))) (take count (premisesAt (now (table .entry)) at))
-        (take count (sidesIn first ∷ sidesIn second ∷ [])) (matchOf m) ⌝ }
+        (take count (sidesIn first ∷ sidesIn second ∷ []))
+        (matched fits (now (known .entry)) (now (value .entry))) ⌝ }
 {
     if count == 0 {
-        return m;
+        return fits;
     }
     let p = entry_at(table, at + 1);
-    let one = match_claim(rows, table, p.0, p.1, first, m);
+    let one = match_claim(rows, table, p.0, p.1, first, fits, known, value);
     if count == 1 {
         return one;
     }
-    match_claim(rows, table, p.2, p.3, second, one)
+    match_claim(rows, table, p.2, p.3, second, one, known, value)
 }
 
 // Whether the letters meet the condition numbered k.
-fn meets_condition(k: u16, m: Match) -> bool
-    ensures { λ r. ⌜ r ≡ allOf (meets (numbersIn (m .value))) (conditionOf k) ⌝ }
+fn meets_condition(k: u16, value: &[u16]) -> bool
+    requires { ⌜ length (now value) ≡ letterCount ⌝ }
+    ensures { λ r. ⌜ r ≡ allOf (meets (numbersIn (now (value .entry)))) (conditionOf k) ⌝ }
 {
-    let a = m.value[AXIS_A];
-    let b = m.value[AXIS_B];
-    let test = m.value[TEST_N];
+    let a = value[AXIS_A];
+    let b = value[AXIS_B];
+    let test = value[TEST_N];
     match k {
         A_BELOW_B => axis_below(a, b),
-        N_BELOW_M => test_below(test, m.value[NAME_N], m.value[TEST_M], m.value[NAME_M]),
+        N_BELOW_M => test_below(test, value[NAME_N], value[TEST_M], value[NAME_M]),
         B_FROM_3_TO_10 => and(axis::DESCENDANT <= b, b <= axis::PRECEDING),
         N_A_NAME_OR_STAR => or(test == node_test::NAME, test == node_test::STAR),
         N_NOT_NODE => test != node_test::NODE,
@@ -260,12 +281,13 @@ fn meets_condition(k: u16, m: Match) -> bool
 }
 
 // Whether the letters meet the conditions that the digits of k stand for.
-fn meets_conditions(k: u16, m: Match) -> bool
-    ensures { λ r. ⌜ r ≡ allOf (meets (numbersIn (m .value))) (conditionsOf k) ⌝ }
+fn meets_conditions(k: u16, value: &[u16]) -> bool
+    requires { ⌜ length (now value) ≡ letterCount ⌝ }
+    ensures { λ r. ⌜ r ≡ allOf (meets (numbersIn (now (value .entry)))) (conditionsOf k) ⌝ }
 {
-    let first = meets_condition(k % 10, m);
-    let second = meets_condition(k / 10 % 10, m);
-    let third = meets_condition(k / 100, m);
+    let first = meets_condition(k % 10, value);
+    let second = meets_condition(k / 10 % 10, value);
+    let third = meets_condition(k / 100, value);
     and(and(first, second), third)
 }
 
@@ -286,14 +308,22 @@ fn form_yields(
         (formAt (now (table .entry)) count at) ⌝ }
 {
     let form = entry_at(table, at);
-    let none = Match {
-        fits: true,
-        known: [false; LETTER_COUNT],
-        value: [0; LETTER_COUNT],
-    };
-    let said = match_claim(rows, table, form.1, form.2, Sides { left, right }, none);
-    let m = match_premises(rows, table, at, count, first, second, said);
-    and(m.fits, meets_conditions(form.3, m))
+    let mut known = [false; LETTER_COUNT];
+    let mut value = [0u16; LETTER_COUNT];
+    let s = Sides { left, right };
+    let said = match_claim(rows, table, form.1, form.2, s, true, &mut known, &mut value);
+    let fits = match_premises(
+        rows,
+        table,
+        at,
+        count,
+        first,
+        second,
+        said,
+        &mut known,
+        &mut value,
+    );
+    and(fits, meets_conditions(form.3, &value))
 }
 
 // Whether one of n forms from a place on yields the step.

@@ -7,9 +7,9 @@ use mathlib.Core.Option.{Option, none, some}
 use native.Mathlib.Omega.{arith}
 use lib.Dec.{T, eqb, ltb, lt→ltb, ltb→lt}
 use lib.ListN.{length, take, drop, length-append}
-use lib.Seq.{sets, sets-eq, length-sets, length-take-le, take-at, drop-drop, drop-set-lt}
+use lib.Seq.{sets, length-sets, length-take-le, drop-drop, drop-set-lt}
 use Rattle.terms.specs.Row.{Row, row, tableOf, maxRows, find}
-use Rattle.terms.proofs.LentRows.{rows-lent, table-append}
+use Rattle.terms.proofs.LentRows.{rows-lent, row-put}
 use Rattle.terms.proofs.Find.{find-le}
 use Rattle.grammar.specs.Bytes.{Bytes}
 use Rattle.grammar.specs.Denotes.{Put, put, Named, unlisted}
@@ -19,14 +19,6 @@ use Rattle.heads.specs.declared.Head.{Head}
 use Rattle.readings.specs.code.Build.{rowWidth, rowNumbers, capped, movedTo, failedAt, rowTaken, noRoom, Sized}
 use Rattle.readings.specs.code.Build.{Holds, Beyond, Puts, SameText, PutMet, missingOf, firstOf, Made, Grown}
 use Rattle.readings.specs.code.Build.{HeadPut, unlistedAt, joined, over, leaf}
-
--- numbers written after the first m are the next of the first m and those
-take-sets : (xs : List ℕ) (m : ℕ) (vs : List ℕ) → m + length vs ≤ length xs → take (m + length vs) (sets xs m vs)
-    ≡ take m xs ++ vs
-take-sets xs m vs h =
-    ap (take (m + length vs)) (sets-eq vs xs m h)
-    ∙ take-at (take m xs ++ vs) (drop (m + length vs) xs) (m + length vs)
-    (length-append (take m xs) vs ∙ ap (λ k. k + length vs) (length-take-le m xs (omega arith)))
 
 not-less : (m n : ℕ) → n ≤ m → ltb m n ≡ false
 not-less m n h = go (ltb m n) refl
@@ -171,12 +163,8 @@ module _ (r : Row) (nesting : ℕ) (xs : List ℕ) (x : Reading) (z : Sized xs (
       unfolding tableOf
       put-added ys j k =
           let n = x .count in
-          let end : rowWidth * (n + 1) ≡ rowWidth * n + 4 = omega arith in
-          let fits : rowWidth * n + 4 ≤ length xs = omega (arith, z .size, j) in
           let rows : tableOf (take (rowWidth * (n + 1)) ys) ≡ tableOf (take (rowWidth * n) xs) ++ (r ∷ []) =
-          rw (k, end) (ap tableOf (take-sets xs (rowWidth * n) (rowNumbers r) fits)
-          ∙ table-append n (take (rowWidth * n) xs) (rowNumbers r)
-          (length-take-le (rowWidth * n) xs (omega arith))) in
+          rw k (row-put n xs r (omega (arith, z .size, j))) in
           record {
             sized = record {
               size = ap length k ∙ length-sets xs (rowWidth * n) (rowNumbers r) ∙ z .size;

@@ -17,8 +17,8 @@ fn print(report: Report) {
     io::write_all(1, b"\n");
 }
 
-// Reads a bundle from an open file and prints the report of it. No contract can speak of what is read or printed; the report is that of
-// `session::audit`.
+// Reads a bundle from an open file and prints the report of it. No contract can speak of what is read or printed; the
+// report is that of `session::audit`.
 pub fn print_report(file: i32) {
     // One byte more than audit takes, so that longer input shows.
     let mut bytes = [0u8; common::MAX_BYTES + 1];

@@ -48,8 +48,8 @@ pub enum Word {
     CrewCurrent,
 }
 
-// What stands after a word: so many numbers of 16 bits, a list of up to so many, the numbers of a select, the length of a
-// buffer, or any bytes.
+// What stands after a word: so many numbers of 16 bits, a list of up to so many, the numbers of a select, the length
+// of a buffer, or any bytes.
 pub enum Shape {
     Counted(usize),
     Listed(usize),

@@ -1,9 +1,11 @@
 -- What the call read promises, and the functions that it is made of. Assumes nothing.
-use Prim.Native.Nat.{ℕ, _≤_, _<_}
+use Prim.Native.Nat.{ℕ, _+_, _≤_, _<_}
 use mathlib.Core.Path.{_≡_}
 use mathlib.Core.Bool.{Bool, true, false}
 use mathlib.Core.List.{List}
 use lib.ListN.{length, drop}
+use Rattle.terms.specs.Row.{Row}
+use Rattle.terms.specs.code.Kept.{Kept}
 use Rattle.lines.specs.Line.{lines}
 use Rattle.session.specs.declared.session.Session.{Session}
 use Rattle.session.specs.declared.read.ReadAnswer.{ReadAnswer}
@@ -13,9 +15,13 @@ use Rattle.session.specs.declared.read.RowsEnd.{RowsEnd}
 use Rattle.session.specs.declared.read.RowsEnd.the-variants as RowsCases
 use Rattle.session.specs.declared.read.StepsEnd.{StepsEnd}
 use Rattle.session.specs.declared.read.StepsEnd.the-variants as StepsCases
+use Rattle.calls.specs.declared.TermAnswer.{TermAnswer}
 use Rattle.calls.specs.Book.{maxSteps, Answer, answer, accepted}
+use Rattle.calls.specs.code.Tables.{firstRows}
+use Rattle.calls.specs.code.Answers.{termAnswerOf}
 use Rattle.session.specs.View.{noPoints, freshSession}
 use Rattle.calls.specs.Promises.{rowStepAnswer}
+use Rattle.session.specs.Promises.{TermPlaced}
 use Rattle.session.specs.Reading.{Reading, refusedAt, stepsRead, rowsRead, reading}
 
 abbrev pub readAnswerOf : ReadAnswer → Answer
@@ -34,6 +40,12 @@ pub record ReadMet (bytes : List ℕ) (t : ReadResult) : Type 0 where
   pub answer : readAnswerOf (t .answer) ≡ reading bytes .answer
   pub variant : isHeld (t .answer) ≡ accepted (reading bytes .answer)
   pub session : t .session ≡ reading bytes .session
+
+-- a term call of a term line, by what is kept of the first n rows: it is as every term call, and the same is kept of
+-- the rows that it leaves
+pub record TermKept (xs : List ℕ) (n : ℕ) (r : Row) (ys table filter : List ℕ) (t : TermAnswer) : Type 0 where
+  pub placed : TermPlaced xs n r ys t
+  pub kept : termAnswerOf t .number ≡ 0 → Kept (firstRows (n + 1) ys) table filter
 
 -- the session of n rows with the numbers xs, and m steps with the numbers ys, without points
 abbrev pub holding : (xs : List ℕ) (n : ℕ) (ys : List ℕ) (m : ℕ) → Session

@@ -4,25 +4,27 @@ use crate::session::Session;
 use crate::session::no_rows;
 use crate::session::no_steps;
 use crate::session::put_step;
-use crate::session::term_in_place;
 use bundles::ROW_NAMES;
 use bundles::ROW_NAMES_LENGTH;
 use bundles::STEP_NAMES;
 use bundles::STEP_NAMES_LENGTH;
 use calls::Step;
+use calls::TermAnswer;
 use calls::WRONG_FORM;
 use terms::Row;
 ghost use mathlib.Core.Path.{_≡_};
 ghost use Prim.Native.Nat.{_*_, _≤_, _<_};
 ghost use lib.ListN.{length, drop};
 ghost use Rattle.terms.specs.Row.{maxRows};
+ghost use Rattle.terms.specs.code.RowTypes.{rowOf};
+ghost use Rattle.terms.specs.code.Kept.{Kept};
 ghost use Rattle.lines.specs.Line.{lines, firstIs};
 ghost use Rattle.calls.specs.Book.{maxSteps, accepted};
-ghost use Rattle.calls.specs.code.Tables.{rowWidth, stepWidth};
+ghost use Rattle.calls.specs.code.Tables.{rowWidth, stepWidth, firstRows};
 ghost use Rattle.session.specs.View.{freshSession};
 ghost use Rattle.bundles.specs.Bundle.{rowNames, stepNames};
 ghost use Rattle.session.specs.Reading.{refusedAt};
-ghost use Rattle.session.specs.ReadCall.{readAnswerOf, isHeld, readingOf, ReadMet, RowsReadMet, StepsReadMet};
+ghost use Rattle.session.specs.ReadCall.{readAnswerOf, isHeld, readingOf, ReadMet, TermKept, RowsReadMet, StepsReadMet};
 
 // The answer of a read call: how many steps are held, or the number of the refusal and the refused line.
 pub enum ReadAnswer {
@@ -35,7 +37,8 @@ pub struct ReadResult {
     pub session: Session,
 }
 
-// Where the term lines of a bundle end: before line `line`, which starts at `at` and is the first step line, or at a refused line.
+// Where the term lines of a bundle end: before line `line`, which starts at `at` and is the first step line, or at a
+// refused line.
 enum RowsEnd {
     Held { rows: usize, line: usize, at: usize },
     Refused { number: u16, line: usize },
@@ -61,11 +64,36 @@ fn is_step_names(bytes: &[u8], at: usize) -> bool
     lines::is_line(bytes, at, &STEP_NAMES)
 }
 
+// A term call on the first n rows, by what is kept of them: the answer; where the row is held, it is put after them
+// and kept.
+fn term_kept(
+    rows: &mut [u16],
+    table: &mut [u16],
+    filter: &mut [u8],
+    n: usize,
+    row: Row,
+) -> TermAnswer
+    requires { ⌜ (n ≤ maxRows) × (length (now rows) ≡ rowWidth * maxRows)
+        × Kept (firstRows n (now rows)) (now table) (now filter) ⌝ }
+    ensures { λ r. ⌜ TermKept (now (rows .entry)) n (rowOf row) (now (rows .exit)) (now (table .exit))
+        (now (filter .exit)) r ⌝ }
+{
+    let judged = calls::judge_kept(rows, n, table, filter, row);
+    if judged.number() == 0 {
+        let held = calls::first_rows(rows, n);
+        terms::keep(held, table, filter, row);
+        terms::put_row(rows, n, row);
+    }
+    judged
+}
+
 // Makes the term calls of a bundle's lines from line 2 on, which starts at `start`, up to the second names line.
 fn read_rows(bytes: &[u8], start: usize, rows: &mut [u16]) -> RowsEnd
     requires { ⌜ (2 ≤ start) × (start ≤ length (now bytes)) × (length (now rows) ≡ rowWidth * maxRows) ⌝ }
     ensures { λ r. ⌜ RowsReadMet (now (bytes .entry)) start (now (rows .entry)) (now (rows .exit)) r ⌝ }
 {
+    let mut table = terms::no_nestings();
+    let mut filter = terms::clear_filter();
     let mut n = 0;
     let mut line = 2;
     let mut at = start;
@@ -91,7 +119,7 @@ fn read_rows(bytes: &[u8], start: usize, rows: &mut [u16]) -> RowsEnd
             b: numbers[2],
             c: numbers[3],
         };
-        let number = term_in_place(rows, n, row).number();
+        let number = term_kept(rows, &mut table, &mut filter, n, row).number();
         if number != 0 {
             return RowsEnd::Refused { number, line };
         }
@@ -103,7 +131,8 @@ fn read_rows(bytes: &[u8], start: usize, rows: &mut [u16]) -> RowsEnd
     RowsEnd::Refused { number, line }
 }
 
-// Makes the step calls of a bundle's lines from line `first` on, which starts at `start`, where the first n rows are held.
+// Makes the step calls of a bundle's lines from line `first` on, which starts at `start`, where the first n rows are
+// held.
 fn read_steps(
     bytes: &[u8],
     start: usize,
@@ -113,8 +142,10 @@ fn read_steps(
     steps: &mut [u16],
 ) -> StepsEnd
     requires { ⌜ (first ≤ start) × (start ≤ length (now bytes)) × (length (now steps) ≡ stepWidth * maxSteps) ⌝ }
-    ensures { λ r. ⌜ StepsReadMet (now (bytes .entry)) start first (now (rows .entry)) n (now (steps .entry)) (now (steps .exit)) r ⌝ }
+    ensures { λ r. ⌜ StepsReadMet (now (bytes .entry)) start first (now (rows .entry)) n (now (steps .entry))
+        (now (steps .exit)) r ⌝ }
 {
+    let table = matching::rule_table();
     let mut m = 0;
     let mut line = first;
     let mut at = start;
@@ -132,7 +163,7 @@ fn read_steps(
             first: numbers[3],
             second: numbers[4],
         };
-        let number = calls::judge_step(rows, n, steps, m, step).number();
+        let number = calls::judge_step(rows, n, steps, m, &table, step).number();
         if number != 0 {
             return StepsEnd::Refused { number, line };
         }
@@ -147,7 +178,8 @@ fn read_steps(
 // The result of a read call that is refused and leaves a fresh session.
 fn refused_read(number: u16, line: usize, fresh: Session) -> ReadResult
     requires { ⌜ (fresh ≡ freshSession) × (0 < number) ⌝ }
-    ensures { λ r. ⌜ (readingOf r ≡ refusedAt number line) × (isHeld (r .answer) ≡ accepted (readAnswerOf (r .answer))) ⌝ }
+    ensures { λ r. ⌜ (readingOf r ≡ refusedAt number line) ×
+        (isHeld (r .answer) ≡ accepted (readAnswerOf (r .answer))) ⌝ }
 {
     ReadResult {
         answer: ReadAnswer::Refused { number, line },

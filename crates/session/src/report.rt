@@ -12,7 +12,8 @@ ghost use Rattle.calls.specs.Promises.{sidesOf};
 ghost use Rattle.session.specs.View.{view};
 ghost use Rattle.session.specs.Audit.{report};
 
-// What the program audit prints: the answer's number, the refused line or 0, the steps held, the rows of the last step or zeros.
+// What the program audit prints: the answer's number, the refused line or 0, the steps held, the rows of the last
+// step or zeros.
 pub struct Report {
     pub answer: u16,
     pub line: usize,

@@ -27,8 +27,8 @@ pub(crate) const STEP_NUMBERS: usize = calls::STEP_WIDTH * calls::MAX_STEPS;
 
 pub(crate) const POINT_NUMBERS: usize = calls::POINT_WIDTH * calls::MAX_POINTS;
 
-// Rows, four numbers each, steps, five each, and points, three each; of each the first ones are held, as many as the counts
-// say.
+// Rows, four numbers each, steps, five each, and points, three each; of each the first ones are held, as many as the
+// counts say.
 pub struct Session {
     pub(crate) rows: [u16; ROW_NUMBERS],
     pub(crate) row_count: usize,
@@ -43,8 +43,8 @@ pub struct TermResult {
     pub session: Session,
 }
 
-// The answer of a text call: 0 and the row of the text's term, or a refusal and its value, which may be a place in a text
-// of any length.
+// The answer of a text call: 0 and the row of the text's term, or a refusal and its value, which may be a place in a
+// text of any length.
 pub struct TextAnswer {
     pub number: u16,
     pub value: usize,
@@ -66,7 +66,7 @@ pub struct PointResult {
 }
 
 // A term call on the first n rows: the answer, and the row put after them where it is held.
-pub(crate) fn term_in_place(rows: &mut [u16], n: usize, row: Row) -> TermAnswer
+fn term_in_place(rows: &mut [u16], n: usize, row: Row) -> TermAnswer
     requires { ⌜ (n ≤ maxRows) × (length (now rows) ≡ rowWidth * maxRows) ⌝ }
     ensures { λ r. ⌜ TermPlaced (now (rows .entry)) n (rowOf row) (now (rows .exit)) r ⌝ }
 {
@@ -190,7 +190,8 @@ impl Session {
     }
 
     pub fn step(mut self, rule: u16, left: u16, right: u16, first: u16, second: u16) -> StepResult
-        ensures { λ r. ⌜ Met self (Call.step (step rule left right first second)) (stepAnswerOf (r .answer)) (r .session) ⌝ }
+        ensures { λ r. ⌜ Met self (Call.step (step rule left right first second)) (stepAnswerOf (r .answer))
+            (r .session) ⌝ }
     {
         let m = calls::clamp(self.step_count, Session::STEPS);
         let step = Step {
@@ -200,11 +201,13 @@ impl Session {
             first,
             second,
         };
+        let table = matching::rule_table();
         let judged = calls::judge_step(
             &self.rows,
             self.row_count,
             &self.steps,
             self.step_count,
+            &table,
             step,
         );
         if judged.number() == 0 {
@@ -263,7 +266,8 @@ impl Session {
 
     // Holds the rows that the term of the selector needs, with the numbers that the lent list gives to names.
     pub fn text(mut self, names: &[u8], selector: &[u8]) -> TextResult
-        ensures { λ r. ⌜ Met self (Call.text (now (names .entry)) (now (selector .entry))) (textAnswerOf (r .answer)) (r .session) ⌝ }
+        ensures { λ r. ⌜ Met self (Call.text (now (names .entry)) (now (selector .entry))) (textAnswerOf (r .answer))
+            (r .session) ⌝ }
     {
         let rows = self.rows;
         let read = text::read_text(selector, names, rows, self.row_count);
@@ -289,7 +293,8 @@ impl Session {
         limit: u32,
         marks: &mut [u8],
     ) -> SelectAnswer
-        ensures { λ r. ⌜ SelectMet self row (now (document .entry)) context limit (now (marks .entry)) r (now (marks .exit)) ⌝ }
+        ensures { λ r. ⌜ SelectMet self row (now (document .entry)) context limit (now (marks .entry)) r
+            (now (marks .exit)) ⌝ }
     {
         let rows = calls::first_rows(&self.rows, self.row_count);
         calls::select_on(rows, row, document, context, limit, marks)

@@ -10,6 +10,7 @@ use mir.Facts.{eqb-yes}
 use lib.ListN.{length, drop, drop-of-length-le}
 use lib.Seq.{drop-cons}
 use borrow.Author.Tests.{eq-eqb}
+use Rattle.common.proofs.Reflect.{facts, true-iff}
 use Rattle.terms.specs.Row.{Row, noRow, rowAt, sameRow, find}
 use Rattle.terms.specs.AcceptedRows.{isNew}
 
@@ -26,6 +27,17 @@ same-row-self r =
       eq-eqb (r .b) (r .b) refl,
       eq-eqb (r .c) (r .c) refl,
     )
+
+pub same-is : (s r : Row) → T (sameRow s r) → s ≡ r
+unfolding sameRow
+same-is s r t = let u = simp facts at t in row-equal (u .0 .0 .0) (u .0 .0 .1) (u .0 .1) (u .1)
+
+pub same-row-no : (s r : Row) → ¬ (s ≡ r) → sameRow s r ≡ false
+same-row-no s r f = by (sameRow s r) refl
+  where
+    by : (b : Bool) → sameRow s r ≡ b → sameRow s r ≡ false
+    by true e = absurd (f (same-is s r (true-iff (sameRow s r) .1 e)))
+    by false e = e
 
 pub find-le : (rs : List Row) (r : Row) → find rs r ≤ length rs
 unfolding find

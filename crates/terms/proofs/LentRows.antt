@@ -1,10 +1,11 @@
 -- The table of lent numbers, row by row. Assumes nothing.
 use Prim.Native.Nat.{ℕ, zero, suc, _+_, _*_, _/_, _<_, _≤_}
-use mathlib.Core.Path.{_≡_, refl, ap}
+use mathlib.Core.Path.{_≡_, refl, ap, _∙_}
 use mathlib.Core.List.{List, [], _∷_, _++_}
 use native.Mathlib.Omega.{arith}
-use lib.ListN.{length, getD, List·getD-eq-default}
-use Rattle.terms.specs.Row.{Row, row, noRow, rowAt, tableOf}
+use lib.ListN.{length, getD, take, drop, length-append, List·getD-eq-default}
+use lib.Seq.{sets, sets-eq, length-take-le, take-at}
+use Rattle.terms.specs.Row.{Row, row, noRow, rowAt, rowWidth, rowNumbers, tableOf}
 
 -- a row is four numbers
 pub rows-lent : (xs : List ℕ) → length (tableOf xs) ≡ length xs / 4
@@ -46,3 +47,21 @@ table-append (suc n) (k ∷ x ∷ []) ys e = absurd (omega arith)
 table-append (suc n) (k ∷ x ∷ y ∷ []) ys e = absurd (omega arith)
 table-append (suc n) (k ∷ x ∷ y ∷ z ∷ xs) ys e =
     ap (λ (rs : List Row). row k x y z ∷ rs) (table-append n xs ys (omega arith))
+
+-- numbers written after the first m are the next of the first m and those
+take-sets : (xs : List ℕ) (m : ℕ) (vs : List ℕ) → m + length vs ≤ length xs → take (m + length vs) (sets xs m vs)
+    ≡ take m xs ++ vs
+take-sets xs m vs h =
+    ap (take (m + length vs)) (sets-eq vs xs m h)
+    ∙ take-at (take m xs ++ vs) (drop (m + length vs) xs) (m + length vs)
+    (length-append (take m xs) vs ∙ ap (λ k. k + length vs) (length-take-le m xs (omega arith)))
+
+-- a row is put after the first n
+pub row-put : (n : ℕ) (xs : List ℕ) (r : Row) → rowWidth * n + 4 ≤ length xs
+    → tableOf (take (rowWidth * (n + 1)) (sets xs (rowWidth * n) (rowNumbers r)))
+    ≡ tableOf (take (rowWidth * n) xs) ++ (r ∷ [])
+unfolding tableOf
+row-put n xs r fits =
+    let end : rowWidth * (n + 1) ≡ rowWidth * n + 4 = omega arith in
+    rw end (ap tableOf (take-sets xs (rowWidth * n) (rowNumbers r) fits)
+    ∙ table-append n (take (rowWidth * n) xs) (rowNumbers r) (length-take-le (rowWidth * n) xs (omega arith)))

@@ -2,6 +2,7 @@ pub mod LentRows
 pub mod Entries
 pub mod Find
 pub mod Nesting
+pub mod RowsKept
 pub mod Terms
 pub mod ByKind
 pub mod Built

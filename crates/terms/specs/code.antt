@@ -1,1 +1,2 @@
 pub mod RowTypes
+pub mod Kept

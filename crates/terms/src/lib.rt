@@ -1,9 +1,17 @@
 // Tables of rows lent as 16-bit numbers, four a row: what the fields of a row must be, its nesting, the search for an
 // equal row, and the putting of a row. An incomplete last row is no row. Notes of what a search found of rows.
+mod kept;
+
 use common::axis;
 use common::node_test;
 use common::row_kind;
 use common::wide;
+pub use kept::SLOTS;
+pub use kept::clear_filter;
+pub use kept::find_kept;
+pub use kept::keep;
+pub use kept::nesting_kept;
+pub use kept::no_nestings;
 ghost use mathlib.Core.Path.{_≡_};
 ghost use mathlib.Core.Bool.{cond};
 ghost use lib.Dec.{leb, eqb};
@@ -160,16 +168,9 @@ pub fn bad_place(rows: &[u16], row: Row) -> u16
 fn same_row(x: Row, y: Row) -> bool
     ensures { λ r. ⌜ r ≡ sameRow (rowOf x) (rowOf y) ⌝ }
 {
-    if x.kind != y.kind {
-        return false;
-    }
-    if x.a != y.a {
-        return false;
-    }
-    if x.b != y.b {
-        return false;
-    }
-    x.c == y.c
+    let two = common::and(x.kind == y.kind, x.a == y.a);
+    let three = common::and(two, x.b == y.b);
+    common::and(three, x.c == y.c)
 }
 
 // The number of the first row that is `row`; where there is none, how many rows there are.
@@ -213,7 +214,7 @@ fn operand_nesting(nestings: &[u16], field: Field, x: u16) -> u16
 }
 
 // The nesting of the deeper operand, by the nestings of the rows before; 0 if there is no operand.
-fn deeper_operand(nestings: &[u16], row: Row) -> u16
+pub(crate) fn deeper_operand(nestings: &[u16], row: Row) -> u16
     ensures { λ r. ⌜ r + 1 ≡ nestingBy (now (nestings .entry)) (rowOf row) ⌝ }
 {
     let fields = fields_of(row.kind);
@@ -247,8 +248,7 @@ fn nesting_within(rows: &[u16], row: Row) -> u16
 {
     let mut table = [0u16; MAX_ROWS];
     fill_nestings(rows, &mut table);
-    let n = row_count(rows);
-    deeper_operand(&table[..n], row) + 1
+    nesting_kept(rows, &table, row)
 }
 
 // The nesting of a row whose operands are among the rows; 0, which no row has, where these are more than MAX_ROWS.

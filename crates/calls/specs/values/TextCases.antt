@@ -66,7 +66,8 @@ calls-told : map told (shown plainBook emptyBook (callsIn callsMade)) â‰¡ map (Î
 unfolding told shown pointAnswer returnAnswer placeOf textAnswer textReply answered termAnswer badPlace fieldsOf fieldOk
     heldPath heldQualifier isPath isQualifier nesting nestings entriesFrom nestingBy operandNesting ascii lines
     inFirstLine sameRow find run outcome follow step finish needByte afterByte pathByte unionByte unaryByte shut
-    groupByte leadByte callByte parenByte colonByte keywordByte leadEnd atTop room roomOf prefixOf join withPrefix joinAlt wrap
+    groupByte leadByte callByte parenByte colonByte keywordByte leadEnd atTop room roomOf prefixOf join withPrefix
+    joinAlt wrap
     leftOf andTo isSpace isStart isName isQuote same words.find next axes types isSome instructionWord orZero bytesOf
     numbered numberOf spellAxis spellTest spellBool spellStep spellRel spellPath spellUnion spellUnary spellAnd
     spellOr takesPredicate unlisted testNames stepNames relNames pathNames unionNames unaryNames andNames orNames

@@ -56,7 +56,8 @@ loop-again : tie.Need-loop-again Inv-loop μ-loop
 loop-again c = (
   omega arith,
   c .before .before .before .before .before .before .loop .inv .1
-      ∙ starts-further _ _ _ _ (c .before .before .before .before .before .loop-test .taken) (omega arith) (c .if3 .left),
+      ∙ starts-further _ _ _ _ (c .before .before .before .before .before .loop-test .taken) (omega arith)
+      (c .if3 .left),
 )
 
 returns-4 : tie.Need-returns-4 Inv-loop μ-loop

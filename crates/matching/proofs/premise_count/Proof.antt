@@ -1,24 +1,18 @@
--- The constant table is the rule table. Assumes nothing.
-use mathlib.Core.Path.{refl}
+-- The entry of the rule says it. Assumes nothing.
+use mathlib.Core.Path.{_∙_, ap}
 use borrow.Author.Needs.{needs}
-use Rattle.matching.specs.code.Encode.{ruleTable}
+use Rattle.matching.specs.code.Unpack.{Entry, ruleAt}
+use Rattle.matching.proofs.Decoded.{premises-known}
 use Rattle.matching.proofs.premise_count.Statement.{statement}
 use Rattle.matching.proofs.premise_count.Tie as tie
 
-slice-aggregate-premise-count-in : tie.Need-slice-aggregate-premise-count-in
-slice-aggregate-premise-count-in c = search needs
-
-premise-count-in-requires : tie.Need-premise-count-in-requires
-premise-count-in-requires c κs = search needs
+rule-at-requires : tie.Need-rule-at-requires
+rule-at-requires c κs = search needs
 
 returns : tie.Need-returns
-unfolding ruleTable
-returns c = c .premise-count-in .ensures refl
+returns c =
+    let n = c .before .before .args .rule in
+    λ e. ap (λ (w : Entry). w .third) (c .rule-at .ensures) ∙ ap (λ t. ruleAt t n .third) e ∙ premises-known n
 
 pub premise-count-spec : {M : Type 1} → statement M
-premise-count-spec =
-    tie.close
-    (tie.spec
-    slice-aggregate-premise-count-in
-    premise-count-in-requires
-    returns)
+premise-count-spec = tie.close (tie.spec rule-at-requires returns)

@@ -1,19 +1,42 @@
--- The constant table is the rule table. Assumes nothing.
-use mathlib.Core.Path.{refl}
+-- The way back, or the forms from the rule's first one on, which are the rule's. Assumes nothing.
+use mathlib.Core.Path.{_≡_, sym, _∙_, ap, ap₂}
+use mathlib.Core.Bool.{Bool}
+use mathlib.Core.List.{List, [], _∷_}
 use borrow.Author.Needs.{needs}
-use Rattle.matching.specs.code.Encode.{ruleTable}
+use Rattle.terms.specs.Row.{tableOf}
+use Rattle.matching.specs.code.RowYields.{sides}
+use Rattle.matching.specs.code.MatchTypes.{sidesIn}
+use Rattle.matching.proofs.FormSearch.{rule-way, way-back-way, other-rule-way}
 use Rattle.matching.proofs.yields.Statement.{statement}
 use Rattle.matching.proofs.yields.Tie as tie
 
-slice-aggregate-yields-in : tie.Need-slice-aggregate-yields-in
-slice-aggregate-yields-in c = search needs
+rule-at-requires : tie.Need-rule-at-requires
+rule-at-requires c κs = search needs
 
-yields-in-requires : tie.Need-yields-in-requires
-yields-in-requires c κs = search needs
+some-form-yields-requires : tie.Need-some-form-yields-requires
+some-form-yields-requires c κs = search needs
+
+is-with-back-requires : tie.Need-is-with-back-requires
+is-with-back-requires c κs = search needs
 
 returns : tie.Need-returns
-unfolding ruleTable
-returns c = c .yields-in .ensures refl
+returns c =
+    let a = c .before .before .before .before .args in
+    λ e. way-back-way (tableOf (a .rows .now)) (sides (a .left) (a .right))
+    (sidesIn (a .first) ∷ sidesIn (a .second) ∷ [])
+    (a .rule) (c .before .if1 .taken) (c .is-with-back .ensures)
+
+returns-2 : tie.Need-returns-2
+returns-2 c =
+    let d = c .before .before in
+    let a = d .before .before .before .args in
+    let rs = tableOf (a .rows .now) in
+    let s = sides (a .left) (a .right) in
+    let ss = sidesIn (a .first) ∷ sidesIn (a .second) ∷ [] in
+    λ e. other-rule-way rs s _ (a .rule) (d .if1 .left)
+    (rule-way rs s ss (a .rule) e (c .before .rule-at .ensures) (c .some-form-yields .ensures))
 
 pub yields-spec : {M : Type 1} → statement M
-yields-spec = tie.close (tie.spec slice-aggregate-yields-in yields-in-requires returns)
+yields-spec =
+    tie.close
+    (tie.spec is-with-back-requires returns rule-at-requires some-form-yields-requires returns-2)

@@ -12,30 +12,41 @@ premise-ok-requires c κs = search needs
 
 returns : tie.Need-returns
 unfolding badPremise
-returns c = rw (← c .before .before .premise-count .ensures, ← c .before .premise-ok .ensures, c .if1 .taken)
+returns c =
+    let at-count = c .before .before in
+    let count = at-count .premise-count .ensures (at-count .before .before .pre) in
+    rw (← count, ← c .before .premise-ok .ensures, c .if1 .taken)
 
 premise-ok-requires-2 : tie.Need-premise-ok-requires-2
 premise-ok-requires-2 c κs = search needs
 
 returns-2 : tie.Need-returns-2
 unfolding badPremise
-returns-2 c = rw (
-  ← c .before .before .before .before .premise-count .ensures,
-  ← c .before .before .before .premise-ok .ensures,
-  c .before .before .if1 .left,
-  ← c .before .premise-ok2 .ensures,
-  c .if2 .taken,
-)
+returns-2 c =
+    let at-test = c .before .before in
+    let at-count = at-test .before .before in
+    let count = at-count .premise-count .ensures (at-count .before .before .pre) in
+    rw (
+      ← count,
+      ← at-test .before .premise-ok .ensures,
+      at-test .if1 .left,
+      ← c .before .premise-ok2 .ensures,
+      c .if2 .taken,
+    )
 
 returns-3 : tie.Need-returns-3
 unfolding badPremise
-returns-3 c = rw (
-  ← c .before .before .before .before .premise-count .ensures,
-  ← c .before .before .before .premise-ok .ensures,
-  c .before .before .if1 .left,
-  ← c .before .premise-ok2 .ensures,
-  c .if2 .left,
-)
+returns-3 c =
+    let at-test = c .before .before in
+    let at-count = at-test .before .before in
+    let count = at-count .premise-count .ensures (at-count .before .before .pre) in
+    rw (
+      ← count,
+      ← at-test .before .premise-ok .ensures,
+      at-test .if1 .left,
+      ← c .before .premise-ok2 .ensures,
+      c .if2 .left,
+    )
 
 pub bad-premise-spec : {M : Type 1} → statement M
 bad-premise-spec =

@@ -18,7 +18,11 @@ yields-requires c κs = search needs
 
 returns : tie.Need-returns
 unfolding rowYielded premisesOf sidesOf
-returns c = c .yields .ensures ∙ rw (c .before .sides-of2 .ensures, c .before .before .sides-of .ensures, sides-taken)
+returns c =
+    let at-first = c .before .before in
+    let by-table = at-first .before .before .before .before .pre in
+    c .yields .ensures by-table
+    ∙ rw (c .before .sides-of2 .ensures, at-first .sides-of .ensures, sides-taken)
 
 pub is-yielded-spec : {M : Type 1} → statement M
 is-yielded-spec =

@@ -12,8 +12,10 @@ first-steps-requires : tie.Need-first-steps-requires
 first-steps-requires c κs = search needs
 
 step-answer-requires : tie.Need-step-answer-requires
-step-answer-requires c κs = let a = c .before .before .before .before .args in
-    few-steps (a .m) (a .steps .now) _ (c .first-steps .ensures)
+step-answer-requires c κs =
+    let at-start = c .before .before .before .before in
+    let a = at-start .before .args in
+    (few-steps (a .m) (a .steps .now) _ (c .first-steps .ensures), at-start .before .pre)
 
 returns : tie.Need-returns
 returns c = c .step-answer .ensures ∙ rw (c .before .before .first-rows .ensures, c .before .first-steps .ensures)

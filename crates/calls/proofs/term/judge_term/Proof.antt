@@ -2,18 +2,30 @@
 use mathlib.Core.Path.{_∙_}
 use borrow.Author.Needs.{needs}
 use Rattle.calls.proofs.Tables.{few-rows}
+use Rattle.calls.proofs.TermJudged.{nesting-told}
 use Rattle.calls.proofs.term.judge_term.Statement.{statement}
 use Rattle.calls.proofs.term.judge_term.Tie as tie
 
 first-rows-requires : tie.Need-first-rows-requires
 first-rows-requires c κs = search needs
 
+nesting-of-requires : tie.Need-nesting-of-requires
+nesting-of-requires c κs = search needs
+
+find-row-requires : tie.Need-find-row-requires
+find-row-requires c κs = search needs
+
 term-answer-requires : tie.Need-term-answer-requires
-term-answer-requires c κs = let a = c .before .before .args in
-    few-rows (a .n) (a .rows .now) _ (c .first-rows .ensures)
+term-answer-requires c κs =
+    let at-first = c .before .before in
+    let a = at-first .before .before .args in
+    let few = few-rows (a .n) (a .rows .now) _ (at-first .first-rows .ensures) in
+    (few, nesting-told _ _ _ few (c .before .nesting-of .ensures), c .find-row .ensures)
 
 returns : tie.Need-returns
-returns c = c .term-answer .ensures ∙ rw (c .before .first-rows .ensures)
+returns c = c .term-answer .ensures ∙ rw (c .before .before .before .first-rows .ensures)
 
 pub judge-term-spec : {M : Type 1} → statement M
-judge-term-spec = tie.close (tie.spec first-rows-requires term-answer-requires returns)
+judge-term-spec =
+    tie.close
+    (tie.spec first-rows-requires nesting-of-requires find-row-requires term-answer-requires returns)

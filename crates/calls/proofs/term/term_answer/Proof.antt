@@ -1,6 +1,5 @@
 -- `term_answer` meets its contract, test by test in the order of the definition. Assumes nothing.
-use Rattle.calls.proofs.TermJudged.{nesting-told, bad-kind, bad-field, too-deep}
-use Rattle.calls.proofs.TermJudged.{already-held, terms-full, row-held}
+use Rattle.calls.proofs.TermJudged.{bad-kind, bad-field, too-deep, already-held, terms-full, row-held}
 use borrow.Author.Needs.{needs}
 use Rattle.calls.proofs.term.term_answer.Statement.{statement}
 use Rattle.calls.proofs.term.term_answer.Tie as tie
@@ -16,22 +15,14 @@ returns-2 c =
     let at-place = c .before in
     bad-field _ _ (at-place .before .if1 .left) _ (at-place .bad-place .ensures) (c .if2 .taken)
 
-nesting-of-requires : tie.Need-nesting-of-requires
-nesting-of-requires c κs = search needs
-
 returns-3 : tie.Need-returns-3
 returns-3 c =
-    let at-nesting = c .before in
-    let at-place-test = at-nesting .before in
+    let at-place-test = c .before in
     let at-place = at-place-test .before in
     let at-kind-test = at-place .before in
-    let few = at-kind-test .before .before .before .pre in
-    let is-nesting = nesting-told _ _ _ few (at-nesting .nesting-of .ensures) in
-    too-deep _ _ (at-kind-test .if1 .left) _ (at-place .bad-place .ensures) (at-place-test .if2 .left) _ is-nesting
+    let start = at-kind-test .before .before .before in
+    too-deep _ _ (at-kind-test .if1 .left) _ (at-place .bad-place .ensures) (at-place-test .if2 .left) _ (start .pre .1)
     (c .if3 .taken)
-
-find-row-requires : tie.Need-find-row-requires
-find-row-requires c κs = search needs
 
 row-count-requires : tie.Need-row-count-requires
 row-count-requires c κs = search needs
@@ -42,31 +33,25 @@ cast-t8 c = search needs
 returns-4 : tie.Need-returns-4
 returns-4 c =
     let at-count = c .before in
-    let at-find = at-count .before in
-    let at-nesting-test = at-find .before in
-    let at-nesting = at-nesting-test .before in
-    let at-place-test = at-nesting .before in
+    let at-depth-test = at-count .before in
+    let at-place-test = at-depth-test .before in
     let at-place = at-place-test .before in
     let at-kind-test = at-place .before in
-    let few = at-kind-test .before .before .before .pre in
-    let is-nesting = nesting-told _ _ _ few (at-nesting .nesting-of .ensures) in
-    already-held _ _ (at-kind-test .if1 .left) _ (at-place .bad-place .ensures) (at-place-test .if2 .left) _ is-nesting
-    (at-nesting-test .if3 .left) _ (at-find .find-row .ensures) _ (at-count .row-count .ensures) (c .if4 .taken)
+    let start = at-kind-test .before .before .before in
+    already-held _ _ (at-kind-test .if1 .left) _ (at-place .bad-place .ensures) (at-place-test .if2 .left) _
+    (start .pre .1) (at-depth-test .if3 .left) _ (start .pre .2) _ (at-count .row-count .ensures) (c .if4 .taken)
 
 returns-5 : tie.Need-returns-5
 returns-5 c =
     let at-count = c .before .before in
-    let at-find = at-count .before in
-    let at-nesting-test = at-find .before in
-    let at-nesting = at-nesting-test .before in
-    let at-place-test = at-nesting .before in
+    let at-depth-test = at-count .before in
+    let at-place-test = at-depth-test .before in
     let at-place = at-place-test .before in
     let at-kind-test = at-place .before in
-    let few = at-kind-test .before .before .before .pre in
-    let is-nesting = nesting-told _ _ _ few (at-nesting .nesting-of .ensures) in
-    terms-full _ _ (at-kind-test .if1 .left) _ (at-place .bad-place .ensures) (at-place-test .if2 .left) _ is-nesting
-    (at-nesting-test .if3 .left) _ (at-find .find-row .ensures) _ (at-count .row-count .ensures)
-    (c .before .if4 .left) (c .if5 .taken)
+    let start = at-kind-test .before .before .before in
+    terms-full _ _ (at-kind-test .if1 .left) _ (at-place .bad-place .ensures) (at-place-test .if2 .left) _
+    (start .pre .1) (at-depth-test .if3 .left) _ (start .pre .2) _ (at-count .row-count .ensures) (c .before .if4 .left)
+    (c .if5 .taken)
 
 cast-t9 : tie.Need-cast-t9
 cast-t9 c = search needs
@@ -74,17 +59,14 @@ cast-t9 c = search needs
 returns-6 : tie.Need-returns-6
 returns-6 c =
     let at-count = c .before .before in
-    let at-find = at-count .before in
-    let at-nesting-test = at-find .before in
-    let at-nesting = at-nesting-test .before in
-    let at-place-test = at-nesting .before in
+    let at-depth-test = at-count .before in
+    let at-place-test = at-depth-test .before in
     let at-place = at-place-test .before in
     let at-kind-test = at-place .before in
-    let few = at-kind-test .before .before .before .pre in
-    let is-nesting = nesting-told _ _ _ few (at-nesting .nesting-of .ensures) in
-    row-held _ _ (at-kind-test .if1 .left) _ (at-place .bad-place .ensures) (at-place-test .if2 .left) _ is-nesting
-    (at-nesting-test .if3 .left) _ (at-find .find-row .ensures) _ (at-count .row-count .ensures)
-    (c .before .if4 .left) (c .if5 .left)
+    let start = at-kind-test .before .before .before in
+    row-held _ _ (at-kind-test .if1 .left) _ (at-place .bad-place .ensures) (at-place-test .if2 .left) _
+    (start .pre .1) (at-depth-test .if3 .left) _ (start .pre .2) _ (at-count .row-count .ensures) (c .before .if4 .left)
+    (c .if5 .left)
 
 pub term-answer-spec : {M : Type 1} → statement M
 term-answer-spec =
@@ -93,9 +75,7 @@ term-answer-spec =
     returns
     bad-place-requires
     returns-2
-    nesting-of-requires
     returns-3
-    find-row-requires
     row-count-requires
     cast-t8
     returns-4

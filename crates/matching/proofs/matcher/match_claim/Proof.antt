@@ -1,6 +1,6 @@
 -- The left row and then the right one. Assumes nothing.
 use borrow.Author.Needs.{needs}
-use Rattle.matching.specs.code.MatchTypes.{sidesIn, matchOf}
+use Rattle.matching.specs.code.MatchTypes.{sidesIn, matched}
 use Rattle.matching.proofs.Matching.{claim-way}
 use Rattle.matching.proofs.matcher.match_claim.Statement.{statement}
 use Rattle.matching.proofs.matcher.match_claim.Tie as tie
@@ -11,11 +11,22 @@ match-at-requires c κs = search needs
 match-at-requires-2 : tie.Need-match-at-requires-2
 match-at-requires-2 c κs = search needs
 
+same-length : tie.Need-same-length
+same-length c = search needs
+
+same-length-2 : tie.Need-same-length-2
+same-length-2 c = search needs
+
 returns : tie.Need-returns
 returns c =
-    let a = c .before .before .before .before .args in
-    claim-way (a .table .now) _ (a .x) (a .y) (sidesIn (a .s)) (matchOf (a .m))
-    (c .before .match-at .ensures) (c .match-at2 .ensures)
+    let at-right = c .before .before .before .before in
+    let left-back = at-right .before .before .before in
+    let at-left = left-back .before .before .before .before in
+    let at-lent = at-left .before .before in
+    let at-rows = at-lent .before .before .before .before in
+    let a = at-rows .before .args in
+    claim-way (a .table .now) _ (a .x) (a .y) (sidesIn (a .s)) (matched (a .fits) (a .known .now) (a .value .now))
+    (at-left .match-at .ensures) (at-right .match-at2 .ensures)
 
 pub match-claim-spec : {M : Type 1} → statement M
-match-claim-spec = tie.close (tie.spec match-at-requires match-at-requires-2 returns)
+match-claim-spec = tie.close (tie.spec match-at-requires match-at-requires-2 same-length same-length-2 returns)

@@ -1,19 +1,23 @@
 -- A number is compared, a letter is bound. Assumes nothing.
 use mathlib.Core.Path.{_∙_, ap}
+use lib.Dec.{eqb}
 use borrow.Author.Needs.{needs}
 use Rattle.matching.specs.code.RowYields.{bind}
-use Rattle.matching.specs.code.MatchTypes.{matchOf}
-use Rattle.matching.proofs.Matching.{number-way, letter-way}
+use Rattle.matching.specs.code.MatchTypes.{matched}
+use Rattle.matching.proofs.Matching.{checked, number-way, letter-way}
 use Rattle.matching.proofs.matcher.match_leaf.Statement.{statement}
 use Rattle.matching.proofs.matcher.match_leaf.Tie as tie
 
-checked-requires : tie.Need-checked-requires
-checked-requires c κs = search needs
+and-requires : tie.Need-and-requires
+and-requires c κs = search needs
 
 returns : tie.Need-returns
 returns c =
-    let a = c .before .before .before .args in
-    λ t depth. c .checked .ensures ∙ number-way t _ (a .x) (a .v) (matchOf (a .m)) depth (c .before .if1 .taken)
+    let at-if = c .before in
+    let a = at-if .before .before .before .before .args in
+    let m = matched (a .fits) (a .known .now) (a .value .now) in
+    λ t depth. checked m (eqb (a .v) (a .x)) (c .and .ensures)
+    ∙ number-way t _ (a .x) (a .v) m depth (at-if .if1 .taken)
 
 wide-requires : tie.Need-wide-requires
 wide-requires c κs = search needs
@@ -21,29 +25,33 @@ wide-requires c κs = search needs
 suits-letter-requires : tie.Need-suits-letter-requires
 suits-letter-requires c κs = search needs
 
-checked-requires-2 : tie.Need-checked-requires-2
-checked-requires-2 c κs = search needs
+and-requires-2 : tie.Need-and-requires-2
+and-requires-2 c κs = search needs
 
 bound-requires : tie.Need-bound-requires
 bound-requires c κs = search needs
 
+same-length : tie.Need-same-length
+same-length c = search needs
+
+same-length-2 : tie.Need-same-length-2
+same-length-2 c = search needs
+
 returns-2 : tie.Need-returns-2
 returns-2 c =
-    let d = c .before .before .before in
-    let s = c .before .before .suits-letter in
-    let a = d .before .before .before .args in
-    λ t depth. c .bound .ensures ∙ ap (bind (d .wide .result) (a .v)) (c .before .checked2 .ensures)
-    ∙ letter-way t _ (a .x) (a .v) (matchOf (a .m)) depth (d .wide .result) (s .result)
-    (d .before .if1 .left) (d .before .before .before .pre) (d .wide .ensures) (s .ensures)
+    let at-bound = c .before .before .before .before in
+    let at-and = at-bound .before .before .before in
+    let suits = at-and .before .suits-letter in
+    let at-wide = at-and .before .before in
+    let at-if = at-wide .before in
+    let at-start = at-if .before .before .before .before in
+    let a = at-start .args in
+    let m = matched (a .fits) (a .known .now) (a .value .now) in
+    λ t depth. at-bound .bound .ensures
+    ∙ ap (bind (at-wide .wide .result) (a .v)) (checked m (suits .result) (at-and .and2 .ensures))
+    ∙ letter-way t _ (a .x) (a .v) m depth (at-wide .wide .result) (suits .result)
+    (at-if .if1 .left) (at-start .pre .0) (at-wide .wide .ensures) (suits .ensures)
 
 pub match-leaf-spec : {M : Type 1} → statement M
-match-leaf-spec =
-    tie.close
-    (tie.spec
-    checked-requires
-    returns
-    wide-requires
-    suits-letter-requires
-    checked-requires-2
-    bound-requires
-    returns-2)
+match-leaf-spec = tie.close (tie.spec and-requires returns wide-requires suits-letter-requires and-requires-2
+    bound-requires same-length same-length-2 returns-2)

@@ -1,15 +1,16 @@
 -- No premise, one, or two. Assumes nothing.
 use borrow.Author.Needs.{needs}
-use Rattle.matching.specs.code.MatchTypes.{sidesIn, matchOf}
+use Rattle.matching.specs.code.MatchTypes.{sidesIn, matched}
 use Rattle.matching.proofs.Matching.{no-premise, one-premise, two-premises}
 use Rattle.matching.proofs.matcher.match_premises.Statement.{statement}
 use Rattle.matching.proofs.matcher.match_premises.Tie as tie
 
 returns : tie.Need-returns
 returns c =
-    let a = c .before .before .before .args in
-    no-premise (a .table .now) _ (a .at) (a .count) (sidesIn (a .first)) (sidesIn (a .second)) (matchOf (a .m))
-    (c .if1 .taken)
+    let at-rows = c .before .before .before .before in
+    let a = at-rows .before .args in
+    no-premise (a .table .now) _ (a .at) (a .count) (sidesIn (a .first)) (sidesIn (a .second))
+    (matched (a .fits) (a .known .now) (a .value .now)) (c .if1 .taken)
 
 add-entry-at : tie.Need-add-entry-at
 add-entry-at c = search needs
@@ -20,32 +21,45 @@ entry-at-requires c κs = search needs
 match-claim-requires : tie.Need-match-claim-requires
 match-claim-requires c κs = search needs
 
+same-length : tie.Need-same-length
+same-length c = search needs
+
+same-length-2 : tie.Need-same-length-2
+same-length-2 c = search needs
+
 returns-2 : tie.Need-returns-2
 returns-2 c =
-    let d = c .before .before in
-    let a = d .before .before .before .before .args in
-    one-premise (a .table .now) _ (a .at) (a .count) (sidesIn (a .first)) (sidesIn (a .second)) (matchOf (a .m))
-    (d .entry-at .ensures) (c .before .match-claim .ensures) (c .if2 .taken)
+    let back = c .before .before .before .before in
+    let at-claim = back .before in
+    let at-entry = at-claim .before .before .before in
+    let at-known = at-entry .before .before .before in
+    let a = at-known .before .before .before .args in
+    one-premise (a .table .now) _ (a .at) (a .count) (sidesIn (a .first)) (sidesIn (a .second))
+    (matched (a .fits) (a .known .now) (a .value .now)) (at-entry .entry-at .ensures) (at-claim .match-claim .ensures)
+    (c .if2 .taken)
 
 match-claim-requires-2 : tie.Need-match-claim-requires-2
 match-claim-requires-2 c κs = search needs
 
+same-length-3 : tie.Need-same-length-3
+same-length-3 c = search needs
+
+same-length-4 : tie.Need-same-length-4
+same-length-4 c = search needs
+
 returns-3 : tie.Need-returns-3
 returns-3 c =
-    let d = c .before .before .before in
-    let a = d .before .before .before .before .args in
-    two-premises (a .table .now) _ (a .at) (a .count) (sidesIn (a .first)) (sidesIn (a .second)) (matchOf (a .m))
-    (d .entry-at .ensures) (c .before .before .match-claim .ensures) (c .match-claim2 .ensures) (d .before .if1 .left)
-    (c .before .if2 .left)
+    let at-second = c .before .before .before .before in
+    let at-if = at-second .before .before .before in
+    let back = at-if .before .before .before .before in
+    let at-claim = back .before in
+    let at-entry = at-claim .before .before .before in
+    let at-known = at-entry .before .before .before in
+    let a = at-known .before .before .before .args in
+    two-premises (a .table .now) _ (a .at) (a .count) (sidesIn (a .first)) (sidesIn (a .second))
+    (matched (a .fits) (a .known .now) (a .value .now)) (at-entry .entry-at .ensures) (at-claim .match-claim .ensures)
+    (at-second .match-claim2 .ensures) (at-entry .before .if1 .left) (at-if .if2 .left)
 
 pub match-premises-spec : {M : Type 1} → statement M
-match-premises-spec =
-    tie.close
-    (tie.spec
-    returns
-    add-entry-at
-    entry-at-requires
-    match-claim-requires
-    returns-2
-    match-claim-requires-2
-    returns-3)
+match-premises-spec = tie.close (tie.spec returns add-entry-at entry-at-requires match-claim-requires same-length
+    same-length-2 returns-2 match-claim-requires-2 same-length-3 same-length-4 returns-3)

@@ -10,26 +10,26 @@ use Rattle.matching.proofs.Conditions.{none-asked, one-asked}
 use Rattle.matching.proofs.matcher.meets_condition.Statement.{statement}
 use Rattle.matching.proofs.matcher.meets_condition.Tie as tie
 
-element-copy-out-a : tie.Need-element-copy-out-a
-element-copy-out-a c = search needs
+shared-slice-read-a : tie.Need-shared-slice-read-a
+shared-slice-read-a c = search needs
 
-element-copy-out-b : tie.Need-element-copy-out-b
-element-copy-out-b c = search needs
+shared-slice-read-b : tie.Need-shared-slice-read-b
+shared-slice-read-b c = search needs
 
-element-copy-out-test : tie.Need-element-copy-out-test
-element-copy-out-test c = search needs
+shared-slice-read-test : tie.Need-shared-slice-read-test
+shared-slice-read-test c = search needs
 
 axis-below-requires : tie.Need-axis-below-requires
 axis-below-requires c κs = search needs
 
-element-copy-out-test-below : tie.Need-element-copy-out-test-below
-element-copy-out-test-below c = search needs
+shared-slice-read-test-below : tie.Need-shared-slice-read-test-below
+shared-slice-read-test-below c = search needs
 
-element-copy-out-test-below-2 : tie.Need-element-copy-out-test-below-2
-element-copy-out-test-below-2 c = search needs
+shared-slice-read-test-below-2 : tie.Need-shared-slice-read-test-below-2
+shared-slice-read-test-below-2 c = search needs
 
-element-copy-out-test-below-3 : tie.Need-element-copy-out-test-below-3
-element-copy-out-test-below-3 c = search needs
+shared-slice-read-test-below-3 : tie.Need-shared-slice-read-test-below-3
+shared-slice-read-test-below-3 c = search needs
 
 test-below-requires : tie.Need-test-below-requires
 test-below-requires c κs = search needs
@@ -43,63 +43,58 @@ or-requires c κs = search needs
 returns : tie.Need-returns
 unfolding conditionOf meets numbersIn axisLetter
 returns c =
-    let a = c .before .before .before .before .before .args in
-    one-asked (a .t2 .value) (a .k) a-below-b (ap conditionOf (c .before .match .keys1)) (c .axis-below .ensures)
+    let at-match = c .before in
+    let at-start = at-match .before .before .before .before in
+    let a = at-start .before .args in
+    one-asked (a .value .now) (a .k) a-below-b (ap conditionOf (at-match .match .keys1)) (c .axis-below .ensures)
 
 returns-2 : tie.Need-returns-2
 unfolding conditionOf meets numbersIn testLetter nameLetter
 returns-2 c =
-    let a = c .before .before .before .before .before .before .before .before .args in
-    one-asked (a .t2 .value) (a .k) N-below-M (ap conditionOf (c .before .before .before .before .match .keys2))
-    (c .test-below .ensures)
+    let at-match = c .before .before .before .before in
+    let at-start = at-match .before .before .before .before in
+    let a = at-start .before .args in
+    one-asked (a .value .now) (a .k) N-below-M (ap conditionOf (at-match .match .keys2)) (c .test-below .ensures)
 
 returns-3 : tie.Need-returns-3
 unfolding conditionOf meets numbersIn axisLetter
 returns-3 c =
-    let a = c .before .before .before .before .before .args in
-    one-asked (a .t2 .value) (a .k) b-from-3-to-10 (ap conditionOf (c .before .match .keys3)) (c .and .ensures)
+    let at-match = c .before in
+    let at-start = at-match .before .before .before .before in
+    let a = at-start .before .args in
+    one-asked (a .value .now) (a .k) b-from-3-to-10 (ap conditionOf (at-match .match .keys3)) (c .and .ensures)
 
 returns-4 : tie.Need-returns-4
 unfolding conditionOf meets numbersIn testLetter
 returns-4 c =
-    let a = c .before .before .before .before .before .args in
-    one-asked (a .t2 .value) (a .k) N-a-name-or-star (ap conditionOf (c .before .match .keys4)) (c .or .ensures)
+    let at-match = c .before in
+    let at-start = at-match .before .before .before .before in
+    let a = at-start .before .args in
+    one-asked (a .value .now) (a .k) N-a-name-or-star (ap conditionOf (at-match .match .keys4)) (c .or .ensures)
 
 returns-5 : tie.Need-returns-5
 unfolding conditionOf meets numbersIn testLetter
 returns-5 c =
-    let a = c .before .before .before .before .args in
-    one-asked (a .t2 .value) (a .k) N-not-node (ap conditionOf (c .match .keys5)) refl
+    let at-match = c in
+    let at-start = at-match .before .before .before .before in
+    let a = at-start .before .args in
+    one-asked (a .value .now) (a .k) N-not-node (ap conditionOf (at-match .match .keys5)) refl
 
 returns-6 : tie.Need-returns-6
 unfolding conditionOf meets numbersIn axisLetter
 returns-6 c =
-    let a = c .before .before .before .before .args in
-    one-asked (a .t2 .value) (a .k) a-not-attribute (ap conditionOf (c .match .keys6)) refl
+    let at-match = c in
+    let at-start = at-match .before .before .before .before in
+    let a = at-start .before .args in
+    one-asked (a .value .now) (a .k) a-not-attribute (ap conditionOf (at-match .match .keys6)) refl
 
 returns-7 : tie.Need-returns-7
 returns-7 c =
-    let a = c .before .before .before .before .args in
-    none-asked (a .t2 .value) (a .k) (c .match .rest)
+    let at-start = c .before .before .before .before in
+    let a = at-start .before .args in
+    none-asked (a .value .now) (a .k) (c .match .rest)
 
 pub meets-condition-spec : {M : Type 1} → statement M
-meets-condition-spec =
-    tie.close
-    (tie.spec
-    element-copy-out-a
-    element-copy-out-b
-    element-copy-out-test
-    axis-below-requires
-    element-copy-out-test-below
-    element-copy-out-test-below-2
-    element-copy-out-test-below-3
-    test-below-requires
-    and-requires
-    or-requires
-    returns
-    returns-2
-    returns-3
-    returns-4
-    returns-5
-    returns-6
-    returns-7)
+meets-condition-spec = tie.close (tie.spec shared-slice-read-a shared-slice-read-b shared-slice-read-test
+    axis-below-requires shared-slice-read-test-below shared-slice-read-test-below-2 shared-slice-read-test-below-3
+    test-below-requires and-requires or-requires returns returns-2 returns-3 returns-4 returns-5 returns-6 returns-7)

@@ -23,17 +23,11 @@ and-requires-2 c κs = search needs
 returns : tie.Need-returns
 returns c =
     let d = c .before .before in
-    let a = d .before .before .before .args in
-    conditions-way (numbersIn (a .m .value)) (a .k) (d .before .before .meets-condition .ensures)
+    let at-first = d .before .before in
+    let a = at-first .before .before .args in
+    conditions-way (numbersIn (a .value .now)) (a .k) (at-first .meets-condition .ensures)
     (d .before .meets-condition2 .ensures) (d .meets-condition3 .ensures) (c .before .and .ensures) (c .and2 .ensures)
 
 pub meets-conditions-spec : {M : Type 1} → statement M
-meets-conditions-spec =
-    tie.close
-    (tie.spec
-    meets-condition-requires
-    meets-condition-requires-2
-    meets-condition-requires-3
-    and-requires
-    and-requires-2
-    returns)
+meets-conditions-spec = tie.close (tie.spec meets-condition-requires meets-condition-requires-2
+    meets-condition-requires-3 and-requires and-requires-2 returns)

@@ -1,14 +1,16 @@
--- `read_rows` meets its contract. The loop's invariant:
--- the reading is what is left to read from `at` on, on the rows held now. Assumes nothing.
+-- `read_rows` meets its contract. The loop's invariant: the reading is what is left to read from `at` on, on the rows
+-- held now, and of these their nestings and a filter are kept. Assumes nothing.
 use Prim.Native.Nat.{_*_, _-_, _≤_}
 use mathlib.Core.Path.{_≡_, refl, sym, ap, _∙_}
 use native.Mathlib.Omega.{arith}
 use lib.ListN.{length, drop}
 use borrow.Author.Needs.{needs}
 use borrow.Author.Tests.{not-true, not-false}
-use Rattle.terms.specs.Row.{maxRows}
+use Rattle.terms.specs.Row.{tableOf, maxRows}
+use Rattle.terms.specs.code.Kept.{Kept}
+use Rattle.terms.proofs.RowsKept.{none-kept}
 use Rattle.lines.specs.Line.{lines}
-use Rattle.calls.specs.code.Tables.{rowWidth}
+use Rattle.calls.specs.code.Tables.{rowWidth, firstRows}
 use Rattle.session.specs.View.{freshSession}
 use Rattle.calls.specs.Promises.{rowStepAnswer}
 use Rattle.session.specs.Reading.{refusedAt, rowsRead}
@@ -19,43 +21,63 @@ use Rattle.session.proofs.read.read_rows.Statement.{statement}
 use Rattle.session.proofs.read.read_rows.Tie as tie
 
 abbrev Inv-loop : tie.InvT-loop
-Inv-loop bytes start rows₀ n₀ line₀ at₀ rows n line at =
+Inv-loop bytes start rows₀ table₀ filter₀ n₀ line₀ at₀ rows table filter n line at =
     (n ≤ maxRows) × (length rows ≡ rowWidth * maxRows) × (line ≤ at) × (at ≤ length bytes)
     × (rowsRead rowStepAnswer (holding rows₀ 0 (freshSession .steps) 0) 2 (lines (drop start bytes))
     ≡ rowsRead rowStepAnswer (holding rows n (freshSession .steps) 0) line (lines (drop at bytes)))
+    × Kept (firstRows n rows) table filter
 
 abbrev μ-loop : tie.MeasureT-loop
-μ-loop bytes start rows₀ n₀ line₀ at₀ rows n line at = length bytes - at
+μ-loop bytes start rows₀ table₀ filter₀ n₀ line₀ at₀ rows table filter n line at = length bytes - at
+
+no-nestings-requires : tie.Need-no-nestings-requires Inv-loop μ-loop
+no-nestings-requires c κs = search needs
+
+clear-filter-requires : tie.Need-clear-filter-requires Inv-loop μ-loop
+clear-filter-requires c κs = search needs
 
 loop-holds : tie.Need-loop-holds Inv-loop μ-loop
-loop-holds c = (omega arith, omega arith, omega arith, omega arith, refl)
+unfolding tableOf
+loop-holds c = (
+  omega arith,
+  omega arith,
+  omega arith,
+  omega arith,
+  refl,
+  none-kept _ _ (c .before .no-nestings .ensures) (c .clear-filter .ensures),
+)
 
 is-step-names-requires : tie.Need-is-step-names-requires Inv-loop μ-loop
 is-step-names-requires c κs = search needs
 
-add-t15 : tie.Need-add-t15 Inv-loop μ-loop
-add-t15 c = omega arith
+add-t19 : tie.Need-add-t19 Inv-loop μ-loop
+add-t19 c = omega arith
 
-add-t16 : tie.Need-add-t16 Inv-loop μ-loop
-add-t16 c = search needs
+add-t20 : tie.Need-add-t20 Inv-loop μ-loop
+add-t20 c = search needs
 
-add-t17 : tie.Need-add-t17 Inv-loop μ-loop
-add-t17 c = let a = c .before .before .before .before .before .before .args in
-    let l = c .before .before .before .loop in
-    omega (
-      arith,
-      names-there (a .bytes .now) (l .rows) (l .n) (l .line) (l .at)
-          (sym (c .before .is-step-names .ensures) ∙ c .if1 .taken) .1,
-    )
+add-t21 : tie.Need-add-t21 Inv-loop μ-loop
+add-t21 c =
+    let at-names = c .before in
+    let looped = at-names .before .before in
+    let l = looped .loop in
+    let known = looped .before .before .before in
+    let bytes = known .before .before .args .bytes .now in
+    let names = sym (at-names .is-step-names .ensures) ∙ c .if1 .taken in
+    omega (arith, names-there bytes (l .rows) (l .n) (l .line) (l .at) names .1)
 
 same-length : tie.Need-same-length Inv-loop μ-loop
 same-length c = omega arith
 
 returns : tie.Need-returns Inv-loop μ-loop
-returns c = let a = c .before .before .before .before .before .before .args in
-    let l = c .before .before .before .loop in
-    let (reading, inside) = names-there (a .bytes .now) (l .rows) (l .n) (l .line) (l .at)
-    (sym (c .before .is-step-names .ensures) ∙ c .if1 .taken) in
+returns c =
+    let at-names = c .before in
+    let looped = at-names .before .before in
+    let l = looped .loop in
+    let known = looped .before .before .before in
+    let bytes = known .before .before .args .bytes .now in
+    let names = sym (at-names .is-step-names .ensures) ∙ c .if1 .taken in
+    let (reading, inside) = names-there bytes (l .rows) (l .n) (l .line) (l .at) names in
     record { reading = sym (l .inv .4 ∙ reading); bounds = (omega arith, inside) }
 
 numbers-line-requires : tie.Need-numbers-line-requires Inv-loop μ-loop
@@ -65,29 +87,44 @@ same-length-2 : tie.Need-same-length-2 Inv-loop μ-loop
 same-length-2 c = omega arith
 
 returns-2 : tie.Need-returns-2 Inv-loop μ-loop
-returns-2 c = let a = c .before .before .before .before .before .before .before .before .before .args in
-    let l = c .before .before .before .before .before .before .loop in
-    record {
-      reading = sym (l .inv .4 ∙ row-wrong-there (a .bytes .now) (l .rows) (l .n) (l .line) (l .at)
-          (sym (c .before .before .before .before .is-step-names .ensures) ∙ c .before .before .before .if1 .left) _
-          (c .before .before .numbers-line .ensures) (not-true _ (c .if2 .taken)));
-      bounds = omega arith;
-    }
+returns-2 c =
+    let at-line = c .before .before in
+    let at-names-test = at-line .before in
+    let at-names = at-names-test .before in
+    let looped = at-names .before .before in
+    let known = looped .before .before .before in
+    let l = looped .loop in
+    let bytes = known .before .before .args .bytes .now in
+    let other = sym (at-names .is-step-names .ensures) ∙ at-names-test .if1 .left in
+    let wrong =
+    row-wrong-there bytes (l .rows) (l .n) (l .line) (l .at) other _ (at-line .numbers-line .ensures)
+    (not-true _ (c .if2 .taken)) in
+    record { reading = sym (l .inv .4 ∙ wrong); bounds = omega arith }
 
-array-read-t20 : tie.Need-array-read-t20 Inv-loop μ-loop
-array-read-t20 c = omega (arith, c .before .before .before .numbers-line .ensures .size)
+array-read-t24 : tie.Need-array-read-t24 Inv-loop μ-loop
+array-read-t24 c = omega (arith, c .before .before .before .numbers-line .ensures .size)
 
-array-read-t23 : tie.Need-array-read-t23 Inv-loop μ-loop
-array-read-t23 c = omega (arith, c .before .before .before .numbers-line .ensures .size)
+array-read-t27 : tie.Need-array-read-t27 Inv-loop μ-loop
+array-read-t27 c = omega (arith, c .before .before .before .numbers-line .ensures .size)
 
-array-read-t26 : tie.Need-array-read-t26 Inv-loop μ-loop
-array-read-t26 c = omega (arith, c .before .before .before .numbers-line .ensures .size)
+array-read-t30 : tie.Need-array-read-t30 Inv-loop μ-loop
+array-read-t30 c = omega (arith, c .before .before .before .numbers-line .ensures .size)
 
-array-read-t29 : tie.Need-array-read-t29 Inv-loop μ-loop
-array-read-t29 c = omega (arith, c .before .before .before .numbers-line .ensures .size)
+array-read-t33 : tie.Need-array-read-t33 Inv-loop μ-loop
+array-read-t33 c = omega (arith, c .before .before .before .numbers-line .ensures .size)
 
-term-in-place-requires : tie.Need-term-in-place-requires Inv-loop μ-loop
-term-in-place-requires c κs = (omega arith, omega arith)
+slice-aggregate-term-kept : tie.Need-slice-aggregate-term-kept Inv-loop μ-loop
+slice-aggregate-term-kept c = search needs
+
+slice-aggregate-term-kept-2 : tie.Need-slice-aggregate-term-kept-2 Inv-loop μ-loop
+slice-aggregate-term-kept-2 c = search needs
+
+term-kept-requires : tie.Need-term-kept-requires Inv-loop μ-loop
+term-kept-requires c κs =
+    let at-form = c .before .before .before .before in
+    let at-names-test = at-form .before .before .before in
+    let l = at-names-test .before .before .before .loop in
+    (l .inv .0, l .inv .1, l .inv .5)
 
 number-requires : tie.Need-number-requires Inv-loop μ-loop
 number-requires c κs = search needs
@@ -97,14 +134,27 @@ same-length-3 c = omega arith
 
 returns-3 : tie.Need-returns-3 Inv-loop μ-loop
 returns-3 c =
-    let a = c .before .before .before .before .before .before .before .before .before .before .before .before .before .before .before .before .args in let l = c .before .before .before .before .before .before .before .before .before .before .before .before .before .loop in
-    record {
-      reading = ap (λ k. refusedAt k (l .line)) (c .before .number .ensures) ∙ sym (l .inv .4
-          ∙ row-refused-there (a .bytes .now) (l .rows) (l .n) (l .line) (l .at)
-          (sym (c .before .before .before .before .before .before .before .before .before .before .before .is-step-names .ensures) ∙ c .before .before .before .before .before .before .before .before .before .before .if1 .left) _ (c .before .before .before .before .before .before .before .before .before .numbers-line .ensures) (not-false _ (c .before .before .before .before .before .before .before .if2 .left)) (l .inv .0) _ _ (c .before .before .before .before .term-in-place .ensures)
-          (λ e. c .if3 .taken (c .before .number .ensures ∙ e)));
-      bounds = omega arith;
-    }
+    let at-number = c .before in
+    let at-rows = at-number .before .before .before .before in
+    let at-term = at-rows .before in
+    let at-numbers = at-term .before .before .before .before in
+    let at-form = at-numbers .before in
+    let at-line = at-form .before .before in
+    let at-names-test = at-line .before in
+    let at-names = at-names-test .before in
+    let looped = at-names .before .before in
+    let known = looped .before .before .before in
+    let l = looped .loop in
+    let bytes = known .before .before .args .bytes .now in
+    let other = sym (at-names .is-step-names .ensures) ∙ at-names-test .if1 .left in
+    let met = at-line .numbers-line .ensures in
+    let right = not-false _ (at-form .if2 .left) in
+    let placed = at-term .term-kept .ensures .placed in
+    let number = at-number .number .ensures in
+    let refused =
+    row-refused-there bytes (l .rows) (l .n) (l .line) (l .at) other _ met right (l .inv .0) _ _ placed
+    (λ e. c .if3 .taken (number ∙ e)) in
+    record { reading = ap (λ k. refusedAt k (l .line)) number ∙ sym (l .inv .4 ∙ refused); bounds = omega arith }
 
 add-n : tie.Need-add-n Inv-loop μ-loop
 add-n c = omega arith
@@ -114,39 +164,56 @@ add-line c = omega arith
 
 loop-less : tie.Need-loop-less Inv-loop μ-loop
 loop-less c =
-    let bounds = c .before .before .before .before .before .before .before .before .before .numbers-line .ensures .right
-    (not-false _ (c .before .before .before .before .before .before .before .if2 .left)) in omega arith
+    let at-rows = c .before .before .before .before in
+    let at-term = at-rows .before .before in
+    let at-numbers = at-term .before .before .before .before in
+    let at-form = at-numbers .before in
+    let bounds = at-form .before .before .numbers-line .ensures .right (not-false _ (at-form .if2 .left)) in
+    omega arith
 
 loop-again : tie.Need-loop-again Inv-loop μ-loop
 loop-again c =
-    let a = c .before .before .before .before .before .before .before .before .before .before .before .before .before .before .before .before .args in let l = c .before .before .before .before .before .before .before .before .before .before .before .before .before .loop in
-    let held = sym (c .before .number .ensures) ∙ c .if3 .left in
-    let other =
-    sym (c .before .before .before .before .before .before .before .before .before .before .before .is-step-names .ensures) ∙ c .before .before .before .before .before .before .before .before .before .before .if1 .left in
-    let right = not-false _ (c .before .before .before .before .before .before .before .if2 .left) in
-    let bounds = c .before .before .before .before .before .before .before .before .before .numbers-line .ensures .right
-    right in
-    let room = row-room (a .bytes .now) (l .rows) (l .n) (l .line) (l .at) other _
-    (c .before .before .before .before .before .before .before .before .before .numbers-line .ensures) right
-    (l .inv .0) _ _ (c .before .before .before .before .term-in-place .ensures) held (l .inv .1) in (
+    let at-number = c .before in
+    let at-rows = at-number .before .before .before .before in
+    let at-term = at-rows .before in
+    let at-numbers = at-term .before .before .before .before in
+    let at-form = at-numbers .before in
+    let at-line = at-form .before .before in
+    let at-names-test = at-line .before in
+    let at-names = at-names-test .before in
+    let looped = at-names .before .before in
+    let known = looped .before .before .before in
+    let l = looped .loop in
+    let bytes = known .before .before .args .bytes .now in
+    let other = sym (at-names .is-step-names .ensures) ∙ at-names-test .if1 .left in
+    let met = at-line .numbers-line .ensures in
+    let right = not-false _ (at-form .if2 .left) in
+    let placed = at-term .term-kept .ensures .placed in
+    let held = sym (at-number .number .ensures) ∙ c .if3 .left in
+    let bounds = met .right right in
+    let room =
+    row-room bytes (l .rows) (l .n) (l .line) (l .at) other _ met right (l .inv .0) _ _ placed held (l .inv .1) in
+    let next =
+    row-held-there bytes (l .rows) (l .n) (l .line) (l .at) other _ met right (l .inv .0) _ _ placed held in (
       omega arith,
       omega arith,
       omega arith,
       omega arith,
-      l .inv .4 ∙ row-held-there (a .bytes .now) (l .rows) (l .n) (l .line) (l .at) other _
-          (c .before .before .before .before .before .before .before .before .before .numbers-line .ensures) right
-          (l .inv .0) _ _ (c .before .before .before .before .term-in-place .ensures) held,
+      l .inv .4 ∙ next,
+      at-term .term-kept .ensures .kept held,
     )
 
 same-length-4 : tie.Need-same-length-4 Inv-loop μ-loop
 same-length-4 c = omega arith
 
 returns-4 : tie.Need-returns-4 Inv-loop μ-loop
-returns-4 c = let a = c .before .before .before .before .args in let l = c .before .loop in
-    record {
-      reading = sym (l .inv .4 ∙ row-end (a .bytes .now) (l .rows) (l .n) (l .line) (l .at) (c .loop-test .left));
-      bounds = omega arith;
-    }
+returns-4 c =
+    let looped = c .before in
+    let known = looped .before .before .before in
+    let l = looped .loop in
+    let bytes = known .before .before .args .bytes .now in
+    let ended = row-end bytes (l .rows) (l .n) (l .line) (l .at) (c .loop-test .left) in
+    record { reading = sym (l .inv .4 ∙ ended); bounds = omega arith }
 
 pub read-rows-spec : {M : Type 1} → statement M
 read-rows-spec =
@@ -154,21 +221,25 @@ read-rows-spec =
     (tie.spec
     Inv-loop
     μ-loop
+    no-nestings-requires
+    clear-filter-requires
     loop-holds
     is-step-names-requires
-    add-t15
-    add-t16
-    add-t17
+    add-t19
+    add-t20
+    add-t21
     same-length
     returns
     numbers-line-requires
     same-length-2
     returns-2
-    array-read-t20
-    array-read-t23
-    array-read-t26
-    array-read-t29
-    term-in-place-requires
+    array-read-t24
+    array-read-t27
+    array-read-t30
+    array-read-t33
+    slice-aggregate-term-kept
+    slice-aggregate-term-kept-2
+    term-kept-requires
     number-requires
     same-length-3
     returns-3

@@ -17,13 +17,16 @@ use Rattle.session.proofs.read.read_steps.Statement.{statement}
 use Rattle.session.proofs.read.read_steps.Tie as tie
 
 abbrev Inv-loop : tie.InvT-loop
-Inv-loop bytes start first rows n steps₀ m₀ line₀ at₀ steps m line at =
+Inv-loop bytes start first rows n steps₀ table₀ m₀ line₀ at₀ steps m line at =
     (m ≤ maxSteps) × (length steps ≡ stepWidth * maxSteps) × (line ≤ at) × (at ≤ length bytes)
     × (stepsRead rowStepAnswer (holding rows n steps₀ 0) first (lines (drop start bytes)) ≡ stepsRead rowStepAnswer
     (holding rows n steps m) line (lines (drop at bytes)))
 
 abbrev μ-loop : tie.MeasureT-loop
-μ-loop bytes start first rows n steps₀ m₀ line₀ at₀ steps m line at = length bytes - at
+μ-loop bytes start first rows n steps₀ table₀ m₀ line₀ at₀ steps m line at = length bytes - at
+
+rule-table-requires : tie.Need-rule-table-requires Inv-loop μ-loop
+rule-table-requires c κs = search needs
 
 loop-holds : tie.Need-loop-holds Inv-loop μ-loop
 loop-holds c = (omega arith, omega arith, omega arith, omega arith, refl)
@@ -35,32 +38,41 @@ same-length : tie.Need-same-length Inv-loop μ-loop
 same-length c = omega arith
 
 returns : tie.Need-returns Inv-loop μ-loop
-returns c = let a = c .before .before .before .before .before .before .before .before .args in
-    let l = c .before .before .before .before .loop in
+returns c =
+    let at-line = c .before .before in
+    let at-loop = at-line .before .before in
+    let l = at-loop .loop in
+    let at-table = at-loop .before in
+    let a = at-table .before .before .before .before .args in
+    let wrong = step-wrong-there (a .bytes .now) (a .rows .now) (a .n) (l .steps) (l .m) (l .line) (l .at)
+    _ (at-line .numbers-line .ensures) (at-line .before .loop-test .taken) (not-true _ (c .if1 .taken)) in
     record {
-      reading = sym (l .inv .4 ∙ step-wrong-there (a .bytes .now) (a .rows .now) (a .n) (l .steps) (l .m) (l .line)
-          (l .at) _ (c .before .before .numbers-line .ensures) (c .before .before .before .loop-test .taken)
-          (not-true _ (c .if1 .taken)));
+      reading = sym (l .inv .4 ∙ wrong);
       bounds = omega arith;
     }
 
-array-read-t19 : tie.Need-array-read-t19 Inv-loop μ-loop
-array-read-t19 c = omega (arith, c .before .before .before .numbers-line .ensures .size)
+array-read-t21 : tie.Need-array-read-t21 Inv-loop μ-loop
+array-read-t21 c = omega (arith, c .before .before .before .numbers-line .ensures .size)
 
-array-read-t22 : tie.Need-array-read-t22 Inv-loop μ-loop
-array-read-t22 c = omega (arith, c .before .before .before .numbers-line .ensures .size)
+array-read-t24 : tie.Need-array-read-t24 Inv-loop μ-loop
+array-read-t24 c = omega (arith, c .before .before .before .numbers-line .ensures .size)
 
-array-read-t25 : tie.Need-array-read-t25 Inv-loop μ-loop
-array-read-t25 c = omega (arith, c .before .before .before .numbers-line .ensures .size)
+array-read-t27 : tie.Need-array-read-t27 Inv-loop μ-loop
+array-read-t27 c = omega (arith, c .before .before .before .numbers-line .ensures .size)
 
-array-read-t28 : tie.Need-array-read-t28 Inv-loop μ-loop
-array-read-t28 c = omega (arith, c .before .before .before .numbers-line .ensures .size)
+array-read-t30 : tie.Need-array-read-t30 Inv-loop μ-loop
+array-read-t30 c = omega (arith, c .before .before .before .numbers-line .ensures .size)
 
-array-read-t31 : tie.Need-array-read-t31 Inv-loop μ-loop
-array-read-t31 c = omega (arith, c .before .before .before .numbers-line .ensures .size)
+array-read-t33 : tie.Need-array-read-t33 Inv-loop μ-loop
+array-read-t33 c = omega (arith, c .before .before .before .numbers-line .ensures .size)
+
+slice-aggregate-judge-step : tie.Need-slice-aggregate-judge-step Inv-loop μ-loop
+slice-aggregate-judge-step c = search needs
 
 judge-step-requires : tie.Need-judge-step-requires Inv-loop μ-loop
-judge-step-requires c κs = search needs
+judge-step-requires c κs =
+    let at-struct = c .before .before .before .before in
+    at-struct .before .before .before .before .rule-table .ensures
 
 number-requires : tie.Need-number-requires Inv-loop μ-loop
 number-requires c κs = search needs
@@ -70,27 +82,38 @@ same-length-2 c = omega arith
 
 returns-2 : tie.Need-returns-2 Inv-loop μ-loop
 returns-2 c =
-    let a = c .before .before .before .before .before .before .before .before .before .before .before .before .before .args in let l = c .before .before .before .before .before .before .before .before .before .loop in
+    let at-judge = c .before .before in
+    let at-form = at-judge .before .before .before .before in
+    let at-line = at-form .before .before in
+    let at-loop = at-line .before .before in
+    let l = at-loop .loop in
+    let at-table = at-loop .before in
+    let a = at-table .before .before .before .before .args in
+    let right = not-false _ (at-form .if1 .left) in
+    let refused = step-refused-there (a .bytes .now) (a .rows .now) (a .n) (l .steps) (l .m) (l .line) (l .at)
+    _ (at-line .numbers-line .ensures) right (l .inv .0) (at-judge .judge-step .result) (at-judge .judge-step .ensures)
+    (λ e. c .if2 .taken (c .before .number .ensures ∙ e)) in
     record {
-      reading = ap (λ k. refusedAt k (l .line)) (c .before .number .ensures) ∙ sym (l .inv .4
-          ∙ step-refused-there (a .bytes .now) (a .rows .now) (a .n) (l .steps) (l .m) (l .line) (l .at) _
-          (c .before .before .before .before .before .before .before .numbers-line .ensures)
-          (not-false _ (c .before .before .before .before .before .if1 .left)) (l .inv .0)
-          (c .before .before .judge-step .result) (c .before .before .judge-step .ensures)
-          (λ e. c .if2 .taken (c .before .number .ensures ∙ e)));
+      reading = ap (λ k. refusedAt k (l .line)) (c .before .number .ensures) ∙ sym (l .inv .4 ∙ refused);
       bounds = omega arith;
     }
 
 put-step-requires : tie.Need-put-step-requires Inv-loop μ-loop
 put-step-requires c κs =
-    let a = c .before .before .before .before .before .before .before .before .before .before .before .before .before .before .args in let l = c .before .before .before .before .before .before .before .before .before .before .loop in
-    let held = sym (c .before .before .number .ensures) ∙ c .before .if2 .left in (
-      step-room (a .bytes .now) (a .rows .now) (a .n) (l .steps) (l .m) (l .line) (l .at) _
-          (c .before .before .before .before .before .before .before .before .numbers-line .ensures)
-          (not-false _ (c .before .before .before .before .before .before .if1 .left)) (l .inv .0)
-          (c .before .before .before .judge-step .result) (c .before .before .before .judge-step .ensures) held (l .inv .1),
-      l .inv .1,
-    )
+    let at-if = c .before in
+    let at-judge = at-if .before .before in
+    let at-form = at-judge .before .before .before .before in
+    let at-line = at-form .before .before in
+    let at-loop = at-line .before .before in
+    let l = at-loop .loop in
+    let at-table = at-loop .before in
+    let a = at-table .before .before .before .before .args in
+    let held = sym (at-if .before .number .ensures) ∙ at-if .if2 .left in
+    let right = not-false _ (at-form .if1 .left) in
+    let room = step-room (a .bytes .now) (a .rows .now) (a .n) (l .steps) (l .m) (l .line) (l .at)
+    _ (at-line .numbers-line .ensures) right (l .inv .0) (at-judge .judge-step .result) (at-judge .judge-step .ensures)
+    held (l .inv .1) in
+    (room, l .inv .1)
 
 add-m : tie.Need-add-m Inv-loop μ-loop
 add-m c = omega arith
@@ -100,37 +123,46 @@ add-line c = omega arith
 
 loop-less : tie.Need-loop-less Inv-loop μ-loop
 loop-less c =
-    let bounds =
-    c .before .before .before .before .before .before .before .before .before .before .before .numbers-line .ensures .right (not-false _ (c .before .before .before .before .before .before .before .before .before .if1 .left)) in omega arith
+    let at-if = c .before .before .before .before in
+    let at-judge = at-if .before .before in
+    let at-form = at-judge .before .before .before .before in
+    let at-line = at-form .before .before in
+    let bounds = at-line .numbers-line .ensures .right (not-false _ (at-form .if1 .left)) in
+    omega arith
 
 loop-again : tie.Need-loop-again Inv-loop μ-loop
 loop-again c =
-    let a = c .before .before .before .before .before .before .before .before .before .before .before .before .before .before .before .before .before .args in let l = c .before .before .before .before .before .before .before .before .before .before .before .before .before .loop in
-    let held = sym (c .before .before .before .before .before .number .ensures)
-    ∙ c .before .before .before .before .if2 .left in
-    let right = not-false _ (c .before .before .before .before .before .before .before .before .before .if1 .left) in
-    let bounds =
-    c .before .before .before .before .before .before .before .before .before .before .before .numbers-line .ensures .right right in
-    let room = step-room (a .bytes .now) (a .rows .now) (a .n) (l .steps) (l .m) (l .line) (l .at) _
-    (c .before .before .before .before .before .before .before .before .before .before .before .numbers-line .ensures) right (l .inv .0) (c .before .before .before .before .before .before .judge-step .result) (c .before .before .before .before .before .before .judge-step .ensures) held (l .inv .1) in (
-      omega arith,
-      omega arith,
-      omega arith,
-      omega arith,
-      l .inv .4 ∙ step-held-there (a .bytes .now) (a .rows .now) (a .n) (l .steps) (l .m) (l .line) (l .at) _
-          (c .before .before .before .before .before .before .before .before .before .before .before .numbers-line .ensures) right (l .inv .0) (c .before .before .before .before .before .before .judge-step .result) (c .before .before .before .before .before .before .judge-step .ensures) held _ (c .before .before .put-step .ensures),
-    )
+    let at-put = c .before .before in
+    let at-if = at-put .before .before in
+    let at-judge = at-if .before .before in
+    let at-form = at-judge .before .before .before .before in
+    let at-line = at-form .before .before in
+    let at-loop = at-line .before .before in
+    let l = at-loop .loop in
+    let at-table = at-loop .before in
+    let a = at-table .before .before .before .before .args in
+    let held = sym (at-if .before .number .ensures) ∙ at-if .if2 .left in
+    let right = not-false _ (at-form .if1 .left) in
+    let bounds = at-line .numbers-line .ensures .right right in
+    let room = step-room (a .bytes .now) (a .rows .now) (a .n) (l .steps) (l .m) (l .line) (l .at)
+    _ (at-line .numbers-line .ensures) right (l .inv .0) (at-judge .judge-step .result) (at-judge .judge-step .ensures)
+    held (l .inv .1) in
+    let later = step-held-there (a .bytes .now) (a .rows .now) (a .n) (l .steps) (l .m) (l .line) (l .at)
+    _ (at-line .numbers-line .ensures) right (l .inv .0) (at-judge .judge-step .result) (at-judge .judge-step .ensures)
+    held _ (at-put .put-step .ensures) in
+    (omega arith, omega arith, omega arith, omega arith, l .inv .4 ∙ later)
 
 same-length-3 : tie.Need-same-length-3 Inv-loop μ-loop
 same-length-3 c = omega arith
 
 returns-3 : tie.Need-returns-3 Inv-loop μ-loop
-returns-3 c = let a = c .before .before .before .before .before .args in let l = c .before .loop in
-    record {
-      reading = sym (l .inv .4 ∙ step-end (a .bytes .now) (a .rows .now) (a .n) (l .steps) (l .m) (l .line) (l .at)
-          (c .loop-test .left) (l .inv .0) (l .inv .1));
-      bounds = l .inv .0;
-    }
+returns-3 c =
+    let l = c .before .loop in
+    let at-table = c .before .before in
+    let a = at-table .before .before .before .before .args in
+    let end = step-end (a .bytes .now) (a .rows .now) (a .n) (l .steps) (l .m) (l .line) (l .at) (c .loop-test .left)
+    (l .inv .0) (l .inv .1) in
+    record { reading = sym (l .inv .4 ∙ end); bounds = l .inv .0 }
 
 pub read-steps-spec : {M : Type 1} → statement M
 read-steps-spec =
@@ -138,15 +170,17 @@ read-steps-spec =
     (tie.spec
     Inv-loop
     μ-loop
+    rule-table-requires
     loop-holds
     numbers-line-requires
     same-length
     returns
-    array-read-t19
-    array-read-t22
-    array-read-t25
-    array-read-t28
-    array-read-t31
+    array-read-t21
+    array-read-t24
+    array-read-t27
+    array-read-t30
+    array-read-t33
+    slice-aggregate-judge-step
     judge-step-requires
     number-requires
     same-length-2

@@ -17,8 +17,16 @@ use Rattle.session.proofs.session.Session.step.Tie as tie
 clamp-requires : tie.Need-clamp-requires
 clamp-requires c κs = search needs
 
+rule-table-requires : tie.Need-rule-table-requires
+rule-table-requires c κs = search needs
+
+slice-aggregate-judge-step : tie.Need-slice-aggregate-judge-step
+slice-aggregate-judge-step c = search needs
+
 judge-step-requires : tie.Need-judge-step-requires
-judge-step-requires c κs = search needs
+judge-step-requires c κs =
+    let at-rows = c .before .before .before .before in
+    at-rows .before .before .rule-table .ensures
 
 number-requires : tie.Need-number-requires
 number-requires c κs = search needs
@@ -28,8 +36,9 @@ unfolding rowStepAnswer
 put-in-table-requires c κs =
     let at-number = c .before .before in
     let at-judge = at-number .before in
-    let at-self = at-judge .before .before .before .before in
-    let at-clamp = at-self .before .before in
+    let at-table = at-judge .before in
+    let at-rows = at-table .before .before .before .before in
+    let at-clamp = at-rows .before .before .before in
     let a = at-clamp .before .args in
     let size : length (a .t1 .steps) ≡ stepWidth * maxSteps = search needs in
     let held = sym (at-number .number .ensures) ∙ c .before .if1 .taken in
@@ -44,16 +53,18 @@ returns : tie.Need-returns
 returns c =
     let at-if = c .before .before in
     let at-judge = at-if .before .before in
-    let at-self = at-judge .before .before .before .before in
-    let at-clamp = at-self .before .before in
+    let at-table = at-judge .before in
+    let at-rows = at-table .before .before .before .before in
+    let at-clamp = at-rows .before .before .before in
     step-made-held (at-clamp .before .args .t1) _ (at-judge .judge-step .result) (at-judge .judge-step .ensures)
     (sym (at-if .before .number .ensures) ∙ at-if .if1 .taken) _ (at-clamp .clamp .ensures) _ (c .put-in-table .ensures)
 
 returns-2 : tie.Need-returns-2
 returns-2 c =
     let at-judge = c .before .before in
-    let at-self = at-judge .before .before .before .before in
-    step-made-refused (at-self .before .before .before .args .t1) _ (at-judge .judge-step .result)
+    let at-table = at-judge .before in
+    let at-rows = at-table .before .before .before .before in
+    step-made-refused (at-rows .before .before .before .before .args .t1) _ (at-judge .judge-step .result)
     (at-judge .judge-step .ensures) (λ e. c .if1 .left (c .before .number .ensures ∙ e))
 
 pub step-spec : {M : Type 1} → statement M
@@ -61,6 +72,8 @@ step-spec =
     tie.close
     (tie.spec
     clamp-requires
+    rule-table-requires
+    slice-aggregate-judge-step
     judge-step-requires
     number-requires
     put-in-table-requires

@@ -1,0 +1,62 @@
+-- `keep` meets its contract: one more nesting, and one more slot that is marked. Assumes nothing.
+use native.Mathlib.Omega.{arith}
+use Rattle.terms.specs.Row.{tableOf}
+use Rattle.terms.specs.code.RowTypes.{rowOf}
+use Rattle.terms.proofs.RowsKept.{slot-below, more-kept}
+use borrow.Author.Needs.{needs}
+use Rattle.terms.proofs.kept.keep.Statement.{statement}
+use Rattle.terms.proofs.kept.keep.Tie as tie
+
+row-count-requires : tie.Need-row-count-requires
+row-count-requires c κs = search needs
+
+nesting-kept-requires : tie.Need-nesting-kept-requires
+nesting-kept-requires c κs =
+    let start = c .before .before .before .before .before in
+    (omega (arith, start .pre .1), start .pre .0 .nested)
+
+slot-of-requires : tie.Need-slot-of-requires
+slot-of-requires c κs = search needs
+
+mul-table : tie.Need-mul-table
+mul-table c = search needs
+
+slice-write-table : tie.Need-slice-write-table
+slice-write-table c =
+    let start = c .before .before .before .before .before .before .before in
+    omega (arith, start .pre .1, start .pre .0 .nested .size)
+
+slice-write-filter : tie.Need-slice-write-filter
+slice-write-filter c =
+    let start = c .before .before .before .before .before .before .before in
+    omega (arith, slot-below (rowOf (start .args .row)), start .pre .0 .filtered .size)
+
+same-length : tie.Need-same-length
+same-length c = search needs
+
+same-length-2 : tie.Need-same-length-2
+same-length-2 c = search needs
+
+returns : tie.Need-returns
+returns c =
+    let at-count = c .before .before .before in
+    let start = at-count .before .before .before .before in
+    let a = start .args in
+    let kept =
+    more-kept (tableOf (a .rows .now)) (rowOf (a .row)) (a .table .now) (a .filter .now) _ (start .pre .1)
+    (c .before .nesting-kept .ensures) (start .pre .0) in
+    rw (at-count .row-count .ensures, c .slot-of .ensures) kept
+
+pub keep-spec : {M : Type 1} → statement M
+keep-spec =
+    tie.close
+    (tie.spec
+    row-count-requires
+    nesting-kept-requires
+    slot-of-requires
+    mul-table
+    slice-write-table
+    slice-write-filter
+    same-length
+    same-length-2
+    returns)
