@@ -1,5 +1,6 @@
 #include "bundle.h"
 
+#include <stdio.h>
 #include <string.h>
 
 static const char STEP_NAMES[] = "rule left right first second\n";
@@ -21,6 +22,26 @@ size_t line_start(const uint8_t *bytes, size_t length, size_t line)
         at = newline == NULL ? length : (size_t)(newline - bytes) + 1;
     }
     return at;
+}
+
+void show_line(struct bytes text, size_t line, bool wrong_form, char shown[SHOWN_LINE])
+{
+    enum { MOST = 80 };
+    size_t start = line_start(text.at, text.length, line);
+    size_t end = line_start(text.at, text.length, line + 1);
+    if (start == end) {
+        strcpy(shown, "missing");
+        return;
+    }
+    bool whole = text.at[end - 1] == '\n';
+    size_t length = end - start - whole, cut = length > MOST ? MOST : length;
+    for (size_t i = 0; i < cut; i++) {
+        uint8_t byte = text.at[start + i];
+        shown[i] = byte >= 0x20 && byte < 0x7f ? (char)byte : '?';
+    }
+    bool returned = memchr(text.at + start, '\r', length) != NULL;
+    const char *unseen = !whole ? " (its newline is missing)" : returned ? " (a carriage return)" : "";
+    snprintf(shown + cut, SHOWN_LINE - cut, "%s%s", cut < length ? ".." : "", wrong_form ? unseen : "");
 }
 
 /* The `count` numbers of the line from `at` to `end`; false where it has others. */

@@ -33,6 +33,11 @@ size_t lines_in(const uint8_t *bytes, size_t length);
 /* Where line n, from 1, starts; the length where there is no such line. */
 size_t line_start(const uint8_t *bytes, size_t length, size_t line);
 
+/* Line n, from 1, as a terminal may show it: cut where it is long, with `?` for what can't be printed, or `missing`.
+   Of a line of the wrong form it is said if its newline is missing or it has a carriage return, which nobody sees. */
+enum { SHOWN_LINE = 120 };
+void show_line(struct bytes text, size_t line, bool wrong_form, char shown[SHOWN_LINE]);
+
 /* The rows and steps of a text whose lines but the last one are accepted, and whose last one is of the right form.
    A line that is not so ends it. */
 void parse_bundle(const uint8_t *bytes, size_t length, struct bundle *bundle);

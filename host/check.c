@@ -27,16 +27,6 @@ static struct sight *sight_of(const uint8_t *bytes, size_t length, const struct 
     return sight;
 }
 
-/* The line, cut where it is long, with `?` for what can't be printed. */
-static void print_line(const uint8_t *line, size_t length, FILE *out)
-{
-    enum { MOST = 80 };
-    for (size_t i = 0; i < length && i < MOST; i++) {
-        fputc(line[i] >= 0x20 && line[i] < 0x7f ? line[i] : '?', out);
-    }
-    fputs(length > MOST ? "..\n" : "\n", out);
-}
-
 static void print_step(struct sight *sight, size_t number, FILE *out)
 {
     const struct step *step = &sight->bundle.steps[number - 1];
@@ -44,8 +34,7 @@ static void print_step(struct sight *sight, size_t number, FILE *out)
     show_claim(&sight->shown, step->left, step->right);
 }
 
-/* The claim of a step that its rule doesn't yield, which is the last one parsed, its premises' claims and the rule.
-   */
+/* The claim of a step that its rule doesn't yield, which is the last one parsed, its premises' claims and the rule. */
 static void print_not_yielded(struct sight *sight, FILE *out)
 {
     size_t count = sight->bundle.step_count;
@@ -72,18 +61,13 @@ static void print_not_yielded(struct sight *sight, FILE *out)
 
 static int print_refusal(struct bytes bundle, uint16_t answer, size_t line, const struct names *names, FILE *out)
 {
-    size_t start = line_start(bundle.at, bundle.length, line);
-    size_t end = line_start(bundle.at, bundle.length, line + 1);
+    char shown[SHOWN_LINE];
     const char *text = spinebriar_answer_text(answer);
+    show_line(bundle, line, answer == SPINEBRIAR_WRONG_FORM, shown);
     fprintf(out, "refused at line %zu: %u, %s\n", line, answer, text == NULL ? "?" : text);
-    if (start < end) {
-        fprintf(out, "line %zu: ", line);
-        print_line(bundle.at + start, end - start - (bundle.at[end - 1] == '\n'), out);
-    } else {
-        fprintf(out, "line %zu: missing\n", line);
-    }
+    fprintf(out, "line %zu: %s\n", line, shown);
     if (answer == SPINEBRIAR_NOT_YIELDED) {
-        struct sight *sight = sight_of(bundle.at, end, names, out);
+        struct sight *sight = sight_of(bundle.at, line_start(bundle.at, bundle.length, line + 1), names, out);
         if (sight == NULL) {
             return UNREADABLE;
         }
@@ -131,7 +115,6 @@ int check_bytes(struct bytes bundle, const struct names *names, FILE *out)
     return status == YES ? print_accepted(bundle, names, LAST_STEP, out) : status;
 }
 
-
 static void print_explained(struct sight *sight, size_t number, FILE *out)
 {
     const struct step *step = &sight->bundle.steps[number - 1];
@@ -165,7 +148,7 @@ typedef int bytes_command(struct bytes bundle, const struct names *names, const 
 
 static int on_file(const struct options *options, bytes_command *command, FILE *out)
 {
-    struct names names = {{NULL, 0}, 0, NULL, NULL, 0};
+    struct names names = {.count = 0};
     struct bytes bundle = {NULL, 0};
     int status = UNREADABLE;
     if ((options->names == NULL || read_names(options->names, &names)) && read_bundle(options->file, &bundle)) {

@@ -30,6 +30,17 @@ void tell_selector(const char *selector, uint16_t answer, size_t place)
     }
 }
 
+/* A selector that nests too deep, or has a row that the bundle lacks and that doesn't fit, is no row of the bundle. */
+static int refuse_selector(const char *which, const char *selector, uint16_t answer, size_t place)
+{
+    complain("%s is refused", which);
+    tell_selector(selector, answer, place);
+    if (answer == SPINEBRIAR_TOO_DEEP || answer == SPINEBRIAR_TERMS_FULL) {
+        complain("so %s is no row of the bundle, and no step says that OLD is contained in NEW", which);
+    }
+    return NO;
+}
+
 int claim_bytes(struct bytes bundle, const struct names *names, const char *old_selector, const char *new_selector,
                 FILE *out)
 {
@@ -38,18 +49,22 @@ int claim_bytes(struct bytes bundle, const struct names *names, const char *old_
                                        (const uint8_t *)old_selector, strlen(old_selector),
                                        (const uint8_t *)new_selector, strlen(new_selector), &value, &part);
     if (part == SPINEBRIAR_THE_BUNDLE) {
-        return check_bytes(bundle, names, out);
+        int status = check_bytes(bundle, names, out);
+        return status == YES ? NO : status;
     }
     if (part != SPINEBRIAR_THE_CLAIM) {
         bool old = part == SPINEBRIAR_OLD_SELECTOR;
-        complain("%s is refused", old ? "OLD" : "NEW");
-        tell_selector(old ? old_selector : new_selector, answer, value);
+        return refuse_selector(old ? "OLD" : "NEW", old ? old_selector : new_selector, answer, value);
+    }
+    bool yes = answer == SPINEBRIAR_ACCEPTED;
+    int status = print_accepted(bundle, names, yes ? value : 0, out);
+    if (status != YES) {
+        return status;
+    }
+    if (!yes) {
+        fputs("no step says that OLD is contained in NEW\n", out);
         return NO;
     }
-    if (answer != SPINEBRIAR_ACCEPTED) {
-        int status = print_accepted(bundle, names, 0, out);
-        fputs("no step says that OLD is contained in NEW\n", out);
-        return status == YES ? NO : status;
-    }
-    return print_accepted(bundle, names, value, out);
+    fprintf(out, "yes: step %zu says that OLD is contained in NEW\n", value);
+    return YES;
 }

@@ -35,15 +35,23 @@ int print_accepted(struct bytes bundle, const struct names *names, size_t number
 int claim_bytes(struct bytes bundle, const struct names *names, const char *old_selector, const char *new_selector,
                 FILE *out);
 
-/* What select prints of a document that was read. */
-int select_nodes(const struct document *document, const struct names *names, const struct options *options, FILE *out);
+/* The nodes of a document that select finds: YES, with a mark of 1 or 0 for each, or NO after a message. And what it
+   prints of them. */
+int select_nodes(const struct document *document, const struct names *names, const struct options *options,
+                 uint8_t marks[MOST_NODES]);
+void print_nodes(const struct document *document, const struct names *names, const uint8_t marks[MOST_NODES],
+                 FILE *out);
 
 /* What file prints of calls, replay's lines; `path` is for messages. */
 int file_bytes(struct bytes calls, const char *path, FILE *out);
 
-/* The list of names and the document of the options' files, with --add names put into both lists. YES, and the
-   caller frees both; or another status after a message, with nothing to free. */
+/* The list of names and the document of the options' files; with --add the list, in memory, has all names of the
+   document. YES, and the caller frees both; or another status after a message, with nothing to free. */
 int load_document(const struct options *options, struct names *names, struct document *document);
+
+/* Puts the names that --add added at the end of the list's file, and says which numbers they have. YES, or another
+   status after a message. */
+int store_added(const struct options *options, const struct names *names, const struct document *document);
 
 /* A message that a selector is refused, with the place in it where the answer's value is one. */
 void tell_selector(const char *selector, uint16_t answer, size_t place);

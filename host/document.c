@@ -15,6 +15,7 @@ struct reading {
     bool in_text;      /* the node before is text, which goes on */
     bool in_doctype;   /* comments and instructions there are no nodes */
     bool entity_left;  /* an entity was left out */
+    bool memory_short; /* for a name that is to be added */
     char problem[256]; /* the first one with a name, or empty */
 };
 
@@ -50,8 +51,12 @@ static uint16_t added_number(struct reading *reading, const char *name)
         }
     }
     size_t number = reading->names->lines + document->added + 1;
-    char *copy = number <= MOST_NAMES && document->added < MOST_NODES ? strdup(name) : NULL;
+    if (number > MOST_NAMES || document->added == MOST_NODES) {
+        return 0;
+    }
+    char *copy = strdup(name);
     if (copy == NULL) {
+        reading->memory_short = true;
         return 0;
     }
     document->more[document->added++] = (struct name){copy, length, (uint16_t)number};
@@ -225,6 +230,10 @@ static int judged(const char *path, const struct reading *reading)
     if (count > MOST_NODES) {
         complain("%s: %zu nodes; a document has at most %d", path, count, MOST_NODES);
         return NO;
+    }
+    if (reading->memory_short) {
+        complain("%s: %s", path, strerror(ENOMEM));
+        return UNREADABLE;
     }
     if (reading->problem[0] != '\0') {
         complain("%s: %s", path, reading->problem);

@@ -1,5 +1,5 @@
-/* A bundle in the making: rows and steps as text, and points. Which row or step is accepted is the archive's to say, of
-   the whole bundle at that moment. */
+/* A bundle in the making: rows and steps as text, and points. Which row or step is accepted is the archive's to say,
+   of the whole bundle at that moment. */
 #ifndef HOST_DRAFT_H
 #define HOST_DRAFT_H
 

@@ -49,7 +49,8 @@ def main():
         for command, wanted in [pair for block in blocks(path) for pair in commands(block)]:
             done = subprocess.run(['sh', '-c', command], stdout=subprocess.PIPE, stderr=subprocess.STDOUT)
             if not prints(wanted, done.stdout.decode()):
-                raise SystemExit('FAILED: %s: %s\nprints %s\nnot    %s' % (path, command, done.stdout.decode(), wanted))
+                printed = done.stdout.decode()
+                raise SystemExit('FAILED: %s: %s\nprints %s\nnot    %s' % (path, command, printed, wanted))
             count += 1
     if count == 0:
         raise SystemExit('FAILED: no examples')

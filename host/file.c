@@ -98,20 +98,26 @@ static uint16_t make_next(struct calls *calls)
     return answer;
 }
 
-/* The refused line as it stands where it can be shown. */
+/* The line begins with none of the words that make calls. */
+static bool is_other_word(const char *shown)
+{
+    static const char *const WORDS[] = {"term ", "step ", "point ", "return "};
+    bool other = true;
+    for (size_t i = 0; i < sizeof WORDS / sizeof *WORDS; i++) {
+        other = other && strncmp(shown, WORDS[i], strlen(WORDS[i])) != 0;
+    }
+    return other;
+}
+
+/* Why the calls end at a line, and the line. */
 static void tell_line(const struct calls *calls, const char *path, uint16_t answer)
 {
-    enum { MOST = 80 };
-    char shown[MOST + 3];
-    struct bytes file = calls->file;
-    size_t start = line_start(file.at, file.length, calls->line);
-    size_t length = 0;
-    for (size_t i = start; i < file.length && file.at[i] != '\n' && length < MOST; i++) {
-        shown[length++] = file.at[i] >= 0x20 && file.at[i] < 0x7f ? (char)file.at[i] : '?';
-    }
-    strcpy(shown + length, length == MOST ? ".." : "");
+    char shown[SHOWN_LINE];
+    bool wrong_form = answer == SPINEBRIAR_WRONG_FORM;
+    show_line(calls->file, calls->line, wrong_form, shown);
     const char *text = spinebriar_answer_text(answer);
-    complain("%s: refused at line %zu: %u, %s", path, calls->line, answer, text == NULL ? "?" : text);
+    complain("%s: refused at line %zu: %u, %s%s", path, calls->line, answer, text == NULL ? "?" : text,
+             wrong_form && is_other_word(shown) ? " (file takes term, step, point and return alone)" : "");
     complain("%s: line %zu: %s", path, calls->line, shown);
 }
 

@@ -1,4 +1,5 @@
-/* The target of libFuzzer for host/fuzz.sh: the bytes as a bundle, an XML file, a selector or calls, by macro. */
+/* The target of libFuzzer for host/fuzz.sh: the bytes as a bundle, an XML file, a selector, a list of names or calls,
+   by macro. */
 #include <assert.h>
 #include <stdarg.h>
 #include <stdlib.h>
@@ -40,8 +41,12 @@ static void prepare(void)
 static void try_select(const struct document *document, const char *selector, uint32_t from)
 {
     struct options options = {.selector = selector, .from = from, .limited = true, .limit = 100000};
-    int status = select_nodes(document, &names, &options, sink);
+    uint8_t marks[MOST_NODES] = {0};
+    int status = select_nodes(document, &names, &options, marks);
     assert(status == YES || status == NO);
+    if (status == YES) {
+        print_nodes(document, &names, marks, sink);
+    }
 }
 #endif
 
@@ -56,13 +61,32 @@ static void check_line(const uint8_t *data, size_t size, uint16_t answer)
     assert(spinebriar_read(data, end) == answer);
 }
 
+static bool is_step_row(struct row row, uint16_t axis, uint16_t test, uint16_t name)
+{
+    return row.kind == STEP_ROW && row.a == axis && row.b == test && row.c == name;
+}
+
+/* Whether a step has the rows of child::mark and descendant::*. */
+static bool says_mark(const uint8_t *data, size_t size)
+{
+    static struct bundle bundle;
+    bool says = false;
+    parse_bundle(data, size, &bundle);
+    for (size_t i = 0; i < bundle.step_count; i++) {
+        struct row left = bundle.rows[bundle.steps[i].left], right = bundle.rows[bundle.steps[i].right];
+        says = says || (is_step_row(left, 1, 0, 2) && is_step_row(right, 3, 1, 0));
+    }
+    return says;
+}
+
 static void one(const uint8_t *data, size_t size)
 {
     struct bytes bundle = {(uint8_t *)data, size};
     uint16_t answer = spinebriar_read(data, size);
     int wanted = answer == SPINEBRIAR_ACCEPTED && size <= MOST_BUNDLE_BYTES ? YES : NO;
     assert(check_bytes(bundle, &names, sink) == wanted && explain_bytes(bundle, &names, sink) == wanted);
-    assert(claim_bytes(bundle, &names, "mark", "descendant::*", sink) >= wanted);
+    int claimed = wanted == YES && says_mark(data, size) ? YES : NO;
+    assert(claim_bytes(bundle, &names, "mark", "descendant::*", sink) == claimed);
     if (answer != SPINEBRIAR_ACCEPTED && size <= MOST_BUNDLE_BYTES) {
         check_line(data, size, answer);
     }
@@ -121,6 +145,41 @@ static void one(const uint8_t *data, size_t size)
     }
     assert(claim_bytes(empty, &names, selector, selector, sink) == NO);
     free(selector);
+}
+#elif defined FUZZ_NAMES
+/* The archive has the same number for `mark`, or none. */
+static void check_mark(const struct names *list)
+{
+    uint16_t number = number_of(list, "mark", 4);
+    uint16_t rows[] = {0, 0, 0, 1, 0, number == 0 ? 1 : number};
+    uint8_t marks[] = {0, 0};
+    size_t value;
+    uint16_t answer = spinebriar_select(list->file.at, list->file.length, (const uint8_t *)"mark", 4, rows, 6, 0, 9,
+                                        marks, 2, &value);
+    assert(answer == (number == 0 ? SPINEBRIAR_UNLISTED_NAME : SPINEBRIAR_ACCEPTED));
+    assert(marks[1] == (number != 0));
+}
+
+/* A list's numbers are those of its names, also where names are added. */
+static void one(const uint8_t *data, size_t size)
+{
+    struct bytes file = {malloc(size + 1), size};
+    struct names list;
+    assert(file.at != NULL);
+    memcpy(file.at, data, size);
+    assert(names_of(file, &list));
+    check_mark(&list);
+    for (size_t number = 0; number <= list.lines && number <= MOST_NAMES; number++) {
+        const struct name *name = name_of(&list, (uint16_t)number);
+        assert(name == NULL || number_of(&list, name->text, name->length) == number);
+    }
+    struct name added = {"mark", 4, 0};
+    size_t lines = list.lines;
+    bool listed = number_of(&list, "mark", 4) != 0;
+    assert(extend_names(&list, &added, 1) && list.stored == size && list.lines == lines + 1);
+    assert(listed || lines >= MOST_NAMES || number_of(&list, "mark", 4) == lines + 1);
+    check_mark(&list);
+    free_names(&list);
 }
 #else
 /* What is filed is accepted. */

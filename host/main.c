@@ -91,6 +91,14 @@ static int take_words(const struct command *command, int argc, char **argv, stru
     return standard ? wrong_use("a list of names can't be standard input", "") : YES;
 }
 
+/* The word that getopt_long doesn't know: letters after one dash are not passed yet where they are several. */
+static const char *wrong_word(int argc, char **argv)
+{
+    const char *next = optind < argc ? argv[optind] : "";
+    bool letters = optopt != 0 && next[0] == '-' && next[1] == optopt && next[2] != '\0';
+    return letters ? next : argv[optind - 1];
+}
+
 /* Reads the words after the subcommand; YES, or UNREADABLE after a message. */
 static int read_options(const struct command *command, int argc, char **argv, struct options *options)
 {
@@ -99,13 +107,19 @@ static int read_options(const struct command *command, int argc, char **argv, st
         {"local-names", no_argument, NULL, 'l'}, {"from", required_argument, NULL, 'f'},
         {"limit", required_argument, NULL, 't'}, {"claim", required_argument, NULL, 'c'}, {NULL, 0, NULL, 0}};
     opterr = 0;
-    for (int letter; (letter = getopt_long(argc, argv, "", LONG, NULL)) != -1;) {
-        const char *word = argv[optind - 1];
-        if (letter == '?' || strchr(command->options, letter) == NULL) {
-            return wrong_use("wrong option ", word);
+    for (int letter, which = 0; (letter = getopt_long(argc, argv, ":", LONG, &which)) != -1;) {
+        if (letter == ':') {
+            return wrong_use("no word after ", argv[optind - 1]);
+        }
+        if (letter == '?') {
+            return wrong_use("wrong option ", wrong_word(argc, argv));
+        }
+        if (strchr(command->options, letter) == NULL) {
+            complain("%s has no option --%s (spinebriar --help)", command->name, LONG[which].name);
+            return UNREADABLE;
         }
         if (!take_option(letter, argc, argv, options)) {
-            return wrong_use(letter == 'c' ? "no NEW for --claim " : "wrong number ", word);
+            return wrong_use(letter == 'c' ? "no NEW for --claim " : "wrong number ", optarg);
         }
     }
     return take_words(command, argc, argv, options);
@@ -114,7 +128,8 @@ static int read_options(const struct command *command, int argc, char **argv, st
 /* What was printed must have been written: an answer that is lost is none. A closed pipe needs no message. */
 static int written(int status)
 {
-    if (fflush(stdout) == 0 && !ferror(stdout)) {
+    bool failed = ferror(stdout) != 0;
+    if (fclose(stdout) == 0 && !failed) {
         return status;
     }
     if (errno != EPIPE) {
@@ -130,11 +145,23 @@ static bool streams_open(void)
         return false;
     }
     for (int stream = STDIN_FILENO; stream <= STDERR_FILENO; stream += STDERR_FILENO) {
-        if (fcntl(stream, F_GETFD) == -1 && open("/dev/null", stream == STDIN_FILENO ? O_RDONLY : O_WRONLY) != stream) {
+        int way = stream == STDIN_FILENO ? O_RDONLY : O_WRONLY;
+        if (fcntl(stream, F_GETFD) == -1 && open("/dev/null", way) != stream) {
             return false;
         }
     }
     return true;
+}
+
+/* --help among the words, up to `--`. */
+static bool asks_help(int argc, char **argv)
+{
+    for (int i = 1; i < argc && strcmp(argv[i], "--") != 0; i++) {
+        if (strcmp(argv[i], "--help") == 0) {
+            return true;
+        }
+    }
+    return false;
 }
 
 int main(int argc, char **argv)
@@ -144,7 +171,7 @@ int main(int argc, char **argv)
         return UNREADABLE;
     }
     const char *first = argc > 1 ? argv[1] : "";
-    if (strcmp(first, "--help") == 0 && argc == 2) {
+    if (asks_help(argc, argv)) {
         fputs(HELP, stdout);
         return written(YES);
     }

@@ -4,7 +4,8 @@
 #include <fcntl.h>
 #include <stdlib.h>
 #include <string.h>
-#include <sys/types.h>
+#include <sys/file.h>
+#include <sys/stat.h>
 #include <unistd.h>
 
 static bool is_letter(char c)
@@ -68,24 +69,29 @@ static size_t count_lines(struct bytes file)
     return lines;
 }
 
+/* How many lines can have a number. */
+static size_t numbered_lines(const struct names *names)
+{
+    return names->lines < MOST_NAMES ? names->lines : MOST_NAMES;
+}
+
 bool names_of(struct bytes file, struct names *names)
 {
-    names->file = file;
-    names->lines = count_lines(file);
-    names->count = 0;
-    names->by_line = calloc(names->lines + 1, sizeof *names->by_line);
-    names->by_text = calloc(names->lines + 1, sizeof *names->by_text);
+    *names = (struct names){.file = file, .stored = file.length, .lines = count_lines(file)};
+    size_t numbered = numbered_lines(names);
+    names->by_line = calloc(numbered + 1, sizeof *names->by_line);
+    names->by_text = calloc(numbered + 1, sizeof *names->by_text);
     if (names->by_line == NULL || names->by_text == NULL) {
         return false;
     }
     const char *text = (const char *)file.at;
     size_t start = 0;
-    for (size_t line = 1; line <= names->lines; line++) {
+    for (size_t line = 1; line <= numbered; line++) {
         const char *newline = memchr(text + start, '\n', file.length - start);
         size_t end = newline == NULL ? file.length : (size_t)(newline - text);
         struct name *name = &names->by_line[line - 1];
         *name = (struct name){text + start, end - start, 0};
-        if (line <= MOST_NAMES && is_name(name->text, name->length)) {
+        if (is_name(name->text, name->length)) {
             name->number = (uint16_t)line;
             names->by_text[names->count++] = *name;
         }
@@ -96,15 +102,40 @@ bool names_of(struct bytes file, struct names *names)
     return true;
 }
 
+/* The first line that ends in a carriage return, from 1; 0 where none does. */
+static size_t returned_line(struct bytes file)
+{
+    size_t line = 1;
+    for (size_t i = 0; i < file.length; i++) {
+        bool ends = i + 1 == file.length || file.at[i + 1] == '\n';
+        if (file.at[i] == '\r' && ends) {
+            return line;
+        }
+        line += file.at[i] == '\n';
+    }
+    return 0;
+}
+
+/* False after a message. */
+static bool is_list(const char *path, struct bytes file)
+{
+    size_t line = returned_line(file);
+    if (file.length > MOST_NAMES_BYTES) {
+        complain("%s: a list of names has at most %d bytes", path, MOST_NAMES_BYTES);
+    } else if (line > 0) {
+        complain("%s: line %zu ends in a carriage return; lines end in a newline alone", path, line);
+    }
+    return file.length <= MOST_NAMES_BYTES && line == 0;
+}
+
 bool read_names(const char *path, struct names *names)
 {
     struct bytes file;
-    *names = (struct names){{NULL, 0}, 0, NULL, NULL, 0};
+    *names = (struct names){.count = 0};
     if (!read_bytes(path, MOST_NAMES_BYTES, &file)) {
         return false;
     }
-    if (file.length > MOST_NAMES_BYTES) {
-        complain("%s: a list of names has at most %d bytes", path, MOST_NAMES_BYTES);
+    if (!is_list(path, file)) {
         free(file.at);
         return false;
     }
@@ -121,7 +152,7 @@ void free_names(struct names *names)
     free(names->file.at);
     free(names->by_line);
     free(names->by_text);
-    *names = (struct names){{NULL, 0}, 0, NULL, NULL, 0};
+    *names = (struct names){.count = 0};
 }
 
 uint16_t number_of(const struct names *names, const char *text, size_t length)
@@ -145,7 +176,7 @@ uint16_t number_of(const struct names *names, const char *text, size_t length)
 
 const struct name *name_of(const struct names *names, uint16_t number)
 {
-    if (number == 0 || number > names->lines || names->by_line[number - 1].number == 0) {
+    if (number == 0 || number > numbered_lines(names) || names->by_line[number - 1].number == 0) {
         return NULL;
     }
     return &names->by_line[number - 1];
@@ -170,48 +201,82 @@ bool extend_names(struct names *names, const struct name *more, size_t count)
         longer.length += more[i].length;
         longer.at[longer.length++] = '\n';
     }
+    size_t stored = names->stored;
     free_names(names);
-    return names_of(longer, names);
+    bool done = names_of(longer, names);
+    names->stored = stored;
+    return done;
 }
 
-static bool write_all(int file, const char *text, size_t length)
+static bool write_all(int file, const uint8_t *bytes, size_t length)
 {
     while (length > 0) {
-        ssize_t written = write(file, text, length);
+        ssize_t written = write(file, bytes, length);
         if (written < 0) {
             return false;
         }
-        text += written;
+        bytes += written;
         length -= (size_t)written;
     }
     return true;
 }
 
-/* The names, each with a newline, and one before them where the list's last line has none. */
-static bool write_names(int file, const struct names *names, const struct name *more, size_t count)
+/* Whether names can be added to the file at all. False after a message. */
+static bool can_grow(const char *path, const struct names *names)
 {
-    size_t length = names->file.length;
-    bool done = length == 0 || names->file.at[length - 1] == '\n' || write_all(file, "\n", 1);
-    for (size_t i = 0; done && i < count; i++) {
-        done = write_all(file, more[i].text, more[i].length) && write_all(file, "\n", 1);
+    struct stat about;
+    bool file = stat(path, &about) == 0 && S_ISREG(about.st_mode);
+    if (!file) {
+        complain("%s: no file to which names can be added", path);
+    } else if (names->file.length > MOST_NAMES_BYTES) {
+        complain("%s: a list of names has at most %d bytes", path, MOST_NAMES_BYTES);
     }
-    return done && fsync(file) == 0;
+    return file && names->file.length <= MOST_NAMES_BYTES;
 }
 
-bool add_names(const char *path, const struct names *names, const struct name *more, size_t count)
+/* Whether the file, which is locked, has the bytes that were read from it. False after a message. */
+static bool is_unchanged(const char *path, const struct names *names)
 {
-    int file = open(path, O_WRONLY | O_APPEND);
-    bool done = file >= 0 && write_names(file, names, more, count);
-    int why = errno;
-    if (file >= 0 && !done && ftruncate(file, (off_t)names->file.length) != 0) {
+    struct bytes now;
+    if (!read_bytes(path, MOST_NAMES_BYTES, &now)) {
+        return false;
+    }
+    bool same = now.length == names->stored && memcmp(now.at, names->file.at, now.length) == 0;
+    free(now.at);
+    if (!same) {
+        complain("%s: changed meanwhile, and nothing is added to it", path);
+    }
+    return same;
+}
+
+/* Writes the new bytes at the end of the file, or leaves it as it was. False after a message. */
+static bool append(int file, const char *path, const struct names *names)
+{
+    const uint8_t *more = names->file.at + names->stored;
+    if (write_all(file, more, names->file.length - names->stored) && fsync(file) == 0) {
+        return true;
+    }
+    complain("%s: %s", path, strerror(errno));
+    if (ftruncate(file, (off_t)names->stored) != 0) {
         complain("%s: is cut short or has lines too many: %s", path, strerror(errno));
     }
-    if (file >= 0 && close(file) != 0 && done) {
-        why = errno;
-        done = false;
+    return false;
+}
+
+bool store_names(const char *path, const struct names *names)
+{
+    if (!can_grow(path, names)) {
+        return false;
     }
-    if (!done) {
-        complain("%s: %s", path, strerror(why));
+    int file = open(path, O_WRONLY | O_APPEND);
+    bool locked = file >= 0 && flock(file, LOCK_EX) == 0;
+    if (!locked) {
+        complain("%s: %s", path, strerror(errno));
+    }
+    bool done = locked && is_unchanged(path, names) && append(file, path, names);
+    if (file >= 0 && close(file) != 0 && done) {
+        complain("%s: %s", path, strerror(errno));
+        done = false;
     }
     return done;
 }

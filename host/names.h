@@ -16,8 +16,9 @@ struct name {
 
 struct names {
     struct bytes file;
+    size_t stored; /* so many of these bytes stand in the file, the others are to be added */
     size_t lines;
-    struct name *by_line; /* line n's at n - 1, with number 0 where it has none */
+    struct name *by_line; /* line n's at n - 1, up to MOST_NAMES, with number 0 where it has none */
     struct name *by_text; /* those that have a number, sorted */
     size_t count;
 };
@@ -29,7 +30,8 @@ bool is_name(const char *text, size_t length);
 /* Takes over the file's bytes. False where memory is short; the names can be freed all the same. */
 bool names_of(struct bytes file, struct names *names);
 
-/* The names of a file. False, after a message, where it can't be read or is too long. */
+/* The names of a file. False, after a message, where it can't be read, is too long or has a line that ends in a
+   carriage return, which is never meant to be of the line. */
 bool read_names(const char *path, struct names *names);
 void free_names(struct names *names);
 
@@ -42,7 +44,8 @@ const struct name *name_of(const struct names *names, uint16_t number);
 /* Puts names at the end of the list in memory. False where memory is short; it can be freed all the same. */
 bool extend_names(struct names *names, const struct name *more, size_t count);
 
-/* Puts names at the end of the list in the file, which is as it was where that fails. False after a message. */
-bool add_names(const char *path, const struct names *names, const struct name *more, size_t count);
+/* Puts the names by which the list was extended at the end of its file, which is as it was where that fails. False,
+   after a message, also where the file is no longer the one that was read, since they would have other numbers. */
+bool store_names(const char *path, const struct names *names);
 
 #endif

@@ -21,22 +21,6 @@ static int open_document(const struct options *options, const struct names *name
     return status;
 }
 
-/* The names that the list lacks go to its end, and it is said which numbers they have. */
-static int add_missing(const char *path, struct names *names, const struct document *document)
-{
-    if (!add_names(path, names, document->more, document->added)) {
-        return UNREADABLE;
-    }
-    for (size_t i = 0; i < document->added; i++) {
-        complain("%s: added %s, number %u", path, document->more[i].text, document->more[i].number);
-    }
-    if (!extend_names(names, document->more, document->added)) {
-        complain("%s", strerror(ENOMEM));
-        return UNREADABLE;
-    }
-    return YES;
-}
-
 int load_document(const struct options *options, struct names *names, struct document *document)
 {
     if (!read_names(options->names, names)) {
@@ -44,14 +28,26 @@ int load_document(const struct options *options, struct names *names, struct doc
     }
     document->added = 0;
     int status = open_document(options, names, document);
-    if (status == YES && document->added > 0) {
-        status = add_missing(options->names, names, document);
+    if (status == YES && document->added > 0 && !extend_names(names, document->more, document->added)) {
+        complain("%s", strerror(ENOMEM));
+        status = UNREADABLE;
     }
     if (status != YES) {
         free_document(document);
         free_names(names);
     }
     return status;
+}
+
+int store_added(const struct options *options, const struct names *names, const struct document *document)
+{
+    if (document->added > 0 && !store_names(options->names, names)) {
+        return UNREADABLE;
+    }
+    for (size_t i = 0; i < document->added; i++) {
+        complain("%s: added %s, number %u", options->names, document->more[i].text, document->more[i].number);
+    }
+    return YES;
 }
 
 int rows_command(const struct options *options, FILE *out)
@@ -62,11 +58,12 @@ int rows_command(const struct options *options, FILE *out)
     if (status != YES) {
         return status;
     }
-    for (size_t i = 0; i < document.count; i++) {
+    status = store_added(options, &names, &document);
+    for (size_t i = 0; status == YES && i < document.count; i++) {
         const struct node *node = &document.nodes[i];
         fprintf(out, "%u %u %u\n", node->kind, node->parent, node->name);
     }
     free_document(&document);
     free_names(&names);
-    return YES;
+    return status;
 }

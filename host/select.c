@@ -40,15 +40,18 @@ static int tell_refusal(uint16_t answer, size_t value, const struct options *opt
     return NO;
 }
 
-int select_nodes(const struct document *document, const struct names *names, const struct options *options, FILE *out)
+int select_nodes(const struct document *document, const struct names *names, const struct options *options,
+                 uint8_t marks[MOST_NODES])
 {
-    uint8_t marks[MOST_NODES] = {0};
     size_t value = 0;
     uint32_t limit = options->limited ? options->limit : default_limit(options->selector, document->count);
     uint16_t answer = mark_nodes(document, names, options, limit, marks, &value);
-    if (answer != SPINEBRIAR_ACCEPTED) {
-        return tell_refusal(answer, value, options, limit, document->count);
-    }
+    return answer == SPINEBRIAR_ACCEPTED ? YES : tell_refusal(answer, value, options, limit, document->count);
+}
+
+void print_nodes(const struct document *document, const struct names *names, const uint8_t marks[MOST_NODES],
+                 FILE *out)
+{
     struct places places;
     number_places(document, &places);
     for (size_t i = 0; i < document->count; i++) {
@@ -58,18 +61,25 @@ int select_nodes(const struct document *document, const struct names *names, con
             fputc('\n', out);
         }
     }
-    return YES;
 }
 
 int select_command(const struct options *options, FILE *out)
 {
     struct names names;
     struct document document;
+    uint8_t marks[MOST_NODES] = {0};
     int status = load_document(options, &names, &document);
-    if (status == YES) {
-        status = select_nodes(&document, &names, options, out);
-        free_document(&document);
-        free_names(&names);
+    if (status != YES) {
+        return status;
     }
+    status = select_nodes(&document, &names, options, marks);
+    if (status == YES) {
+        status = store_added(options, &names, &document);
+    }
+    if (status == YES) {
+        print_nodes(&document, &names, marks, out);
+    }
+    free_document(&document);
+    free_names(&names);
     return status;
 }

@@ -1,5 +1,5 @@
 /* The stack that each call of the archive takes, for host/test.sh: a thread whose stack is painted makes the call, and
-   what is no longer painted was used. A call that takes more than README.md and include/spinebriar.h say is a failure.
+   what is no longer painted was used. A call that takes more than include/spinebriar.h says is a failure.
 
        stack BUNDLE..      the bundles are tried one after the other, and the most is printed */
 #define _GNU_SOURCE
@@ -69,10 +69,10 @@ struct call {
 /* The first one is what a thread uses for itself. */
 static struct call CALLS[] = {
     {"nothing", call_nothing, STACK, 0},
-    {"spinebriar_read", call_read, 160 << 10, 0},
-    {"spinebriar_read_line", call_read_line, 160 << 10, 0},
-    {"spinebriar_claim", call_claim, 192 << 10, 0},
-    {"spinebriar_select", call_select, 112 << 10, 0},
+    {"spinebriar_read", call_read, SPINEBRIAR_READ_STACK, 0},
+    {"spinebriar_read_line", call_read_line, SPINEBRIAR_READ_STACK, 0},
+    {"spinebriar_claim", call_claim, SPINEBRIAR_CLAIM_STACK, 0},
+    {"spinebriar_select", call_select, SPINEBRIAR_SELECT_STACK, 0},
 };
 enum { CALL_COUNT = sizeof CALLS / sizeof *CALLS };
 
@@ -93,7 +93,8 @@ static void measure(struct call *call)
     }
     memset(stack, PAINT, STACK);
     pthread_attr_init(&attributes);
-    if (pthread_attr_setstack(&attributes, stack, STACK) != 0 || pthread_create(&thread, &attributes, run, call) != 0) {
+    if (pthread_attr_setstack(&attributes, stack, STACK) != 0 ||
+        pthread_create(&thread, &attributes, run, call) != 0) {
         exit(UNREADABLE);
     }
     pthread_join(thread, NULL);

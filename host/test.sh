@@ -73,17 +73,23 @@ refused() { # WHAT TEXT STDOUT
 }
 
 uses() {
-    runs 'help' 0 "$(sed -n '/HELP\[\] =/,/;$/p' host/main.c | sed -n 's/^    "\(.*\)";*$/\1/p' | tr -d '\n')" '' \
-        --help
+    help=$(sed -n '/HELP\[\] =/,/;$/p' host/main.c | sed -n 's/^    "\(.*\)";*$/\1/p' | tr -d '\n')
+    runs 'help' 0 "$help" '' --help
+    runs 'help with a word' 0 "$help" '' --help check
+    runs 'help of a command' 0 "$help" '' check --help
+    runs 'and after other words' 0 "$help" '' select a b --names c --help
+    runs 'a file named --help' 2 '' 'spinebriar: --help: No such file or directory\n' check -- --help
     runs 'version' 0 "spinebriar $(sed -n 's/.*SPINEBRIAR_VERSION "\(.*\)"/\1/p' include/spinebriar.h)\n" '' --version
     runs 'no command' 2 '' 'spinebriar: no command (spinebriar --help)\n'
     runs 'another command' 2 '' 'spinebriar: no command jump (spinebriar --help)\n' jump
-    runs 'help with a word' 2 '' 'spinebriar: no command --help (spinebriar --help)\n' --help check
     runs 'no file' 2 '' 'spinebriar: too few words for check (spinebriar --help)\n' check
     runs 'two files' 2 '' 'spinebriar: too many words for check (spinebriar --help)\n' check a b
     runs 'another option' 2 '' 'spinebriar: wrong option --jump (spinebriar --help)\n' check a --jump
-    runs 'option of rows' 2 '' 'spinebriar: wrong option --add (spinebriar --help)\n' check a --add
-    runs 'names without a list' 2 '' 'spinebriar: wrong option --names (spinebriar --help)\n' check a --names
+    runs 'letters' 2 '' 'spinebriar: wrong option -xy (spinebriar --help)\n' check --names a -xy b
+    runs 'one letter' 2 '' 'spinebriar: wrong option -n (spinebriar --help)\n' check --names a -n b
+    runs 'a word for --add' 2 '' 'spinebriar: wrong option --add=1 (spinebriar --help)\n' rows --add=1 b
+    runs 'option of rows' 2 '' 'spinebriar: check has no option --add (spinebriar --help)\n' check a --add
+    runs 'names without a list' 2 '' 'spinebriar: no word after --names (spinebriar --help)\n' check a --names
     runs 'explain without names' 2 '' 'spinebriar: no --names LIST for explain (spinebriar --help)\n' explain a
     runs 'rows without names' 2 '' 'spinebriar: no --names LIST for rows (spinebriar --help)\n' rows a
     runs 'names from standard input' 2 '' \
@@ -91,12 +97,15 @@ uses() {
     runs 'select without a file' 2 '' 'spinebriar: too few words for select (spinebriar --help)\n' select a
     runs 'select with three words' 2 '' 'spinebriar: too many words for select (spinebriar --help)\n' select a b c
     runs 'select without names' 2 '' 'spinebriar: no --names LIST for select (spinebriar --help)\n' select a b
-    runs 'file with names' 2 '' 'spinebriar: wrong option list (spinebriar --help)\n' file a --names list
+    runs 'file with names' 2 '' 'spinebriar: file has no option --names (spinebriar --help)\n' file a --names list
+    runs 'the same with =' 2 '' 'spinebriar: file has no option --names (spinebriar --help)\n' file a --names=list
     runs 'claim without NEW' 2 '' 'spinebriar: no NEW for --claim x (spinebriar --help)\n' check a --claim x
     runs 'claim without names' 2 '' 'spinebriar: no --names LIST for check (spinebriar --help)\n' check a --claim x y
-    runs 'claim of explain' 2 '' 'spinebriar: wrong option x (spinebriar --help)\n' explain a --claim x y
+    runs 'claim of explain' 2 '' 'spinebriar: explain has no option --claim (spinebriar --help)\n' \
+        explain a --claim x y
     for number in 65536 -1 1x '' 99999999999999999999; do
         runs "--from $number" 2 '' "spinebriar: wrong number $number (spinebriar --help)\n" select a b --from "$number"
+        runs "--from=$number" 2 '' "spinebriar: wrong number $number (spinebriar --help)\n" select a b --from="$number"
     done
     for number in 4294967296 +1 '1 '; do
         runs "--limit $number" 2 '' "spinebriar: wrong number $number (spinebriar --help)\n" select a b --limit \
@@ -194,8 +203,8 @@ checks() {
 line 6: 8 0 2 0 0\n'
     refused 'refusal 6' "$T$R${S}8 0 1 1 0\n" \
         'refused at line 5: 6, a premise is not a held step, or the rule takes none there\nline 5: 8 0 1 1 0\n'
-    refused 'refusal 7' "$T$R${S}8 1 0 0 0\n" 'refused at line 5: 7, the rule does not yield the step\nline 5: 8 1 0 0 0
-step 1: descendant::* <= child::mark\nrule 8: a::N <= b::M if a is below b, N below M\n'
+    refused 'refusal 7' "$T$R${S}8 1 0 0 0\n" 'refused at line 5: 7, the rule does not yield the step
+line 5: 8 1 0 0 0\nstep 1: descendant::* <= child::mark\nrule 8: a::N <= b::M if a is below b, N below M\n'
     refused 'refusal 7 with premises' "$T${R}2 5 2 0\n${S}8 0 1 0 0\n8 1 2 0 0\n3 0 2 2 1\n8 0 0 0 0\n" \
         'refused at line 8: 7, the rule does not yield the step\nline 8: 3 0 2 2 1
 step 3: child::mark <= descendant-or-self::node()\nfrom step 2: descendant::* <= descendant-or-self::node()
@@ -207,7 +216,13 @@ step 1: child::mark <= descendant::*\nrule 50: withdrawn: it yields nothing\n'
     refused 'an empty file' '' 'refused at line 1: 10, a line of the wrong form\nline 1: missing\n'
     refused 'no second names line' "$T$R" 'refused at line 4: 10, a line of the wrong form\nline 4: missing\n'
     refused 'no newline at the end' "$T$R${S}8 0 1 0 0" \
-        'refused at line 5: 10, a line of the wrong form\nline 5: 8 0 1 0 0\n'
+        'refused at line 5: 10, a line of the wrong form\nline 5: 8 0 1 0 0 (its newline is missing)\n'
+    refused 'a carriage return' "$T${R}2 1 0 3\r\n$S" \
+        'refused at line 4: 10, a line of the wrong form\nline 4: 2 1 0 3? (a carriage return)\n'
+    refused 'names with one' 'kind a b c\r\n' \
+        'refused at line 1: 10, a line of the wrong form\nline 1: kind a b c? (a carriage return)\n'
+    refused 'no newline where the form is right' "$T${R}2 1 0 2" \
+        'refused at line 4: 10, a line of the wrong form\nline 4: 2 1 0 2 (its newline is missing)\n'
     refused 'bytes that no terminal should see' "$T"'\033[2J\377\n' \
         'refused at line 2: 10, a line of the wrong form\nline 2: ?[2J?\n'
     refused 'a long line' "${T}$(seq -s ' ' 1 60)\n" 'refused at line 2: 10, a line of the wrong form
@@ -241,138 +256,7 @@ explains() {
     runs 'every sign' 0 "$(cat host/signs.txt)\n" '' explain host/signs.bundle --names $names
 }
 
-documents() {
-    runs 'the log' 0 "$LOG" '' rows examples/log.xml --names $names
-    cp $names "$list"
-    # text in pieces, CDATA, comments, targets, attributes, a default from the DTD, and what of the DTD is no node
-    cat >"$xml" <<'END'
-<?xml version="1.0"?><?run before?>
-<!DOCTYPE log [<!-- no --><?run no?><!ENTITY two "1 &amp; <mark/>2"><!ATTLIST zero serial CDATA "7">]>
-<!--one--><log serial="1">a<![CDATA[b]]>&#99;<mark serial='2'/><zero/>&two;<![CDATA[]]><?mark x?><run>
-</run></log><!--two-->
-END
-    runs 'every kind of node' 0 \
-        '0 0 0\n4 0 4\n3 0 0\n1 0 1\n5 3 5\n2 3 0\n1 3 2\n5 6 5\n1 3 3\n5 8 5\n2 3 0\n1 3 2
-2 3 0\n4 3 2\n1 3 4\n2 14 0\n3 0 0\n' \
-        '' \
-        rows "$xml" --names $names
-    printf '<log><mark/><new/></log>' >"$xml"
-    runs 'a name that the list lacks' 1 '' \
-        "spinebriar: $xml: line 1: the name new is not in the list (--add adds it)\n" rows "$xml" --names "$list"
-    printf '<log><new a="1" b="2"/><new/><?t?></log>' >"$xml"
-    added="spinebriar: $list: added "
-    runs 'names added' 0 '0 0 0\n1 0 1\n1 1 6\n5 2 7\n5 2 8\n1 1 6\n4 1 9\n' \
-        "${added}new, number 6\n${added}a, number 7\n${added}b, number 8\n${added}t, number 9\n" \
-            \
-        rows "$xml" --names "$list" --add
-    status=0
-    cp "$list" "$out/stdout"
-    : >"$out/stderr"
-    verdict 'the list after that' 0 'log\nmark\nzero\nrun\nserial\nnew\na\nb\nt\n' ''
-    runs 'nothing to add' 0 '0 0 0\n1 0 1\n1 1 6\n5 2 7\n5 2 8\n1 1 6\n4 1 9\n' '' rows "$xml" --names "$list" --add
-    # of two equal lines the first counts, a line that is no name takes up its number, the last may lack its newline
-    printf '\nlog\n1a\nmark \nlog\na:b\nmark' >"$list"
-    printf '<log><mark/></log>' >"$xml"
-    runs 'numbers of a list' 0 '0 0 0\n1 0 2\n1 1 7\n' '' rows "$xml" --names "$list"
-    printf '<log><mark/><x/></log>' >"$xml"
-    runs 'added after a line without newline' 0 '0 0 0\n1 0 2\n1 1 7\n1 1 8\n' \
-        "spinebriar: $list: added x, number 8\n" rows "$xml" --names "$list" --add
-    cp "$list" "$out/stdout"
-    : >"$out/stderr"
-    verdict 'the list after that' 0 '\nlog\n1a\nmark \nlog\na:b\nmark\nx\n' ''
-    printf "$T"'2 1 0 2\n2 1 0 5\n2 1 0 3\n2 1 0 9\n'"$S"'2 0 0 0 0\n2 1 1 0 0\n2 2 2 0 0\n2 3 3 0 0\n' >"$bundle"
-    runs 'numbers without a name' 0 'step 1: child::log <= child::log, by rule 2
-step 2: child::#5 <= child::#5, by rule 2\nstep 3: child::#3 <= child::#3, by rule 2
-step 4: child::#9 <= child::#9, by rule 2\n' '' explain "$bundle" --names "$list"
-    { yes '' | head -n 65534; echo log; echo y; echo x; } >"$list"
-    printf '<log/>' >"$xml"
-    runs 'number 65535' 0 '0 0 0\n1 0 65535\n' '' rows "$xml" --names "$list"
-    printf '<x/>' >"$xml"
-    runs 'a name on line 65537' 1 '' "spinebriar: $xml: line 1: the name x finds no number up to 65535\n" rows \
-        "$xml" --names "$list" --add
-    cp $names "$list"
-    printf '<log><x/></log>' >"$xml"
-    (
-        trap '' XFSZ
-        ulimit -f 0
-        { status=0; "$bin/spinebriar" rows "$xml" --names "$list" --add 2>&1 || status=$?; echo $status; } | cat
-    ) | cat >"$out/stdout"
-    status=0
-    : >"$out/stderr"
-    verdict 'a list that cannot be written' 0 "spinebriar: $list: File too large\n2\n" ''
-    cmp -s "$list" $names || { echo 'FAILED: that list has changed'; failed=$((failed + 1)); }
-}
-
-namespaces() {
-    printf '<a:log xmlns:a="u"><mark/></a:log>' >"$xml"
-    runs 'a prefix' 1 '' \
-        "spinebriar: $xml: line 1: the name a:log has a prefix (--local-names takes the part after it)\n" rows \
-        "$xml" --names $names
-    runs 'local names' 0 '0 0 0\n1 0 1\n1 1 2\n' '' rows "$xml" --names $names --local-names
-    printf '<log xmlns="u"/>' >"$xml"
-    runs 'a namespace by default' 1 '' \
-        "spinebriar: $xml: line 1: the name xmlns declares a namespace (--local-names leaves it out)\n" \
-        rows "$xml" --names $names
-    runs 'the same by local names' 0 '0 0 0\n1 0 1\n' '' rows "$xml" --names $names --local-names
-    printf '<log xml:serial="1"/>' >"$xml"
-    runs 'xml:serial' 0 '0 0 0\n1 0 1\n5 1 5\n' '' rows "$xml" --names $names --local-names
-    printf '<log>\n<?a:b?></log>' >"$xml"
-    runs 'a target with a colon' 1 '' "spinebriar: $xml: line 2: the name a:b has a colon\n" rows "$xml" --names \
-        $names --local-names
-    printf '<l\303\266g/>' >"$xml"
-    runs 'a name beyond ASCII' 1 '' \
-        "spinebriar: $xml: line 1: the name l\303\266g is not of ASCII letters, digits, _, - and .\n" rows "$xml" \
-        --names $names --add
-}
-
-bad_xml() {
-    printf '<log><mark>' >"$xml"
-    runs 'XML that is cut off' 2 '' "spinebriar: $xml: line 1: no element found\n" rows "$xml" --names $names
-    printf '<log>\n<mark></log>' >"$xml"
-    runs 'a wrong end' 2 '' "spinebriar: $xml: line 2: mismatched tag\n" rows "$xml" --names $names
-    : >"$xml"
-    runs 'an empty file' 2 '' "spinebriar: $xml: line 1: no element found\n" rows "$xml" --names $names
-    { echo '<log>'; yes '<x/>' | head -n 600; echo '</log>'; } >"$xml"
-    runs 'too many nodes, before their names' 1 '' "spinebriar: $xml: 1203 nodes; a document has at most 512\n" \
-        rows "$xml" --names $names
-    { printf '<log>'; yes '<mark/>' | head -n 510 | tr -d '\n'; printf '</log>'; } >"$xml"
-    status=0
-    "$bin/spinebriar" rows "$xml" --names $names 2>"$out/stderr" | wc -l >"$out/stdout"
-    verdict '512 nodes' 0 '512\n' ''
-    { printf '<log>'; yes '<mark/>' | head -n 511 | tr -d '\n'; printf '</log>'; } >"$xml"
-    runs '513 nodes' 1 '' "spinebriar: $xml: 513 nodes; a document has at most 512\n" rows "$xml" --names $names
-    { yes '<run>' | head -n 100000; yes '</run>' | head -n 100000; } >"$xml"
-    runs '100,000 levels' 1 '' "spinebriar: $xml: 300000 nodes; a document has at most 512\n" rows "$xml" --names \
-        $names
-    laughs 6
-    runs 'a million laughs' 0 '0 0 0\n1 0 1\n2 1 0\n' '' rows "$xml" --names $names
-    laughs 9
-    runs 'a thousand million' 2 '' \
-        "spinebriar: $xml: line 3: limit on input amplification factor (from DTD and entities) breached\n" \
-        rows "$xml" --names $names
-    printf '<!DOCTYPE log [<!ENTITY a SYSTEM "/etc/passwd">]>\n<log>&a;</log>' >"$xml"
-    runs 'an entity in another file' 2 '' \
-        "spinebriar: $xml: line 2: an entity of another file, which is not read\n" rows "$xml" --names $names
-    printf '<!DOCTYPE log SYSTEM "none.dtd">\n<log>&a;</log>' >"$xml"
-    runs 'an entity of another DTD' 2 '' \
-        "spinebriar: $xml: line 2: an entity of another file, which is not read\n" rows "$xml" --names $names
-    printf '<!DOCTYPE log SYSTEM "none.dtd"><log/>' >"$xml"
-    runs 'a DTD that is not read' 0 '0 0 0\n1 0 1\n' '' rows "$xml" --names $names
-}
-
-# A text of 10^N times `lol`, by N entities.
-laughs() { # N
-    {
-        printf '<!DOCTYPE log [<!ENTITY e0 "lol">'
-        for i in $(seq 1 "$1"); do
-            printf "<!ENTITY e$i \""
-            for _ in 1 2 3 4 5 6 7 8 9 10; do printf "&e$((i - 1));"; done
-            printf '">'
-        done
-        printf "]>\n\n<log>&e$1;</log>"
-    } >"$xml"
-}
-
+. host/test_xml.sh
 . host/test_calls.sh
 
 # Runs a program that holds the command against something else, and prints what it did.
@@ -398,6 +282,7 @@ for build in plain sanitized; do
     checks
     explains
     documents
+    shared_lists
     namespaces
     bad_xml
     claims

@@ -3,21 +3,24 @@
 
 claims() {
     runs 'a claim' 0 'accepted: rows 7, steps 1
-step 1: R/descendant-or-self::node()/child::mark <= R/descendant::mark\n' '' \
+step 1: R/descendant-or-self::node()/child::mark <= R/descendant::mark
+yes: step 1 says that OLD is contained in NEW\n' '' \
         check examples/bundles/descendant.bundle --names $names --claim //mark /descendant::mark
     runs 'the words first' 0 'accepted: rows 7, steps 1
-step 1: R/descendant-or-self::node()/child::mark <= R/descendant::mark\n' '' \
+step 1: R/descendant-or-self::node()/child::mark <= R/descendant::mark
+yes: step 1 says that OLD is contained in NEW\n' '' \
         check --claim //mark /descendant::mark --names $names examples/bundles/descendant.bundle
     runs 'the other direction' 1 'accepted: rows 7, steps 1\nno step says that OLD is contained in NEW\n' '' \
         check examples/bundles/descendant.bundle --names $names --claim /descendant::mark //mark
     runs 'another name' 1 'accepted: rows 7, steps 1\nno step says that OLD is contained in NEW\n' '' \
         check examples/bundles/descendant.bundle --names $names --claim //mark /descendant::zero
     runs 'a step among others' 0 'accepted: rows 11, steps 9
-step 1: R/descendant-or-self::node()/child::run <= R/descendant::run\n' '' check \
+step 1: R/descendant-or-self::node()/child::run <= R/descendant::run
+yes: step 1 says that OLD is contained in NEW\n' '' check \
         examples/bundles/middle_step_dropped.bundle --names $names --claim //run /descendant::run
     printf "$T${R}6 0 0 0\n${S}2 0 0 0 0\n14 2 2 0 0\n8 0 1 0 0\n8 0 1 0 0\n" >"$bundle"
-    runs 'the first of two steps' 0 'accepted: rows 3, steps 4\nstep 3: child::mark <= descendant::*\n' '' check \
-        "$bundle" --names $names --claim mark 'descendant::*'
+    runs 'the first of two steps' 0 'accepted: rows 3, steps 4\nstep 3: child::mark <= descendant::*
+yes: step 3 says that OLD is contained in NEW\n' '' check "$bundle" --names $names --claim mark 'descendant::*'
     runs 'no steps that say it' 1 'accepted: rows 3, steps 4\nno step says that OLD is contained in NEW\n' '' check \
         "$bundle" --names $names --claim 'descendant::*' 'descendant::*'
     printf "$T$R${S}8 1 0 0 0\n" >"$bundle"
@@ -34,13 +37,18 @@ spinebriar: mark[1]\nspinebriar:      ^\n" check "$bundle" --names $names --clai
     runs 'a name of NEW that the list lacks' 1 '' "spinebriar: NEW is refused
 spinebriar: selector refused at place 2: 19, a name of the text is not in the list
 spinebriar: //nix\nspinebriar:   ^\n" check "$bundle" --names $names --claim mark //nix
+    none='no row of the bundle, and no step says that OLD is contained in NEW'
     runs 'NEW too deep' 1 '' "spinebriar: NEW is refused
-spinebriar: selector refused: 3, the term is nested deeper than 32\n" check "$bundle" --names $names --claim mark \
-        "$(yes mark | head -n 33 | paste -s -d /)"
+spinebriar: selector refused: 3, the term is nested deeper than 32\nspinebriar: so NEW is $none\n" check "$bundle" \
+        --names $names --claim mark "$(yes mark | head -n 33 | paste -s -d /)"
     { printf "$T"; seq -f '2 1 0 %.0f' 101 1123; printf "$S"; } >"$bundle"
-    runs 'OLD that does not fit' 1 '' "spinebriar: OLD is refused
-spinebriar: selector refused: 11, the new rows do not fit in a session's 1,024\n" check "$bundle" --names $names \
-        --claim mark/zero mark
+    full="spinebriar: selector refused: 11, the new rows do not fit in a session's 1,024"
+    runs 'OLD that does not fit' 1 '' "spinebriar: OLD is refused\n$full\nspinebriar: so OLD is $none\n" check \
+        "$bundle" --names $names --claim mark/zero mark
+    runs 'NEW that does not fit beside OLD' 1 '' "spinebriar: NEW is refused\n$full\nspinebriar: so NEW is $none\n" \
+        check "$bundle" --names $names --claim mark zero
+    runs 'both in one row' 1 'accepted: rows 1023, steps 0\nno step says that OLD is contained in NEW\n' '' check \
+        "$bundle" --names $names --claim mark mark
 }
 
 selects() {
@@ -80,6 +88,20 @@ spinebriar: nix/mark\nspinebriar: ^\n' select nix/mark examples/log.xml --names 
     runs 'and with --add' 0 '2 1 /log/x\n' "spinebriar: $list: added x, number 6\n" select //x "$xml" --names "$list" \
         --add
     runs 'once more' 0 '2 1 /log/x\n' '' select //x "$xml" --names "$list" --add
+    printf '<log><x/><y/></log>' >"$xml"
+    cp "$list" "$out/before"
+    runs 'a refused selector adds nothing' 1 '' \
+        'spinebriar: selector refused at place 3: 18, the text is outside the grammar of selectors
+spinebriar: //x]\nspinebriar:    ^\n' select '//x]' "$xml" --names "$list" --add
+    runs 'nor does a limit that is passed' 1 '' \
+        'spinebriar: refused: 15, more visits are needed than the limit, 0 (--limit N sets it)\n' select //x "$xml" \
+        --names "$list" --add --limit 0
+    passes cmp "$list" "$out/before"
+    runs 'the selector may have the added name' 0 '3 1 /log/y\n' "spinebriar: $list: added y, number 7\n" select //y \
+        "$xml" --names "$list" --add
+    printf '\nlog\n1a\nmark \nlog\na:b\nmark' >"$list"
+    printf '<log><mark/></log>' >"$xml"
+    runs 'a list with repeated and odd lines' 0 '2 1 /log/mark\n' '' select //mark "$xml" --names "$list"
     printf '<a:log xmlns:a="u"><mark/></a:log>' >"$xml"
     runs 'a prefix' 1 '' \
         "spinebriar: $xml: line 1: the name a:log has a prefix (--local-names takes the part after it)\n" select mark \
@@ -197,12 +219,15 @@ point 65535\nterm 2 1 0 3\nstep 8 0 1 0 0\nreturn 1\nterm 2 3 1 0\nstep 8 0 1 0 
     not_filed 'a point above 65535' 'point 65536\n' 1 '10, a line of the wrong form' 'point 65536'
     not_filed 'two points' 'point 1 2\n' 1 '10, a line of the wrong form' 'point 1 2'
     not_filed 'no point' 'point \n' 1 '10, a line of the wrong form' 'point '
-    not_filed 'an empty line' '\n' 1 '10, a line of the wrong form' ''
+    others='10, a line of the wrong form (file takes term, step, point and return alone)'
+    not_filed 'an empty line' '\n' 1 "$others" ''
     not_filed 'byte 0' 'term 2 1 0 \0002\n' 1 '10, a line of the wrong form' 'term 2 1 0 ?2'
-    not_filed 'refusal 10' "${two}jump\n" 3 '10, a line of the wrong form' 'jump'
-    not_filed 'a call that leaves nothing held' "${two}select 0 0 1 1\n" 3 '10, a line of the wrong form' \
-        'select 0 0 1 1'
-    not_filed 'no newline at the end' "${two}point 1" 3 '10, a line of the wrong form' 'point 1'
+    not_filed 'refusal 10' "${two}jump\n" 3 "$others" 'jump'
+    not_filed 'a call that leaves nothing held' "${two}select 0 0 1 1\n" 3 "$others" 'select 0 0 1 1'
+    not_filed 'a selector as text' "${two}text //mark\n" 3 "$others" 'text //mark'
+    not_filed 'no newline at the end' "${two}point 1" 3 '10, a line of the wrong form' \
+        'point 1 (its newline is missing)'
+    not_filed 'a carriage return' "${two}point 1\r\n" 3 '10, a line of the wrong form' 'point 1? (a carriage return)'
     not_filed 'bytes that no terminal should see' 'term \033[2J\n' 1 '10, a line of the wrong form' 'term ?[2J'
     not_filed 'refusal 11' "$(seq -f 'term 2 1 0 %.0f\n' 1 1025 | tr -d '\n')" 1025 \
         "11, the new rows do not fit in a session's 1,024" 'term 2 1 0 1025'
@@ -221,6 +246,8 @@ point 65535\nterm 2 1 0 3\nstep 8 0 1 0 0\nreturn 1\nterm 2 3 1 0\nstep 8 0 1 0 
         '20, no point has the name, or a point to be set has the name 0 or one in use' 'return 2'
     long="term $(seq -s ' ' 1 60)"
     not_filed 'a long line' "$long\n" 1 '10, a line of the wrong form' "$(printf '%.80s' "$long").."
+    just="$(printf '%.80s' "$long")"
+    not_filed 'one of just 80 bytes' "$just\n" 1 '10, a line of the wrong form' "$just"
     yes 'point 1' | head -c 65537 >"$out/calls"
     runs 'more than 65,536 bytes of calls' 1 '' "spinebriar: $out/calls: more than 65536 bytes of calls\n" file \
         "$out/calls"

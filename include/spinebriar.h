@@ -3,8 +3,7 @@
 
    Of every call: the number of the answer is the result, 0 for acceptance. A pointer may not be null, also where its
    length is 0; nothing writes to what is lent for reading meanwhile, and what is lent for writing overlaps nothing
-   else. Nothing is kept between calls, so threads may call at the same time. A length is a number of elements.
-   Stack: up to 170 KiB for spinebriar_claim, 135 KiB for each other call. */
+   else. Nothing is kept between calls, so threads may call at the same time. A length is a number of elements. */
 #ifndef SPINEBRIAR_H
 #define SPINEBRIAR_H
 
@@ -13,11 +12,18 @@
 
 #define SPINEBRIAR_VERSION "0.1.0"
 
+/* Bytes of stack that are enough for a call: the most that host/stack.c measured on the deepest inputs known, and some
+   more. spinebriar_read and spinebriar_read_line take the same. */
+#define SPINEBRIAR_READ_STACK 163840
+#define SPINEBRIAR_CLAIM_STACK 196608
+#define SPINEBRIAR_SELECT_STACK 114688
+
 #ifdef __cplusplus
 extern "C" {
 #endif
 
-/* The number of an answer: 0 is acceptance, any other number a refusal. README.md has the same list with each refusal's value. */
+/* The number of an answer: 0 is acceptance, any other number a refusal. README.md has the same list with each
+   refusal's value. */
 enum spinebriar_answer {
     SPINEBRIAR_ACCEPTED = 0,
     SPINEBRIAR_BAD_KIND = 1,
@@ -73,14 +79,14 @@ static inline const char *spinebriar_answer_text(uint16_t answer)
     case SPINEBRIAR_BAD_NAME: return "a 65th name, or a file that can't be opened";
     case SPINEBRIAR_OUTSIDE_GRAMMAR: return "the text is outside the grammar of selectors";
     case SPINEBRIAR_UNLISTED_NAME: return "a name of the text is not in the list";
-    case SPINEBRIAR_BAD_LISTS: return "more than 64 old or new rows, or not as many steps as old rows";
-    case SPINEBRIAR_NOT_COVERED: return "an old row whose step doesn't say that it is contained in a new row";
-    case SPINEBRIAR_NO_RECORD: return "the register has no record at the place";
     case SPINEBRIAR_BAD_POINT: return "no point has the name, or a point to be set has the name 0 or one in use";
     case SPINEBRIAR_POINTS_FULL: return "the session holds eight points already";
     case SPINEBRIAR_NOT_NEXT: return "the edition is not the next one of its series";
     case SPINEBRIAR_BAD_RECORD: return "the row or the step of the record is not as it must be";
     case SPINEBRIAR_FULL_OR_IN_USE: return "the register is full, or the return would drop a row or step in use";
+    case SPINEBRIAR_BAD_LISTS: return "more than 64 old or new rows, or not as many steps as old rows";
+    case SPINEBRIAR_NOT_COVERED: return "no step says that the old one is contained in a new one";
+    case SPINEBRIAR_NO_RECORD: return "the register has no record at the place";
     default: return NULL;
     }
 }
@@ -102,19 +108,22 @@ enum spinebriar_part {
 };
 
 /* Whether an accepted bundle has a step that says just that the old selector is contained in the new one, both as
-   text, with the names of a list, one a line. *part says what the answer is about:
-   the claim: 0, yes, and *value is the first such step, from 1; or SPINEBRIAR_NOT_COVERED, no step says so, *value 1;
-   the bundle, which is refused: 1 to 7 or 10 to 13, *value is the line, from 1;
-   the old or the new selector, which is refused: 18 or 19 with a place in it, from 0, for *value, 3, or 11, where its
-   rows don't fit beside the bundle's. */
+   text, with the names of a list, one a line. *part says what the answer is about, and *value goes with it:
+   - the claim: 0 is yes, and *value is the first such step, from 1; SPINEBRIAR_NOT_COVERED is no, no step says so, and
+     *value is 1;
+   - the bundle, which is refused: 1 to 7 or 10 to 13, and *value is the line, from 1;
+   - the old or the new selector, which is refused: 18 or 19, and *value is a place in its text, from 0; 3, it nests
+     too deep, or 11, its rows don't fit beside the bundle's and, for the new one, the old one's, and *value is 0.
+     After 3 and 11 too no step of the bundle says so, since the selector is none of its rows. */
 uint16_t spinebriar_claim(const uint8_t *bundle, size_t bundle_length, const uint8_t *names, size_t names_length,
                           const uint8_t *old_selector, size_t old_length,
                           const uint8_t *new_selector, size_t new_length, size_t *value, size_t *part);
 
 /* Marks the nodes that a selector as text selects from a context node of a document, whose rows are lent as numbers,
    three a row: kind, parent, name. 0: *value is the visits made, marks[n] is 1 or 0 for each node n, and later bytes
-   stay. The selector is refused, 18, 19, 3 or 11, or then the selection, 8, 9, 14 or 15, and all marks stay; *value is
-   the refusal's. */
+   stay. Else all marks stay. The selector is judged first: 18 or 19, and *value is a place in its text, from 0; 3 or
+   11, and *value is 0. Then the selection: 8, and *value is 0 for no rows, 512 for too many, or the first bad row; 9,
+   the context node is outside the document, and *value is 1; 14 or 15, and *value is 0. */
 uint16_t spinebriar_select(const uint8_t *names, size_t names_length, const uint8_t *selector, size_t length,
                            const uint16_t *document, size_t document_length, uint16_t context, uint32_t limit,
                            uint8_t *marks, size_t marks_length, size_t *value);

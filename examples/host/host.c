@@ -1,10 +1,10 @@
-/* Reads the bundle in the file that the command line names, and prints the number of the answer: 0, or the first refusal,
-   of which it says on standard error what it is.
+/* Reads the bundle in the file that the command line names, and prints the number of the answer: 0, or the first
+   refusal, of which it says on standard error what it is.
 
    At the root of the repository:
 
-       rt staticlib session
-       cc -Wall -Wextra -Iinclude -o target/host examples/host/host.c target/staticlib/libsession.a
+       rt staticlib exports
+       cc -Wall -Wextra -Iinclude -o target/host examples/host/host.c target/staticlib/libexports.a
        target/host FILE
 */
 #include <stdio.h>

@@ -4,8 +4,9 @@ repository's root:
 
     python3 tools/engines/xmllint.py [--spinebriar PROGRAM] [--selectors N] [--seed N]
 
-N selectors, 600 without the option, are made by chance over the files of tools/engines/xml and over as many random
-ones, none with namespaces or a DTD, which libxml2 takes for a node; a third is asked from another node than the root.
+N selectors, 600 without the option, all different, are made by chance over the files of tools/engines/xml and over
+random ones, none with namespaces or a DTD, which libxml2 takes for a node; a third is asked from another node than the
+root. Fewer than half of N over the stored files, or fewer than a quarter of those that select a node, are a failure.
 spinebriar prints a path from the root for each selected node; xmllint counts the nodes of the selector, of these
 paths, and of both together. The three numbers must be that of the lines printed, so both select the same nodes and
 each path is that of its node.
@@ -205,24 +206,29 @@ def main():
     install()
     rng = random.Random(options.seed)
     stored = sorted((TREE / "tools/engines/xml").glob("*.xml"))
-    asked = left_out = some = nodes = 0
+    seen, left_out = set(), 0
+    counts = {True: [], False: []}  # of nodes selected, by whether the file is a stored one
     with tempfile.TemporaryDirectory() as folder:
-        while asked < options.selectors:
+        while len(seen) < options.selectors:
             for path in stored + [Path(folder) / "random.xml"] * len(stored):
                 if path not in stored:
                     path.write_text(random_document(rng))
                 document = Document(options.spinebriar, path, folder)
                 words = Words(rng, document.rows, document.names)
-                for _ in range(10):
+                for _ in range(20 if path in stored else 10):
                     context = rng.randrange(len(document.rows)) if rng.random() < 0.34 else 0
                     alternatives = words.union(0, 3)
-                    if document.libxml2_errs(" ".join(text for text, _ in alternatives), context):
+                    selector = " | ".join(text for text, _ in alternatives)
+                    if document.libxml2_errs(selector, context):
                         left_out += 1
-                    elif asked < options.selectors:
-                        found = compare(document, alternatives, context)
-                        asked, some, nodes = asked + 1, some + (found > 0), nodes + found
-    print(f"xmllint agrees on {asked} selectors over {len(stored)} stored and random files, of which {some} select "
-          f"{nodes} nodes; {left_out} left out by rule")
+                    elif selector not in seen and len(seen) < options.selectors:
+                        seen.add(selector)
+                        counts[path in stored].append(compare(document, alternatives, context))
+    told = [f"{len(found)} over {what} files, of which {sum(map(bool, found))} select {sum(found)} nodes"
+            for what, found in ((f"{len(stored)} stored", counts[True]), ("random", counts[False]))]
+    print(f"xmllint agrees on {len(seen)} selectors, {', and '.join(told)}; {left_out} left out by rule")
+    if 2 * len(counts[True]) < options.selectors or 4 * sum(map(bool, counts[True])) < len(counts[True]):
+        sys.exit("FAILED: too few selectors over the stored files")
 
 
 main()

@@ -4,7 +4,7 @@ use Prim.Native.Nat.{ℕ, suc, _-_, _≤_, _<_}
 use mathlib.Core.Path.{_≡_, refl, sym, ap, subst, _∙_}
 use mathlib.Core.Bool.{Bool, true, false, cond}
 use mathlib.Core.List.{List, [], _∷_, _++_, append-assoc}
-use mathlib.Core.Logic.{inl, ⊎-elim}
+use mathlib.Core.Logic.{_⊎_, inl, inr, ⊎-elim}
 use native.Mathlib.Omega.{arith}
 use lib.Dec.{T, eqb}
 use lib.ListN.{length, getD, length-append}
@@ -41,6 +41,103 @@ use Rattle.exports.specs.ClaimCall.{saidAnswer, newClaimed, oldClaimed, 
 use Rattle.exports.proofs.Saying.{saying-found, saying-none, says-iff}
 use Rattle.exports.proofs.Texts.{TextHeld, text-held}
 use Rattle.exports.specs.ClaimDemand.{ClaimRelation, BundleSays, IsContained, ClaimDemand}
+
+-- what is asked after w answers 0 only where w accepts
+unless-refused : (w : Answer) (k : ℕ) (p c : Claimed) → c ≡ cond (accepted w) p (claimed k w) → c .answer .number ≡ 0
+    → c ≡ p
+unless-refused w k p c e n = by-test (accepted w) refl e
+  where
+    by-test : (b : Bool) → accepted w ≡ b → c ≡ cond b p (claimed k w) → c ≡ p
+    by-test true i z = z
+    by-test false i z = absurd (eqb-false (w .number) 0 i (sym (ap (λ (q : Claimed). q .answer .number) z) ∙ n))
+
+-- what is answered of the part k is w, which refuses, where what is asked after w is answered of others
+about : (w : Answer) (k : ℕ) (p : Claimed) (a : Answer) → ¬ (k ≡ p .part)
+    → claimed k a ≡ cond (accepted w) p (claimed k w) → (a ≡ w) × (¬ (a .number ≡ 0))
+about w k p a other e = by-test (accepted w) refl e
+  where
+    by-test : (b : Bool) → accepted w ≡ b → claimed k a ≡ cond b p (claimed k w) → (a ≡ w) × (¬ (a .number ≡ 0))
+    by-test true i z = absurd (other (ap (λ (q : Claimed). q .part) z))
+    by-test false i z =
+        let same = ap (λ (q : Claimed). q .answer) z in
+        (same, λ n. eqb-false (w .number) 0 i (sym (ap (λ (o : Answer). o .number) same) ∙ n))
+
+-- what is answered of another part than w's is asked after w
+beyond : (w : Answer) (k m : ℕ) (p : Claimed) (a : Answer) → ¬ (m ≡ k)
+    → claimed m a ≡ cond (accepted w) p (claimed k w) → claimed m a ≡ p
+beyond w k m p a other e = by-test (accepted w) e
+  where
+    by-test : (b : Bool) → claimed m a ≡ cond b p (claimed k w) → claimed m a ≡ p
+    by-test true z = z
+    by-test false z = absurd (other (ap (λ (q : Claimed). q .part) z))
+
+-- an answer about a text, or about the claim, is not about the bundle
+not-bundle : (c d : Bool) (x y z : Answer)
+    → ¬ (the-bundle
+    ≡ cond c (cond d (claimed the-claim z) (claimed new-selector y)) (claimed old-selector x) .part)
+not-bundle true true x y z e = let q : _≡_ {A = ℕ} 1 0 = e in absurd (omega arith)
+not-bundle true false x y z e = let q : _≡_ {A = ℕ} 1 3 = e in absurd (omega arith)
+not-bundle false d x y z e = let q : _≡_ {A = ℕ} 1 2 = e in absurd (omega arith)
+
+not-old : (d : Bool) (y z : Answer) → ¬ (old-selector ≡ cond d (claimed the-claim z) (claimed new-selector y) .part)
+not-old true y z e = let q : _≡_ {A = ℕ} 2 0 = e in absurd (omega arith)
+not-old false y z e = let q : _≡_ {A = ℕ} 2 3 = e in absurd (omega arith)
+
+not-new : (z : Answer) → ¬ (new-selector ≡ claimed the-claim z .part)
+not-new z e = let q : _≡_ {A = ℕ} 3 0 = e in absurd (omega arith)
+
+-- the four answers of a claim, each asked where the one before accepts
+module _ (bundle names old new : Bytes) where
+  abbrev bundleAnswer : Answer
+  bundleAnswer = reading bundle .answer
+
+  abbrev oldAnswer : Answer
+  oldAnswer = sessionAnswer (reading bundle .session) (text names old)
+
+  abbrev withOld : Session
+  withOld = sessionWith (reading bundle .session) (text names old)
+
+  abbrev newAnswer : Answer
+  newAnswer = sessionAnswer withOld (text names new)
+
+  abbrev sayingAnswer : Answer
+  sayingAnswer = saidAnswer (view (sessionWith withOld (text names new))) (oldAnswer .value) (newAnswer .value)
+
+  abbrev afterOld : Claimed
+  afterOld = cond (accepted newAnswer) (claimed the-claim sayingAnswer) (claimed new-selector newAnswer)
+
+  abbrev afterBundle : Claimed
+  afterBundle = cond (accepted oldAnswer) afterOld (claimed old-selector oldAnswer)
+
+  told-by : (c : Claimed) → c ≡ claimAnswer bundle names old new
+      → c ≡ cond (accepted bundleAnswer) afterBundle (claimed the-bundle bundleAnswer)
+  unfolding claimAnswer oldClaimed newClaimed
+  told-by c e = e
+
+  zero-part : (c : Claimed) → c ≡ claimAnswer bundle names old new → c .answer .number ≡ 0 → c .part ≡ the-claim
+  zero-part c e n =
+      let f = unless-refused bundleAnswer the-bundle afterBundle c (told-by c e) n in
+      let g = unless-refused oldAnswer old-selector afterOld c f n in
+      ap (λ (q : Claimed). q .part) (unless-refused newAnswer new-selector (claimed the-claim sayingAnswer) c g n)
+
+  bundle-part : (a : Answer) → claimed the-bundle a ≡ claimAnswer bundle names old new
+      → (a ≡ bundleAnswer) × (¬ (a .number ≡ 0))
+  bundle-part a e =
+      about bundleAnswer the-bundle afterBundle a
+      (not-bundle (accepted oldAnswer) (accepted newAnswer) oldAnswer newAnswer sayingAnswer) (told-by _ e)
+
+  old-part : (a : Answer) → claimed old-selector a ≡ claimAnswer bundle names old new
+      → (a ≡ oldAnswer) × (¬ (a .number ≡ 0))
+  old-part a e =
+      about oldAnswer old-selector afterOld a (not-old (accepted newAnswer) newAnswer sayingAnswer)
+      (beyond bundleAnswer the-bundle old-selector afterBundle a (λ z. absurd (omega arith)) (told-by _ e))
+
+  new-part : (a : Answer) → claimed new-selector a ≡ claimAnswer bundle names old new
+      → (a ≡ newAnswer) × (¬ (a .number ≡ 0))
+  new-part a e =
+      let f = beyond bundleAnswer the-bundle new-selector afterBundle a (λ z. absurd (omega arith)) (told-by _ e) in
+      let g = beyond oldAnswer old-selector new-selector afterOld a (λ z. absurd (omega arith)) f in
+      about newAnswer new-selector (claimed the-claim sayingAnswer) a (not-new sayingAnswer) g
 
 -- an answer of the claim itself comes after three that accept
 asked-cases : (b c d : Bool) (w x y z a : Answer)
@@ -207,6 +304,15 @@ yes-case m i e = by-test (eqb m 0) refl e
         let r : i ≡ m = ap (λ (a : Answer). a .value) z in
         (sym r, λ n. eqb-false m 0 q (sym r ∙ n))
 
+either-case : (m : ℕ) (a : Answer) → a ≡ cond (eqb m 0) (answer not-covered 1) (answer 0 m)
+    → (a .number ≡ 0) ⊎ (a ≡ answer not-covered 1)
+either-case m a e = by-test (eqb m 0) e
+  where
+    by-test : (b : Bool) → a ≡ cond b (answer not-covered 1) (answer 0 m)
+        → (a .number ≡ 0) ⊎ (a ≡ answer not-covered 1)
+    by-test true z = inr z
+    by-test false z = inl (ap (λ (o : Answer). o .number) z)
+
 no-case : (m n : ℕ) → answer not-covered n ≡ cond (eqb m 0) (answer not-covered 1) (answer 0 m) → m ≡ 0
 no-case m n e = by-test (eqb m 0) refl e
   where
@@ -237,6 +343,16 @@ pub claim-demand-by : (Claims : ClaimRelation)
 unfolding saidAnswer
 claim-demand-by Claims tied =
     record {
+      whose = λ bundle names old new c m. zero-part bundle names old new c (tied bundle names old new c m);
+      either = λ bundle names old new a m.
+          let t = taken bundle names old new a (tied bundle names old new _ m) in
+          either-case
+          (stepSaying (view (s₂ bundle names old new (t .read))) (i bundle names old new (t .read))
+          (j bundle names old new (t .read)))
+          a (t .told);
+      of-bundle = λ bundle names old new a m. bundle-part bundle names old new a (tied bundle names old new _ m);
+      of-old = λ bundle names old new a m. old-part bundle names old new a (tied bundle names old new _ m);
+      of-new = λ bundle names old new a m. new-part bundle names old new a (tied bundle names old new _ m);
       asked = λ bundle names old new a m.
           let t = taken bundle names old new a (tied bundle names old new _ m) in
           let one = first bundle names old new (t .read) (t .old-taken) (t .new-taken) in

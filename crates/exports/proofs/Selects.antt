@@ -19,7 +19,7 @@ use Rattle.calls.specs.Promises.{SelectMade}
 use Rattle.calls.specs.code.Answers.{selectAnswerOf}
 use Rattle.calls.specs.declared.SelectAnswer.{SelectAnswer}
 use Rattle.calls.proofs.Cases.{select-case}
-use Rattle.calls.proofs.Marked.{select-leaves, select-well-formed, select-marks, select-stays}
+use Rattle.calls.proofs.Marked.{SelectAccepted, select-leaves, select-takes, select-well-formed, select-marks, select-stays}
 use Rattle.session.specs.View.{freshSession}
 use Rattle.session.proofs.Simulation.{fresh-kept}
 use Rattle.exports.specs.TextSelect.{readAnswer, readRows, textSelectAnswer, textSelectBuffer}
@@ -92,6 +92,8 @@ module _ (names t : Bytes) (xs : List ℕ) (x limit : ℕ) (buffer left : List �
           let n = number ∙ e in
           record {
             document = select-well-formed rows row xs x limit buffer left (shown .0) made n;
+            inside = select-takes rows row xs x limit buffer left (shown .0) made n .context;
+            room = select-takes rows row xs x limit buffer left (shown .0) made n .marks;
             tree = held .tree;
             spells = held .spells;
             marks = λ y h.

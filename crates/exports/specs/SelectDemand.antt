@@ -18,10 +18,12 @@ use Rattle.calls.specs.Book.{Answer}
 abbrev pub TextSelectRelation : Type 1
 TextSelectRelation = (names t : Bytes) → List ℕ → (x limit : ℕ) → List ℕ → Answer → List ℕ → Type 0
 
--- where it is accepted: the lent numbers are a well-formed document, the text is a selector, the document's nodes are
--- marked 1 or 0 as its path selects them, and later bytes stay
+-- where it is accepted: the lent numbers are a well-formed document that has the context node and for whose nodes the
+-- buffer has room, the text is a selector, the nodes are marked 1 or 0 as its path selects them, and later bytes stay
 pub record TextSelected (names t : Bytes) (xs : List ℕ) (x : ℕ) (buffer left : List ℕ) : Type 0 where
   pub document : T (wellFormed (documentOf xs))
+  pub inside : x < length (documentOf xs)
+  pub room : length (documentOf xs) ≤ length buffer
   pub tree : Union
   pub spells : Spells t tree
   pub marks : (y : ℕ) → y < length (documentOf xs)

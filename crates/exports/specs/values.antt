@@ -1,1 +1,2 @@
 pub mod ClaimCases
+pub mod SelectCases

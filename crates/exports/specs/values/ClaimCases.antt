@@ -67,6 +67,9 @@ one = rowLines ++ "8 0 1 0 0\n"
 abbrev three : String
 three = rowLines ++ "2 0 0 0 0\n8 0 1 0 0\n8 0 1 0 0\n"
 
+abbrev deep : String
+deep = "a/a/a/a/a/a/a/a/a/a/a/a/a/a/a/a/a/a/a/a/a/a/a/a/a/a/a/a/a/a/a/a/a"
+
 claims :
     AllRight
     (claim one "a" "*" is (0 ∷ 0 ∷ 1 ∷ [])
@@ -87,6 +90,9 @@ claims :
     ∷ claim one "a]" "c" is (2 ∷ 18 ∷ 1 ∷ [])
     ∷ claim one "a" "a/c" is (3 ∷ 19 ∷ 2 ∷ [])
     ∷ claim one "a" "" is (3 ∷ 18 ∷ 0 ∷ [])
+    -- a selector of 33 steps nests too deep
+    ∷ claim one deep "*" is (2 ∷ 3 ∷ 0 ∷ [])
+    ∷ claim one "a" deep is (3 ∷ 3 ∷ 0 ∷ [])
     ∷ [])
 unfolding told claimAnswer oldClaimed newClaimed saidAnswer stepSaying firstBelow isReplaced isHeldStep isIn anyOf
     withRows tableWith joined textAnswer textReply answered run outcome follow step finish needByte afterByte pathByte
