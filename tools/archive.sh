@@ -6,7 +6,8 @@ set -eu
 cd "$(dirname "$0")/.."
 archive=target/staticlib/lib$1.a
 log=target/staticlib/$1.log
-if [ ! -e "$archive" ] || [ -n "$(find crates crates.txt -newer "$archive" \( -name '*.rt' -o -name '*.antt' -o -name crates.txt \))" ]; then
+newer() { find crates crates.txt -newer "$archive" \( -name '*.rt' -o -name '*.antt' -o -name crates.txt \); }
+if [ ! -e "$archive" ] || [ -n "$(newer)" ]; then
     echo "rt staticlib $1 .." >&2
     mkdir -p target/staticlib
     rt staticlib "$1" >"$log" 2>&1 || { tail -n 20 "$log" >&2; exit 1; }

@@ -7,8 +7,8 @@ root:
 Compared: kinds of rows (common RowKinds, terms Fields), axes, tests, kinds of nodes (common), the axis order (rules
 Order), opposite axes (rules WayBack), the rules form by form (rules RuleTable, read by tools/rule_table.py),
 refusals (common Refusals), limits, and that host/rules.c, host/terms.c, host/bundle.h, host/document.h and
-include/spinebriar.h say the same. Not compared: the page's sentences, the columns `selects`, `its name` and `when`,
-the test order and rule 59's way back but for its axes.
+include/spinebriar.h say the same. Not compared: the page's sentences, the columns `written` of kinds, `selects`, `its
+name` and `when`, the test order, the table of selectors and rule 59's way back but for its axes.
 """
 import re, sys
 

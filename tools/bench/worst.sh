@@ -8,7 +8,7 @@ set -eu
 cd "$(dirname "$0")/../.."
 out=target/bench
 
-session=$(tools/archive.sh session)
+session=$(tools/archive.sh exports)
 mkdir -p $out
 cargo build --release --quiet --manifest-path tools/reference/Cargo.toml
 cc -O2 -Wall -Wextra -Werror -Iinclude tools/bench/reading.c "$session" \
