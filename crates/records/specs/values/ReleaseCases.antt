@@ -1,5 +1,5 @@
 -- Releases, and what the office and a crew see, by computation. Assumes nothing.
-use Prim.Native.Nat.{ℕ, zero, suc, _-_}
+use Prim.Native.Nat.{ℕ, _-_}
 use mathlib.Core.Path.{_≡_, refl}
 use mathlib.Core.Bool.{cond, not, _&&_}
 use mathlib.Core.List.{List, [], _∷_, _++_}
@@ -19,6 +19,7 @@ use Rattle.records.specs.Records.{noRecord, recorded, current, rowOf, is
 use Rattle.records.specs.Releases.{noneReleased, releaseAnswer, withRelease, released, crewListing, crewCurrent}
 use Rattle.records.specs.Releases.{OfficeCall, OfficeHoldings, plainOffice}
 use Rattle.records.specs.Listed.{listed}
+use Rattle.records.specs.values.RecordCases.{many}
 
 -- editions 1, 2 and 3 of series 7, and editions 1 and 2 of series 9 among them
 abbrev e1 : Record
@@ -40,10 +41,6 @@ abbrev held : List Record
 held = e1 ∷ f1 ∷ e2 ∷ f2 ∷ e3 ∷ []
 
 -- as many records as there can be, each of its own series
-unfoldable pub many : ℕ → List Record
-many zero = []
-many (suc n) = recorded n 1 0 0 ∷ many n
-
 abbrev most : List Record
 most = many 256
 
