@@ -1,4 +1,4 @@
-pub mod Theorems
+pub mod Takes
 pub mod Calls
 pub mod Simulation
 pub mod Source

@@ -1,5 +1,5 @@
 // What the program audit prints, of any open file.
-use session::Report;
+use auditing::Report;
 
 fn print_after_space(value: u64) {
     io::write_all(1, b" ");
@@ -18,10 +18,10 @@ fn print(report: Report) {
 }
 
 // Reads a bundle from an open file and prints the report of it. No contract can speak of what is read or printed; the
-// report is that of `session::audit`.
+// report is that of `auditing::audit`.
 pub fn print_report(file: i32) {
     // One byte more than audit takes, so that longer input shows.
     let mut bytes = [0u8; common::MAX_BYTES + 1];
     let n = io::read_full(file, &mut bytes);
-    print(session::audit(&bytes[..n]));
+    print(auditing::audit(&bytes[..n]));
 }

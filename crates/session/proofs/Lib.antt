@@ -1,4 +1,4 @@
-pub mod Theorems
+pub mod Takes
 pub mod Source
 pub mod Clauses
 pub mod Views
@@ -14,7 +14,6 @@ pub mod ReadByRows
 pub mod LinesRead
 pub mod LineCalls
 pub mod ReadMade
-pub mod Audited
 pub mod StepsAdded
 pub mod ReadCalls
 pub mod Sorted

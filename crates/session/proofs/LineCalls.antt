@@ -24,11 +24,11 @@ use Rattle.calls.specs.code.Tables.{rowWidth, stepWidth, firstRows, firstSteps}
 use Rattle.session.specs.View.{view, stepNumbers, freshSession}
 use Rattle.calls.specs.code.Answers.{termAnswerOf, stepAnswerOf}
 use Rattle.calls.specs.Promises.{rowStepAnswer}
-use Rattle.session.specs.Promises.{TermPlaced}
+use Rattle.session.specs.code.Parts.{TermPlaced}
 use Rattle.bundles.specs.Bundle.{rowNames, stepNames, rowOfNumbers, stepOfNumbers}
 use Rattle.calls.specs.Refusals.{wrong-form}
 use Rattle.session.specs.Reading.{refusedAt, stepsRead, rowsRead}
-use Rattle.session.specs.ReadCall.{holding}
+use Rattle.session.specs.code.Parts.{holding}
 use Rattle.calls.proofs.Tables.{rows-held, steps-held}
 use Rattle.session.proofs.LinesRead.{names-read, row-wrong, row-held, row-refused, step-wrong, step-held}
 use Rattle.session.proofs.LinesRead.{step-refused}

@@ -18,8 +18,9 @@ use Rattle.bundles.specs.Bundle.{rowNames}
 use Rattle.calls.specs.Promises.{rowStepAnswer}
 use Rattle.calls.specs.Refusals.{wrong-form}
 use Rattle.session.specs.Reading.{refusedAt, stepsRead, rowsRead, linesRead, reading}
-use Rattle.session.specs.ReadCall.{readAnswerOf, isHeld, readingOf, ReadMet, holding}
-use Rattle.session.specs.ReadCall.{afterRows, RowsBounds, RowsReadMet, afterSteps, StepsBounds, StepsReadMet}
+use Rattle.session.specs.ReadCall.{readAnswerOf, isHeld, readingOf, ReadMet}
+use Rattle.session.specs.code.Parts.{holding}
+use Rattle.session.specs.code.Parts.{afterRows, RowsBounds, RowsReadMet, afterSteps, StepsBounds, StepsReadMet}
 use Rattle.session.proofs.LineCalls.{row-names-free}
 use Rattle.session.proofs.ReadByRows.{reading-by-rows}
 

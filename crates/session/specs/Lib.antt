@@ -3,10 +3,10 @@ pub mod Promises
 pub mod Reading
 pub mod ReadCall
 pub mod WriteCall
-pub mod Audit
 pub mod Demand3
 pub mod SessionLaws
 pub mod ReadDemand
 pub mod ReplaceDemand
 pub mod OrderDemand
+pub mod code
 pub mod values

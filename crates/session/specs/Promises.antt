@@ -1,23 +1,16 @@
 -- What the calls promise, for every session, and what calls lead to. Assumes nothing.
-use Prim.Native.Nat.{ℕ, _*_}
+use Prim.Native.Nat.{ℕ}
 use mathlib.Core.Path.{_≡_}
-use mathlib.Core.Bool.{cond}
 use mathlib.Core.List.{List}
-use lib.Seq.{sets}
-use Rattle.terms.specs.Row.{Row}
 use Rattle.session.specs.declared.session.Session.{Session}
-use Rattle.calls.specs.declared.TermAnswer.{TermAnswer}
 use Rattle.calls.specs.declared.SelectAnswer.{SelectAnswer}
 use Rattle.calls.specs.Book.{Answer, answer, accepted}
-use Rattle.calls.specs.TermCall.{termAnswer}
 use Rattle.calls.specs.TextCall.{textReply}
 use Rattle.calls.specs.Runs.{Machine, Made, Run}
 use Rattle.calls.specs.Calls.{Call, term, step, text, point, return, CallSeen, bookAnswer, rowAnswer, Reachable}
-use Rattle.calls.specs.code.Tables.{rowWidth, firstRows}
 use Rattle.calls.specs.Promises.{SelectMade}
-use Rattle.calls.specs.code.Answers.{termAnswerOf}
 use Rattle.session.specs.declared.session.TextAnswer.{TextAnswer}
-use Rattle.session.specs.View.{view, rowNumbers, withRow, withRows, withStep, withPoint, atPoint}
+use Rattle.session.specs.View.{view, withRow, withRows, withStep, withPoint, atPoint}
 
 -- what may be said of a call on a session, its answer, and the session that it leaves
 abbrev pub CallRelation : Type 1
@@ -59,11 +52,6 @@ CallsMade = Run view Met
 -- on every session that calls lead to, the answers are the plain book's
 abbrev pub AnswersByTerms : Type 0
 AnswersByTerms = (s : Session) → Reachable (view s) → (c : Call) → sessionAnswer s c ≡ bookAnswer (view s) c
-
--- a term call on the first n rows of the numbers xs: the answer, and the numbers ys that it leaves
-pub record TermPlaced (xs : List ℕ) (n : ℕ) (r : Row) (ys : List ℕ) (t : TermAnswer) : Type 0 where
-  pub answer : termAnswerOf t ≡ termAnswer (firstRows n xs) r
-  pub numbers : ys ≡ cond (accepted (termAnswer (firstRows n xs) r)) (sets xs (rowWidth * n) (rowNumbers r)) xs
 
 -- `Session::select` on s; the session stays the caller's
 abbrev pub SelectMet : SelectRelation

@@ -1,28 +1,14 @@
--- What the call read promises, and the functions that it is made of. Assumes nothing.
-use Prim.Native.Nat.{ℕ, _+_, _≤_, _<_}
+-- What the call read promises. Assumes nothing.
+use Prim.Native.Nat.{ℕ}
 use mathlib.Core.Path.{_≡_}
 use mathlib.Core.Bool.{Bool, true, false}
 use mathlib.Core.List.{List}
-use lib.ListN.{length, drop}
-use Rattle.terms.specs.Row.{Row}
-use Rattle.terms.specs.code.Kept.{Kept}
-use Rattle.lines.specs.Line.{lines}
 use Rattle.session.specs.declared.session.Session.{Session}
 use Rattle.session.specs.declared.read.ReadAnswer.{ReadAnswer}
 use Rattle.session.specs.declared.read.ReadAnswer.the-variants as ReadCases
 use Rattle.session.specs.declared.read.ReadResult.{ReadResult}
-use Rattle.session.specs.declared.read.RowsEnd.{RowsEnd}
-use Rattle.session.specs.declared.read.RowsEnd.the-variants as RowsCases
-use Rattle.session.specs.declared.read.StepsEnd.{StepsEnd}
-use Rattle.session.specs.declared.read.StepsEnd.the-variants as StepsCases
-use Rattle.calls.specs.declared.TermAnswer.{TermAnswer}
-use Rattle.calls.specs.Book.{maxSteps, Answer, answer, accepted}
-use Rattle.calls.specs.code.Tables.{firstRows}
-use Rattle.calls.specs.code.Answers.{termAnswerOf}
-use Rattle.session.specs.View.{noPoints, freshSession}
-use Rattle.calls.specs.Promises.{rowStepAnswer}
-use Rattle.session.specs.Promises.{TermPlaced}
-use Rattle.session.specs.Reading.{Reading, refusedAt, stepsRead, rowsRead, reading}
+use Rattle.calls.specs.Book.{Answer, answer, accepted}
+use Rattle.session.specs.Reading.{Reading, reading}
 
 abbrev pub readAnswerOf : ReadAnswer → Answer
 readAnswerOf (ReadCases.Held n) = answer 0 n
@@ -40,47 +26,3 @@ pub record ReadMet (bytes : List ℕ) (t : ReadResult) : Type 0 where
   pub answer : readAnswerOf (t .answer) ≡ reading bytes .answer
   pub variant : isHeld (t .answer) ≡ accepted (reading bytes .answer)
   pub session : t .session ≡ reading bytes .session
-
--- a term call of a term line, by what is kept of the first n rows: it is as every term call, and the same is kept of
--- the rows that it leaves
-pub record TermKept (xs : List ℕ) (n : ℕ) (r : Row) (ys table filter : List ℕ) (t : TermAnswer) : Type 0 where
-  pub placed : TermPlaced xs n r ys t
-  pub kept : termAnswerOf t .number ≡ 0 → Kept (firstRows (n + 1) ys) table filter
-
--- the session of n rows with the numbers xs, and m steps with the numbers ys, without points
-abbrev pub holding : (xs : List ℕ) (n : ℕ) (ys : List ℕ) (m : ℕ) → Session
-holding xs n ys m =
-    record { rows = xs; «row_count» = n; steps = ys; «step_count» = m; points = noPoints; «point_count» = 0 }
-
--- what is still to be read after the term lines, which left the numbers xs
-abbrev pub afterRows : List ℕ → (xs : List ℕ) → RowsEnd → Reading
-afterRows bytes xs (RowsCases.Held n line at) = stepsRead rowStepAnswer (holding xs n (freshSession .steps) 0) line
-    (lines (drop at bytes))
-afterRows bytes xs (RowsCases.Refused k line) = refusedAt k line
-
--- the numbers that the code goes on with; that of a refusal is not 0
-abbrev pub RowsBounds : List ℕ → RowsEnd → Type 0
-RowsBounds bytes (RowsCases.Held n line at) = (line ≤ at) × (at ≤ length bytes)
-RowsBounds bytes (RowsCases.Refused k line) = 0 < k
-
--- the term lines from line 2 on, which starts at `start`, on the numbers xs, which become ys
-pub record RowsReadMet (bytes : List ℕ) (start : ℕ) (xs ys : List ℕ) (t : RowsEnd) : Type 0 where
-  pub reading : afterRows bytes ys t ≡ rowsRead rowStepAnswer (holding xs 0 (freshSession .steps) 0) 2
-      (lines (drop start bytes))
-  pub bounds : RowsBounds bytes t
-
--- the reading after the step lines, which left the numbers ys
-abbrev pub afterSteps : (xs : List ℕ) (n : ℕ) (ys : List ℕ) → StepsEnd → Reading
-afterSteps xs n ys (StepsCases.Held m) = record { answer = answer 0 m; session = holding xs n ys m }
-afterSteps xs n ys (StepsCases.Refused k line) = refusedAt k line
-
-abbrev pub StepsBounds : StepsEnd → Type 0
-StepsBounds (StepsCases.Held m) = m ≤ maxSteps
-StepsBounds (StepsCases.Refused k line) = 0 < k
-
--- the step lines from line `first` on, which starts at `start`, on n rows with the numbers xs and the numbers ys, which
--- become zs
-pub record StepsReadMet (bytes : List ℕ) (start first : ℕ) (xs : List ℕ) (n : ℕ) (ys zs : List ℕ)
-    (t : StepsEnd) : Type 0 where
-  pub reading : afterSteps xs n zs t ≡ stepsRead rowStepAnswer (holding xs n ys 0) first (lines (drop start bytes))
-  pub bounds : StepsBounds t

@@ -1,4 +1,2 @@
-pub mod BundleCases
-pub mod AuditCases
 pub mod WriteCases
 pub mod PointedCases

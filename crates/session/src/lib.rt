@@ -1,9 +1,9 @@
 // A session of terms and steps, the calls on it, and the reading and writing of bundles.
+mod counts;
 mod order;
 mod read;
 mod record;
 mod replace;
-mod report;
 mod session;
 mod write;
 
@@ -15,8 +15,6 @@ pub use ordering::OrderAnswer;
 pub use read::ReadAnswer;
 pub use read::ReadResult;
 pub use replacing::ReplaceAnswer;
-pub use report::Report;
-pub use report::audit;
 pub use session::PointResult;
 pub use session::Session;
 pub use session::StepResult;

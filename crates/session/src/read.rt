@@ -24,7 +24,8 @@ ghost use Rattle.calls.specs.code.Tables.{rowWidth, stepWidth, firstRows};
 ghost use Rattle.session.specs.View.{freshSession};
 ghost use Rattle.bundles.specs.Bundle.{rowNames, stepNames};
 ghost use Rattle.session.specs.Reading.{refusedAt};
-ghost use Rattle.session.specs.ReadCall.{readAnswerOf, isHeld, readingOf, ReadMet, TermKept, RowsReadMet, StepsReadMet};
+ghost use Rattle.session.specs.ReadCall.{readAnswerOf, isHeld, readingOf, ReadMet};
+ghost use Rattle.session.specs.code.Parts.{TermKept, RowsReadMet, StepsReadMet};
 
 // The answer of a read call: how many steps are held, or the number of the refusal and the refused line.
 pub enum ReadAnswer {

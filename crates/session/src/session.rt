@@ -18,7 +18,8 @@ ghost use Rattle.calls.specs.code.Tables.{rowWidth, stepWidth};
 ghost use Rattle.calls.specs.code.Answers.{stepOf, termAnswerOf, stepAnswerOf};
 ghost use Rattle.calls.specs.code.Points.{pointAnswerOf, pointWidth, cleared};
 ghost use Rattle.session.specs.View.{freshSession, rowNumbers, stepNumbers, countsNumbers};
-ghost use Rattle.session.specs.Promises.{Met, TermPlaced, SelectMet, textAnswerOf};
+ghost use Rattle.session.specs.Promises.{Met, SelectMet, textAnswerOf};
+ghost use Rattle.session.specs.code.Parts.{TermPlaced};
 
 // The numbers of a session's tables.
 pub(crate) const ROW_NUMBERS: usize = terms::ROW_WIDTH * terms::MAX_ROWS;

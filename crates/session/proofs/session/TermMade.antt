@@ -12,7 +12,8 @@ use Rattle.calls.specs.code.Tables.{rowWidth}
 use Rattle.session.specs.View.{rowsHeld, view, rowNumbers, withRow}
 use Rattle.calls.specs.code.Answers.{termAnswerOf}
 use Rattle.calls.specs.Calls.{term}
-use Rattle.session.specs.Promises.{Met, TermPlaced}
+use Rattle.session.specs.Promises.{Met}
+use Rattle.session.specs.code.Parts.{TermPlaced}
 use Rattle.calls.proofs.Accepted.{if-accepted, if-refused}
 
 module _ (s : Session) (r : Row) (n : ℕ) (count : n ≡ rowsHeld s) (ys : List ℕ) (t : TermAnswer)

@@ -14,7 +14,7 @@ use Rattle.calls.specs.code.Tables.{rowWidth, firstRows}
 use Rattle.session.specs.View.{freshSession}
 use Rattle.calls.specs.Promises.{rowStepAnswer}
 use Rattle.session.specs.Reading.{refusedAt, rowsRead}
-use Rattle.session.specs.ReadCall.{holding}
+use Rattle.session.specs.code.Parts.{holding}
 use Rattle.session.proofs.LineCalls.{names-there, row-end, row-wrong-there, row-refused-there, row-held-there}
 use Rattle.session.proofs.LineCalls.{row-room}
 use Rattle.session.proofs.read.read_rows.Statement.{statement}

@@ -11,7 +11,7 @@ use Rattle.calls.specs.Book.{maxSteps}
 use Rattle.calls.specs.code.Tables.{stepWidth}
 use Rattle.calls.specs.Promises.{rowStepAnswer}
 use Rattle.session.specs.Reading.{refusedAt, stepsRead}
-use Rattle.session.specs.ReadCall.{holding}
+use Rattle.session.specs.code.Parts.{holding}
 use Rattle.session.proofs.LineCalls.{step-end, step-wrong-there, step-refused-there, step-held-there, step-room}
 use Rattle.session.proofs.read.read_steps.Statement.{statement}
 use Rattle.session.proofs.read.read_steps.Tie as tie

@@ -5,12 +5,12 @@ use mathlib.Core.List.{List}
 use lib.Dec.{ltb}
 use lib.ListN.{length}
 use Rattle.common.specs.Limits.{maxBytes}
-use Rattle.session.specs.declared.report.Report.{Report}
+use Rattle.auditing.specs.declared.Report.{Report}
 use Rattle.calls.specs.Book.{accepted}
 use Rattle.calls.specs.StepCall.{stepNumbered}
 use Rattle.session.specs.View.{view}
 use Rattle.calls.specs.Refusals.{wrong-form}
 use Rattle.session.specs.Reading.{Reading, reading}
 
 -- answer, refused line or 0, steps held, the rows of the last step or zeros
 abbrev pub reportBy : (answer line steps left right : ℕ) → Report

@@ -1,8 +1,8 @@
 -- `audit` meets its contract. Assumes nothing.
 use borrow.Author.Needs.{needs}
-use Rattle.session.proofs.Audited.{too-long, reported}
-use Rattle.session.proofs.report.audit.Statement.{statement}
-use Rattle.session.proofs.report.audit.Tie as tie
+use Rattle.auditing.proofs.Audited.{too-long, reported}
+use Rattle.auditing.proofs.audit.Statement.{statement}
+use Rattle.auditing.proofs.audit.Tie as tie
 
 returns : tie.Need-returns
 returns c = too-long (c .before .before .args .bytes .now) (c .if1 .taken)

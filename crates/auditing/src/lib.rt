@@ -1,16 +1,9 @@
-// The counts of a session's steps, and what the program audit prints of a bundle.
-use crate::session::Session;
-use matching::Sides;
+// What the program audit prints of a bundle.
+use session::Session;
 ghost use mathlib.Core.Path.{_≡_};
 ghost use mathlib.Core.Bool.{cond};
-ghost use lib.ListN.{length};
-ghost use Rattle.matching.specs.code.MatchTypes.{sidesIn};
 ghost use Rattle.calls.specs.Book.{answer, accepted};
-ghost use Rattle.calls.specs.StepCall.{stepNumbered};
-ghost use Rattle.calls.specs.Uses.{usesOf};
-ghost use Rattle.calls.specs.Promises.{sidesOf};
-ghost use Rattle.session.specs.View.{view};
-ghost use Rattle.session.specs.Audit.{report};
+ghost use Rattle.auditing.specs.Audit.{report};
 
 // What the program audit prints: the answer's number, the refused line or 0, the steps held, the rows of the last
 // step or zeros.
@@ -20,31 +13,6 @@ pub struct Report {
     pub steps: u16,
     pub left: u16,
     pub right: u16,
-}
-
-impl Session {
-    pub fn steps_held(self) -> u16
-        ensures { λ r. ⌜ r ≡ length (view self .steps) ⌝ }
-    {
-        calls::clamp(self.step_count, Session::STEPS) as u16
-    }
-
-    // How many of the steps are held by the rule.
-    pub fn rule_uses(self, rule: u16) -> usize
-        ensures { λ r. ⌜ r ≡ usesOf rule (view self .steps) ⌝ }
-    {
-        let steps = calls::first_steps(&self.steps, self.step_count);
-        calls::rule_uses(steps, rule)
-    }
-
-    // The rows of the last step; zeros where there is none.
-    fn last_step(self) -> Sides
-        ensures { λ r. ⌜ sidesIn r ≡ sidesOf (stepNumbered (view self .steps) (length (view self .steps))) ⌝ }
-    {
-        let held = calls::clamp(self.step_count, Session::STEPS);
-        let steps = calls::first_steps(&self.steps, self.step_count);
-        calls::sides_of(steps, held as u16)
-    }
 }
 
 // The value of a refusal, which is its line; 0 where nothing is refused.

@@ -2,8 +2,8 @@
 use mathlib.Core.Path.{refl}
 use Rattle.calls.specs.Book.{answer}
 use Rattle.calls.proofs.Accepted.{if-accepted, if-refused}
-use Rattle.session.proofs.report.refused_line.Statement.{statement}
-use Rattle.session.proofs.report.refused_line.Tie as tie
+use Rattle.auditing.proofs.refused_line.Statement.{statement}
+use Rattle.auditing.proofs.refused_line.Tie as tie
 
 returns : tie.Need-returns
 returns c = let a = c .before .args in if-accepted (answer (a .number) (a .value)) _ refl _ _ (c .if1 .taken)

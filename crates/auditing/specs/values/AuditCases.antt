@@ -8,9 +8,9 @@ use borrow.Author.Tests.{lt-ltb, le-ltb}
 use Rattle.terms.specs.Row.{tableOf}
 use Rattle.calls.specs.code.Tables.{stepsOf}
 use Rattle.lines.specs.Line.{inFirstLine, lines, isLine}
 use Rattle.session.specs.View.{view, freshSession}
 use Rattle.session.specs.Reading.{linesRead, reading}
-use Rattle.session.specs.Audit.{reportBy, readReport, report}
+use Rattle.auditing.specs.Audit.{reportBy, readReport, report}
 
 -- the letter x, again and again: read, so that line 1 is refused
 most-bytes : report (replicate 65536 120) ≡ reportBy 10 1 0 0 0

@@ -7,15 +7,15 @@ use lib.ListN.{length}
 use borrow.Author.Tests.{lt-ltb, le-ltb}
 use Rattle.common.specs.Limits.{maxBytes}
 use Rattle.matching.specs.code.RowYields.{Sides}
 use Rattle.session.specs.declared.read.ReadResult.{ReadResult}
 use Rattle.calls.specs.Book.{answer, accepted}
 use Rattle.calls.specs.StepCall.{stepNumbered}
 use Rattle.session.specs.View.{view}
 use Rattle.calls.specs.Promises.{sidesOf}
 use Rattle.calls.specs.Refusals.{wrong-form}
 use Rattle.session.specs.Reading.{reading}
 use Rattle.session.specs.ReadCall.{readAnswerOf, readingOf, ReadMet}
-use Rattle.session.specs.Audit.{reportBy, readReport, report}
+use Rattle.auditing.specs.Audit.{reportBy, readReport, report}
 
 module _ (bytes : List ℕ) where
   pub too-long : maxBytes < length bytes → reportBy wrong-form 0 0 0 0 ≡ report bytes

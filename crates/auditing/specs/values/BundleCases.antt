@@ -17,16 +17,16 @@ use Rattle.rules.specs.Decision.{yields-dec}
 use Rattle.lines.specs.Ascii.{ascii}
 use Rattle.lines.specs.Line.{inFirstLine, lines, inFirstPart, parts, sameBytes, isLine}
 use Rattle.lines.specs.Number.{isDigit, areDigits, isDecimal, appendDigits, numbersUpTo, numbersOf}
-use Rattle.session.specs.declared.report.Report.{Report}
+use Rattle.auditing.specs.declared.Report.{Report}
 use Rattle.calls.specs.Book.{answer}
 use Rattle.calls.specs.TermCall.{termAnswer}
 use Rattle.calls.specs.StepCall.{sameSort, badSide, premiseOk, badPremise, claimOf, premisesOf, stepAnswerBy, isYielded}
 use Rattle.calls.specs.StepCall.{stepAnswer}
 use Rattle.calls.specs.code.Tables.{stepsOf}
 use Rattle.session.specs.View.{view, freshSession, withRow, withStep}
 use Rattle.bundles.specs.Bundle.{rowNames, stepNames, rowOfLine, stepOfLine}
 use Rattle.session.specs.Reading.{stepsRead, rowsRead, linesRead, reading}
-use Rattle.session.specs.Audit.{reportBy, report}
+use Rattle.auditing.specs.Audit.{reportBy, report}
 
 abbrev audited : String → Report
 audited text = report (ascii text)

@@ -1,0 +1,2 @@
+pub mod AuditCases
+pub mod BundleCases
