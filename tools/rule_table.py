@@ -378,10 +378,7 @@ def entries(path, name):
 
 
 def pairs_of(path, name):
-    return [(int(a), int(b)) for a, b in re.findall(r'\[(\d+), (\d+)\]', entries(path, name))]
-
-
-def opposites_of(path, name):
+    """Pairs of axes by their names."""
     text = open(path, encoding='utf-8').read().split('const %s:' % name)[1].split('= [', 1)[1].split('];')[0]
     number = lambda word: AXES.index(word.lower().replace('_', '-'))
     return [(number(a), number(b)) for a, b in re.findall(r'\[axis::(\w+), axis::(\w+)\]', text)]
@@ -510,6 +507,7 @@ def encoded(forms, last):
 
 
 CONSTANTS = """// The axis order and the rule table as numbers, as tools/rule_table.py writes them from the specification.
+use common::axis;
 
 // The pairs of axes whose first one is below the second.
 pub const AXIS_PAIRS: [[u16; 2]; %d] = [
@@ -543,7 +541,8 @@ def print_constants(specs):
     forms, pairs = specification(specs), specification_axes(specs)
     rules, coded, patterns = encoded(forms, TABLE_RULES)
     table = rules + coded + patterns
-    axes = ''.join('    [%d, %d], // %s, %s\n' % (a, b, AXES[a], AXES[b]) for a, b in pairs)
+    name = lambda a: 'axis::' + AXES[a].upper().replace('-', '_')
+    axes = ''.join('    [%s, %s],\n' % (name(a), name(b)) for a, b in pairs)
     lines = ''.join('    %s, // %s\n' % (word(row), words) for row, words in table)
     print(CONSTANTS % (len(pairs), axes, FIRST_LETTER, FIRST_ROW, len(rules + coded), len(table), lines), end='')
 
@@ -577,7 +576,7 @@ def main():
               compare('opposite axes of 02 and of WayBack.antt', opposites,
                       specification_axes(specs, 'WayBack', 'opposites'), opposites),
               compare('opposite axes of 02 and of way_back.rt', opposites,
-                      opposites_of(way_back, 'OPPOSITES'), opposites)]
+                      pairs_of(way_back, 'OPPOSITES'), opposites)]
     if number_of(way_back, 'WAY_BACK_RULE') != WAY_BACK_RULE:
         raise SystemExit('way_back.rt: rule 59 has another number')
     print('rules %d to %d; written out by hand: 3 for =>, 22, 23, 53, 55, and the phrases of the side conditions' % (forms[0][0], forms[-1][0]))

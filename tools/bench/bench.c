@@ -270,23 +270,23 @@ static void print_difference(const char *what, const Text *with, const Text *wit
     printf("| %s | %.2f | %.2f |\n", what, (min[1] - min[0]) / calls, (median[1] - median[0]) / calls);
 }
 
-/* A step from no premise, beside the same rows with no step. */
-static void bench_step(const char *what, Text *t, int rule, int left, int right) {
-    enum { STEPS = 2048 };
+/* A step from no premise, made `steps` times, beside the same rows with no step. */
+static void bench_step(const char *what, const Text *t, int steps, int rule, int left, int right) {
     static Text with;
     char line[64];
-    add_line(t, "rule left right first second\n");
     with = *t;
     snprintf(line, sizeof line, "%d %d %d 0 0\n", rule, left, right);
-    for (int i = 0; i < STEPS; i++) add_line(&with, line);
-    print_difference(what, &with, t, STEPS);
+    for (int i = 0; i < steps; i++) add_line(&with, line);
+    print_difference(what, &with, t, steps);
 }
 
-/* A step by rule 59: r <= r[some w]. */
-static void bench_way_back(const char *what, Text *t, Pair p) {
+/* A step by rule 59, r <= r[some w]: one, and many, of which the first alone goes through the rows of r. */
+static void bench_way_back(const char *one, const char *many, Text *t, Pair p) {
     int inside = add_row(t, 11, p.back, add_row(t, 0, 0, 0, 0), 0);
     int right = add_row(t, 5, p.path, add_row(t, 8, inside, 0, 0), 0);
-    bench_step(what, t, 59, p.path, right);
+    add_line(t, "rule left right first second\n");
+    bench_step(one, t, 1, 59, p.path, right);
+    bench_step(many, t, 2048, 59, p.path, right);
 }
 
 static void bench_calls(void) {
@@ -301,11 +301,12 @@ static void bench_calls(void) {
     add_line(&full, "rule left right first second\n");
     print_difference("a term, the last 256 of 1,024 rows", &full, &fewer, LAST);
     int row = add_row(&same, 2, 1, 0, 1);
-    bench_step("a step by rule 2", &same, 2, row, row);
+    add_line(&same, "rule left right first second\n");
+    bench_step("a step by rule 2", &same, 2048, 2, row, row);
     bench_way_back("a step by rule 59 of 27 compositions, each of the one before with itself: 2^27 leaves, 62 rows",
-                   &deep, doubled(&deep, 27));
-    bench_way_back("a step by rule 59 of a path of 128 steps, no two the same: 643 rows", &wide,
-                   balanced(&wide, add_row(&wide, 2, 2, 2, 0), 1, 128));
+                   "each of 2,048 such steps", &deep, doubled(&deep, 27));
+    bench_way_back("a step by rule 59 of a path of 128 steps, no two the same: 643 rows", "each of 2,048 such steps",
+                   &wide, balanced(&wide, add_row(&wide, 2, 2, 2, 0), 1, 128));
 }
 
 /* Orders */

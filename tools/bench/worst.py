@@ -61,29 +61,46 @@ def one_slot():
     return rows
 
 
-def way_back(count):
-    """child::1 to child::count, put together two by two, and their way back: rows, and a step by rule 59."""
-    rows = []
+def ways_back(count):
+    """child::1 to child::count, put together two by two: rows, and the pairs of each path with its way back, the whole
+    path last."""
+    rows, pairs = [(2, 2, 2, 0)], []
 
     def add(*row):
         rows.append(row)
         return len(rows) - 1
 
-    def compose(p, q):
-        return add(4, p[0], q[0], 0), add(4, q[1], p[1], 0)
-
     def balanced(first, n):
         if n == 1:
             own = add(2, 0, 0, first)
-            return add(2, 1, 0, first), add(4, own, parent, 0)
-        p = balanced(first, n // 2)
-        return compose(p, balanced(first + n // 2, n - n // 2))
+            pairs.append((add(2, 1, 0, first), add(4, own, 0, 0)))
+        else:
+            p, q = balanced(first, n // 2), balanced(first + n // 2, n - n // 2)
+            pairs.append((add(4, p[0], q[0], 0), add(4, q[1], p[1], 0)))
+        return pairs[-1]
 
-    parent = add(2, 2, 2, 0)
-    path, back = balanced(1, count)
-    inside = add(11, back, add(0, 0, 0, 0), 0)
-    right = add(5, path, add(8, inside, 0, 0), 0)
-    return rows, (59, path, right, 0, 0)
+    balanced(1, count)
+    return rows, pairs
+
+
+def way_back_steps(rows, pairs):
+    """The rows and a step by rule 59 for each pair."""
+    rows, steps = rows + [(0, 0, 0, 0)], []
+    void = len(rows) - 1
+    for path, back in pairs:
+        at = len(rows)
+        rows += [(11, back, void, 0), (8, at, 0, 0), (5, path, at + 1, 0)]
+        steps.append((59, path, at + 2, 0, 0))
+    return rows, steps
+
+
+def late_forms(rows):
+    """The rows and four more; a step by rule 10 in its second form over and over: the first form fails at its last
+    place."""
+    step, own, right, left = range(len(rows), len(rows) + 4)
+    more = [(2, 4, 2, 0), (2, 0, 2, 0), (4, own, step, 0), (4, right, step, 0)]
+    premises = [(2, step, step, 0, 0), (2, right, right, 0, 0)]
+    return rows + more, premises + [(10, left, right, 1, 2)] * (MOST_STEPS - 2)
 
 
 def filled(rows, some):
@@ -104,11 +121,17 @@ def bundles():
     for rule in sorted({s[0] for s in steps}):
         first = next(i for i, s in enumerate(steps) if s[0] == rule)
         yield 'rule-%d' % rule, rows, steps[:first] + [steps[first]] * (MOST_STEPS - first)
+    yield ('late-forms-few-slots',) + late_forms(few_slots()[:MOST_ROWS - 4])
+    # one long path over and over, and each of many paths in turn
     for count in (64, 128, 203):
-        rows, step = way_back(count)
-        if len(rows) <= MOST_ROWS:
-            yield 'way-back-%d' % count, rows, [step] * MOST_STEPS
-            yield 'way-back-%d-few-slots' % count, filled(rows, few_slots()), [step] * MOST_STEPS
+        rows, pairs = ways_back(count)
+        rows, steps = way_back_steps(rows, pairs[-1:])
+        yield 'way-back-%d' % count, rows, steps * MOST_STEPS
+        yield 'way-back-%d-few-slots' % count, filled(rows, few_slots()), steps * MOST_STEPS
+    rows, pairs = ways_back(93)
+    rows, steps = way_back_steps(rows, pairs)
+    yield 'ways-back-185', rows, steps * (MOST_STEPS // len(steps) + 1)
+    yield 'ways-back-185-longest-first', rows, steps[::-1] * (MOST_STEPS // len(steps) + 1)
 
 
 def main():

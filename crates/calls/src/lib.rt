@@ -44,6 +44,7 @@ pub use select::select_on;
 pub use step::MAX_STEPS;
 pub use step::STEP_WIDTH;
 pub use step::Step;
+pub use step::judge_noted;
 pub use step::judge_step;
 pub use step::rule_uses;
 pub use step::sides_of;

@@ -10,6 +10,7 @@ ghost use Rattle.terms.specs.Row.{rowAt, tableOf};
 ghost use Rattle.terms.specs.Fields.{isPath};
 ghost use Rattle.matching.specs.code.MatchTypes.{sidesIn};
 ghost use Rattle.matching.specs.code.Encode.{ruleTable};
+ghost use Rattle.matching.specs.code.RowWayBack.{Noted};
 ghost use Rattle.calls.specs.Book.{maxSteps, book};
 ghost use Rattle.calls.specs.StepCall.{sameSort, badSide, premiseOk, badPremise, stepNumbered};
 ghost use Rattle.calls.specs.Uses.{usesOf};
@@ -135,21 +136,39 @@ fn bad_premise(table: &[u64], held: usize, step: Step) -> u16
 }
 
 // Whether the rule yields the step, judged by row numbers.
-fn is_yielded(rows: &[u16], steps: &[u16], table: &[u64], step: Step) -> bool
-    requires { ⌜ now table ≡ ruleTable ⌝ }
-    ensures { λ r. ⌜ r ≡ rowYielded
-        (book (tableOf (now (rows .entry))) (stepsOf (now (steps .entry)))) (stepOf step) ⌝ }
+fn is_yielded(rows: &[u16], steps: &[u16], table: &[u64], step: Step, noted: &mut [usize]) -> bool
+    requires { ⌜ (now table ≡ ruleTable) × Noted (tableOf (now rows)) (now noted) ⌝ }
+    ensures { λ r. ⌜ (r ≡ rowYielded
+        (book (tableOf (now (rows .entry))) (stepsOf (now (steps .entry)))) (stepOf step))
+        × Noted (tableOf (now (rows .entry))) (now (noted .exit)) ⌝ }
 {
     let first = sides_of(steps, step.first);
     let second = sides_of(steps, step.second);
-    matching::yields(rows, table, step.rule, step.left, step.right, first, second)
+    matching::yields(
+        rows,
+        table,
+        step.rule,
+        step.left,
+        step.right,
+        first,
+        second,
+        noted,
+    )
 }
 
 // The answer of a step call on the rows and steps: the first refusal that applies, or the new step's number.
-fn step_answer(rows: &[u16], steps: &[u16], table: &[u64], step: Step) -> StepAnswer
-    requires { ⌜ (length (stepsOf (now steps)) ≤ maxSteps) × (now table ≡ ruleTable) ⌝ }
-    ensures { λ r. ⌜ stepAnswerOf r ≡ rowStepAnswer
-        (book (tableOf (now (rows .entry))) (stepsOf (now (steps .entry)))) (stepOf step) ⌝ }
+fn step_answer(
+    rows: &[u16],
+    steps: &[u16],
+    table: &[u64],
+    step: Step,
+    noted: &mut [usize],
+) -> StepAnswer
+    requires { ⌜ (length (stepsOf (now steps)) ≤ maxSteps) × (now table ≡ ruleTable)
+        × Noted (tableOf (now rows)) (now noted) ⌝ }
+    ensures { λ r. ⌜ (stepAnswerOf r ≡ rowStepAnswer
+        (book (tableOf (now (rows .entry))) (stepsOf (now (steps .entry)))) (stepOf step))
+        × Noted (tableOf (now (rows .entry))) (now (noted .exit)) ⌝ }
 {
     if common::or(step.rule == 0, matching::MAX_RULE < step.rule) {
         return StepAnswer::NoRule;
@@ -163,7 +182,7 @@ fn step_answer(rows: &[u16], steps: &[u16], table: &[u64], step: Step) -> StepAn
     if 0 < premise {
         return StepAnswer::BadPremise(premise);
     }
-    if !is_yielded(rows, steps, table, step) {
+    if !is_yielded(rows, steps, table, step, noted) {
         return StepAnswer::NotYielded;
     }
     if MAX_STEPS <= held {
@@ -174,7 +193,28 @@ fn step_answer(rows: &[u16], steps: &[u16], table: &[u64], step: Step) -> StepAn
     StepAnswer::Held(number)
 }
 
-// The same on the first n rows of a table and the first m steps of another, by the rule table, which is lent.
+// The same on the first n rows of a table and the first m steps of another, by the rule table, which is lent, as
+// are the notes of what is known of rows' ways back.
+pub fn judge_noted<'a>(
+    rows: &'a [u16],
+    n: usize,
+    steps: &'a [u16],
+    m: usize,
+    table: &'a [u64],
+    step: Step,
+    noted: &mut [usize],
+) -> StepAnswer
+    requires { ⌜ (now table ≡ ruleTable) × Noted (firstRows n (now rows)) (now noted) ⌝ }
+    ensures { λ r. ⌜ (stepAnswerOf r ≡ rowStepAnswer
+        (book (firstRows n (now (rows .entry))) (firstSteps m (now (steps .entry)))) (stepOf step))
+        × Noted (firstRows n (now (rows .entry))) (now (noted .exit)) ⌝ }
+{
+    let held_rows = first_rows(rows, n);
+    let held_steps = first_steps(steps, m);
+    step_answer(held_rows, held_steps, table, step, noted)
+}
+
+// The same of one step by itself. Only the way back takes notes: for another rule none are cleared.
 pub fn judge_step<'a>(
     rows: &'a [u16],
     n: usize,
@@ -187,7 +227,10 @@ pub fn judge_step<'a>(
     ensures { λ r. ⌜ stepAnswerOf r ≡ rowStepAnswer
         (book (firstRows n (now (rows .entry))) (firstSteps m (now (steps .entry)))) (stepOf step) ⌝ }
 {
-    let held_rows = first_rows(rows, n);
-    let held_steps = first_steps(steps, m);
-    step_answer(held_rows, held_steps, table, step)
+    if step.rule == matching::WAY_BACK_RULE {
+        let mut noted = matching::no_notes();
+        return judge_noted(rows, n, steps, m, table, step, &mut noted);
+    }
+    let mut unused = [0usize; 1];
+    judge_noted(rows, n, steps, m, table, step, &mut unused)
 }

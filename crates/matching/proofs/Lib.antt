@@ -4,7 +4,7 @@ mod FormSearch
 mod Agreement
 pub mod Letters
 mod RowForms
-mod RowWayBack
+pub mod RowWayBack
 mod WayBackRows
 pub mod RowYields
 mod Matching

@@ -11,14 +11,16 @@ pub use order::axis_below;
 pub use order::test_below;
 use tables::TABLE;
 pub use tables::TABLE_SIZE;
-use way_back::WAY_BACK_RULE;
+use terms::MAX_ROWS;
+pub use way_back::WAY_BACK_RULE;
 use way_back::is_with_back;
 ghost use mathlib.Core.Path.{_≡_};
-ghost use mathlib.Core.List.{[], _∷_};
+ghost use mathlib.Core.List.{List, [], _∷_};
 ghost use lib.ListN.{take};
-ghost use Rattle.terms.specs.Row.{tableOf};
+ghost use Rattle.terms.specs.Row.{Row, tableOf};
 ghost use Rattle.rules.specs.Yields.{premiseCount};
 ghost use Rattle.matching.specs.code.Encode.{ruleTable};
+ghost use Rattle.matching.specs.code.RowWayBack.{Noted};
 ghost use Rattle.matching.specs.code.RowYields.{sides, rowYields};
 ghost use Rattle.matching.specs.code.MatchTypes.{sidesIn};
 
@@ -32,6 +34,13 @@ pub fn rule_table() -> [u64; TABLE_SIZE]
     TABLE
 }
 
+// Notes of rows' ways back, before any is found.
+pub fn no_notes() -> [usize; MAX_ROWS]
+    ensures { λ r. ⌜ ((rs : List Row) → Noted rs r) ⌝ }
+{
+    [0usize; MAX_ROWS]
+}
+
 // How many premises a rule has, by the rule table; 0 where it has no such rule.
 pub fn premise_count(table: &[u64], rule: u16) -> u16
     ensures { λ r. ⌜ (now (table .entry) ≡ ruleTable → r ≡ premiseCount rule) ⌝ }
@@ -40,7 +49,8 @@ pub fn premise_count(table: &[u64], rule: u16) -> u16
 }
 
 // Whether the rule, by the rule table or by the way back, yields the step, whose rows are left and right, from premises
-// with the rows given. The rows of a premise that the rule doesn't have don't matter.
+// with the rows given. The rows of a premise that the rule doesn't have don't matter. What is found of ways back is
+// noted.
 pub fn yields(
     rows: &[u16],
     table: &[u64],
@@ -49,13 +59,16 @@ pub fn yields(
     right: u16,
     first: Sides,
     second: Sides,
+    noted: &mut [usize],
 ) -> bool
+    requires { ⌜ Noted (tableOf (now rows)) (now noted) ⌝ }
     ensures { λ r. ⌜ (now (table .entry) ≡ ruleTable
         → r ≡ rowYields (tableOf (now (rows .entry))) rule (sides left right)
-        (take (premiseCount rule) (sidesIn first ∷ sidesIn second ∷ []))) ⌝ }
+        (take (premiseCount rule) (sidesIn first ∷ sidesIn second ∷ [])))
+        × Noted (tableOf (now (rows .entry))) (now (noted .exit)) ⌝ }
 {
     if rule == WAY_BACK_RULE {
-        return is_with_back(rows, left, right);
+        return is_with_back(rows, left, right, noted);
     }
     let e = rule_at(table, rule);
     some_form_yields(rows, table, e.0, e.1, e.2, left, right, first, second)

@@ -6,7 +6,6 @@ use common::axis;
 use common::node_test;
 use common::row_kind;
 use common::wide;
-use terms::MAX_ROWS;
 use terms::Row;
 use terms::is_noted;
 use terms::note;
@@ -156,9 +155,11 @@ fn is_back(rows: &[u16], i: u16, j: u16, noted: &mut [usize]) -> bool
     true
 }
 
-// Whether row right is left[some w], and w is the way back of row left.
-pub fn is_with_back(rows: &[u16], left: u16, right: u16) -> bool
-    ensures { λ r. ⌜ r ≡ isWithBack (tableOf (now (rows .entry))) left right ⌝ }
+// Whether row right is left[some w], and w is the way back of row left; what is found on the way is noted.
+pub fn is_with_back(rows: &[u16], left: u16, right: u16, noted: &mut [usize]) -> bool
+    requires { ⌜ Noted (tableOf (now rows)) (now noted) ⌝ }
+    ensures { λ r. ⌜ (r ≡ isWithBack (tableOf (now (rows .entry))) left right)
+        × Noted (tableOf (now (rows .entry))) (now (noted .exit)) ⌝ }
 {
     let y = row_at(rows, wide(right));
     let f = row_at(rows, wide(y.b));
@@ -170,6 +171,5 @@ pub fn is_with_back(rows: &[u16], left: u16, right: u16) -> bool
     if !fits {
         return false;
     }
-    let mut noted = [0usize; MAX_ROWS];
-    is_back(rows, left, g.a, &mut noted)
+    is_back(rows, left, g.a, noted)
 }

@@ -147,6 +147,7 @@ fn read_steps(
         (now (steps .exit)) r ⌝ }
 {
     let table = matching::rule_table();
+    let mut noted = matching::no_notes();
     let mut m = 0;
     let mut line = first;
     let mut at = start;
@@ -164,7 +165,7 @@ fn read_steps(
             first: numbers[3],
             second: numbers[4],
         };
-        let number = calls::judge_step(rows, n, steps, m, &table, step).number();
+        let number = calls::judge_noted(rows, n, steps, m, &table, step, &mut noted).number();
         if number != 0 {
             return StepsEnd::Refused { number, line };
         }

@@ -17,26 +17,36 @@ some-form-yields-requires : tie.Need-some-form-yields-requires
 some-form-yields-requires c κs = search needs
 
 is-with-back-requires : tie.Need-is-with-back-requires
-is-with-back-requires c κs = search needs
+is-with-back-requires c κs = let at-entry = c .before .before .before .before in at-entry .before .pre
+
+same-length : tie.Need-same-length
+same-length c = search needs
 
 returns : tie.Need-returns
 returns c =
-    let a = c .before .before .before .before .args in
-    λ e. way-back-way (tableOf (a .rows .now)) (sides (a .left) (a .right))
-    (sidesIn (a .first) ∷ sidesIn (a .second) ∷ [])
-    (a .rule) (c .before .if1 .taken) (c .is-with-back .ensures)
+    let d = c .before .before .before .before in
+    let a = d .before .before .before .before .args in
+    let done = c .before .before .is-with-back .ensures in (
+      λ e. way-back-way (tableOf (a .rows .now)) (sides (a .left) (a .right))
+          (sidesIn (a .first) ∷ sidesIn (a .second) ∷ [])
+          (a .rule) (d .if1 .taken) (done .0),
+      done .1,
+    )
 
 returns-2 : tie.Need-returns-2
 returns-2 c =
     let d = c .before .before in
-    let a = d .before .before .before .args in
+    let at-entry = d .before .before .before .before in
+    let a = at-entry .args in
     let rs = tableOf (a .rows .now) in
     let s = sides (a .left) (a .right) in
-    let ss = sidesIn (a .first) ∷ sidesIn (a .second) ∷ [] in
-    λ e. other-rule-way rs s _ (a .rule) (d .if1 .left)
-    (rule-way rs s ss (a .rule) e (c .before .rule-at .ensures) (c .some-form-yields .ensures))
+    let ss = sidesIn (a .first) ∷ sidesIn (a .second) ∷ [] in (
+      λ e. other-rule-way rs s _ (a .rule) (d .if1 .left)
+          (rule-way rs s ss (a .rule) e (c .before .rule-at .ensures) (c .some-form-yields .ensures)),
+      at-entry .pre,
+    )
 
 pub yields-spec : {M : Type 1} → statement M
 yields-spec =
     tie.close
-    (tie.spec is-with-back-requires returns rule-at-requires some-form-yields-requires returns-2)
+    (tie.spec is-with-back-requires same-length returns rule-at-requires some-form-yields-requires returns-2)

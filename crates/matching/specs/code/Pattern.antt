@@ -1,6 +1,8 @@
 -- Patterns of rows, and the forms of the rules as such patterns. Assumes nothing.
 use Prim.Native.Nat.{ℕ}
 use mathlib.Core.List.{List, [], _∷_, _++_, map}
+use Rattle.common.specs.RowKinds.{void-row, root-row, step-row, union-row, composition-row, filter-row}
+use Rattle.common.specs.RowKinds.{true-row, false-row, not-row, and-row, or-row, inclusion-row}
 use Rattle.rules.specs.Form.{PathLetter, QualifierLetter, AxisLetter, TestLetter, AxisForm, axis, axis-letter, TestForm}
 use Rattle.rules.specs.Form.{test, test-letter, PathForm, path-letter, Void, Root, _::_, _¦_, _∕_, _⟦_⟧, QualifierForm}
 use Rattle.rules.specs.Form.{qualifier-letter, True, False, Not_, _And_, _Or_, _In_, ClaimForm, _<=_, _=>_, Condition}
@@ -65,21 +67,21 @@ unused = number 0
 unfoldable mutual
   pub pathPattern : PathForm → Pattern
   pathPattern (path-letter x) = letter (pathLetter x)
-  pathPattern Void = row-of 0 unused unused unused
-  pathPattern Root = row-of 1 unused unused unused
-  pathPattern (u :: n) = row-of 2 (axisPattern u) (testPattern n) (namePattern n)
-  pathPattern (u ¦ v) = row-of 3 (pathPattern u) (pathPattern v) unused
-  pathPattern (u ∕ v) = row-of 4 (pathPattern u) (pathPattern v) unused
-  pathPattern (u ⟦ v ⟧) = row-of 5 (pathPattern u) (qualifierPattern v) unused
+  pathPattern Void = row-of void-row unused unused unused
+  pathPattern Root = row-of root-row unused unused unused
+  pathPattern (u :: n) = row-of step-row (axisPattern u) (testPattern n) (namePattern n)
+  pathPattern (u ¦ v) = row-of union-row (pathPattern u) (pathPattern v) unused
+  pathPattern (u ∕ v) = row-of composition-row (pathPattern u) (pathPattern v) unused
+  pathPattern (u ⟦ v ⟧) = row-of filter-row (pathPattern u) (qualifierPattern v) unused
 
   pub qualifierPattern : QualifierForm → Pattern
   qualifierPattern (qualifier-letter x) = letter (qualifierLetter x)
-  qualifierPattern True = row-of 6 unused unused unused
-  qualifierPattern False = row-of 7 unused unused unused
-  qualifierPattern (Not u) = row-of 8 (qualifierPattern u) unused unused
-  qualifierPattern (u And v) = row-of 9 (qualifierPattern u) (qualifierPattern v) unused
-  qualifierPattern (u Or v) = row-of 10 (qualifierPattern u) (qualifierPattern v) unused
-  qualifierPattern (u In v) = row-of 11 (pathPattern u) (pathPattern v) unused
+  qualifierPattern True = row-of true-row unused unused unused
+  qualifierPattern False = row-of false-row unused unused unused
+  qualifierPattern (Not u) = row-of not-row (qualifierPattern u) unused unused
+  qualifierPattern (u And v) = row-of and-row (qualifierPattern u) (qualifierPattern v) unused
+  qualifierPattern (u Or v) = row-of or-row (qualifierPattern u) (qualifierPattern v) unused
+  qualifierPattern (u In v) = row-of inclusion-row (pathPattern u) (pathPattern v) unused
 
 -- the two rows of a step
 pub record ClaimPattern : Type 0 where

@@ -14,16 +14,22 @@ sides-of-requires-2 : tie.Need-sides-of-requires-2
 sides-of-requires-2 c κs = search needs
 
 yields-requires : tie.Need-yields-requires
-yields-requires c κs = search needs
+yields-requires c κs = let at-entry = c .before .before .before .before in at-entry .before .before .before .pre .1
+
+same-length : tie.Need-same-length
+same-length c = search needs
 
 returns : tie.Need-returns
 unfolding rowYielded premisesOf sidesOf
 returns c =
-    let at-first = c .before .before in
-    let by-table = at-first .before .before .before .before .pre in
-    c .yields .ensures by-table
-    ∙ rw (c .before .sides-of2 .ensures, at-first .sides-of .ensures, sides-taken)
+    let at-second = c .before .before .before .before in
+    let at-entry = at-second .before .before .before .before in
+    let done = c .before .before .yields .ensures in (
+      done .0 (at-entry .before .before .pre .0)
+          ∙ rw (at-second .sides-of2 .ensures, at-second .before .sides-of .ensures, sides-taken),
+      done .1,
+    )
 
 pub is-yielded-spec : {M : Type 1} → statement M
 is-yielded-spec =
-    tie.close (tie.spec sides-of-requires sides-of-requires-2 yields-requires returns)
+    tie.close (tie.spec sides-of-requires sides-of-requires-2 yields-requires same-length returns)

@@ -1,25 +1,42 @@
--- `judge_step` meets its contract. Assumes nothing.
-use mathlib.Core.Path.{_∙_}
+-- `judge_step` meets its contract: nothing is noted at first. Assumes nothing.
 use borrow.Author.Needs.{needs}
-use Rattle.calls.proofs.Tables.{few-steps}
+use Rattle.matching.proofs.RowWayBack.{none-noted}
 use Rattle.calls.proofs.step.judge_step.Statement.{statement}
 use Rattle.calls.proofs.step.judge_step.Tie as tie
 
-first-rows-requires : tie.Need-first-rows-requires
-first-rows-requires c κs = search needs
+no-notes-requires : tie.Need-no-notes-requires
+no-notes-requires c κs = search needs
 
-first-steps-requires : tie.Need-first-steps-requires
-first-steps-requires c κs = search needs
+slice-aggregate-judge-noted : tie.Need-slice-aggregate-judge-noted
+slice-aggregate-judge-noted c = search needs
 
-step-answer-requires : tie.Need-step-answer-requires
-step-answer-requires c κs =
-    let at-start = c .before .before .before .before in
-    let a = at-start .before .args in
-    (few-steps (a .m) (a .steps .now) _ (c .first-steps .ensures), at-start .before .pre)
+judge-noted-requires : tie.Need-judge-noted-requires
+judge-noted-requires c κs =
+    let at-slices = c .before .before .before .before in
+    (at-slices .before .before .before .pre, c .before .no-notes .ensures _)
 
 returns : tie.Need-returns
-returns c = c .step-answer .ensures ∙ rw (c .before .before .first-rows .ensures, c .before .first-steps .ensures)
+returns c = c .before .judge-noted .ensures .0
+
+slice-aggregate-judge-noted-2 : tie.Need-slice-aggregate-judge-noted-2
+slice-aggregate-judge-noted-2 c = search needs
+
+judge-noted-requires-2 : tie.Need-judge-noted-requires-2
+judge-noted-requires-2 c κs =
+    let at-slices = c .before .before .before .before in
+    (at-slices .before .before .pre, none-noted _ 1)
+
+returns-2 : tie.Need-returns-2
+returns-2 c = c .before .judge-noted2 .ensures .0
 
 pub judge-step-spec : {M : Type 1} → statement M
 judge-step-spec =
-    tie.close (tie.spec first-rows-requires first-steps-requires step-answer-requires returns)
+    tie.close
+    (tie.spec
+    no-notes-requires
+    slice-aggregate-judge-noted
+    judge-noted-requires
+    returns
+    slice-aggregate-judge-noted-2
+    judge-noted-requires-2
+    returns-2)

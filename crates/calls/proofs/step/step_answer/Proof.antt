@@ -12,7 +12,9 @@ or-requires c κs = search needs
 
 returns : tie.Need-returns
 unfolding rowStepAnswer
-returns c = no-rule _ _ _ (sym (c .before .or .ensures) ∙ c .if1 .taken)
+returns c =
+    let at-slices = c .before .before .before .before in
+    (no-rule _ _ _ (sym (c .before .or .ensures) ∙ c .if1 .taken), at-slices .before .before .before .before .pre .2)
 
 bad-side-requires : tie.Need-bad-side-requires
 bad-side-requires c κs = search needs
@@ -23,7 +25,10 @@ returns-2 c =
     let at-side = c .before in
     let at-rule = at-side .before in
     let is-rule = sym (at-rule .before .or .ensures) ∙ at-rule .if1 .left in
-    bad-side _ _ _ is-rule _ (at-side .bad-side .ensures) (c .if2 .taken)
+    let at-slices = at-rule .before .before .before .before in (
+      bad-side _ _ _ is-rule _ (at-side .bad-side .ensures) (c .if2 .taken),
+      at-slices .before .before .before .before .pre .2,
+    )
 
 step-count-requires : tie.Need-step-count-requires
 step-count-requires c κs = search needs
@@ -40,42 +45,59 @@ returns-3 c =
     let at-side = at-side-test .before in
     let at-rule = at-side .before in
     let is-rule = sym (at-rule .before .or .ensures) ∙ at-rule .if1 .left in
-    bad-premise _ _ _ is-rule _ (at-side .bad-side .ensures) (at-side-test .if2 .left)
-    _ (at-count .step-count .ensures) _ (at-premise .bad-premise .ensures) (c .if3 .taken)
+    let at-slices = at-rule .before .before .before .before in (
+      bad-premise _ _ _ is-rule _ (at-side .bad-side .ensures) (at-side-test .if2 .left)
+          _ (at-count .step-count .ensures) _ (at-premise .bad-premise .ensures) (c .if3 .taken),
+      at-slices .before .before .before .before .pre .2,
+    )
 
 is-yielded-requires : tie.Need-is-yielded-requires
-is-yielded-requires c κs = search needs
+is-yielded-requires c κs =
+    let at-side-test = c .before .before .before .before in
+    let at-known = at-side-test .before .before .before .before in
+    let at-slices = at-known .before .before .before .before in
+    let asked = at-slices .before .before .pre in
+    (asked .1, asked .2)
+
+same-length : tie.Need-same-length
+same-length c = search needs
 
 returns-4 : tie.Need-returns-4
 unfolding rowStepAnswer
 returns-4 c =
-    let at-yielded = c .before in
-    let at-premise-test = at-yielded .before in
+    let at-yielded = c .before .before .before in
+    let at-premise-test = at-yielded .before .before in
     let at-premise = at-premise-test .before in
     let at-count = at-premise .before in
     let at-side-test = at-count .before in
     let at-side = at-side-test .before in
     let at-rule = at-side .before in
-    let is-rule = sym (at-rule .before .or .ensures) ∙ at-rule .if1 .left in
-    not-yielded _ _ _ is-rule _ (at-side .bad-side .ensures) (at-side-test .if2 .left)
-    _ (at-count .step-count .ensures) _ (at-premise .bad-premise .ensures) (at-premise-test .if3 .left)
-    (sym (at-yielded .is-yielded .ensures) ∙ not-true _ (c .if4 .taken))
+    let is-rule = sym (at-rule .before .or .ensures) ∙ at-rule .if1 .left in (
+      not-yielded _ _ _ is-rule _ (at-side .bad-side .ensures) (at-side-test .if2 .left)
+          _ (at-count .step-count .ensures) _ (at-premise .bad-premise .ensures) (at-premise-test .if3 .left)
+          (sym (at-yielded .is-yielded .ensures .0) ∙ not-true _ (c .if4 .taken)),
+      at-yielded .is-yielded .ensures .1,
+    )
+
+same-length-2 : tie.Need-same-length-2
+same-length-2 c = search needs
 
 returns-5 : tie.Need-returns-5
 unfolding rowStepAnswer
 returns-5 c =
-    let at-yielded-test = c .before in
-    let at-yielded = at-yielded-test .before in
-    let at-premise-test = at-yielded .before in
+    let at-yielded = c .before .before .before .before in
+    let at-premise-test = at-yielded .before .before in
     let at-premise = at-premise-test .before in
     let at-count = at-premise .before in
     let at-side-test = at-count .before in
     let at-side = at-side-test .before in
     let at-rule = at-side .before in
-    let is-rule = sym (at-rule .before .or .ensures) ∙ at-rule .if1 .left in
-    steps-full _ _ _ is-rule _ (at-side .bad-side .ensures) (at-side-test .if2 .left)
-    _ (at-count .step-count .ensures) _ (at-premise .bad-premise .ensures) (at-premise-test .if3 .left)
-    (sym (at-yielded .is-yielded .ensures) ∙ not-false _ (at-yielded-test .if4 .left)) (c .if5 .taken)
+    let is-rule = sym (at-rule .before .or .ensures) ∙ at-rule .if1 .left in (
+      steps-full _ _ _ is-rule _ (at-side .bad-side .ensures) (at-side-test .if2 .left)
+          _ (at-count .step-count .ensures) _ (at-premise .bad-premise .ensures) (at-premise-test .if3 .left)
+          (sym (at-yielded .is-yielded .ensures .0) ∙ not-false _ (c .before .if4 .left)) (c .if5 .taken),
+      at-yielded .is-yielded .ensures .1,
+    )
 
 add-next : tie.Need-add-next
 add-next c = search needs
@@ -83,21 +105,25 @@ add-next c = search needs
 cast-number : tie.Need-cast-number
 cast-number c = search needs
 
+same-length-3 : tie.Need-same-length-3
+same-length-3 c = search needs
+
 returns-6 : tie.Need-returns-6
 unfolding rowStepAnswer
 returns-6 c =
-    let at-yielded-test = c .before in
-    let at-yielded = at-yielded-test .before in
-    let at-premise-test = at-yielded .before in
+    let at-yielded = c .before .before .before .before in
+    let at-premise-test = at-yielded .before .before in
     let at-premise = at-premise-test .before in
     let at-count = at-premise .before in
     let at-side-test = at-count .before in
     let at-side = at-side-test .before in
     let at-rule = at-side .before in
-    let is-rule = sym (at-rule .before .or .ensures) ∙ at-rule .if1 .left in
-    step-held _ _ _ is-rule _ (at-side .bad-side .ensures) (at-side-test .if2 .left)
-    _ (at-count .step-count .ensures) _ (at-premise .bad-premise .ensures) (at-premise-test .if3 .left)
-    (sym (at-yielded .is-yielded .ensures) ∙ not-false _ (at-yielded-test .if4 .left)) (c .if5 .left)
+    let is-rule = sym (at-rule .before .or .ensures) ∙ at-rule .if1 .left in (
+      step-held _ _ _ is-rule _ (at-side .bad-side .ensures) (at-side-test .if2 .left)
+          _ (at-count .step-count .ensures) _ (at-premise .bad-premise .ensures) (at-premise-test .if3 .left)
+          (sym (at-yielded .is-yielded .ensures .0) ∙ not-false _ (c .before .if4 .left)) (c .if5 .left),
+      at-yielded .is-yielded .ensures .1,
+    )
 
 pub step-answer-spec : {M : Type 1} → statement M
 step-answer-spec =
@@ -111,8 +137,11 @@ step-answer-spec =
     bad-premise-requires
     returns-3
     is-yielded-requires
+    same-length
     returns-4
+    same-length-2
     returns-5
     add-next
     cast-number
+    same-length-3
     returns-6)

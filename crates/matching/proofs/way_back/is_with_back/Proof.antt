@@ -1,8 +1,8 @@
--- The rows of a step as they are seen, and then the search, with nothing noted. Assumes nothing.
+-- The rows of a step as they are seen, and then the search. Assumes nothing.
 use borrow.Author.Needs.{needs}
 use borrow.Author.Tests.{not-true, not-false}
 use Rattle.terms.specs.Row.{tableOf}
-use Rattle.matching.proofs.RowWayBack.{none-noted, other-rows-way, with-back-way}
+use Rattle.matching.proofs.RowWayBack.{other-rows-way, with-back-way}
 use Rattle.matching.proofs.way_back.is_with_back.Statement.{statement}
 use Rattle.matching.proofs.way_back.is_with_back.Tie as tie
 
@@ -48,21 +48,30 @@ returns c =
     let c₈ = c₄ .before .before .before .before in
     let c₁₂ = c₈ .before .before .before .before in
     let c₁₆ = c₁₂ .before .before .before .before in
-    let a = c₁₆ .before .before .before .args in
-    other-rows-way (tableOf (a .rows .now)) (a .left) (a .right)
-    (c₁₆ .before .wide .ensures) (c₁₆ .row-at .ensures) (c₁₂ .before .before .before .wide2 .ensures)
-    (c₁₂ .before .before .row-at2 .ensures)
-    (c₁₂ .before .wide3 .ensures) (c₁₂ .row-at3 .ensures) (c₈ .before .before .before .wide4 .ensures)
-    (c₈ .before .before .row-at4 .ensures)
-    (c₄ .before .before .before .and .ensures) (c₄ .and2 .ensures) (c .before .before .and3 .ensures)
-    (c .before .and4 .ensures)
-    (not-true _ (c .if1 .taken))
-
-slice-aggregate-is-back : tie.Need-slice-aggregate-is-back
-slice-aggregate-is-back c = search needs
+    let c₂₀ = c₁₆ .before .before .before .before in
+    let a = c₂₀ .args in (
+      other-rows-way (tableOf (a .rows .now)) (a .left) (a .right)
+          (c₁₆ .before .wide .ensures) (c₁₆ .row-at .ensures) (c₁₂ .before .before .before .wide2 .ensures)
+          (c₁₂ .before .before .row-at2 .ensures)
+          (c₁₂ .before .wide3 .ensures) (c₁₂ .row-at3 .ensures) (c₈ .before .before .before .wide4 .ensures)
+          (c₈ .before .before .row-at4 .ensures)
+          (c₄ .before .before .before .and .ensures) (c₄ .and2 .ensures) (c .before .before .and3 .ensures)
+          (c .before .and4 .ensures)
+          (not-true _ (c .if1 .taken)),
+      c₂₀ .pre,
+    )
 
 is-back-requires : tie.Need-is-back-requires
-is-back-requires c κs = none-noted _ 1024
+is-back-requires c κs =
+    let c₄ = c .before .before .before .before in
+    let c₈ = c₄ .before .before .before .before in
+    let c₁₂ = c₈ .before .before .before .before in
+    let c₁₆ = c₁₂ .before .before .before .before in
+    let c₂₀ = c₁₆ .before .before .before .before in
+    c₂₀ .before .pre
+
+same-length : tie.Need-same-length
+same-length c = search needs
 
 returns-2 : tie.Need-returns-2
 returns-2 c =
@@ -71,15 +80,18 @@ returns-2 c =
     let c₁₂ = c₈ .before .before .before .before in
     let c₁₆ = c₁₂ .before .before .before .before in
     let c₂₀ = c₁₆ .before .before .before .before in
-    let a = c₂₀ .before .before .args in
-    with-back-way (tableOf (a .rows .now)) (a .left) (a .right)
-    (c₂₀ .wide .ensures) (c₁₆ .before .before .before .row-at .ensures) (c₁₆ .before .before .wide2 .ensures)
-    (c₁₆ .before .row-at2 .ensures)
-    (c₁₆ .wide3 .ensures) (c₁₂ .before .before .before .row-at3 .ensures) (c₁₂ .before .before .wide4 .ensures)
-    (c₁₂ .before .row-at4 .ensures)
-    (c₈ .before .before .and .ensures) (c₄ .before .before .before .and2 .ensures) (c₄ .before .and3 .ensures)
-    (c₄ .and4 .ensures)
-    (not-false _ (c .before .before .before .if1 .left)) (c .before .is-back .ensures .answer)
+    let c₂₄ = c₂₀ .before .before .before .before in
+    let a = c₂₄ .args in (
+      with-back-way (tableOf (a .rows .now)) (a .left) (a .right)
+          (c₂₀ .before .wide .ensures) (c₂₀ .row-at .ensures) (c₁₆ .before .before .before .wide2 .ensures)
+          (c₁₆ .before .before .row-at2 .ensures)
+          (c₁₆ .before .wide3 .ensures) (c₁₆ .row-at3 .ensures) (c₁₂ .before .before .before .wide4 .ensures)
+          (c₁₂ .before .before .row-at4 .ensures)
+          (c₈ .before .before .before .and .ensures) (c₈ .and2 .ensures) (c₄ .before .before .and3 .ensures)
+          (c₄ .before .and4 .ensures)
+          (not-false _ (c₄ .if1 .left)) (c .before .before .is-back .ensures .answer),
+      c .before .before .is-back .ensures .noted,
+    )
 
 pub is-with-back-spec : {M : Type 1} → statement M
 is-with-back-spec =
@@ -98,6 +110,6 @@ is-with-back-spec =
     and-requires-3
     and-requires-4
     returns
-    slice-aggregate-is-back
     is-back-requires
+    same-length
     returns-2)

@@ -1,5 +1,5 @@
 -- `read_steps` meets its contract. The loop's invariant:
--- the reading is what is left to read from `at` on, on the steps held now. Assumes nothing.
+-- the reading is what is left to read from `at` on, on the steps held now, and what is noted is so. Assumes nothing.
 use Prim.Native.Nat.{_*_, _-_, _≤_}
 use mathlib.Core.Path.{_≡_, refl, sym, ap, _∙_}
 use native.Mathlib.Omega.{arith}
@@ -7,8 +7,10 @@ use lib.ListN.{length, drop}
 use borrow.Author.Needs.{needs}
 use borrow.Author.Tests.{not-true, not-false}
 use Rattle.lines.specs.Line.{lines}
+use Rattle.terms.specs.Row.{maxRows}
+use Rattle.matching.specs.code.RowWayBack.{Noted}
 use Rattle.calls.specs.Book.{maxSteps}
-use Rattle.calls.specs.code.Tables.{stepWidth}
+use Rattle.calls.specs.code.Tables.{stepWidth, firstRows}
 use Rattle.calls.specs.Promises.{rowStepAnswer}
 use Rattle.session.specs.Reading.{refusedAt, stepsRead}
 use Rattle.session.specs.code.Parts.{holding}
@@ -17,19 +19,23 @@ use Rattle.session.proofs.read.read_steps.Statement.{statement}
 use Rattle.session.proofs.read.read_steps.Tie as tie
 
 abbrev Inv-loop : tie.InvT-loop
-Inv-loop bytes start first rows n steps₀ table₀ m₀ line₀ at₀ steps m line at =
+Inv-loop bytes start first rows n steps₀ table₀ noted₀ m₀ line₀ at₀ steps noted m line at =
     (m ≤ maxSteps) × (length steps ≡ stepWidth * maxSteps) × (line ≤ at) × (at ≤ length bytes)
     × (stepsRead rowStepAnswer (holding rows n steps₀ 0) first (lines (drop start bytes)) ≡ stepsRead rowStepAnswer
     (holding rows n steps m) line (lines (drop at bytes)))
+    × Noted (firstRows n rows) noted × (length noted ≡ maxRows)
 
 abbrev μ-loop : tie.MeasureT-loop
-μ-loop bytes start first rows n steps₀ table₀ m₀ line₀ at₀ steps m line at = length bytes - at
+μ-loop bytes start first rows n steps₀ table₀ noted₀ m₀ line₀ at₀ steps noted m line at = length bytes - at
 
 rule-table-requires : tie.Need-rule-table-requires Inv-loop μ-loop
 rule-table-requires c κs = search needs
 
+no-notes-requires : tie.Need-no-notes-requires Inv-loop μ-loop
+no-notes-requires c κs = search needs
+
 loop-holds : tie.Need-loop-holds Inv-loop μ-loop
-loop-holds c = (omega arith, omega arith, omega arith, omega arith, refl)
+loop-holds c = (omega arith, omega arith, omega arith, omega arith, refl, c .no-notes .ensures _, search needs)
 
 numbers-line-requires : tie.Need-numbers-line-requires Inv-loop μ-loop
 numbers-line-requires c κs = search needs
@@ -42,7 +48,7 @@ returns c =
     let at-line = c .before .before in
     let at-loop = at-line .before .before in
     let l = at-loop .loop in
-    let at-table = at-loop .before in
+    let at-table = at-loop .before .before in
     let a = at-table .before .before .before .before .args in
     let wrong = step-wrong-there (a .bytes .now) (a .rows .now) (a .n) (l .steps) (l .m) (l .line) (l .at)
     _ (at-line .numbers-line .ensures) (at-line .before .loop-test .taken) (not-true _ (c .if1 .taken)) in
@@ -51,28 +57,32 @@ returns c =
       bounds = omega arith;
     }
 
-array-read-t21 : tie.Need-array-read-t21 Inv-loop μ-loop
-array-read-t21 c = omega (arith, c .before .before .before .numbers-line .ensures .size)
+array-read-t23 : tie.Need-array-read-t23 Inv-loop μ-loop
+array-read-t23 c = omega (arith, c .before .before .before .numbers-line .ensures .size)
 
-array-read-t24 : tie.Need-array-read-t24 Inv-loop μ-loop
-array-read-t24 c = omega (arith, c .before .before .before .numbers-line .ensures .size)
+array-read-t26 : tie.Need-array-read-t26 Inv-loop μ-loop
+array-read-t26 c = omega (arith, c .before .before .before .numbers-line .ensures .size)
 
-array-read-t27 : tie.Need-array-read-t27 Inv-loop μ-loop
-array-read-t27 c = omega (arith, c .before .before .before .numbers-line .ensures .size)
+array-read-t29 : tie.Need-array-read-t29 Inv-loop μ-loop
+array-read-t29 c = omega (arith, c .before .before .before .numbers-line .ensures .size)
 
-array-read-t30 : tie.Need-array-read-t30 Inv-loop μ-loop
-array-read-t30 c = omega (arith, c .before .before .before .numbers-line .ensures .size)
+array-read-t32 : tie.Need-array-read-t32 Inv-loop μ-loop
+array-read-t32 c = omega (arith, c .before .before .before .numbers-line .ensures .size)
 
-array-read-t33 : tie.Need-array-read-t33 Inv-loop μ-loop
-array-read-t33 c = omega (arith, c .before .before .before .numbers-line .ensures .size)
+array-read-t35 : tie.Need-array-read-t35 Inv-loop μ-loop
+array-read-t35 c = omega (arith, c .before .before .before .numbers-line .ensures .size)
 
-slice-aggregate-judge-step : tie.Need-slice-aggregate-judge-step Inv-loop μ-loop
-slice-aggregate-judge-step c = search needs
+slice-aggregate-judge-noted : tie.Need-slice-aggregate-judge-noted Inv-loop μ-loop
+slice-aggregate-judge-noted c = search needs
 
-judge-step-requires : tie.Need-judge-step-requires Inv-loop μ-loop
-judge-step-requires c κs =
-    let at-struct = c .before .before .before .before in
-    at-struct .before .before .before .before .rule-table .ensures
+slice-aggregate-judge-noted-2 : tie.Need-slice-aggregate-judge-noted-2 Inv-loop μ-loop
+slice-aggregate-judge-noted-2 c = search needs
+
+judge-noted-requires : tie.Need-judge-noted-requires Inv-loop μ-loop
+judge-noted-requires c κs =
+    let at-form = c .before .before .before .before in
+    let at-loop = at-form .before .before .before .before in
+    (at-loop .before .before .rule-table .ensures, at-loop .loop .inv .5)
 
 number-requires : tie.Need-number-requires Inv-loop μ-loop
 number-requires c κs = search needs
@@ -82,16 +92,18 @@ same-length-2 c = omega arith
 
 returns-2 : tie.Need-returns-2 Inv-loop μ-loop
 returns-2 c =
-    let at-judge = c .before .before in
-    let at-form = at-judge .before .before .before .before in
+    let at-judge = c .before .before .before in
+    let judged = at-judge .judge-noted in
+    let at-numbers = at-judge .before .before .before .before in
+    let at-form = at-numbers .before in
     let at-line = at-form .before .before in
     let at-loop = at-line .before .before in
     let l = at-loop .loop in
-    let at-table = at-loop .before in
+    let at-table = at-loop .before .before in
     let a = at-table .before .before .before .before .args in
     let right = not-false _ (at-form .if1 .left) in
     let refused = step-refused-there (a .bytes .now) (a .rows .now) (a .n) (l .steps) (l .m) (l .line) (l .at)
-    _ (at-line .numbers-line .ensures) right (l .inv .0) (at-judge .judge-step .result) (at-judge .judge-step .ensures)
+    _ (at-line .numbers-line .ensures) right (l .inv .0) (judged .result) (judged .ensures .0)
     (λ e. c .if2 .taken (c .before .number .ensures ∙ e)) in
     record {
       reading = ap (λ k. refusedAt k (l .line)) (c .before .number .ensures) ∙ sym (l .inv .4 ∙ refused);
@@ -101,17 +113,19 @@ returns-2 c =
 put-step-requires : tie.Need-put-step-requires Inv-loop μ-loop
 put-step-requires c κs =
     let at-if = c .before in
-    let at-judge = at-if .before .before in
-    let at-form = at-judge .before .before .before .before in
+    let at-judge = at-if .before .before .before in
+    let judged = at-judge .judge-noted in
+    let at-numbers = at-judge .before .before .before .before in
+    let at-form = at-numbers .before in
     let at-line = at-form .before .before in
     let at-loop = at-line .before .before in
     let l = at-loop .loop in
-    let at-table = at-loop .before in
+    let at-table = at-loop .before .before in
     let a = at-table .before .before .before .before .args in
     let held = sym (at-if .before .number .ensures) ∙ at-if .if2 .left in
     let right = not-false _ (at-form .if1 .left) in
     let room = step-room (a .bytes .now) (a .rows .now) (a .n) (l .steps) (l .m) (l .line) (l .at)
-    _ (at-line .numbers-line .ensures) right (l .inv .0) (at-judge .judge-step .result) (at-judge .judge-step .ensures)
+    _ (at-line .numbers-line .ensures) right (l .inv .0) (judged .result) (judged .ensures .0)
     held (l .inv .1) in
     (room, l .inv .1)
 
@@ -124,8 +138,9 @@ add-line c = omega arith
 loop-less : tie.Need-loop-less Inv-loop μ-loop
 loop-less c =
     let at-if = c .before .before .before .before in
-    let at-judge = at-if .before .before in
-    let at-form = at-judge .before .before .before .before in
+    let at-judge = at-if .before .before .before in
+    let at-numbers = at-judge .before .before .before .before in
+    let at-form = at-numbers .before in
     let at-line = at-form .before .before in
     let bounds = at-line .numbers-line .ensures .right (not-false _ (at-form .if1 .left)) in
     omega arith
@@ -134,23 +149,25 @@ loop-again : tie.Need-loop-again Inv-loop μ-loop
 loop-again c =
     let at-put = c .before .before in
     let at-if = at-put .before .before in
-    let at-judge = at-if .before .before in
-    let at-form = at-judge .before .before .before .before in
+    let at-judge = at-if .before .before .before in
+    let judged = at-judge .judge-noted in
+    let at-numbers = at-judge .before .before .before .before in
+    let at-form = at-numbers .before in
     let at-line = at-form .before .before in
     let at-loop = at-line .before .before in
     let l = at-loop .loop in
-    let at-table = at-loop .before in
+    let at-table = at-loop .before .before in
     let a = at-table .before .before .before .before .args in
     let held = sym (at-if .before .number .ensures) ∙ at-if .if2 .left in
     let right = not-false _ (at-form .if1 .left) in
     let bounds = at-line .numbers-line .ensures .right right in
     let room = step-room (a .bytes .now) (a .rows .now) (a .n) (l .steps) (l .m) (l .line) (l .at)
-    _ (at-line .numbers-line .ensures) right (l .inv .0) (at-judge .judge-step .result) (at-judge .judge-step .ensures)
+    _ (at-line .numbers-line .ensures) right (l .inv .0) (judged .result) (judged .ensures .0)
     held (l .inv .1) in
     let later = step-held-there (a .bytes .now) (a .rows .now) (a .n) (l .steps) (l .m) (l .line) (l .at)
-    _ (at-line .numbers-line .ensures) right (l .inv .0) (at-judge .judge-step .result) (at-judge .judge-step .ensures)
+    _ (at-line .numbers-line .ensures) right (l .inv .0) (judged .result) (judged .ensures .0)
     held _ (at-put .put-step .ensures) in
-    (omega arith, omega arith, omega arith, omega arith, l .inv .4 ∙ later)
+    (omega arith, omega arith, omega arith, omega arith, l .inv .4 ∙ later, judged .ensures .1, search needs)
 
 same-length-3 : tie.Need-same-length-3 Inv-loop μ-loop
 same-length-3 c = omega arith
@@ -158,7 +175,7 @@ same-length-3 c = omega arith
 returns-3 : tie.Need-returns-3 Inv-loop μ-loop
 returns-3 c =
     let l = c .before .loop in
-    let at-table = c .before .before in
+    let at-table = c .before .before .before in
     let a = at-table .before .before .before .before .args in
     let end = step-end (a .bytes .now) (a .rows .now) (a .n) (l .steps) (l .m) (l .line) (l .at) (c .loop-test .left)
     (l .inv .0) (l .inv .1) in
@@ -171,17 +188,19 @@ read-steps-spec =
     Inv-loop
     μ-loop
     rule-table-requires
+    no-notes-requires
     loop-holds
     numbers-line-requires
     same-length
     returns
-    array-read-t21
-    array-read-t24
-    array-read-t27
-    array-read-t30
-    array-read-t33
-    slice-aggregate-judge-step
-    judge-step-requires
+    array-read-t23
+    array-read-t26
+    array-read-t29
+    array-read-t32
+    array-read-t35
+    slice-aggregate-judge-noted
+    slice-aggregate-judge-noted-2
+    judge-noted-requires
     number-requires
     same-length-2
     returns-2
