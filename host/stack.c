@@ -27,6 +27,7 @@ enum { SELECTOR_COUNT = sizeof SELECTORS / sizeof *SELECTORS };
 /* What the thread is to call, and on what. */
 static struct bytes bundle;
 static const char *selector;
+static uint8_t names[4096]; /* the name a and empty lines, enough for a list that is indexed */
 static uint16_t document[3 * NODES];
 
 static void call_nothing(void)
@@ -48,16 +49,16 @@ static void call_claim(void)
 {
     size_t value, part;
     const uint8_t *text = (const uint8_t *)selector;
-    spinebriar_claim(bundle.at, bundle.length, (const uint8_t *)"a\n", 2, text, strlen(selector), text,
-                     strlen(selector), &value, &part);
+    spinebriar_claim(bundle.at, bundle.length, names, sizeof names, text, strlen(selector), text, strlen(selector),
+                     &value, &part);
 }
 
 static void call_select(void)
 {
     size_t value;
     uint8_t marks[NODES];
-    spinebriar_select((const uint8_t *)"a\n", 2, (const uint8_t *)selector, strlen(selector), document, 3 * NODES, 0,
-                      100000, marks, NODES, &value);
+    spinebriar_select(names, sizeof names, (const uint8_t *)selector, strlen(selector), document, 3 * NODES, 0, 100000,
+                      marks, NODES, &value);
 }
 
 struct call {
@@ -132,6 +133,8 @@ static void measure_all(void)
 int main(int argc, char **argv)
 {
     int status = YES;
+    memset(names, '\n', sizeof names);
+    names[0] = 'a';
     for (int i = 1; i < argc; i++) {
         if (!read_bytes(argv[i], MOST_BYTES, &bundle)) {
             return UNREADABLE;

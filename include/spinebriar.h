@@ -15,8 +15,8 @@
 /* Bytes of stack that are enough for a call: the most that host/stack.c measured on the deepest inputs known, and some
    more. spinebriar_read and spinebriar_read_line take the same. */
 #define SPINEBRIAR_READ_STACK 163840
-#define SPINEBRIAR_CLAIM_STACK 196608
-#define SPINEBRIAR_SELECT_STACK 114688
+#define SPINEBRIAR_CLAIM_STACK 360448
+#define SPINEBRIAR_SELECT_STACK 327680
 
 #ifdef __cplusplus
 extern "C" {

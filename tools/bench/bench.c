@@ -5,6 +5,7 @@
  * tables in Markdown. run.sh builds and runs it. */
 
 #include "spinebriar.h"
+#include <ctype.h>
 #include <libxml/parser.h>
 #include <libxml/tree.h>
 #include <libxml/xpath.h>
@@ -680,21 +681,60 @@ static void bench_visits(const Document *d) {
 
 /* Selectors as text */
 
-enum { TEXT = 65536, LISTED = 10000, LONG = 50, TRIES = 5 };
+enum { TEXT = 65536, LISTED = 10000, LONGEST = 1000, TRIES = 5 };
 
-/* A list of 10,000 names; all but the last are made by the format, which may take the line's number. */
-static char list[LISTED * (LONG + 1) + 1];
+static char list[LISTED * (LONGEST + 1) + 1], last[LONGEST + 1];
 
-static size_t make_names(const char *format, const char *last) {
+/* A list of 10,000 names of so many bytes, n and the line's number; the last is another one, where it is given. */
+static size_t make_names(int size, const char *other) {
     size_t length = 0;
-    for (int i = 0; i < LISTED - 1; i++) {
-        length += (size_t)sprintf(list + length, format, i);
-        list[length++] = '\n';
+    for (int i = 0; i < LISTED; i++) {
+        if (i < LISTED - 1 || !other) sprintf(last, "n%0*d", size - 1, i);
+        else strcpy(last, other);
+        length += (size_t)sprintf(list + length, "%s\n", last);
     }
-    return length + (size_t)sprintf(list + length, "%s\n", last);
+    return length;
 }
 
-/* The piece over and over, and then spaces, 65,536 bytes in all. */
+/* Names that differ from the last one in one byte in the middle. */
+static size_t make_near(void) {
+    size_t length = 0;
+    for (int i = 0; i < LISTED; i++) {
+        strcpy(last, i < LISTED - 1 ? "abbbzc" : "abbbbc");
+        length += (size_t)sprintf(list + length, "%s\n", last);
+    }
+    return length;
+}
+
+static int is_name_byte(uint64_t b) { return b < 128 && (isalnum((int)b) || b == '-' || b == '.' || b == '_'); }
+
+/* 10,000 names of so many bytes with the signature 0, by which the index tells names apart: a's, four letters, and the
+ * four bytes that give it, where these are bytes of a name. */
+static size_t make_alike(int size) {
+    static const char letters[] = "abcdefghijklmnopqrstuvwxyzABCDEFGHIJKLMNOPQRSTUVWXYZ";
+    const uint64_t base = 257, modulus = 4294967291;
+    size_t length = 0, first = (size_t)size - 8;
+    memset(last, 'a', first);
+    for (int i = 0, made = 0; made < LISTED; i++) {
+        uint64_t signature = 0;
+        for (int j = 0, left = i; j < 4; j++, left /= 52) last[first + j] = letters[left % 52];
+        for (size_t j = 0; j < first + 4; j++) signature = (signature * base + (uint8_t)last[j]) % modulus;
+        for (int j = 0; j < 4; j++) signature = signature * base % modulus;
+        uint64_t rest = (modulus - signature) % modulus;
+        int named = 1;
+        for (int j = 3; j >= 0; j--, rest /= base) {
+            named = named && is_name_byte(rest % base);
+            last[first + 4 + j] = (char)(rest % base);
+        }
+        last[first + 8] = 0;
+        if (!named || rest) continue;
+        length += (size_t)sprintf(list + length, "%s\n", last);
+        made++;
+    }
+    return length;
+}
+
+/* The start, then pieces over and over, and then spaces, 65,536 bytes in all. */
 static void make_text(char *text, const char *start, const char *piece) {
     size_t length = strlen(start), size = strlen(piece);
     memcpy(text, start, length);
@@ -710,37 +750,61 @@ static void make_all(char *text) {
     text[6 * LISTED - 1] = ' ';
 }
 
+static void bench_text_on(const char *what, const char *text, size_t length) {
+    double best = 1e9;
+    uint16_t answer = 0;
+    for (int n = 0; n < TRIES; n++) {
+        double start = now();
+        answer = bench_text((const uint8_t *)list, length, (const uint8_t *)text, TEXT);
+        double took = now() - start;
+        if (took < best) best = took;
+    }
+    printf("| %s | %u | %.4f | %.1f |\n", what, answer, best, best / TEXT * 1e9);
+}
+
+/* The list's last name over and over. */
+static void bench_last(const char *what, size_t length) {
+    static char text[TEXT + 1], piece[LONGEST + 2];
+    sprintf(piece, "/%s", last);
+    make_text(text, last, piece);
+    bench_text_on(what, text, length);
+}
+
 static void bench_texts(void) {
     static char text[TEXT + 1];
-    static const char five[] = "n%04d", fifty[] = "q%049d";
-    static const struct { const char *what, *format, *last, *start, *piece; } shapes[] = {
-        {"spaces after a name", five, "n9999", "n0000", " "},
-        {"`/..` over and over", five, "n9999", ".", "/.."},
-        {"`[.]` over and over", five, "n9999", "*", "[.]"},
-        {"the first name of the list over and over", five, "n9999", "n0000", "/n0000"},
-        {"the last name of the list over and over", five, "n9999", "n9999", "/n9999"},
-        {"all names of the list, from the last on", five, "n9999", NULL, NULL},
-        {"a name that isn't listed over and over", five, "n9999", "x", "/x"},
-        {"a name of one byte over and over, the last of the list", five, "x", "x", "/x"},
-        {"a name over and over, the last of the list, where all others differ from it in one byte", "abbbzc", "abbbbc",
-         "abbbbc", "/abbbbc"},
-        {"a name of one byte over and over, the last of a list of names of 50 bytes", fifty, "x", "x", "/x"},
+    static const struct { const char *what, *start, *piece; } shapes[] = {
+        {"spaces after a name", "n0000", " "},
+        {"`/..` over and over", ".", "/.."},
+        {"`[.]` over and over", "*", "[.]"},
+        {"the first name of the list over and over", "n0000", "/n0000"},
+        {"a name of one byte that isn't listed over and over", "x", "/x"},
     };
     printf("\nA text of 65,536 bytes with a list of 10,000 names, in seconds, and the nanoseconds for one byte:\n\n");
     printf("| text | answer | shortest of 5 | a byte |\n|---|---|---|---|\n");
     for (size_t i = 0; i < sizeof shapes / sizeof *shapes; i++) {
-        double best = 1e9;
-        uint16_t answer = 0;
-        size_t length = make_names(shapes[i].format, shapes[i].last);
-        if (shapes[i].piece) make_text(text, shapes[i].start, shapes[i].piece);
-        else make_all(text);
-        for (int n = 0; n < TRIES; n++) {
-            double start = now();
-            answer = bench_text((uint8_t *)list, length, (uint8_t *)text, TEXT);
-            double took = now() - start;
-            if (took < best) best = took;
-        }
-        printf("| %s | %u | %.4f | %.1f |\n", shapes[i].what, answer, best, best / TEXT * 1e9);
+        make_text(text, shapes[i].start, shapes[i].piece);
+        bench_text_on(shapes[i].what, text, make_names(5, NULL));
+    }
+    make_all(text);
+    bench_text_on("all names of the list, from the last on", text, make_names(5, NULL));
+    static const int sizes[] = {5, 12, 50, 60, LONGEST};
+    for (size_t i = 0; i < sizeof sizes / sizeof *sizes; i++) {
+        char what[120];
+        sprintf(what, "the last name of the list over and over, names of %d bytes", sizes[i]);
+        bench_last(what, make_names(sizes[i], NULL));
+        sprintf(what, "the same where the last name has one byte, the others %d", sizes[i]);
+        bench_last(what, make_names(sizes[i], "x"));
+    }
+    make_text(text, "x", "/x");
+    bench_text_on("a name of one byte that isn't listed over and over, names of 1000 bytes", text,
+                  make_names(LONGEST, NULL));
+    bench_last("the last name over and over, where all others differ from it in one byte", make_near());
+    static const int alike[] = {8, 12, 60, LONGEST};
+    for (size_t i = 0; i < sizeof alike / sizeof *alike; i++) {
+        char what[120];
+        sprintf(what, "the last name over and over, names of %d bytes that have one signature and differ in the last 8",
+                alike[i]);
+        bench_last(what, make_alike(alike[i]));
     }
 }
 

@@ -42,6 +42,8 @@ ODD_LINES = [b"", b"fresh", b"document", b"document ", b"document" + b" 0" * MOS
 # Words that are names, and lines that are none; a text's names are among the first, so some of them aren't listed.
 WORDS = "log mark run and or not div true text node comment self child ancestor-or-self e_1 a.b x-y _ A9".split()
 NO_NAMES = ["3d", "", "a:b", "-a", "a*", ".", "log\t"]
+# Lines that may stand before the others, and how many: a list of 2,048 bytes is indexed, up to its line 10,240.
+OTHER_LINES, MANY_LINES = ["", "b", "3d", "zz"], [1000, 2000, 10220, 10235, 10240, 11000]
 # What makes any text one that ends too soon, and bytes that no text has.
 TOO_SOON = ["/", "//", "|", "[", "[a", "[a and ", "[a or", "[not(", "[(a", "[true(", "/@", "/self::", "/text(", "/..//"]
 FOREIGN = list("#!$%&;,{}\\^~?+=<>") + ["é", "\x7f", "\x00"]
@@ -343,9 +345,11 @@ class Session:
     # Selectors as text
 
     def lend_names(self):
-        """A list with names, some of them twice, and lines that are none."""
+        """A list with names, some of them twice, and lines that are none; sometimes many other lines before them."""
         rng = self.rng
         lines = [rng.choice(WORDS if rng.random() < 0.9 else NO_NAMES) for _ in range(rng.choice([0, 3, 8, 16, 40]))]
+        if rng.random() < 0.15:
+            lines = [rng.choice(OTHER_LINES) for _ in range(rng.choice(MANY_LINES))] + lines
         self.names = lines[:-1] if lines[-1:] == [""] else lines
         self.call("names", lines)
 

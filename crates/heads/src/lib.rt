@@ -5,6 +5,7 @@ ghost use Prim.Native.Nat.{_≤_};
 ghost use Rattle.grammar.specs.Bytes.{isSpace, isStart, isQuote, isWord};
 ghost use Rattle.grammar.specs.Words.{numberOf};
 ghost use Rattle.words.specs.code.Scan.{byteAt, beginsStep};
+ghost use Rattle.words.specs.code.Index.{Indexed};
 ghost use Rattle.heads.specs.code.Head.{part, noHead, plainHead, namedHead, openedBy, NameAt, DotMet};
 ghost use Rattle.heads.specs.code.Head.{TargetMet, TypeMet, TestMet, HeadMet, OperandMet};
 use common::node_test;
@@ -79,6 +80,7 @@ fn plain_head(at: usize, axis: u16, test: u16, filters: bool) -> Head
 fn named_head(
     s: &[u8],
     names: &[u8],
+    index: &[u32],
     from: usize,
     to: usize,
     at: usize,
@@ -87,9 +89,10 @@ fn named_head(
 ) -> Head
     requires { do ⌜ (from ≤ to) × (to ≤ (← ⟦s.len()⟧)) ⌝ }
     requires { ⌜ isWord (part (now s) from to) ≡ true ⌝ }
+    requires { ⌜ Indexed (now names) (now index) ⌝ }
     ensures { λ h. ⌜ h ≡ namedHead at axis test (numberOf (now (names .entry)) (part (now (s .entry)) from to)) from ⌝ }
 {
-    let name = words::list::number_of(names, &s[from..to]);
+    let name = words::list::number_of(names, index, &s[from..to]);
     Head {
         ok: true,
         at,
@@ -126,8 +129,9 @@ fn dot_head(s: &[u8], at: usize) -> Head
 }
 
 // What follows the quote at `at` of an instruction's target.
-fn target_head(s: &[u8], names: &[u8], at: usize, axis: u16) -> Head
+fn target_head(s: &[u8], names: &[u8], index: &[u32], at: usize, axis: u16) -> Head
     requires { ⌜ isQuote (byteAt (now s) at) ≡ true ⌝ }
+    requires { ⌜ Indexed (now names) (now index) ⌝ }
     ensures { λ h. ⌜ TargetMet (now (s .entry)) (now (names .entry)) at axis h ⌝ }
 {
     let quote = byte_at(s, at);
@@ -146,6 +150,7 @@ fn target_head(s: &[u8], names: &[u8], at: usize, axis: u16) -> Head
     named_head(
         s,
         names,
+        index,
         from,
         end,
         skip(s, close + 1),
@@ -155,8 +160,9 @@ fn target_head(s: &[u8], names: &[u8], at: usize, axis: u16) -> Head
 }
 
 // What follows a node type and its `(`, from `at` on.
-fn type_head(s: &[u8], names: &[u8], at: usize, axis: u16, test: u16) -> Head
+fn type_head(s: &[u8], names: &[u8], index: &[u32], at: usize, axis: u16, test: u16) -> Head
     requires { do ⌜ at ≤ (← ⟦s.len()⟧) ⌝ }
+    requires { ⌜ Indexed (now names) (now index) ⌝ }
     ensures { λ h. ⌜ TypeMet (now (s .entry)) (now (names .entry)) at axis test h ⌝ }
 {
     let inner = skip(s, at);
@@ -170,27 +176,37 @@ fn type_head(s: &[u8], names: &[u8], at: usize, axis: u16, test: u16) -> Head
     if !is_quote(b) {
         return no_head(inner);
     }
-    target_head(s, names, inner, axis)
+    target_head(s, names, index, inner, axis)
 }
 
 // A node test that begins with the name from `at` up to `end`; `to` is the place after its whitespace.
-fn name_test(s: &[u8], names: &[u8], at: usize, end: usize, to: usize, axis: u16) -> Head
+fn name_test(
+    s: &[u8],
+    names: &[u8],
+    index: &[u32],
+    at: usize,
+    end: usize,
+    to: usize,
+    axis: u16,
+) -> Head
     requires { ⌜ NameAt (now s) at end to ⌝ }
+    requires { ⌜ Indexed (now names) (now index) ⌝ }
     ensures { λ h. ⌜ TestMet (now (s .entry)) (now (names .entry)) at axis (byteAt (now (s .entry)) to ≡ 58 → ⊥) h ⌝ }
 {
     if byte_at(s, to) != bytes::OPEN {
-        return named_head(s, names, at, end, to, axis, node_test::NAME);
+        return named_head(s, names, index, at, end, to, axis, node_test::NAME);
     }
     let test = words::type_of(&s[at..end]);
     if test == words::NO_TYPE {
-        return named_head(s, names, at, end, to, axis, node_test::NAME);
+        return named_head(s, names, index, at, end, to, axis, node_test::NAME);
     }
-    type_head(s, names, to + 1, axis, test)
+    type_head(s, names, index, to + 1, axis, test)
 }
 
 // A node test at `at`, where no whitespace is.
-fn test_head(s: &[u8], names: &[u8], at: usize, axis: u16) -> Head
+fn test_head(s: &[u8], names: &[u8], index: &[u32], at: usize, axis: u16) -> Head
     requires { do ⌜ at ≤ (← ⟦s.len()⟧) ⌝ }
+    requires { ⌜ Indexed (now names) (now index) ⌝ }
     ensures { λ h. ⌜ TestMet (now (s .entry)) (now (names .entry)) at axis (isStart
         (byteAt (now (s .entry)) at) ≡ false) h ⌝ }
 {
@@ -203,13 +219,14 @@ fn test_head(s: &[u8], names: &[u8], at: usize, axis: u16) -> Head
     }
     let end = name_end(s, at + 1);
     let to = skip(s, end);
-    name_test(s, names, at, end, to, axis)
+    name_test(s, names, index, at, end, to, axis)
 }
 
 // A head whose axis name stands from `at` up to `end`, with a `:` at `colon`.
-fn axis_head(s: &[u8], names: &[u8], at: usize, end: usize, colon: usize) -> Head
+fn axis_head(s: &[u8], names: &[u8], index: &[u32], at: usize, end: usize, colon: usize) -> Head
     requires { ⌜ NameAt (now s) at end colon ⌝ }
     requires { ⌜ byteAt (now s) colon ≡ 58 ⌝ }
+    requires { ⌜ Indexed (now names) (now index) ⌝ }
     ensures { λ h. ⌜ HeadMet (now (s .entry)) (now (names .entry)) at h ⌝ }
 {
     let axis = words::axis_of(&s[at..end]);
@@ -220,13 +237,14 @@ fn axis_head(s: &[u8], names: &[u8], at: usize, end: usize, colon: usize) -> Hea
     if byte_at(s, second) != bytes::COLON {
         return no_head(second);
     }
-    test_head(s, names, skip(s, second + 1), axis)
+    test_head(s, names, index, skip(s, second + 1), axis)
 }
 
 // The head that begins at `at`, where no whitespace is.
-pub fn read_head(s: &[u8], names: &[u8], at: usize) -> Head
+pub fn read_head(s: &[u8], names: &[u8], index: &[u32], at: usize) -> Head
     requires { do ⌜ at ≤ (← ⟦s.len()⟧) ⌝ }
     requires { ⌜ isSpace (byteAt (now s) at) ≡ false ⌝ }
+    requires { ⌜ Indexed (now names) (now index) ⌝ }
     ensures { λ h. ⌜ HeadMet (now (s .entry)) (now (names .entry)) at h ⌝ }
 {
     let b = byte_at(s, at);
@@ -234,17 +252,17 @@ pub fn read_head(s: &[u8], names: &[u8], at: usize) -> Head
         return dot_head(s, at);
     }
     if b == bytes::AT {
-        return test_head(s, names, skip(s, at + 1), common::axis::ATTRIBUTE);
+        return test_head(s, names, index, skip(s, at + 1), common::axis::ATTRIBUTE);
     }
     if !is_start(b) {
-        return test_head(s, names, at, common::axis::CHILD);
+        return test_head(s, names, index, at, common::axis::CHILD);
     }
     let end = name_end(s, at + 1);
     let to = skip(s, end);
     if byte_at(s, to) == bytes::COLON {
-        return axis_head(s, names, at, end, to);
+        return axis_head(s, names, index, at, end, to);
     }
-    name_test(s, names, at, end, to, common::axis::CHILD)
+    name_test(s, names, index, at, end, to, common::axis::CHILD)
 }
 
 // The byte begins a step.

@@ -14,11 +14,12 @@ use Rattle.grammar.specs.Bytes.{Bytes, isWord}
 use Rattle.grammar.specs.Words.{find, next, bytesOf, numbered, numberOf}
 use Rattle.grammar.proofs.Basics.{so, is-true, never, and-out, and-in, eq-byte}
 use Rattle.words.specs.code.Scan.{byteAt}
-use Rattle.words.specs.code.Names.{firstLineIs, numberedFrom, Sought, Searched, LookMet}
-use Rattle.words.proofs.Named.{ended, line-is}
+use Rattle.words.specs.code.Names.{firstLineIs, numberedFrom, LinesPassed, Sought, Searched, LookMet}
+use Rattle.words.specs.code.Index.{ended}
+use Rattle.words.proofs.Named.{line-is}
 
 -- the lines after the first, one byte on
-after-byte : (b : ℕ) (t : Bytes) → eqb b 10 ≡ false → drop 1 (lines (b ∷ t)) ≡ drop 1 (lines t)
+pub after-byte : (b : ℕ) (t : Bytes) → eqb b 10 ≡ false → drop 1 (lines (b ∷ t)) ≡ drop 1 (lines t)
 unfolding lines inFirstLine
 after-byte b t e = rw e (go (lines t))
   where
@@ -26,27 +27,27 @@ after-byte b t e = rw e (go (lines t))
     go [] = refl
     go (l ∷ ls) = refl
 
-after-end : (b : ℕ) (t : Bytes) → eqb b 10 ≡ true → drop 1 (lines (b ∷ t)) ≡ lines t
+pub after-end : (b : ℕ) (t : Bytes) → eqb b 10 ≡ true → drop 1 (lines (b ∷ t)) ≡ lines t
 unfolding lines
 after-end b t e = rw e refl
 
-find-hit : (n : Bytes) (ls : List Line) → firstLineIs n ls ≡ true → find n (bytesOf ls) ≡ some 0
+pub find-hit : (n : Bytes) (ls : List Line) → firstLineIs n ls ≡ true → find n (bytesOf ls) ≡ some 0
 unfolding firstLineIs find bytesOf
 find-hit n [] h = absurd (never h)
 find-hit n (l ∷ ls) h = rw h refl
 
-find-past : (n : Bytes) (ls : List Line) → firstLineIs n ls ≡ false → find n (bytesOf ls)
+pub find-past : (n : Bytes) (ls : List Line) → firstLineIs n ls ≡ false → find n (bytesOf ls)
     ≡ next (find n (bytesOf (drop 1 ls)))
 unfolding firstLineIs find bytesOf next
 find-past n [] h = refl
 find-past n (l ∷ ls) h = rw h refl
 
-numbered-one : (o : Option ℕ) → numbered o ≡ numberedFrom 1 o
+pub numbered-one : (o : Option ℕ) → numbered o ≡ numberedFrom 1 o
 unfolding numbered numberedFrom
 numbered-one none = refl
 numbered-one (some i) = let e : 1 + i ≡ suc i = omega arith in rw e refl
 
-next-from : (k : ℕ) (o : Option ℕ) → numberedFrom k (next o) ≡ numberedFrom (k + 1) o
+pub next-from : (k : ℕ) (o : Option ℕ) → numberedFrom k (next o) ≡ numberedFrom (k + 1) o
 unfolding numberedFrom next
 next-from k none = refl
 next-from k (some i) = let e : k + suc i ≡ k + 1 + i = omega arith in rw e refl
@@ -145,13 +146,16 @@ module _ (list n : Bytes) where
           absurd (never (sym f ∙ o ∙ and-in a b lined edged))
 
   -- where a search stands
-  pub sought-first : firstLineIs n (lines list) ≡ false → Sought list n 0 0
-  unfolding numberOf
-  sought-first h = numbered-one (find n (bytesOf (lines list))) ∙ ap (numberedFrom 1) (find-past n (lines list) h)
+  pub sought-first : (at k : ℕ) → LinesPassed list n at k → firstLineIs n (lines (drop at list)) ≡ false
+      → Sought list n at k
+  sought-first at k p h = p .others ∙ ap (numberedFrom (suc k)) (find-past n (lines (drop at list)) h)
 
-  pub first-hit : firstLineIs n (lines list) ≡ true → 1 ≡ numberOf list n
-  unfolding numberOf numbered
-  first-hit h = sym (rw (find-hit n (lines list) h) refl)
+  pub first-hit : (k : ℕ) (ls : List Line) → numberOf list n ≡ numberedFrom (suc k) (find n (bytesOf ls))
+      → firstLineIs n ls ≡ true → numberOf list n ≡ cond (leb (k + 1) 65535) (k + 1) 0
+  unfolding numberedFrom
+  first-hit k ls p h =
+      let z : suc k + 0 ≡ k + 1 = omega arith in
+      p ∙ rw (find-hit n ls h, z) refl
 
   pub sought-all : (at k : ℕ) → Sought list n at k → length list ≤ at → 0 ≡ numberOf list n
   unfolding numberedFrom next lines find bytesOf

@@ -13,6 +13,7 @@ use Rattle.grammar.specs.Bytes.{Bytes, isStart, isName, every, isWord, same}
 use Rattle.grammar.proofs.Basics.{never, and-out, eq-byte, start-name}
 use Rattle.words.specs.code.Scan.{byteAt}
 use Rattle.words.specs.code.Names.{pickFrom, firstLineIs}
+use Rattle.words.specs.code.Index.{lineOf, ended}
 
 pub eqb-sym : (x y : ℕ) → eqb x y ≡ eqb y x
 eqb-sym x y = go (eqb x y) (eqb y x) refl refl
@@ -42,15 +43,11 @@ same-starts (b ∷ t) [] h = absurd (omega (arith, h))
 same-starts (b ∷ t) (c ∷ u) h = ap (λ (x : Bool). eqb b c && x) (same-starts t u (omega (arith, h)))
 
 -- the bytes of the first line
-unfoldable lineOf : Bytes → Bytes
-lineOf [] = []
-lineOf (x ∷ t) = cond (eqb x 10) [] (x ∷ lineOf t)
-
-unfoldable firstBytes : List Line → Bytes
+unfoldable pub firstBytes : List Line → Bytes
 firstBytes [] = []
 firstBytes (l ∷ ls) = l .bytes
 
-first-bytes : (t : Bytes) → firstBytes (lines t) ≡ lineOf t
+pub first-bytes : (t : Bytes) → firstBytes (lines t) ≡ lineOf t
 unfolding firstBytes lineOf lines inFirstLine
 first-bytes [] = refl
 first-bytes (x ∷ t) = go (eqb x 10) refl (first-bytes t)
@@ -65,7 +62,7 @@ first-bytes (x ∷ t) = go (eqb x 10) refl (first-bytes t)
     go true e k = rw e refl
     go false e k = rw e (over (lines t) k)
 
-first-line : (n : Bytes) (ls : List Line) → isWord n ≡ true → firstLineIs n ls ≡ same n (firstBytes ls)
+pub first-line : (n : Bytes) (ls : List Line) → isWord n ≡ true → firstLineIs n ls ≡ same n (firstBytes ls)
 unfolding firstLineIs firstBytes isWord same
 first-line [] ls h = absurd (never h)
 first-line (b ∷ n) [] h = refl
@@ -78,11 +75,6 @@ name-newline b h = go (eqb 10 b) refl
     go : (c : Bool) → eqb 10 b ≡ c → eqb 10 b ≡ false
     go true e = absurd (never (rw (← eq-byte 10 b e) at h))
     go false e = e
-
--- nothing more on the line
-unfoldable pub ended : Bytes → Bool
-ended [] = true
-ended (b ∷ t) = eqb b 10
 
 line-same : (n t : Bytes) → every isName n ≡ true → same n (lineOf t) ≡ (startsWith n t && ended (drop (length n) t))
 unfolding same lineOf startsWith ended every

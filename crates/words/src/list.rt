@@ -1,11 +1,12 @@
 // The numbers that a lent list gives to names. The list is looked at in blocks. Most have no line that could be the
 // name, and a look at all bytes of a block, without an early end, is quick.
+use crate::index::signature;
 use common::and;
 use common::or;
 use lines::starts_with;
 ghost use mathlib.Core.Path.{_≡_};
 ghost use mathlib.Core.Bool.{true, false, cond, _&&_};
-ghost use Prim.Native.Nat.{_+_, _<_, _≤_};
+ghost use Prim.Native.Nat.{_+_, _*_, _<_, _≤_};
 ghost use lib.Dec.{eqb, leb};
 ghost use lib.ListN.{length, drop};
 ghost use Rattle.lines.specs.Line.{newline, lines};
@@ -13,7 +14,8 @@ ghost use Rattle.lines.specs.Number.{maxNumber};
 ghost use Rattle.grammar.specs.Bytes.{isWord};
 ghost use Rattle.grammar.specs.Words.{numberOf};
 ghost use Rattle.words.specs.code.Scan.{byteAt};
-ghost use Rattle.words.specs.code.Names.{firstLineIs, blockSize, Searched, LookMet};
+ghost use Rattle.words.specs.code.Names.{firstLineIs, blockSize, LinesPassed, Searched, LookMet};
+ghost use Rattle.words.specs.code.Index.{signatureOf, Indexed, IndexSearched};
 
 // How many bytes are looked at together: few enough for a u8 to count them.
 const BLOCK: usize = 128;
@@ -160,27 +162,77 @@ fn number_after(n: usize) -> u16
     0
 }
 
-// The number that the list gives to the word, which is a name: that of the first line that is the word; 0 if none is.
-pub fn number_of(names: &[u8], word: &[u8]) -> u16
-    requires { ⌜ isWord (now word) ≡ true ⌝ }
+// The number of the first line that is the word, where none of the first lines is, as many as `passed` says, and the
+// others begin at `start`; 0 if none is.
+fn search_from(names: &[u8], start: usize, passed: usize, word: &[u8]) -> u16
+    requires { ⌜ (isWord (now word) ≡ true) × LinesPassed (now names) (now word) start passed ⌝ }
     ensures { λ r. ⌜ r ≡ numberOf (now (names .entry)) (now (word .entry)) ⌝ }
 {
-    if is_name_line(names, 0, word) {
-        return 1;
+    if is_name_line(names, start, word) {
+        return number_after(passed);
     }
-    let mut at = 0;
-    let mut passed = 0;
+    let mut at = start;
+    let mut ends = passed;
     while has_block(names, at, word) {
         let block = search_block(names, at, word);
-        passed += block.ends;
+        ends += block.ends;
         if block.found {
-            return number_after(passed);
+            return number_after(ends);
         }
         at += BLOCK;
     }
     let rest = walk(names, at, names.len(), word);
     if rest.found {
-        return number_after(passed + rest.ends);
+        return number_after(ends + rest.ends);
     }
     0
+}
+
+// Whether the indexed line k is the word, whose signature is sought.
+fn is_indexed_line(names: &[u8], index: &[u32], k: usize, sought: u32, word: &[u8]) -> bool
+    requires { ⌜ (isWord (now word) ≡ true) × Indexed (now names) (now index) ⌝ }
+    requires { ⌜ (sought ≡ signatureOf 0 (now word)) × (2 * k + 1 < length (now index)) ⌝ }
+    ensures { λ r. ⌜ r ≡ firstLineIs (now (word .entry)) (drop k (lines (now (names .entry)))) ⌝ }
+{
+    let signed = index[2 * k + 1];
+    if signed != sought {
+        return false;
+    }
+    is_name_line(names, index[2 * k] as usize, word)
+}
+
+// The first indexed line that is the word; where none is, as many as there are.
+fn search_index(names: &[u8], index: &[u32], word: &[u8]) -> Search
+    requires { ⌜ (isWord (now word) ≡ true) × Indexed (now names) (now index) ⌝ }
+    ensures { λ r. ⌜ IndexSearched (now (names .entry)) (now (index .entry)) (now (word .entry))
+        (r .ends) (r .found) ⌝ }
+{
+    let sought = signature(word);
+    let mut k = 0;
+    while k < index.len() / 2 {
+        if is_indexed_line(names, index, k, sought, word) {
+            return Search {
+                ends: k,
+                found: true,
+            };
+        }
+        k += 1;
+    }
+    Search {
+        ends: k,
+        found: false,
+    }
+}
+
+// The number that the list gives to the word, which is a name: that of the first line that is the word; 0 if none is.
+pub fn number_of(names: &[u8], index: &[u32], word: &[u8]) -> u16
+    requires { ⌜ (isWord (now word) ≡ true) × Indexed (now names) (now index) ⌝ }
+    ensures { λ r. ⌜ r ≡ numberOf (now (names .entry)) (now (word .entry)) ⌝ }
+{
+    let known = search_index(names, index, word);
+    if known.found {
+        return number_after(known.ends);
+    }
+    let start = index[2 * known.ends] as usize;
+    search_from(names, start, known.ends, word)
 }

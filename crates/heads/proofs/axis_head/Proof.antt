@@ -18,19 +18,19 @@ use Rattle.words.proofs.axis_of.Reads as axis-of-reads
 
 -- src/head.rt:203:31
 sub-axis-of : tie.Need-sub-axis-of
-sub-axis-of c = omega (arith, c .before .before .pre .0 .names .from)
+sub-axis-of c = omega (arith, c .before .before .before .pre .0 .names .from)
 
 -- src/head.rt:203:31
 part-axis-of-start : tie.Need-part-axis-of-start
-part-axis-of-start c = omega (arith, c .before .before .pre .0 .names .from)
+part-axis-of-start c = omega (arith, c .before .before .before .pre .0 .names .from)
 
 -- src/head.rt:203:31
 part-axis-of-end : tie.Need-part-axis-of-end
 part-axis-of-end c = omega (
   arith,
-  c .before .before .pre .0 .spaces .from,
-  c .before .before .pre .0 .spaces .fits,
-  c .before .before .pre .0 .names .from,
+  c .before .before .before .pre .0 .spaces .from,
+  c .before .before .before .pre .0 .spaces .fits,
+  c .before .before .before .pre .0 .names .from,
 )
 
 -- src/head.rt:203:9
@@ -45,18 +45,18 @@ no-head-requires c κs = search needs
 returns : tie.Need-returns
 returns c =
     let to-args = c .before .before .before .before in
-    let start = to-args .before .before in
+    let start = to-args .before .before .before in
     rw (c .no-head .ensures)
     (axis-no (start .args .s .now) (start .args .names .now) (start .args .at) (start .args .end)
-    (start .args .colon) (start .pre .0) (start .pre .1)
+    (start .args .colon) (start .pre .0) (start .pre .1 .0)
     (axis-none _ _ (c .before .before .axis-of .ensures) (c .before .if1 .taken)))
 
 -- src/head.rt:207:18
 add-second : tie.Need-add-second
 add-second c =
     let to-args = c .before .before .before .before in
-    let start = to-args .before in
-    omega (arith, byte-there (start .args .s .now) (start .args .colon) 58 refl (start .pre .1))
+    let start = to-args .before .before in
+    omega (arith, byte-there (start .args .s .now) (start .args .colon) 58 refl (start .pre .1 .0))
 
 -- src/head.rt:208:8
 byte-at-requires : tie.Need-byte-at-requires
@@ -70,10 +70,11 @@ no-head-requires-2 c κs = search needs
 returns-2 : tie.Need-returns-2
 returns-2 c =
     let to-args = c .before .before .before .before in
-    let start = to-args .before .before .before .before in
+    let to-start = to-args .before .before .before .before in
+    let start = to-start .before in
     rw (c .no-head2 .ensures)
     (axis-one (start .args .s .now) (start .args .names .now) (start .args .at) (start .args .end)
-    (start .args .colon) (start .pre .0) (start .pre .1)
+    (start .args .colon) (start .pre .0) (start .pre .1 .0)
     (axis-some _ _ (c .before .before .before .before .axis-of .ensures)
     (c .before .before .before .if1 .left) .0)
     (λ e. c .before .if2 .taken (c .before .before .byte-at .ensures ∙ e)))
@@ -82,7 +83,7 @@ returns-2 c =
 add-skip : tie.Need-add-skip
 add-skip c =
     let to-args = c .before .before .before .before in
-    let start = to-args .before .before .before in
+    let start = to-args .before .before .before .before in
     omega (
       arith,
       byte-there (start .args .s .now) (start .args .colon + 1) 58 refl
@@ -93,7 +94,7 @@ add-skip c =
 skip-requires : tie.Need-skip-requires
 skip-requires c κs =
     let to-args = c .before .before .before .before in
-    let start = to-args .before .before .before in
+    let start = to-args .before .before .before .before in
     omega (
       arith,
       byte-there (start .args .s .now) (start .args .colon + 1) 58 refl
@@ -102,17 +103,22 @@ skip-requires c κs =
 
 -- src/head.rt:211:5
 test-head-requires : tie.Need-test-head-requires
-test-head-requires c κs = c .skip .ensures .fits
+test-head-requires c κs =
+    let at-axis-of = c .before .before .before .before in
+    let to-start = at-axis-of .before .before .before .before in
+    let start = to-start .before in
+    (c .skip .ensures .fits, start .pre .1 .1)
 
 -- src/head.rt:198:1
 returns-3 : tie.Need-returns-3
 returns-3 c =
     let to-axis-of = c .before .before .before .before in
     let at-axis-of = to-axis-of .before in
-    let start = at-axis-of .before .before .before .before in
+    let to-start = at-axis-of .before .before .before .before in
+    let start = to-start .before in
     let z = axis-some _ _ (at-axis-of .axis-of .ensures) (c .before .before .before .before .if1 .left) in axis-two
     (start .args .s .now) (start .args .names .now) (start .args .at) (start .args .end) (start .args .colon)
-    (start .pre .0) (start .pre .1) (z .0) _ _ _ _ (z .1)
+    (start .pre .0) (start .pre .1 .0) (z .0) _ _ _ _ (z .1)
     (sym (c .before .before .before .byte-at .ensures) ∙ c .before .before .if2 .left)
     (c .before .skip .ensures) (c .test-head .ensures)
 

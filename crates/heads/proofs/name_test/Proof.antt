@@ -22,47 +22,52 @@ byte-at-requires c κs = search needs
 
 -- src/head.rt:171:9
 named-head-requires : tie.Need-named-head-requires
-named-head-requires c κs = (
-  (
-    omega (arith, c .before .before .before .before .pre .names .from),
-    omega (
-      arith,
-      c .before .before .before .before .pre .spaces .from,
-      c .before .before .before .before .pre .spaces .fits,
-    ),
-  ),
-  part-is (c .before .before .before .before .args .s .now)
-      (c .before .before .before .before .args .at) (c .before .before .before .before .args .end)
-      (c .before .before .before .before .pre .begins)
-      (c .before .before .before .before .pre .names),
-)
+named-head-requires c κs =
+    let to-start = c .before .before .before .before in
+    let start = to-start .before in (
+      (
+        omega (arith, start .pre .0 .names .from),
+        omega (arith, start .pre .0 .spaces .from, start .pre .0 .spaces .fits),
+      ),
+      (
+        part-is (start .args .s .now) (start .args .at) (start .args .end) (start .pre .0 .begins)
+            (start .pre .0 .names),
+        start .pre .1,
+      ),
+    )
 
 -- src/head.rt:171:9
 returns : tie.Need-returns
 returns c =
     let to-args = c .before .before .before .before in
-    let start = to-args .before in
+    let start = to-args .before .before in
     rw (c .named-head .ensures)
     (name-plain (start .args .s .now) (start .args .names .now) (start .args .at) (start .args .end)
-    (start .args .to) (start .args .axis) (start .pre)
+    (start .args .to) (start .args .axis) (start .pre .0)
     (λ e. c .before .if1 .taken (c .before .before .byte-at .ensures ∙ e)))
 
 -- src/head.rt:173:31
 sub-type-of : tie.Need-sub-type-of
-sub-type-of c = omega (arith, c .before .before .before .before .pre .names .from)
+sub-type-of c =
+    let to-start = c .before .before .before .before in
+    let start = to-start .before in omega (arith, start .pre .0 .names .from)
 
 -- src/head.rt:173:31
 part-type-of-start : tie.Need-part-type-of-start
-part-type-of-start c = omega (arith, c .before .before .before .before .pre .names .from)
+part-type-of-start c =
+    let to-start = c .before .before .before .before in
+    let start = to-start .before in omega (arith, start .pre .0 .names .from)
 
 -- src/head.rt:173:31
 part-type-of-end : tie.Need-part-type-of-end
-part-type-of-end c = omega (
-  arith,
-  c .before .before .before .before .pre .spaces .from,
-  c .before .before .before .before .pre .spaces .fits,
-  c .before .before .before .before .pre .names .from,
-)
+part-type-of-end c =
+    let to-start = c .before .before .before .before in
+    let start = to-start .before in omega (
+      arith,
+      start .pre .0 .spaces .from,
+      start .pre .0 .spaces .fits,
+      start .pre .0 .names .from,
+    )
 
 -- src/head.rt:173:9
 type-of-requires : tie.Need-type-of-requires
@@ -72,9 +77,16 @@ type-of-requires c κs = search needs
 named-head-requires-2 : tie.Need-named-head-requires-2
 named-head-requires-2 c κs =
     let to-args = c .before .before .before .before in
-    let start = to-args .before .before .before in (
-      (omega (arith, start .pre .names .from), omega (arith, start .pre .spaces .from, start .pre .spaces .fits)),
-      part-is (start .args .s .now) (start .args .at) (start .args .end) (start .pre .begins) (start .pre .names),
+    let start = to-args .before .before .before .before in (
+      (
+        omega (arith, start .pre .0 .names .from),
+        omega (arith, start .pre .0 .spaces .from, start .pre .0 .spaces .fits),
+      ),
+      (
+        part-is (start .args .s .now) (start .args .at) (start .args .end) (start .pre .0 .begins)
+            (start .pre .0 .names),
+        start .pre .1,
+      ),
     )
 
 -- src/head.rt:175:9
@@ -82,10 +94,10 @@ returns-2 : tie.Need-returns-2
 returns-2 c =
     let to-byte-at = c .before .before .before .before in
     let at-byte-at = to-byte-at .before in
-    let start = at-byte-at .before .before .before in
+    let start = at-byte-at .before .before .before .before in
     rw (c .named-head2 .ensures)
     (name-call (start .args .s .now) (start .args .names .now) (start .args .at) (start .args .end)
-    (start .args .to) (start .args .axis) (start .pre)
+    (start .args .to) (start .args .axis) (start .pre .0)
     (sym (at-byte-at .byte-at .ensures) ∙ c .before .before .before .before .if1 .left)
     (type-none _ _ (c .before .before .type-of .ensures) (c .before .if2 .taken)))
 
@@ -93,7 +105,7 @@ returns-2 c =
 add-type-head : tie.Need-add-type-head
 add-type-head c =
     let to-args = c .before .before .before .before in
-    let start = to-args .before .before .before in
+    let start = to-args .before .before .before .before in
     omega (
       arith,
       byte-there (start .args .s .now) (start .args .to) 40 refl
@@ -104,11 +116,13 @@ add-type-head c =
 type-head-requires : tie.Need-type-head-requires
 type-head-requires c κs =
     let to-args = c .before .before .before .before in
-    let start = to-args .before .before .before in
-    omega (
-      arith,
-      byte-there (start .args .s .now) (start .args .to) 40 refl
-          (sym (c .before .before .before .before .byte-at .ensures) ∙ c .before .before .before .if1 .left),
+    let start = to-args .before .before .before .before in (
+      omega (
+        arith,
+        byte-there (start .args .s .now) (start .args .to) 40 refl
+            (sym (c .before .before .before .before .byte-at .ensures) ∙ c .before .before .before .if1 .left),
+      ),
+      start .pre .1,
     )
 
 -- src/head.rt:166:1
@@ -116,10 +130,10 @@ returns-3 : tie.Need-returns-3
 returns-3 c =
     let to-byte-at = c .before .before .before .before in
     let at-byte-at = to-byte-at .before in
-    let start = at-byte-at .before .before .before in
+    let start = at-byte-at .before .before .before .before in
     let z = type-some _ _ (c .before .before .type-of .ensures) (c .before .if2 .left) in name-type
     (start .args .s .now) (start .args .names .now) (start .args .at) (start .args .end) (start .args .to)
-    (start .args .axis) (start .pre) _ _
+    (start .args .axis) (start .pre .0) _ _
     (sym (at-byte-at .byte-at .ensures) ∙ c .before .before .before .before .if1 .left) (z .0) (z .1)
     (c .type-head .ensures)
 

@@ -31,14 +31,14 @@ dot-head-requires c κs = sym (c .before .byte-at .ensures) ∙ c .if1 .taken
 returns : tie.Need-returns
 returns c =
     let to-args = c .before .before .before .before in
-    let start = to-args .before in
+    let start = to-args .before .before in
     head-dot (start .args .s .now) (start .args .names .now) (start .args .at) _ (c .dot-head .ensures)
 
 -- src/head.rt:225:44
 add-skip : tie.Need-add-skip
 add-skip c =
     let to-args = c .before .before .before .before in
-    let start = to-args .before in
+    let start = to-args .before .before in
     omega (
       arith,
       byte-there (start .args .s .now) (start .args .at) 64 refl
@@ -49,7 +49,7 @@ add-skip c =
 skip-requires : tie.Need-skip-requires
 skip-requires c κs =
     let to-args = c .before .before .before .before in
-    let start = to-args .before in
+    let start = to-args .before .before in
     omega (
       arith,
       byte-there (start .args .s .now) (start .args .at) 64 refl
@@ -58,13 +58,16 @@ skip-requires c κs =
 
 -- src/head.rt:225:9
 test-head-requires : tie.Need-test-head-requires
-test-head-requires c κs = c .skip .ensures .fits
+test-head-requires c κs =
+    let to-start = c .before .before .before .before in
+    let start = to-start .before .before .before in
+    (c .skip .ensures .fits, start .pre .1 .1)
 
 -- src/head.rt:225:9
 returns-2 : tie.Need-returns-2
 returns-2 c =
     let to-args = c .before .before .before .before in
-    let start = to-args .before .before .before in
+    let start = to-args .before .before .before .before in
     head-at (start .args .s .now) (start .args .names .now) (start .args .at) _ _ _
     (sym (c .before .before .before .before .byte-at .ensures) ∙ c .before .before .if2 .taken)
     (c .before .skip .ensures) (c .test-head .ensures)
@@ -77,16 +80,16 @@ is-start-requires c κs = search needs
 test-head-requires-2 : tie.Need-test-head-requires-2
 test-head-requires-2 c κs =
     let to-pre = c .before .before .before .before in
-    let start = to-pre .before .before .before in
-    start .pre .0
+    let start = to-pre .before .before .before .before in
+    (start .pre .0, start .pre .1 .1)
 
 -- src/head.rt:228:9
 returns-3 : tie.Need-returns-3
 returns-3 c =
     let to-byte-at = c .before .before .before .before in
     let at-byte-at = to-byte-at .before in
-    let start = at-byte-at .before .before .before in
-    head-test (start .args .s .now) (start .args .names .now) (start .args .at) (start .pre .1)
+    let start = at-byte-at .before .before .before .before in
+    head-test (start .args .s .now) (start .args .names .now) (start .args .at) (start .pre .1 .0)
     (λ e. c .before .before .before .before .if1 .left (at-byte-at .byte-at .ensures ∙ e))
     (λ e. c .before .before .before .if2 .left (at-byte-at .byte-at .ensures ∙ e)) _ _
     (rw (at-byte-at .byte-at .ensures) at
@@ -97,7 +100,7 @@ returns-3 c =
 add-name-end : tie.Need-add-name-end
 add-name-end c =
     let to-args = c .before .before .before .before in
-    let start = to-args .before .before .before in
+    let start = to-args .before .before .before .before in
     omega (
       arith,
       start-there (start .args .s .now) (start .args .at)
@@ -109,7 +112,7 @@ add-name-end c =
 name-end-requires : tie.Need-name-end-requires
 name-end-requires c κs =
     let to-args = c .before .before .before .before in
-    let start = to-args .before .before .before in
+    let start = to-args .before .before .before .before in
     omega (
       arith,
       start-there (start .args .s .now) (start .args .at)
@@ -130,7 +133,8 @@ axis-head-requires : tie.Need-axis-head-requires
 axis-head-requires c κs =
     let to-is-start = c .before .before .before .before in
     let at-is-start = to-is-start .before in
-    let at-byte-at = at-is-start .before .before .before in (
+    let at-byte-at = at-is-start .before .before .before in
+    let start = at-byte-at .before .before .before .before in (
       record {
         begins = rw (at-byte-at .byte-at .ensures) at
             (sym (at-is-start .is-start .ensures) ∙ not-false _ (c .before .before .before .before .if3 .left));
@@ -138,7 +142,7 @@ axis-head-requires c κs =
             c .before .before .before .name-end .ensures;
         spaces = c .before .before .skip2 .ensures;
       },
-      sym (c .before .byte-at2 .ensures) ∙ c .if4 .taken,
+      (sym (c .before .byte-at2 .ensures) ∙ c .if4 .taken, start .pre .1 .1),
     )
 
 -- src/head.rt:233:9
@@ -151,13 +155,15 @@ name-test-requires c κs =
     let to-is-start = c .before .before .before .before in
     let at-is-start = to-is-start .before in
     let at-byte-at = at-is-start .before .before .before in
-    record {
-      begins = rw (at-byte-at .byte-at .ensures) at
-          (sym (at-is-start .is-start .ensures) ∙ not-false _ (c .before .before .before .before .if3 .left));
-      names =
-          c .before .before .before .name-end .ensures;
-      spaces = c .before .before .skip2 .ensures;
-    }
+    let start = at-byte-at .before .before .before .before in (
+      record {
+        begins = rw (at-byte-at .byte-at .ensures) at
+            (sym (at-is-start .is-start .ensures) ∙ not-false _ (c .before .before .before .before .if3 .left));
+        names = c .before .before .before .name-end .ensures;
+        spaces = c .before .before .skip2 .ensures;
+      },
+      start .pre .1 .1,
+    )
 
 -- src/head.rt:215:1
 returns-5 : tie.Need-returns-5
@@ -166,8 +172,8 @@ returns-5 c =
     let at-if2 = to-if2 .before .before .before in
     let at-if1 = at-if2 .before in
     let at-byte-at = at-if1 .before in
-    let start = at-byte-at .before .before .before in
-    head-test (start .args .s .now) (start .args .names .now) (start .args .at) (start .pre .1)
+    let start = at-byte-at .before .before .before .before in
+    head-test (start .args .s .now) (start .args .names .now) (start .args .at) (start .pre .1 .0)
     (λ e. at-if1 .if1 .left (at-byte-at .byte-at .ensures ∙ e))
     (λ e. at-if2 .if2 .left (at-byte-at .byte-at .ensures ∙ e)) _ _
     (λ e. c .before .if4 .left (c .before .before .byte-at2 .ensures ∙ e)) (c .name-test .ensures)

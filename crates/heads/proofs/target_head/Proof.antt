@@ -27,8 +27,8 @@ byte-at-requires c κs = search needs
 add-from : tie.Need-add-from
 add-from c = omega (
   arith,
-  quote-there (c .before .before .before .args .s .now) (c .before .before .before .args .at)
-      (c .before .before .before .pre),
+  quote-there (c .before .before .before .before .args .s .now) (c .before .before .before .before .args .at)
+      (c .before .before .before .before .pre .0),
 )
 
 -- src/head.rt:132:18
@@ -47,17 +47,17 @@ no-head-requires c κs = search needs
 returns : tie.Need-returns
 returns c =
     let to-args = c .before .before .before .before in
-    let start = to-args .before .before .before in
+    let start = to-args .before .before .before .before in
     rw (c .no-head .ensures)
     (target-none (start .args .s .now) (start .args .names .now) (start .args .at) (start .args .axis)
-    (start .pre) (rw (c .before .before .before .byte-at2 .ensures) at
+    (start .pre .0) (rw (c .before .before .before .byte-at2 .ensures) at
     (sym (c .before .before .is-start .ensures) ∙ not-true _ (c .before .if1 .taken))))
 
 -- src/head.rt:135:27
 add-name-end : tie.Need-add-name-end
 add-name-end c =
     let to-args = c .before .before .before .before in
-    let start = to-args .before .before in
+    let start = to-args .before .before .before in
     omega (
       arith,
       start-there (start .args .s .now) (start .args .at + 1)
@@ -69,7 +69,7 @@ add-name-end c =
 name-end-requires : tie.Need-name-end-requires
 name-end-requires c κs =
     let to-args = c .before .before .before .before in
-    let start = to-args .before .before in
+    let start = to-args .before .before .before in
     omega (
       arith,
       start-there (start .args .s .now) (start .args .at + 1)
@@ -92,10 +92,10 @@ returns-2 c =
     let at-is-start = to-is-start .before in
     let at-byte-at2 = at-is-start .before in
     let at-byte-at = at-byte-at2 .before in
-    let start = at-byte-at .before .before .before in
+    let start = at-byte-at .before .before .before .before in
     rw (c .no-head2 .ensures)
     (target-open (start .args .s .now) (start .args .names .now) (start .args .at) (start .args .axis)
-    (start .pre) (rw (at-byte-at2 .byte-at2 .ensures) at
+    (start .pre .0) (rw (at-byte-at2 .byte-at2 .ensures) at
     (sym (at-is-start .is-start .ensures) ∙ not-false _ (c .before .before .before .before .if1 .left))) _
     (c .before .before .before .name-end .ensures)
     (λ e. c .before .if2 .taken
@@ -106,11 +106,11 @@ add-skip : tie.Need-add-skip
 add-skip c =
     let to-byte-at = c .before .before .before .before in
     let at-byte-at = to-byte-at .before .before in
-    let start = at-byte-at .before .before .before in
+    let start = at-byte-at .before .before .before .before in
     omega (
       arith,
       quote-there (start .args .s .now) (c .before .before .name-end .result)
-          (rw (sym (c .before .byte-at3 .ensures) ∙ c .if2 .left ∙ at-byte-at .byte-at .ensures) (start .pre)),
+          (rw (sym (c .before .byte-at3 .ensures) ∙ c .if2 .left ∙ at-byte-at .byte-at .ensures) (start .pre .0)),
     )
 
 -- src/head.rt:139:9
@@ -118,11 +118,11 @@ skip-requires : tie.Need-skip-requires
 skip-requires c κs =
     let to-byte-at = c .before .before .before .before in
     let at-byte-at = to-byte-at .before .before in
-    let start = at-byte-at .before .before .before in
+    let start = at-byte-at .before .before .before .before in
     omega (
       arith,
       quote-there (start .args .s .now) (c .before .before .name-end .result)
-          (rw (sym (c .before .byte-at3 .ensures) ∙ c .if2 .left ∙ at-byte-at .byte-at .ensures) (start .pre)),
+          (rw (sym (c .before .byte-at3 .ensures) ∙ c .if2 .left ∙ at-byte-at .byte-at .ensures) (start .pre .0)),
     )
 
 -- src/head.rt:140:8
@@ -143,10 +143,10 @@ returns-3 c =
     let at-is-start = at-if1 .before in
     let at-byte-at2 = at-is-start .before in
     let at-byte-at = at-byte-at2 .before in
-    let start = at-byte-at .before .before .before in
+    let start = at-byte-at .before .before .before .before in
     rw (c .no-head3 .ensures)
     (target-unclosed (start .args .s .now) (start .args .names .now) (start .args .at) (start .args .axis)
-    (start .pre) (rw (at-byte-at2 .byte-at2 .ensures) at
+    (start .pre .0) (rw (at-byte-at2 .byte-at2 .ensures) at
     (sym (at-is-start .is-start .ensures) ∙ not-false _ (at-if1 .if1 .left))) _
     (at-name-end .name-end .ensures)
     (sym (at-byte-at3 .byte-at3 .ensures) ∙ c .before .before .before .before .if2 .left
@@ -158,7 +158,8 @@ add-skip-2 : tie.Need-add-skip-2
 add-skip-2 c =
     let to-args = c .before .before .before .before in
     let to-args2 = to-args .before .before .before .before in
-    let start = to-args2 .before .before .before .before in
+    let to-start = to-args2 .before .before .before .before in
+    let start = to-start .before in
     omega (
       arith,
       byte-there (start .args .s .now) (c .before .before .skip .result) 41 refl
@@ -170,7 +171,8 @@ skip-requires-2 : tie.Need-skip-requires-2
 skip-requires-2 c κs =
     let to-args = c .before .before .before .before in
     let to-args2 = to-args .before .before .before .before in
-    let start = to-args2 .before .before .before .before in
+    let to-start = to-args2 .before .before .before .before in
+    let start = to-start .before in
     omega (
       arith,
       byte-there (start .args .s .now) (c .before .before .skip .result) 41 refl
@@ -185,12 +187,16 @@ named-head-requires c κs =
     let at-if1 = at-name-end .before in
     let at-is-start = at-if1 .before in
     let at-byte-at2 = at-is-start .before in
-    let start = at-byte-at2 .before .before .before .before in (
+    let to-start = at-byte-at2 .before .before .before .before in
+    let start = to-start .before in (
       (omega (arith, at-name-end .name-end .ensures .from), at-name-end .name-end .ensures .fits),
-      part-is (start .args .s .now) (start .args .at + 1) _
-          (rw (at-byte-at2 .byte-at2 .ensures) at
-          (sym (at-is-start .is-start .ensures) ∙ not-false _ (at-if1 .if1 .left)))
-          (at-name-end .name-end .ensures),
+      (
+        part-is (start .args .s .now) (start .args .at + 1) _
+            (rw (at-byte-at2 .byte-at2 .ensures) at
+            (sym (at-is-start .is-start .ensures) ∙ not-false _ (at-if1 .if1 .left)))
+            (at-name-end .name-end .ensures),
+        start .pre .1,
+      ),
     )
 
 -- src/head.rt:126:1
@@ -204,10 +210,10 @@ returns-4 c =
     let at-is-start = at-if1 .before in
     let at-byte-at2 = at-is-start .before in
     let at-byte-at = at-byte-at2 .before in
-    let start = at-byte-at .before .before .before in
+    let start = at-byte-at .before .before .before .before in
     rw (c .named-head .ensures)
     (target-read (start .args .s .now) (start .args .names .now) (start .args .at) (start .args .axis)
-    (start .pre) (rw (at-byte-at2 .byte-at2 .ensures) at
+    (start .pre .0) (rw (at-byte-at2 .byte-at2 .ensures) at
     (sym (at-is-start .is-start .ensures) ∙ not-false _ (at-if1 .if1 .left))) _
     (at-name-end .name-end .ensures)
     (sym (at-byte-at3 .byte-at3 .ensures) ∙ at-if2 .if2 .left ∙ at-byte-at .byte-at .ensures) _

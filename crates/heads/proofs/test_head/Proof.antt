@@ -24,19 +24,23 @@ byte-at-requires c κs = search needs
 
 -- src/head.rt:187:35
 add-skip : tie.Need-add-skip
-add-skip c = omega (
-  arith,
-  byte-there (c .before .before .before .before .args .s .now) (c .before .before .before .before .args .at) 42 refl
-      (sym (c .before .byte-at .ensures) ∙ c .if1 .taken),
-)
+add-skip c =
+    let to-start = c .before .before .before .before in
+    let start = to-start .before in omega (
+      arith,
+      byte-there (start .args .s .now) (start .args .at) 42 refl
+          (sym (c .before .byte-at .ensures) ∙ c .if1 .taken),
+    )
 
 -- src/head.rt:187:27
 skip-requires : tie.Need-skip-requires
-skip-requires c κs = omega (
-  arith,
-  byte-there (c .before .before .before .before .args .s .now)
-      (c .before .before .before .before .args .at) 42 refl (sym (c .before .byte-at .ensures) ∙ c .if1 .taken),
-)
+skip-requires c κs =
+    let to-start = c .before .before .before .before in
+    let start = to-start .before in omega (
+      arith,
+      byte-there (start .args .s .now)
+          (start .args .at) 42 refl (sym (c .before .byte-at .ensures) ∙ c .if1 .taken),
+    )
 
 -- src/head.rt:187:9
 plain-head-requires : tie.Need-plain-head-requires
@@ -46,7 +50,7 @@ plain-head-requires c κs = search needs
 returns : tie.Need-returns
 returns c =
     let to-args = c .before .before .before .before in
-    let start = to-args .before .before in
+    let start = to-args .before .before .before in
     rw (c .plain-head .ensures)
     (test-star (start .args .s .now) (start .args .names .now) (start .args .at) (start .args .axis) _
     (sym (c .before .before .before .byte-at .ensures) ∙ c .before .before .if1 .taken)
@@ -64,7 +68,7 @@ no-head-requires c κs = search needs
 returns-2 : tie.Need-returns-2
 returns-2 c =
     let to-args = c .before .before .before .before in
-    let start = to-args .before .before .before in
+    let start = to-args .before .before .before .before in
     rw (c .no-head .ensures)
     (test-none (start .args .s .now) (start .args .names .now) (start .args .at) (start .args .axis) (omega arith)
     (λ e. c .before .before .before .if1 .left (c .before .before .before .before .byte-at .ensures ∙ e))
@@ -75,7 +79,7 @@ returns-2 c =
 add-name-end : tie.Need-add-name-end
 add-name-end c =
     let to-args = c .before .before .before .before in
-    let start = to-args .before .before in
+    let start = to-args .before .before .before in
     omega (
       arith,
       start-there (start .args .s .now) (start .args .at)
@@ -87,7 +91,7 @@ add-name-end c =
 name-end-requires : tie.Need-name-end-requires
 name-end-requires c κs =
     let to-args = c .before .before .before .before in
-    let start = to-args .before .before in
+    let start = to-args .before .before .before in
     omega (
       arith,
       start-there (start .args .s .now) (start .args .at)
@@ -104,20 +108,22 @@ name-test-requires : tie.Need-name-test-requires
 name-test-requires c κs =
     let to-byte-at = c .before .before .before .before in
     let at-byte-at = to-byte-at .before in
-    record {
-      begins = rw (at-byte-at .byte-at .ensures) at
-          (sym (c .before .before .before .is-start .ensures) ∙ not-false _ (c .before .before .if2 .left));
-      names =
-          c .before .name-end .ensures;
-      spaces = c .skip2 .ensures;
-    }
+    let start = at-byte-at .before .before .before .before in (
+      record {
+        begins = rw (at-byte-at .byte-at .ensures) at
+            (sym (c .before .before .before .is-start .ensures) ∙ not-false _ (c .before .before .if2 .left));
+        names = c .before .name-end .ensures;
+        spaces = c .skip2 .ensures;
+      },
+      start .pre .1,
+    )
 
 -- src/head.rt:181:1
 returns-3 : tie.Need-returns-3
 returns-3 c =
     let to-byte-at = c .before .before .before .before in
     let at-byte-at = to-byte-at .before .before in
-    let start = at-byte-at .before .before .before in
+    let start = at-byte-at .before .before .before .before in
     test-name (start .args .s .now) (start .args .names .now) (start .args .at) (start .args .axis) _ _
     (rw (at-byte-at .byte-at .ensures) at
     (sym (c .before .before .before .before .is-start .ensures)

@@ -29,7 +29,7 @@ byte-at-requires c κs = search needs
 add-skip : tie.Need-add-skip
 add-skip c =
     let to-args = c .before .before .before .before in
-    let start = to-args .before in
+    let start = to-args .before .before in
     omega (
       arith,
       byte-there (start .args .s .now) (c .before .before .skip .result) 41 refl
@@ -40,7 +40,7 @@ add-skip c =
 skip-requires-2 : tie.Need-skip-requires-2
 skip-requires-2 c κs =
     let to-args = c .before .before .before .before in
-    let start = to-args .before in
+    let start = to-args .before .before in
     omega (
       arith,
       byte-there (start .args .s .now) (c .before .before .skip .result) 41 refl
@@ -55,7 +55,7 @@ plain-head-requires c κs = search needs
 returns : tie.Need-returns
 returns c =
     let to-args = c .before .before .before .before in
-    let start = to-args .before .before .before in
+    let start = to-args .before .before .before .before in
     rw (c .plain-head .ensures)
     (type-close (start .args .s .now) (start .args .names .now) (start .args .at) (start .args .axis)
     (start .args .test) _ (c .before .before .before .before .skip .ensures) _
@@ -70,7 +70,7 @@ no-head-requires c κs = search needs
 returns-2 : tie.Need-returns-2
 returns-2 c =
     let to-args = c .before .before .before .before in
-    let start = to-args .before .before .before in
+    let start = to-args .before .before .before .before in
     rw (c .no-head .ensures)
     (type-plain (start .args .s .now) (start .args .names .now) (start .args .at) (start .args .axis)
     (start .args .test) _ (c .before .before .before .before .skip .ensures)
@@ -91,7 +91,7 @@ returns-3 c =
     let to-byte-at = c .before .before .before .before in
     let at-byte-at = to-byte-at .before in
     let at-skip = at-byte-at .before in
-    let start = at-skip .before .before .before in
+    let start = at-skip .before .before .before .before in
     rw (c .no-head2 .ensures)
     (type-unquoted (start .args .s .now) (start .args .names .now) (start .args .at) (start .args .axis)
     (start .args .test) _ (at-skip .skip .ensures)
@@ -102,8 +102,13 @@ returns-3 c =
 -- src/head.rt:162:5
 target-head-requires : tie.Need-target-head-requires
 target-head-requires c κs =
-    rw (c .before .before .before .before .byte-at .ensures) at
-    (sym (c .before .is-quote .ensures) ∙ not-false _ (c .if3 .left))
+    let at-byte-at = c .before .before .before .before in
+    let at-skip = at-byte-at .before in
+    let start = at-skip .before .before .before .before in (
+      rw (at-byte-at .byte-at .ensures) at
+          (sym (c .before .is-quote .ensures) ∙ not-false _ (c .if3 .left)),
+      start .pre .1,
+    )
 
 -- src/head.rt:147:1
 returns-4 : tie.Need-returns-4
@@ -111,7 +116,7 @@ returns-4 c =
     let to-byte-at = c .before .before .before .before in
     let at-byte-at = to-byte-at .before in
     let at-skip = at-byte-at .before in
-    let start = at-skip .before .before .before in
+    let start = at-skip .before .before .before .before in
     type-target (start .args .s .now) (start .args .names .now) (start .args .at) (start .args .axis)
     (start .args .test) _ (at-skip .skip .ensures) _ (c .before .before .before .if2 .left)
     (rw (at-byte-at .byte-at .ensures) at

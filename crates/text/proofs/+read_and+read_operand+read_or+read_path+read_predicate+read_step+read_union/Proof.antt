@@ -74,95 +74,95 @@ use Rattle.text.proofs.+read_and+read_operand+read_or+read_path+read_pr
   close,
 }
 
-abbrev μ-read-and : Measures 3 read-and-kinds.ps ℕ
-μ-read-and κs a = 8 * a .1 .1 .1 .1 .0 + 5
+abbrev μ-read-and : Measures 4 read-and-kinds.ps ℕ
+μ-read-and κs a = 8 * a .1 .1 .1 .1 .1 .0 + 5
 
-abbrev μ-read-operand : Measures 3 read-operand-kinds.ps ℕ
-μ-read-operand κs a = 8 * a .1 .1 .1 .1 .0 + 4
+abbrev μ-read-operand : Measures 4 read-operand-kinds.ps ℕ
+μ-read-operand κs a = 8 * a .1 .1 .1 .1 .1 .0 + 4
 
-abbrev μ-read-or : Measures 3 read-or-kinds.ps ℕ
-μ-read-or κs a = 8 * a .1 .1 .1 .1 .0 + 6
+abbrev μ-read-or : Measures 4 read-or-kinds.ps ℕ
+μ-read-or κs a = 8 * a .1 .1 .1 .1 .1 .0 + 6
 
-abbrev μ-read-path : Measures 3 read-path-kinds.ps ℕ
-μ-read-path κs a = 8 * a .1 .1 .1 .1 .0 + 2
+abbrev μ-read-path : Measures 4 read-path-kinds.ps ℕ
+μ-read-path κs a = 8 * a .1 .1 .1 .1 .1 .0 + 2
 
-abbrev μ-read-predicate : Measures 3 read-predicate-kinds.ps ℕ
-μ-read-predicate κs a = 8 * a .1 .1 .1 .1 .0
+abbrev μ-read-predicate : Measures 4 read-predicate-kinds.ps ℕ
+μ-read-predicate κs a = 8 * a .1 .1 .1 .1 .1 .0
 
-abbrev μ-read-step : Measures 3 read-step-kinds.ps ℕ
-μ-read-step κs a = 8 * a .1 .1 .1 .1 .0 + 1
+abbrev μ-read-step : Measures 4 read-step-kinds.ps ℕ
+μ-read-step κs a = 8 * a .1 .1 .1 .1 .1 .0 + 1
 
-abbrev μ-read-union : Measures 3 read-union-kinds.ps ℕ
-μ-read-union κs a = 8 * a .1 .1 .1 .1 .0 + 3
+abbrev μ-read-union : Measures 4 read-union-kinds.ps ℕ
+μ-read-union κs a = 8 * a .1 .1 .1 .1 .1 .0 + 3
 
-abbrev read-and-at : ℕ → In 3 read-and-kinds.ps
-read-and-at t = and 3 read-and-kinds.ps (is 3 read-and-kinds.ps μ-read-and t) read-and.Pre
+abbrev read-and-at : ℕ → In 4 read-and-kinds.ps
+read-and-at t = and 4 read-and-kinds.ps (is 4 read-and-kinds.ps μ-read-and t) read-and.Pre
 
-abbrev read-and-below : ℕ → In 3 read-and-kinds.ps
+abbrev read-and-below : ℕ → In 4 read-and-kinds.ps
 read-and-below t =
-    and 3 read-and-kinds.ps (falls 3 read-and-kinds.ps _<_ μ-read-and t) read-and.Pre
+    and 4 read-and-kinds.ps (falls 4 read-and-kinds.ps _<_ μ-read-and t) read-and.Pre
 
-abbrev read-operand-at : ℕ → In 3 read-operand-kinds.ps
+abbrev read-operand-at : ℕ → In 4 read-operand-kinds.ps
 read-operand-at t =
-    and 3 read-operand-kinds.ps (is 3 read-operand-kinds.ps μ-read-operand t) read-operand.Pre
+    and 4 read-operand-kinds.ps (is 4 read-operand-kinds.ps μ-read-operand t) read-operand.Pre
 
-abbrev read-operand-below : ℕ → In 3 read-operand-kinds.ps
+abbrev read-operand-below : ℕ → In 4 read-operand-kinds.ps
 read-operand-below t =
     and
-    3
+    4
     read-operand-kinds.ps
-    (falls 3 read-operand-kinds.ps _<_ μ-read-operand t)
+    (falls 4 read-operand-kinds.ps _<_ μ-read-operand t)
     read-operand.Pre
 
-abbrev read-or-at : ℕ → In 3 read-or-kinds.ps
-read-or-at t = and 3 read-or-kinds.ps (is 3 read-or-kinds.ps μ-read-or t) read-or.Pre
+abbrev read-or-at : ℕ → In 4 read-or-kinds.ps
+read-or-at t = and 4 read-or-kinds.ps (is 4 read-or-kinds.ps μ-read-or t) read-or.Pre
 
-abbrev read-or-below : ℕ → In 3 read-or-kinds.ps
-read-or-below t = and 3 read-or-kinds.ps (falls 3 read-or-kinds.ps _<_ μ-read-or t) read-or.Pre
+abbrev read-or-below : ℕ → In 4 read-or-kinds.ps
+read-or-below t = and 4 read-or-kinds.ps (falls 4 read-or-kinds.ps _<_ μ-read-or t) read-or.Pre
 
-abbrev read-path-at : ℕ → In 3 read-path-kinds.ps
-read-path-at t = and 3 read-path-kinds.ps (is 3 read-path-kinds.ps μ-read-path t) read-path.Pre
+abbrev read-path-at : ℕ → In 4 read-path-kinds.ps
+read-path-at t = and 4 read-path-kinds.ps (is 4 read-path-kinds.ps μ-read-path t) read-path.Pre
 
-abbrev read-path-below : ℕ → In 3 read-path-kinds.ps
+abbrev read-path-below : ℕ → In 4 read-path-kinds.ps
 read-path-below t =
-    and 3 read-path-kinds.ps (falls 3 read-path-kinds.ps _<_ μ-read-path t) read-path.Pre
+    and 4 read-path-kinds.ps (falls 4 read-path-kinds.ps _<_ μ-read-path t) read-path.Pre
 
-abbrev read-predicate-at : ℕ → In 3 read-predicate-kinds.ps
+abbrev read-predicate-at : ℕ → In 4 read-predicate-kinds.ps
 read-predicate-at t =
     and
-    3
+    4
     read-predicate-kinds.ps
-    (is 3 read-predicate-kinds.ps μ-read-predicate t)
+    (is 4 read-predicate-kinds.ps μ-read-predicate t)
     read-predicate.Pre
 
-abbrev read-predicate-below : ℕ → In 3 read-predicate-kinds.ps
+abbrev read-predicate-below : ℕ → In 4 read-predicate-kinds.ps
 read-predicate-below t =
     and
-    3
+    4
     read-predicate-kinds.ps
-    (falls 3 read-predicate-kinds.ps _<_ μ-read-predicate t)
+    (falls 4 read-predicate-kinds.ps _<_ μ-read-predicate t)
     read-predicate.Pre
 
-abbrev read-step-at : ℕ → In 3 read-step-kinds.ps
-read-step-at t = and 3 read-step-kinds.ps (is 3 read-step-kinds.ps μ-read-step t) read-step.Pre
+abbrev read-step-at : ℕ → In 4 read-step-kinds.ps
+read-step-at t = and 4 read-step-kinds.ps (is 4 read-step-kinds.ps μ-read-step t) read-step.Pre
 
-abbrev read-step-below : ℕ → In 3 read-step-kinds.ps
+abbrev read-step-below : ℕ → In 4 read-step-kinds.ps
 read-step-below t =
-    and 3 read-step-kinds.ps (falls 3 read-step-kinds.ps _<_ μ-read-step t) read-step.Pre
+    and 4 read-step-kinds.ps (falls 4 read-step-kinds.ps _<_ μ-read-step t) read-step.Pre
 
-abbrev read-union-at : ℕ → In 3 read-union-kinds.ps
+abbrev read-union-at : ℕ → In 4 read-union-kinds.ps
 read-union-at t =
-    and 3 read-union-kinds.ps (is 3 read-union-kinds.ps μ-read-union t) read-union.Pre
+    and 4 read-union-kinds.ps (is 4 read-union-kinds.ps μ-read-union t) read-union.Pre
 
-abbrev read-union-below : ℕ → In 3 read-union-kinds.ps
+abbrev read-union-below : ℕ → In 4 read-union-kinds.ps
 read-union-below t =
-    and 3 read-union-kinds.ps (falls 3 read-union-kinds.ps _<_ μ-read-union t) read-union.Pre
+    and 4 read-union-kinds.ps (falls 4 read-union-kinds.ps _<_ μ-read-union t) read-union.Pre
 
 abbrev read-and-Inv-loop : read-and-lts.InvT-loop
-read-and-Inv-loop s names rows₀ left got₀ rows got = Carried s (AndGot s names left) rows₀ got₀ rows got
+read-and-Inv-loop s names index rows₀ left got₀ rows got = Carried s (AndGot s names left) rows₀ got₀ rows got
 
 abbrev read-and-μ-loop : read-and-lts.MeasureT-loop
-read-and-μ-loop s names rows₀ left got₀ rows got = length s - got .at
+read-and-μ-loop s names index rows₀ left got₀ rows got = length s - got .at
 
 -- src/lib.rt:148:9
 read-and-read-operand-requires : (t : ℕ) → read-and-lts.Need-read-operand-requires (
@@ -176,7 +176,9 @@ read-and-read-operand-requires : (t : ℕ) → read-and-lts.Need-read-operand-re
   join-reads.Learnt,
 ) (read-and-at t) read-and.Post read-and-Inv-loop read-and-μ-loop
 read-and-read-operand-requires t c κs =
-    (omega (arith, c .before .before .before .before .pre .0), c .before .before .before .before .pre .1)
+    let to-start = c .before .before .before .before in
+    let start = to-start .before in
+    (omega (arith, start .pre .0), start .pre .1)
 
 -- src/lib.rt:149:5
 read-and-loop-holds : (t : ℕ) → read-and-lts.Need-loop-holds (
@@ -191,7 +193,7 @@ read-and-loop-holds : (t : ℕ) → read-and-lts.Need-loop-holds (
 ) (read-and-at t) read-and.Post read-and-Inv-loop read-and-μ-loop
 read-and-loop-holds t c =
     let to-args = c .before .before .before .before in
-    let start = to-args .before .before .before in
+    let start = to-args .before .before .before .before in
     let names = start .args .names .now in
     let s = start .args .s .now in
     let left = start .args .left in
@@ -225,7 +227,7 @@ read-and-pass-and-requires : (t : ℕ) → read-and-lts.Need-pass-and-requires (
 read-and-pass-and-requires t c κs =
     let to-args = c .before .before .before .before in
     let to-args2 = to-args .before .before .before .before in
-    let start = to-args2 .before .before in
+    let start = to-args2 .before .before .before in
     let y = c .before .before .loop .got in
     next-taken (y .ok) (byteAt (start .args .s .now) (y .at)) 97 _ (c .before .next-is .ensures) (c .if1 .taken)
 
@@ -244,8 +246,9 @@ read-and-same-length t c =
     let to-loop = c .before .before .before .before in
     let turn = to-loop .before in
     let to-pre = turn .before .before .before .before in
-    let start = to-pre .before .before .before .before in
-    omega (arith, turn .loop .inv .reached .sized .size, start .pre .1 .sized .size)
+    let to-start = to-pre .before .before .before .before in
+    let start = to-start .before in
+    omega (arith, turn .loop .inv .reached .sized .size, start .pre .1 .0 .sized .size)
 
 -- src/lib.rt:152:13
 read-and-returns : (t : ℕ) → read-and-lts.Need-returns (
@@ -263,7 +266,7 @@ read-and-returns t c =
     let turn = to-loop .before in
     let at-read-operand = turn .before .before .before in
     let to-args = at-read-operand .before .before .before .before in
-    let start = to-args .before in
+    let start = to-args .before .before in
     let names = start .args .names .now in
     let s = start .args .s .now in
     let left = start .args .left in
@@ -290,12 +293,16 @@ read-and-read-operand-requires-2 t c κs =
     let to-loop = c .before .before .before .before in
     let turn = to-loop .before .before in
     let to-args = turn .before .before .before .before in
-    let start = to-args .before .before .before .before in
+    let to-start = to-args .before .before .before .before in
+    let start = to-start .before in
     let word = c .before .before .before .pass-and .ensures in (
       omega (arith, start .pre .0),
-      word-ready (start .args .s .now) (turn .loop .got)
-          (c .before .before .before .pass-and .result) 3 afterAnd word _ _
-          (not-false _ (c .before .if2 .left)) (turn .loop .inv .reached),
+      (
+        word-ready (start .args .s .now) (turn .loop .got)
+            (c .before .before .before .pass-and .result) 3 afterAnd word _ _
+            (not-false _ (c .before .if2 .left)) (turn .loop .inv .reached),
+        start .pre .1 .1,
+      ),
     )
 
 -- src/lib.rt:155:13
@@ -356,7 +363,8 @@ read-and-loop-again t c =
     let at-next-is = at-if1 .before in
     let turn = at-next-is .before in
     let to-args = turn .before .before .before .before in
-    let start = to-args .before .before .before .before in
+    let to-start = to-args .before .before .before .before in
+    let start = to-start .before in
     let names = start .args .names .now in
     let s = start .args .s .now in
     let left = start .args .left in
@@ -388,8 +396,8 @@ read-and-same-length-2 : (t : ℕ) → read-and-lts.Need-same-length-2 (
 read-and-same-length-2 t c =
     let to-pre = c .before .before .before .before in
     let to-pre2 = to-pre .before .before .before .before in
-    let start = to-pre2 .before .before in
-    omega (arith, c .before .before .loop .inv .reached .sized .size, start .pre .1 .sized .size)
+    let start = to-pre2 .before .before .before in
+    omega (arith, c .before .before .loop .inv .reached .sized .size, start .pre .1 .0 .sized .size)
 
 -- src/lib.rt:142:1
 read-and-returns-2 : (t : ℕ) → read-and-lts.Need-returns-2 (
@@ -406,7 +414,7 @@ read-and-returns-2 t c =
     let to-read-operand = c .before .before .before .before in
     let at-read-operand = to-read-operand .before in
     let to-args = at-read-operand .before .before .before .before in
-    let start = to-args .before in
+    let start = to-args .before .before in
     let names = start .args .names .now in
     let s = start .args .s .now in
     let left = start .args .left in
@@ -440,7 +448,7 @@ read-operand-skip-requires : (t : ℕ) → read-operand-lts.Need-skip-requires (
   negate-if-reads.Asked,
   negate-if-reads.Learnt,
 ) (read-operand-at t) read-operand.Post
-read-operand-skip-requires t c κs = c .before .before .before .pre .1 .fits
+read-operand-skip-requires t c κs = c .before .before .before .before .pre .1 .0 .fits
 
 -- src/lib.rt:115:9
 read-operand-moved-requires : (t : ℕ) → read-operand-lts.Need-moved-requires (
@@ -543,7 +551,7 @@ read-operand-read-union-requires : (t : ℕ) → read-operand-lts.Need-read-unio
 read-operand-read-union-requires t c κs =
     let to-pre = c .before .before .before .before in
     let to-pre2 = to-pre .before .before .before .before in
-    let start = to-pre2 .before in
+    let start = to-pre2 .before .before in
     (omega (arith, start .pre .0), start .pre .1)
 
 -- src/lib.rt:122:13
@@ -599,8 +607,9 @@ read-operand-same-length t c =
     let to-pre = c .before .before .before .before in
     let to-pre2 = to-pre .before .before .before .before in
     let to-pre3 = to-pre2 .before .before .before .before in
-    let start = to-pre3 .before .before .before .before in
-    omega (arith, c .before .before .some-of .ensures .sized .size, start .pre .1 .sized .size)
+    let to-start = to-pre3 .before .before .before .before in
+    let start = to-start .before in
+    omega (arith, c .before .before .some-of .ensures .sized .size, start .pre .1 .0 .sized .size)
 
 -- src/lib.rt:122:13
 read-operand-returns : (t : ℕ) → read-operand-lts.Need-returns (
@@ -632,7 +641,8 @@ read-operand-returns t c =
     let at-operand-at = at-enum-told .before .before in
     let at-moved = at-operand-at .before in
     let at-skip = at-moved .before in
-    let start = at-skip .before .before .before .before in
+    let to-start = at-skip .before .before .before .before in
+    let start = to-start .before in
     let names = start .args .names .now in
     let s = start .args .s .now in
     let left = start .args .left in
@@ -693,7 +703,7 @@ read-operand-add-moved : (t : ℕ) → read-operand-lts.Need-add-moved (
 read-operand-add-moved t c =
     let to-args = c .before .before .before .before in
     let to-args2 = to-args .before .before .before .before in
-    let start = to-args2 .before in
+    let start = to-args2 .before .before in
     let call = rw (c .before .before .before .before .moved .ensures, c .before .enum-told2 .given .1) at
     (c .before .before .before .operand-at .ensures) in
     omega (
@@ -754,12 +764,12 @@ read-operand-constant-requires t c κs =
     let to-moved = c .before .before .before .before in
     let at-moved = to-moved .before in
     let to-args = at-moved .before .before .before .before in
-    let start = to-args .before in
+    let start = to-args .before .before in
     let call = rw (at-moved .moved .ensures, c .before .before .enum-told2 .given .1) at
     (c .before .before .before .before .operand-at .ensures) in
     let there = byte-there (start .args .s .now)
     (c .before .before .before .before .operand-at .result .paren) 40 refl (call .byte) in
-    rw (c .moved2 .ensures, at-moved .moved .ensures) (omega (arith, there), start .pre .1 .sized)
+    rw (c .moved2 .ensures, at-moved .moved .ensures) (omega (arith, there), start .pre .1 .0 .sized)
 
 -- src/lib.rt:125:13
 read-operand-same-length-2 : (t : ℕ) → read-operand-lts.Need-same-length-2 (
@@ -788,8 +798,8 @@ read-operand-same-length-2 t c =
     let to-pre = c .before .before .before .before in
     let to-pre2 = to-pre .before .before .before .before in
     let to-pre3 = to-pre2 .before .before .before .before in
-    let start = to-pre3 .before in
-    omega (arith, c .before .before .constant .ensures .puts .sized .size, start .pre .1 .sized .size)
+    let start = to-pre3 .before .before in
+    omega (arith, c .before .before .constant .ensures .puts .sized .size, start .pre .1 .0 .sized .size)
 
 -- src/lib.rt:125:13
 read-operand-returns-2 : (t : ℕ) → read-operand-lts.Need-returns-2 (
@@ -820,7 +830,8 @@ read-operand-returns-2 t c =
     let at-operand-at = at-enum-told2 .before .before in
     let at-moved = at-operand-at .before in
     let at-skip = at-moved .before in
-    let start = at-skip .before .before .before .before in
+    let to-start = at-skip .before .before .before .before in
+    let start = to-start .before in
     let names = start .args .names .now in
     let s = start .args .s .now in
     let left = start .args .left in
@@ -828,7 +839,7 @@ read-operand-returns-2 t c =
     unary-true s names left _ from (at-skip .skip .result) (at-skip .skip .ensures)
     (at-operand-at .operand-at .result .paren)
     (rw (at-moved .moved .ensures, at-enum-told2 .enum-told2 .given .1) at (at-operand-at .operand-at .ensures))
-    (start .pre .1 .ok)
+    (start .pre .1 .0 .ok)
     _ (c .before .before .constant .result)
     (rw (c .before .before .before .moved2 .ensures, at-moved .moved .ensures) at
     (c .before .before .constant .ensures))
@@ -884,7 +895,7 @@ read-operand-add-moved-2 : (t : ℕ) → read-operand-lts.Need-add-moved-2 (
 read-operand-add-moved-2 t c =
     let to-args = c .before .before .before .before in
     let to-args2 = to-args .before .before .before .before in
-    let start = to-args2 .before in
+    let start = to-args2 .before .before in
     let call = rw (c .before .before .before .before .moved .ensures, c .before .enum-told3 .given .1) at
     (c .before .before .before .operand-at .ensures) in
     omega (
@@ -945,12 +956,12 @@ read-operand-constant-requires-2 t c κs =
     let to-moved = c .before .before .before .before in
     let at-moved = to-moved .before in
     let to-args = at-moved .before .before .before .before in
-    let start = to-args .before in
+    let start = to-args .before .before in
     let call = rw (at-moved .moved .ensures, c .before .before .enum-told3 .given .1) at
     (c .before .before .before .before .operand-at .ensures) in
     let there = byte-there (start .args .s .now)
     (c .before .before .before .before .operand-at .result .paren) 40 refl (call .byte) in
-    rw (c .moved3 .ensures, at-moved .moved .ensures) (omega (arith, there), start .pre .1 .sized)
+    rw (c .moved3 .ensures, at-moved .moved .ensures) (omega (arith, there), start .pre .1 .0 .sized)
 
 -- src/lib.rt:128:13
 read-operand-same-length-3 : (t : ℕ) → read-operand-lts.Need-same-length-3 (
@@ -979,8 +990,8 @@ read-operand-same-length-3 t c =
     let to-pre = c .before .before .before .before in
     let to-pre2 = to-pre .before .before .before .before in
     let to-pre3 = to-pre2 .before .before .before .before in
-    let start = to-pre3 .before in
-    omega (arith, c .before .before .constant2 .ensures .puts .sized .size, start .pre .1 .sized .size)
+    let start = to-pre3 .before .before in
+    omega (arith, c .before .before .constant2 .ensures .puts .sized .size, start .pre .1 .0 .sized .size)
 
 -- src/lib.rt:128:13
 read-operand-returns-3 : (t : ℕ) → read-operand-lts.Need-returns-3 (
@@ -1011,7 +1022,8 @@ read-operand-returns-3 t c =
     let at-operand-at = at-enum-told3 .before .before in
     let at-moved = at-operand-at .before in
     let at-skip = at-moved .before in
-    let start = at-skip .before .before .before .before in
+    let to-start = at-skip .before .before .before .before in
+    let start = to-start .before in
     let names = start .args .names .now in
     let s = start .args .s .now in
     let left = start .args .left in
@@ -1019,7 +1031,7 @@ read-operand-returns-3 t c =
     unary-false s names left _ from (at-skip .skip .result) (at-skip .skip .ensures)
     (at-operand-at .operand-at .result .paren)
     (rw (at-moved .moved .ensures, at-enum-told3 .enum-told3 .given .1) at (at-operand-at .operand-at .ensures))
-    (start .pre .1 .ok)
+    (start .pre .1 .0 .ok)
     _ (c .before .before .constant2 .result)
     (rw (c .before .before .before .moved3 .ensures, at-moved .moved .ensures) at
     (c .before .before .constant2 .ensures))
@@ -1123,7 +1135,8 @@ read-operand-returns-4 : (t : ℕ) → read-operand-lts.Need-returns-4 (
 read-operand-returns-4 t c =
     let to-skip = c .before .before .before .before in
     let at-skip = to-skip .before in
-    let start = at-skip .before .before .before .before in
+    let to-start = at-skip .before .before .before .before in
+    let start = to-start .before in
     let names = start .args .names .now in
     let s = start .args .s .now in
     let left = start .args .left in
@@ -1136,7 +1149,7 @@ read-operand-returns-4 t c =
     rw (c .fail .ensures, c .before .before .before .before .moved .ensures) (unary-full s names left _ from
     (at-skip .skip .result) (at-skip .skip .ensures) opens
     (c .before .before .before .operand-at .result .paren) inner met
-    (c .before .if1 .taken) (start .pre .1 .sized))
+    (c .before .if1 .taken) (start .pre .1 .0 .sized))
 
 -- src/lib.rt:136:61
 read-operand-add-moved-3 : (t : ℕ) → read-operand-lts.Need-add-moved-3 (
@@ -1164,7 +1177,8 @@ read-operand-add-moved-3 : (t : ℕ) → read-operand-lts.Need-add-moved-3 (
 read-operand-add-moved-3 t c =
     let to-skip = c .before .before .before .before in
     let at-skip = to-skip .before in
-    let start = at-skip .before .before .before .before in
+    let to-start = at-skip .before .before .before .before in
+    let start = to-start .before in
     let names = start .args .names .now in
     let s = start .args .s .now in
     let left = start .args .left in
@@ -1259,7 +1273,8 @@ read-operand-read-or-requires t c κs =
     let to-moved = c .before .before .before .before in
     let at-moved = to-moved .before in
     let at-skip = at-moved .before in
-    let start = at-skip .before .before .before .before in
+    let to-start = at-skip .before .before .before .before in
+    let start = to-start .before in
     let names = start .args .names .now in
     let s = start .args .s .now in
     let left = start .args .left in
@@ -1272,8 +1287,11 @@ read-operand-read-or-requires t c κs =
     (at-skip .skip .result) (at-skip .skip .ensures) opens
     (c .before .before .before .before .operand-at .result .paren) inner met in (
       omega (arith, start .pre .0, c .before .before .if1 .left),
-      rw (c .moved4 .ensures, at-moved .moved .ensures)
-          record { ok = start .pre .1 .ok; fits = omega (arith, there .1); sized = start .pre .1 .sized },
+      (
+        rw (c .moved4 .ensures, at-moved .moved .ensures)
+            record { ok = start .pre .1 .0 .ok; fits = omega (arith, there .1); sized = start .pre .1 .0 .sized },
+        start .pre .1 .1,
+      ),
     )
 
 -- src/lib.rt:137:9
@@ -1328,7 +1346,7 @@ read-operand-negate-if-requires t c κs =
     let to-args = c .before .before .before .before in
     let to-args2 = to-args .before .before .before .before in
     let to-args3 = to-args2 .before .before .before .before in
-    let start = to-args3 .before .before .before in
+    let start = to-args3 .before .before .before .before in
     close-sized (start .args .s .now) (c .before .before .before .before .read-or .result) 41
     (c .before .close .result) _ (c .before .close .ensures)
     (c .before .before .before .before .read-or .ensures .reached .sized)
@@ -1365,7 +1383,8 @@ read-operand-same-length-4 t c =
     let at-operand-at = at-match .before in
     let at-moved = at-operand-at .before in
     let at-skip = at-moved .before in
-    let start = at-skip .before .before .before .before in
+    let to-start = at-skip .before .before .before .before in
+    let start = to-start .before in
     let names = start .args .names .now in
     let s = start .args .s .now in
     let left = start .args .left in
@@ -1383,7 +1402,7 @@ read-operand-same-length-4 t c =
     (c .before .before .before .before .close .result)
     (rw (at-moved4 .moved4 .ensures, at-moved .moved .ensures) at (at-read-or .read-or .ensures))
     (c .before .before .before .before .close .ensures)) (c .before .before .negate-if .ensures) in
-    omega (arith, whole .reached .sized .size, start .pre .1 .sized .size)
+    omega (arith, whole .reached .sized .size, start .pre .1 .0 .sized .size)
 
 -- src/lib.rt:109:1
 read-operand-returns-5 : (t : ℕ) → read-operand-lts.Need-returns-5 (
@@ -1417,7 +1436,8 @@ read-operand-returns-5 t c =
     let at-operand-at = at-match .before in
     let at-moved = at-operand-at .before in
     let at-skip = at-moved .before in
-    let start = at-skip .before .before .before .before in
+    let to-start = at-skip .before .before .before .before in
+    let start = to-start .before in
     let names = start .args .names .now in
     let s = start .args .s .now in
     let left = start .args .left in
@@ -1437,10 +1457,10 @@ read-operand-returns-5 t c =
     (c .before .before .before .before .close .ensures)) (c .before .before .negate-if .ensures)
 
 abbrev read-or-Inv-loop : read-or-lts.InvT-loop
-read-or-Inv-loop s names rows₀ left got₀ rows got = Carried s (OrGot s names left) rows₀ got₀ rows got
+read-or-Inv-loop s names index rows₀ left got₀ rows got = Carried s (OrGot s names left) rows₀ got₀ rows got
 
 abbrev read-or-μ-loop : read-or-lts.MeasureT-loop
-read-or-μ-loop s names rows₀ left got₀ rows got = length s - got .at
+read-or-μ-loop s names index rows₀ left got₀ rows got = length s - got .at
 
 -- src/lib.rt:168:9
 read-or-read-and-requires : (t : ℕ) → read-or-lts.Need-read-and-requires (
@@ -1454,7 +1474,9 @@ read-or-read-and-requires : (t : ℕ) → read-or-lts.Need-read-and-requires (
   join-reads.Learnt,
 ) (read-or-at t) read-or.Post read-or-Inv-loop read-or-μ-loop
 read-or-read-and-requires t c κs =
-    (omega (arith, c .before .before .before .before .pre .0), c .before .before .before .before .pre .1)
+    let to-start = c .before .before .before .before in
+    let start = to-start .before in
+    (omega (arith, start .pre .0), start .pre .1)
 
 -- src/lib.rt:169:5
 read-or-loop-holds : (t : ℕ) → read-or-lts.Need-loop-holds (
@@ -1469,7 +1491,7 @@ read-or-loop-holds : (t : ℕ) → read-or-lts.Need-loop-holds (
 ) (read-or-at t) read-or.Post read-or-Inv-loop read-or-μ-loop
 read-or-loop-holds t c =
     let to-args = c .before .before .before .before in
-    let start = to-args .before .before .before in
+    let start = to-args .before .before .before .before in
     let names = start .args .names .now in
     let s = start .args .s .now in
     let left = start .args .left in
@@ -1503,7 +1525,7 @@ read-or-pass-or-requires : (t : ℕ) → read-or-lts.Need-pass-or-requires (
 read-or-pass-or-requires t c κs =
     let to-args = c .before .before .before .before in
     let to-args2 = to-args .before .before .before .before in
-    let start = to-args2 .before .before in
+    let start = to-args2 .before .before .before in
     let y = c .before .before .loop .got in
     next-taken (y .ok) (byteAt (start .args .s .now) (y .at)) 111 _ (c .before .next-is .ensures) (c .if1 .taken)
 
@@ -1522,8 +1544,9 @@ read-or-same-length t c =
     let to-loop = c .before .before .before .before in
     let turn = to-loop .before in
     let to-pre = turn .before .before .before .before in
-    let start = to-pre .before .before .before .before in
-    omega (arith, turn .loop .inv .reached .sized .size, start .pre .1 .sized .size)
+    let to-start = to-pre .before .before .before .before in
+    let start = to-start .before in
+    omega (arith, turn .loop .inv .reached .sized .size, start .pre .1 .0 .sized .size)
 
 -- src/lib.rt:172:13
 read-or-returns : (t : ℕ) → read-or-lts.Need-returns (
@@ -1541,7 +1564,7 @@ read-or-returns t c =
     let turn = to-loop .before in
     let at-read-and = turn .before .before .before in
     let to-args = at-read-and .before .before .before .before in
-    let start = to-args .before in
+    let start = to-args .before .before in
     let names = start .args .names .now in
     let s = start .args .s .now in
     let left = start .args .left in
@@ -1568,12 +1591,16 @@ read-or-read-and-requires-2 t c κs =
     let to-loop = c .before .before .before .before in
     let turn = to-loop .before .before in
     let to-args = turn .before .before .before .before in
-    let start = to-args .before .before .before .before in
+    let to-start = to-args .before .before .before .before in
+    let start = to-start .before in
     let word = c .before .before .before .pass-or .ensures in (
       omega (arith, start .pre .0),
-      word-ready (start .args .s .now) (turn .loop .got)
-          (c .before .before .before .pass-or .result) 2 afterOr word _ _
-          (not-false _ (c .before .if2 .left)) (turn .loop .inv .reached),
+      (
+        word-ready (start .args .s .now) (turn .loop .got)
+            (c .before .before .before .pass-or .result) 2 afterOr word _ _
+            (not-false _ (c .before .if2 .left)) (turn .loop .inv .reached),
+        start .pre .1 .1,
+      ),
     )
 
 -- src/lib.rt:175:13
@@ -1634,7 +1661,8 @@ read-or-loop-again t c =
     let at-next-is = at-if1 .before in
     let turn = at-next-is .before in
     let to-args = turn .before .before .before .before in
-    let start = to-args .before .before .before .before in
+    let to-start = to-args .before .before .before .before in
+    let start = to-start .before in
     let names = start .args .names .now in
     let s = start .args .s .now in
     let left = start .args .left in
@@ -1666,8 +1694,8 @@ read-or-same-length-2 : (t : ℕ) → read-or-lts.Need-same-length-2 (
 read-or-same-length-2 t c =
     let to-pre = c .before .before .before .before in
     let to-pre2 = to-pre .before .before .before .before in
-    let start = to-pre2 .before .before in
-    omega (arith, c .before .before .loop .inv .reached .sized .size, start .pre .1 .sized .size)
+    let start = to-pre2 .before .before .before in
+    omega (arith, c .before .before .loop .inv .reached .sized .size, start .pre .1 .0 .sized .size)
 
 -- src/lib.rt:162:1
 read-or-returns-2 : (t : ℕ) → read-or-lts.Need-returns-2 (
@@ -1684,7 +1712,7 @@ read-or-returns-2 t c =
     let to-read-and = c .before .before .before .before in
     let at-read-and = to-read-and .before in
     let to-args = at-read-and .before .before .before .before in
-    let start = to-args .before in
+    let start = to-args .before .before in
     let names = start .args .names .now in
     let s = start .args .s .now in
     let left = start .args .left in
@@ -1696,10 +1724,10 @@ read-or-returns-2 t c =
     (at-read-and .read-and .result) (at-read-and .read-and .ensures)))
 
 abbrev read-path-Inv-loop : read-path-lts.InvT-loop
-read-path-Inv-loop s names rows₀ left got₀ rows got = Carried s (PathGot s names left) rows₀ got₀ rows got
+read-path-Inv-loop s names index rows₀ left got₀ rows got = Carried s (PathGot s names left) rows₀ got₀ rows got
 
 abbrev read-path-μ-loop : read-path-lts.MeasureT-loop
-read-path-μ-loop s names rows₀ left got₀ rows got = length s - got .at
+read-path-μ-loop s names index rows₀ left got₀ rows got = length s - got .at
 
 -- src/lib.rt:75:9
 read-path-begin-path-requires : (t : ℕ) → read-path-lts.Need-begin-path-requires (
@@ -1717,7 +1745,9 @@ read-path-begin-path-requires : (t : ℕ) → read-path-lts.Need-begin-path-requ
   join-reads.Learnt,
 ) (read-path-at t) read-path.Post read-path-Inv-loop read-path-μ-loop
 read-path-begin-path-requires t c κs =
-    (c .before .before .before .before .pre .1 .fits, c .before .before .before .before .pre .1 .sized)
+    let to-start = c .before .before .before .before in
+    let start = to-start .before in
+    (start .pre .1 .0 .fits, start .pre .1 .0 .sized)
 
 -- src/lib.rt:78:9
 read-path-same-length : (t : ℕ) → read-path-lts.Need-same-length (
@@ -1738,14 +1768,14 @@ read-path-same-length t c =
     let to-begin-path = c .before .before .before .before in
     let at-begin-path = to-begin-path .before in
     let to-args = at-begin-path .before .before .before .before in
-    let start = to-args .before in
+    let start = to-args .before .before in
     let names = start .args .names .now in
     let s = start .args .s .now in
     let left = start .args .left in
     let from = start .args .from in
-    let all = begun s names left _ from (start .pre .1) _ (at-begin-path .begin-path .result)
+    let all = begun s names left _ from (start .pre .1 .0) _ (at-begin-path .begin-path .result)
     (at-begin-path .begin-path .ensures) .alone (not-true _ (c .if1 .taken)) in
-    omega (arith, all .reached .sized .size, start .pre .1 .sized .size)
+    omega (arith, all .reached .sized .size, start .pre .1 .0 .sized .size)
 
 -- src/lib.rt:78:9
 read-path-returns : (t : ℕ) → read-path-lts.Need-returns (
@@ -1766,12 +1796,12 @@ read-path-returns t c =
     let to-begin-path = c .before .before .before .before in
     let at-begin-path = to-begin-path .before in
     let to-args = at-begin-path .before .before .before .before in
-    let start = to-args .before in
+    let start = to-args .before .before in
     let names = start .args .names .now in
     let s = start .args .s .now in
     let left = start .args .left in
     let from = start .args .from in
-    begun s names left _ from (start .pre .1) _ (at-begin-path .begin-path .result)
+    begun s names left _ from (start .pre .1 .0) _ (at-begin-path .begin-path .result)
     (at-begin-path .begin-path .ensures) .alone (not-true _ (c .if1 .taken))
 
 -- src/lib.rt:80:9
@@ -1793,15 +1823,18 @@ read-path-read-step-requires t c κs =
     let to-begin-path = c .before .before .before .before in
     let at-begin-path = to-begin-path .before .before in
     let to-args = at-begin-path .before .before .before .before in
-    let start = to-args .before in
+    let start = to-args .before .before in
     let names = start .args .names .now in
     let s = start .args .s .now in
     let left = start .args .left in
     let from = start .args .from in
-    let start-of = begun s names left _ from (start .pre .1) _
+    let start-of = begun s names left _ from (start .pre .1 .0) _
     (at-begin-path .begin-path .result) (at-begin-path .begin-path .ensures) in (
       omega (arith, start .pre .0),
-      (start-of .ready (not-false _ (c .before .if1 .left)), start-of .space (not-false _ (c .before .if1 .left))),
+      (
+        start-of .ready (not-false _ (c .before .if1 .left)),
+        (start-of .space (not-false _ (c .before .if1 .left)), start .pre .1 .1),
+      ),
     )
 
 -- src/lib.rt:81:9
@@ -1844,13 +1877,13 @@ read-path-loop-holds t c =
     let to-begin-path = at-if1 .before .before .before .before in
     let at-begin-path = to-begin-path .before in
     let to-args = at-begin-path .before .before .before .before in
-    let start = to-args .before in
+    let start = to-args .before .before in
     let names = start .args .names .now in
     let s = start .args .s .now in
     let left = start .args .left in
     let from = start .args .from in
     carried-none s (PathGot s names left) (from .at) _
-    (c .before .before .first-step .result) (begun s names left _ from (start .pre .1) _
+    (c .before .before .first-step .result) (begun s names left _ from (start .pre .1 .0) _
     (at-begin-path .begin-path .result) (at-begin-path .begin-path .ensures) .first
     (not-false _ (at-if1 .if1 .left)) _ (at-read-step .read-step .result) _
     (c .before .before .first-step .result) (at-read-step .read-step .ensures)
@@ -1894,7 +1927,7 @@ read-path-pass-slash-requires t c κs =
     let to-args3 = to-args2 .before .before .before .before in
     let to-args4 = to-args3 .before .before .before .before in
     let to-args5 = to-args4 .before .before .before .before in
-    let start = to-args5 .before .before in
+    let start = to-args5 .before .before .before in
     let y = c .before .before .before .loop .got in
     let next = next-taken (y .ok) (byteAt (start .args .s .now) (y .at)) 47 _ (c .before .before .next-is .ensures)
     (c .before .if2 .taken) in
@@ -1924,13 +1957,13 @@ read-path-read-step-requires-2 t c κs =
     let to-args2 = to-args .before .before .before .before in
     let to-args3 = to-args2 .before .before .before .before in
     let to-args4 = to-args3 .before .before .before .before in
-    let start = to-args4 .before .before .before in
+    let start = to-args4 .before .before .before .before in
     let s = start .args .s .now in
     let y = turn .loop .got in
     let next = next-taken (y .ok) (byteAt s (y .at)) 47 _ (at-next-is .next-is .ensures) (at-if2 .if2 .taken) in
     let after = after-slash s _ y _ (c .before .before .before .pass-slash .result) (next .0)
     (c .before .before .before .pass-slash .ensures) in
-    (omega (arith, start .pre .0), (after .ready, after .space))
+    (omega (arith, start .pre .0), (after .ready, (after .space, start .pre .1 .1)))
 
 -- src/lib.rt:85:13
 read-path-join-requires : (t : ℕ) → read-path-lts.Need-join-requires (
@@ -1976,7 +2009,7 @@ read-path-loop-less t c =
     let to-args2 = to-args .before .before .before .before in
     let to-args3 = to-args2 .before .before .before .before in
     let to-args4 = to-args3 .before .before .before .before in
-    let start = to-args4 .before .before .before in
+    let start = to-args4 .before .before .before .before in
     let s = start .args .s .now in
     let y = turn .loop .got in
     let next = next-taken (y .ok) (byteAt s (y .at)) 47 _ (at-next-is .next-is .ensures) (at-if2 .if2 .taken) in
@@ -2011,7 +2044,7 @@ read-path-loop-again t c =
     let to-args2 = to-args .before .before .before .before in
     let to-args3 = to-args2 .before .before .before .before in
     let to-args4 = to-args3 .before .before .before .before in
-    let start = to-args4 .before .before .before in
+    let start = to-args4 .before .before .before .before in
     let names = start .args .names .now in
     let s = start .args .s .now in
     let left = start .args .left in
@@ -2053,8 +2086,8 @@ read-path-same-length-2 t c =
     let to-pre3 = to-pre2 .before .before .before .before in
     let to-pre4 = to-pre3 .before .before .before .before in
     let to-pre5 = to-pre4 .before .before .before .before in
-    let start = to-pre5 .before in
-    omega (arith, c .before .before .loop .inv .reached .sized .size, start .pre .1 .sized .size)
+    let start = to-pre5 .before .before in
+    omega (arith, c .before .before .loop .inv .reached .sized .size, start .pre .1 .0 .sized .size)
 
 -- src/lib.rt:69:1
 read-path-returns-2 : (t : ℕ) → read-path-lts.Need-returns-2 (
@@ -2079,13 +2112,13 @@ read-path-returns-2 t c =
     let to-begin-path = at-if1 .before .before .before .before in
     let at-begin-path = to-begin-path .before in
     let to-args = at-begin-path .before .before .before .before in
-    let start = to-args .before in
+    let start = to-args .before .before in
     let names = start .args .names .now in
     let s = start .args .s .now in
     let left = start .args .left in
     let from = start .args .from in
     let y = c .before .before .loop .got in
-    let one = begun s names left _ from (start .pre .1) _
+    let one = begun s names left _ from (start .pre .1 .0) _
     (at-begin-path .begin-path .result) (at-begin-path .begin-path .ensures) .first
     (not-false _ (at-if1 .if1 .left)) _ (at-read-step .read-step .result) _
     (at-first-step .first-step .result) (at-read-step .read-step .ensures) (at-first-step .first-step .ensures) in
@@ -2123,13 +2156,13 @@ read-predicate-returns : (t : ℕ) → read-predicate-lts.Need-returns (
 ) (read-predicate-at t) read-predicate.Post
 read-predicate-returns t c =
     let to-args = c .before .before .before .before in
-    let start = to-args .before in
+    let start = to-args .before .before in
     let names = start .args .names .now in
     let s = start .args .s .now in
     let left = start .args .left in
     let from = start .args .from in
     rw (c .fail .ensures) (predicate-full s names left _ from
-    (start .pre .1 .0) (start .pre .1 .1) (c .before .if1 .taken))
+    (start .pre .1 .0) (start .pre .1 .1 .0) (c .before .if1 .taken))
 
 -- src/lib.rt:43:60
 read-predicate-add-moved : (t : ℕ) → read-predicate-lts.Need-add-moved (
@@ -2146,10 +2179,10 @@ read-predicate-add-moved : (t : ℕ) → read-predicate-lts.Need-add-moved (
 ) (read-predicate-at t) read-predicate.Post
 read-predicate-add-moved t c =
     let to-args = c .before .before .before .before in
-    let start = to-args .before in
+    let start = to-args .before .before in
     let s = start .args .s .now in
     let from = start .args .from in
-    omega (arith, byte-there s (from .at) 91 refl (start .pre .1 .1))
+    omega (arith, byte-there s (from .at) 91 refl (start .pre .1 .1 .0))
 
 -- src/lib.rt:43:41
 read-predicate-moved-requires : (t : ℕ) → read-predicate-lts.Need-moved-requires (
@@ -2196,12 +2229,15 @@ read-predicate-read-or-requires : (t : ℕ) → read-predicate-lts.Need-read-or-
 ) (read-predicate-at t) read-predicate.Post
 read-predicate-read-or-requires t c κs =
     let to-args = c .before .before .before .before in
-    let start = to-args .before .before in
+    let start = to-args .before .before .before in
     let s = start .args .s .now in
     let from = start .args .from in (
       omega (arith, start .pre .0, c .before .before .if1 .left),
-      rw (c .moved .ensures) (next-ready s _ from
-          (from .at) 91 refl (start .pre .1 .0 .ok) (start .pre .1 .0 .sized) (start .pre .1 .1)),
+      (
+        rw (c .moved .ensures) (next-ready s _ from
+            (from .at) 91 refl (start .pre .1 .0 .ok) (start .pre .1 .0 .sized) (start .pre .1 .1 .0)),
+        start .pre .1 .1 .1,
+      ),
     )
 
 -- src/lib.rt:44:9
@@ -2235,7 +2271,7 @@ read-predicate-join-requires : (t : ℕ) → read-predicate-lts.Need-join-requir
 read-predicate-join-requires t c κs =
     let to-args = c .before .before .before .before in
     let to-args2 = to-args .before .before .before .before in
-    let start = to-args2 .before .before .before in
+    let start = to-args2 .before .before .before .before in
     close-sized (start .args .s .now) (c .before .before .before .before .read-or .result) 93
     (c .before .close .result) _ (c .before .close .ensures)
     (c .before .before .before .before .read-or .ensures .reached .sized)
@@ -2257,7 +2293,7 @@ read-predicate-same-length t c =
     let to-pre = c .before .before .before .before in
     let to-pre2 = to-pre .before .before .before .before in
     let to-pre3 = to-pre2 .before .before .before .before in
-    let start = to-pre3 .before .before in
+    let start = to-pre3 .before .before .before in
     omega (arith, c .before .before .join .ensures .sized .size, start .pre .1 .0 .sized .size)
 
 -- src/lib.rt:32:1
@@ -2278,12 +2314,13 @@ read-predicate-returns-2 t c =
     let at-read-or = to-read-or .before .before .before in
     let at-moved = at-read-or .before in
     let at-if1 = at-moved .before .before in
-    let start = at-if1 .before .before .before .before in
+    let to-start = at-if1 .before .before .before .before in
+    let start = to-start .before in
     let names = start .args .names .now in
     let s = start .args .s .now in
     let left = start .args .left in
     let from = start .args .from in
-    predicate-joined s names left _ from (start .pre .1 .0) (start .pre .1 .1)
+    predicate-joined s names left _ from (start .pre .1 .0) (start .pre .1 .1 .0)
     (omega (arith, at-if1 .if1 .left)) _ (c .before .before .before .before .close .result) _ _
     (enclosed s names (left - 1) 93 _ (movedTo from (from .at + 1)) _
     (at-read-or .read-or .result) (c .before .before .before .before .close .result)
@@ -2291,10 +2328,10 @@ read-predicate-returns-2 t c =
     (c .before .before .before .before .close .ensures)) (c .before .before .join .ensures)
 
 abbrev read-step-Inv-loop : read-step-lts.InvT-loop
-read-step-Inv-loop s names rows₀ left got₀ rows got = Carried s (StepGot s names left true) rows₀ got₀ rows got
+read-step-Inv-loop s names index rows₀ left got₀ rows got = Carried s (StepGot s names left true) rows₀ got₀ rows got
 
 abbrev read-step-μ-loop : read-step-lts.MeasureT-loop
-read-step-μ-loop s names rows₀ left got₀ rows got = leftover s got
+read-step-μ-loop s names index rows₀ left got₀ rows got = leftover s got
 
 -- src/lib.rt:56:9
 read-step-read-head-requires : (t : ℕ) → read-step-lts.Need-read-head-requires (
@@ -2310,7 +2347,8 @@ read-step-read-head-requires : (t : ℕ) → read-step-lts.Need-read-head-requir
   read-predicate.Post,
 ) (read-step-at t) read-step.Post read-step-Inv-loop read-step-μ-loop
 read-step-read-head-requires t c κs =
-    (c .before .before .before .pre .1 .0 .fits, c .before .before .before .pre .1 .1)
+    let start = c .before .before .before .before in
+    (start .pre .1 .0 .fits, start .pre .1 .1)
 
 -- src/lib.rt:57:9
 read-step-put-head-requires : (t : ℕ) → read-step-lts.Need-put-head-requires (
@@ -2327,7 +2365,7 @@ read-step-put-head-requires : (t : ℕ) → read-step-lts.Need-put-head-requires
 ) (read-step-at t) read-step.Post read-step-Inv-loop read-step-μ-loop
 read-step-put-head-requires t c κs =
     let to-pre = c .before .before .before .before in
-    let start = to-pre .before in
+    let start = to-pre .before .before in
     start .pre .1 .0 .sized
 
 -- src/lib.rt:59:9
@@ -2362,7 +2400,7 @@ read-step-same-length t c =
     let to-put-head = c .before .before .before .before in
     let at-put-head = to-put-head .before in
     let to-pre = at-put-head .before .before .before .before in
-    let start = to-pre .before .before in
+    let start = to-pre .before .before .before in
     omega (arith, at-put-head .put-head .ensures .sized .size, start .pre .1 .0 .sized .size)
 
 -- src/lib.rt:59:9
@@ -2382,7 +2420,8 @@ read-step-returns t c =
     let to-put-head = c .before .before .before .before in
     let at-put-head = to-put-head .before in
     let at-read-head = at-put-head .before .before in
-    let start = at-read-head .before .before .before .before in
+    let to-start = at-read-head .before .before .before .before in
+    let start = to-start .before in
     let names = start .args .names .now in
     let s = start .args .s .now in
     let left = start .args .left in
@@ -2409,7 +2448,8 @@ read-step-loop-holds : (t : ℕ) → read-step-lts.Need-loop-holds (
 read-step-loop-holds t c =
     let to-read-head = c .before .before .before .before in
     let at-read-head = to-read-head .before .before in
-    let start = at-read-head .before .before .before .before in
+    let to-start = at-read-head .before .before .before .before in
+    let start = to-start .before in
     let names = start .args .names .now in
     let s = start .args .s .now in
     let left = start .args .left in
@@ -2452,7 +2492,7 @@ read-step-read-predicate-requires t c κs =
     let to-args = c .before .before .before .before in
     let to-args2 = to-args .before .before .before .before in
     let to-args3 = to-args2 .before .before .before .before in
-    let start = to-args3 .before .before in
+    let start = to-args3 .before .before .before in
     let y = c .before .before .before .loop .got in
     let next = next-taken (y .ok) (byteAt (start .args .s .now) (y .at)) 91 _ (c .before .before .next-is .ensures)
     (c .before .if2 .taken) in (
@@ -2463,7 +2503,7 @@ read-step-read-predicate-requires t c κs =
           fits = c .before .before .before .loop .inv .reached .fits;
           sized = c .before .before .before .loop .inv .reached .sized;
         },
-        next .1,
+        (next .1, start .pre .1 .1 .1),
       ),
     )
 
@@ -2486,7 +2526,7 @@ read-step-loop-less t c =
     let turn = at-next-is .before in
     let to-args = turn .before .before .before .before in
     let to-args2 = to-args .before .before .before .before in
-    let start = to-args2 .before .before .before in
+    let start = to-args2 .before .before .before .before in
     let names = start .args .names .now in
     let s = start .args .s .now in
     let left = start .args .left in
@@ -2514,7 +2554,7 @@ read-step-loop-again t c =
     let turn = at-next-is .before in
     let to-args = turn .before .before .before .before in
     let to-args2 = to-args .before .before .before .before in
-    let start = to-args2 .before .before .before in
+    let start = to-args2 .before .before .before .before in
     let names = start .args .names .now in
     let s = start .args .s .now in
     let left = start .args .left in
@@ -2557,7 +2597,7 @@ read-step-same-length-2 t c =
     let to-pre = c .before .before .before .before in
     let to-pre2 = to-pre .before .before .before .before in
     let to-pre3 = to-pre2 .before .before .before .before in
-    let start = to-pre3 .before .before in
+    let start = to-pre3 .before .before .before in
     omega (arith, c .before .before .before .loop .inv .reached .sized .size, start .pre .1 .0 .sized .size)
 
 -- src/lib.rt:49:1
@@ -2577,7 +2617,8 @@ read-step-returns-2 t c =
     let to-put-head = c .before .before .before .before in
     let at-put-head = to-put-head .before .before .before .before in
     let at-read-head = at-put-head .before .before in
-    let start = at-read-head .before .before .before .before in
+    let to-start = at-read-head .before .before .before .before in
+    let start = to-start .before in
     let names = start .args .names .now in
     let s = start .args .s .now in
     let left = start .args .left in
@@ -2591,10 +2632,10 @@ read-step-returns-2 t c =
     (λ _ e. next-left (y .ok) (byteAt s (y .at)) 91 _ (c .before .before .next-is .ensures) (c .before .if2 .left) e))
 
 abbrev read-union-Inv-loop : read-union-lts.InvT-loop
-read-union-Inv-loop s names rows₀ left got₀ rows got = Carried s (UnionGot s names left) rows₀ got₀ rows got
+read-union-Inv-loop s names index rows₀ left got₀ rows got = Carried s (UnionGot s names left) rows₀ got₀ rows got
 
 abbrev read-union-μ-loop : read-union-lts.MeasureT-loop
-read-union-μ-loop s names rows₀ left got₀ rows got = length s - got .at
+read-union-μ-loop s names index rows₀ left got₀ rows got = length s - got .at
 
 -- src/lib.rt:98:9
 read-union-read-path-requires : (t : ℕ) → read-union-lts.Need-read-path-requires (
@@ -2608,7 +2649,9 @@ read-union-read-path-requires : (t : ℕ) → read-union-lts.Need-read-path-requ
   join-reads.Learnt,
 ) (read-union-at t) read-union.Post read-union-Inv-loop read-union-μ-loop
 read-union-read-path-requires t c κs =
-    (omega (arith, c .before .before .before .before .pre .0), c .before .before .before .before .pre .1)
+    let to-start = c .before .before .before .before in
+    let start = to-start .before in
+    (omega (arith, start .pre .0), start .pre .1)
 
 -- src/lib.rt:99:5
 read-union-loop-holds : (t : ℕ) → read-union-lts.Need-loop-holds (
@@ -2623,7 +2666,7 @@ read-union-loop-holds : (t : ℕ) → read-union-lts.Need-loop-holds (
 ) (read-union-at t) read-union.Post read-union-Inv-loop read-union-μ-loop
 read-union-loop-holds t c =
     let to-args = c .before .before .before .before in
-    let start = to-args .before .before .before in
+    let start = to-args .before .before .before .before in
     let names = start .args .names .now in
     let s = start .args .s .now in
     let left = start .args .left in
@@ -2657,7 +2700,7 @@ read-union-add-moved : (t : ℕ) → read-union-lts.Need-add-moved (
 read-union-add-moved t c =
     let to-args = c .before .before .before .before in
     let to-args2 = to-args .before .before .before .before in
-    let start = to-args2 .before .before .before in
+    let start = to-args2 .before .before .before .before in
     let s = start .args .s .now in
     let y = c .before .before .before .loop .got in
     let next = next-taken (y .ok) (byteAt s (y .at)) 124 _ (c .before .before .next-is .ensures)
@@ -2691,14 +2734,18 @@ read-union-read-path-requires-2 : (t : ℕ) → read-union-lts.Need-read-path-re
 read-union-read-path-requires-2 t c κs =
     let to-args = c .before .before .before .before in
     let to-args2 = to-args .before .before .before .before in
-    let start = to-args2 .before .before .before .before in
+    let to-start = to-args2 .before .before .before .before in
+    let start = to-start .before in
     let s = start .args .s .now in
     let y = c .before .before .before .before .loop .got in
     let next = next-taken (y .ok) (byteAt s (y .at)) 124 _ (c .before .before .before .next-is .ensures)
     (c .before .before .if1 .taken) in (
       omega (arith, start .pre .0),
-      rw (c .moved .ensures) (next-ready s _ y (y .at) 124 refl (next .0)
-          (c .before .before .before .before .loop .inv .reached .sized) (next .1)),
+      (
+        rw (c .moved .ensures) (next-ready s _ y (y .at) 124 refl (next .0)
+            (c .before .before .before .before .loop .inv .reached .sized) (next .1)),
+        start .pre .1 .1,
+      ),
     )
 
 -- src/lib.rt:102:13
@@ -2752,7 +2799,8 @@ read-union-loop-again t c =
     let at-next-is = at-if1 .before in
     let turn = at-next-is .before in
     let to-args = turn .before .before .before .before in
-    let start = to-args .before .before .before .before in
+    let to-start = to-args .before .before .before .before in
+    let start = to-start .before in
     let names = start .args .names .now in
     let s = start .args .s .now in
     let left = start .args .left in
@@ -2782,8 +2830,8 @@ read-union-same-length : (t : ℕ) → read-union-lts.Need-same-length (
 read-union-same-length t c =
     let to-pre = c .before .before .before .before in
     let to-pre2 = to-pre .before .before .before .before in
-    let start = to-pre2 .before .before in
-    omega (arith, c .before .before .loop .inv .reached .sized .size, start .pre .1 .sized .size)
+    let start = to-pre2 .before .before .before in
+    omega (arith, c .before .before .loop .inv .reached .sized .size, start .pre .1 .0 .sized .size)
 
 -- src/lib.rt:92:1
 read-union-returns : (t : ℕ) → read-union-lts.Need-returns (
@@ -2800,7 +2848,7 @@ read-union-returns t c =
     let to-read-path = c .before .before .before .before in
     let at-read-path = to-read-path .before in
     let to-args = at-read-path .before .before .before .before in
-    let start = to-args .before in
+    let start = to-args .before .before in
     let names = start .args .names .now in
     let s = start .args .s .now in
     let left = start .args .left in

@@ -12,8 +12,9 @@ nothing-read-requires c κs = search needs
 
 read-union-requires : tie.Need-read-union-requires
 read-union-requires c κs =
-    let start = c .before .before .before .before in
-    rw (c .nothing-read .ensures) record { ok = refl; fits = omega arith; sized = start .before .pre }
+    let to-start = c .before .before .before .before in
+    let start = to-start .before .before in
+    (rw (c .nothing-read .ensures) record { ok = refl; fits = omega arith; sized = start .pre .0 }, start .pre .1)
 
 refused-requires : tie.Need-refused-requires
 refused-requires c κs = search needs
@@ -26,10 +27,10 @@ returns c =
     let at-union-1 = c .before .before .before .before in
     let at-union = at-union-1 .before in
     let at-start = at-union .before .before .before .before in
-    let start = at-start .before .before in
+    let start = at-start .before .before .before in
     let a = start .args in
     let union = rw (at-union .before .nothing-read .ensures) at (at-union .read-union .ensures) in
-    rw (c .refused .ensures) (text-failed (a .s .now) (a .names .now) _ (a .count) (start .pre) _
+    rw (c .refused .ensures) (text-failed (a .s .now) (a .names .now) _ (a .count) (start .pre .0) _
     (at-union .read-union .result) union
     (not-true _ (c .before .if1 .taken)))
 
@@ -44,10 +45,10 @@ returns-2 c =
     let at-union-1 = c .before .before .before .before in
     let at-union = at-union-1 .before .before in
     let at-start = at-union .before .before .before .before in
-    let start = at-start .before .before in
+    let start = at-start .before .before .before in
     let a = start .args in
     let union = rw (at-union .before .nothing-read .ensures) at (at-union .read-union .ensures) in
-    rw (c .refused2 .ensures) (text-longer (a .s .now) (a .names .now) _ (a .count) (start .pre) _
+    rw (c .refused2 .ensures) (text-longer (a .s .now) (a .names .now) _ (a .count) (start .pre .0) _
     (at-union .read-union .result) union
     (not-false _ (c .before .before .if1 .left))
     (omega (arith, c .before .if2 .taken)))
@@ -63,10 +64,10 @@ returns-3 c =
     let at-union-1 = c .before .before .before .before in
     let at-union = at-union-1 .before .before .before .before in
     let at-start = at-union .before .before .before .before in
-    let start = at-start .before .before in
+    let start = at-start .before .before .before in
     let a = start .args in
     let union = rw (at-union .before .nothing-read .ensures) at (at-union .read-union .ensures) in
-    rw (c .refused3 .ensures) (text-unlisted (a .s .now) (a .names .now) _ (a .count) (start .pre) _
+    rw (c .refused3 .ensures) (text-unlisted (a .s .now) (a .names .now) _ (a .count) (start .pre .0) _
     (at-union .read-union .result) union
     (not-false _ (c .before .before .before .before .if1 .left))
     (omega (arith, c .before .before .before .if2 .left))
@@ -84,14 +85,14 @@ returns-4 c =
     let at-union-2 = at-union-1 .before .before .before .before in
     let at-union = at-union-2 .before .before in
     let at-start = at-union .before .before .before .before in
-    let start = at-start .before .before in
+    let start = at-start .before .before .before in
     let a = start .args in
     let union = rw (at-union .before .nothing-read .ensures) at (at-union .read-union .ensures) in
     let at-if1-1 = c .before .before .before .before in
     let at-if1 = at-if1-1 .before .before in
     let at-if2-1 = c .before .before .before .before in
     let at-if2 = at-if2-1 .before in
-    rw (c .refused4 .ensures) (text-deep (a .s .now) (a .names .now) _ (a .count) (start .pre) _
+    rw (c .refused4 .ensures) (text-deep (a .s .now) (a .names .now) _ (a .count) (start .pre .0) _
     (at-union .read-union .result) union
     (not-false _ (at-if1 .if1 .left))
     (omega (arith, at-if2 .if2 .left))
@@ -110,7 +111,7 @@ returns-5 c =
     let at-union-2 = at-union-1 .before .before .before .before in
     let at-union = at-union-2 .before .before .before .before in
     let at-start = at-union .before .before .before .before in
-    let start = at-start .before .before in
+    let start = at-start .before .before .before in
     let a = start .args in
     let union = rw (at-union .before .nothing-read .ensures) at (at-union .read-union .ensures) in
     let at-if1-1 = c .before .before .before .before in
@@ -119,7 +120,7 @@ returns-5 c =
     let at-if2 = at-if2-1 .before .before .before in
     let at-if3-1 = c .before .before .before .before in
     let at-if3 = at-if3-1 .before in
-    rw (c .refused5 .ensures) (text-full (a .s .now) (a .names .now) _ (a .count) (start .pre) _
+    rw (c .refused5 .ensures) (text-full (a .s .now) (a .names .now) _ (a .count) (start .pre .0) _
     (at-union .read-union .result) union
     (not-false _ (at-if1 .if1 .left))
     (omega (arith, at-if2 .if2 .left))
@@ -127,8 +128,8 @@ returns-5 c =
     (omega (arith, c .before .before .before .if4 .left))
     (not-true _ (c .before .if5 .taken)))
 
-cast-t11 : tie.Need-cast-t11
-cast-t11 c = search needs
+cast-t12 : tie.Need-cast-t12
+cast-t12 c = search needs
 
 same-length-6 : tie.Need-same-length-6
 same-length-6 c = search needs
@@ -139,7 +140,7 @@ returns-6 c =
     let at-union-2 = at-union-1 .before .before .before .before in
     let at-union = at-union-2 .before .before .before .before in
     let at-start = at-union .before .before .before .before in
-    let start = at-start .before .before in
+    let start = at-start .before .before .before in
     let a = start .args in
     let union = rw (at-union .before .nothing-read .ensures) at (at-union .read-union .ensures) in
     let at-if1-1 = c .before .before .before .before in
@@ -148,7 +149,7 @@ returns-6 c =
     let at-if2 = at-if2-1 .before .before .before in
     let at-if3-1 = c .before .before .before .before in
     let at-if3 = at-if3-1 .before in
-    text-held (a .s .now) (a .names .now) _ (a .count) (start .pre) _ (at-union .read-union .result) union
+    text-held (a .s .now) (a .names .now) _ (a .count) (start .pre .0) _ (at-union .read-union .result) union
     (not-false _ (at-if1 .if1 .left))
     (omega (arith, at-if2 .if2 .left))
     (not-false _ (at-if3 .if3 .left))
@@ -176,6 +177,6 @@ read-in-spec =
     refused-requires-5
     same-length-5
     returns-5
-    cast-t11
+    cast-t12
     same-length-6
     returns-6)

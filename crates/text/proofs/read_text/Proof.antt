@@ -8,11 +8,11 @@ use Rattle.text.proofs.read_text.Tie as tie
 rows-counted-requires : tie.Need-rows-counted-requires
 rows-counted-requires c κs = search needs
 
-slice-aggregate-read-in : tie.Need-slice-aggregate-read-in
-slice-aggregate-read-in c = search needs
+slice-aggregate-read-listed : tie.Need-slice-aggregate-read-listed
+slice-aggregate-read-listed c = search needs
 
-read-in-requires : tie.Need-read-in-requires
-read-in-requires c κs = search needs
+read-listed-requires : tie.Need-read-listed-requires
+read-listed-requires c κs = search needs
 
 returns : tie.Need-returns
 returns c =
@@ -21,7 +21,7 @@ returns c =
     let a = at-count .before .before .before .args in
     read-refused (a .s .now) (a .names .now) (a .rows) (a .count) _ (at-count .rows-counted .ensures)
     (record { size = search needs; bound = omega (arith, at-count .rows-counted .ensures) })
-    _ (at-read .read-in .result) (at-read .read-in .ensures) (c .if1 .taken)
+    _ (at-read .read-listed .result) (at-read .read-listed .ensures) (c .if1 .taken)
 
 returns-2 : tie.Need-returns-2
 returns-2 c =
@@ -30,9 +30,9 @@ returns-2 c =
     let a = at-count .before .before .before .args in
     read-accepted (a .s .now) (a .names .now) (a .rows) (a .count) _ (at-count .rows-counted .ensures)
     (record { size = search needs; bound = omega (arith, at-count .rows-counted .ensures) })
-    _ (at-read .read-in .result) (at-read .read-in .ensures) (omega (arith, c .if1 .left))
+    _ (at-read .read-listed .result) (at-read .read-listed .ensures) (omega (arith, c .if1 .left))
 
 pub read-text-spec : {M : Type 1} → statement M
 read-text-spec =
     tie.close
-    (tie.spec rows-counted-requires slice-aggregate-read-in read-in-requires returns returns-2)
+    (tie.spec rows-counted-requires slice-aggregate-read-listed read-listed-requires returns returns-2)

@@ -5,7 +5,7 @@ use mathlib.Core.Bool.{Bool, true, false, cond}
 use mathlib.Core.List.{List, [], _∷_}
 use mathlib.Core.Option.{Option, none, some}
 use lib.Dec.{leb}
-use lib.ListN.{drop}
+use lib.ListN.{length, drop}
 use Rattle.lines.specs.Line.{Line, lines}
 use Rattle.lines.specs.Number.{maxNumber}
 use Rattle.grammar.specs.Bytes.{Bytes, same}
@@ -34,6 +34,12 @@ numberedFrom k (some i) = cond (leb (k + i) maxNumber) (k + i) 0
 abbrev pub Sought : (list name : Bytes) → (at n : ℕ) → Type 0
 Sought list name at n =
     numberOf list name ≡ numberedFrom (suc n) (next (find name (bytesOf (drop 1 (lines (drop at list))))))
+
+-- none of the first n lines is the name, and the others begin at `at`
+pub record LinesPassed (list name : Bytes) (at n : ℕ) : Type 0 where
+  pub others : numberOf list name ≡ numberedFrom (suc n) (find name (bytesOf (lines (drop at list))))
+  pub fits : at ≤ length list
+  pub few : n ≤ at
 
 -- the search from one place up to another, over some newlines: the line after the last of them is the name, if it was
 -- found; else none is

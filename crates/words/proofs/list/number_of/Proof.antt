@@ -1,133 +1,58 @@
 -- `number_of` meets its contract. Assumes nothing.
-use mathlib.Core.Path.{_≡_, refl, sym, ap, _∙_}
-use mathlib.Core.Bool.{true, false}
+use mathlib.Core.Path.{sym, _∙_}
 use native.Mathlib.Omega.{arith}
-use Prim.Native.Nat.{_+_, _-_, _<_, _≤_}
-use lib.ListN.{length, drop}
 use borrow.Author.Needs.{needs}
-use Rattle.words.proofs.Listed.{first-hit, sought-first, sought-all}
-use Rattle.words.specs.code.Names.{Sought}
 use Rattle.words.proofs.list.number_of.Statement.{statement}
 use Rattle.words.proofs.list.number_of.Tie as tie
 
-abbrev Inv-loop : tie.InvT-loop
-Inv-loop names word at₀ passed₀ at passed = Sought names word at passed × (at ≤ length names) × (passed ≤ at)
+search-index-requires : tie.Need-search-index-requires
+search-index-requires c κs = c .before .before .before .pre
 
-abbrev μ-loop : tie.MeasureT-loop
-μ-loop names word at₀ passed₀ at passed = length names - at
-
-is-name-line-requires : tie.Need-is-name-line-requires Inv-loop μ-loop
-is-name-line-requires c κs = c .before .before .pre
-
-returns : tie.Need-returns Inv-loop μ-loop
-returns c = first-hit _ _ (sym (c .before .is-name-line .ensures) ∙ c .if1 .taken)
-
-loop-holds : tie.Need-loop-holds Inv-loop μ-loop
-loop-holds c =
-    (sought-first _ _ (sym (c .before .is-name-line .ensures) ∙ c .if1 .left), omega arith, omega arith)
-
-has-block-requires : tie.Need-has-block-requires Inv-loop μ-loop
-has-block-requires c κs = c .loop .inv .1
-
-search-block-requires : tie.Need-search-block-requires Inv-loop μ-loop
-search-block-requires c κs =
-    let back1 = c .before .before .before .before in
-    let start = back1 .before .before .before in
-    (start .pre, c .before .has-block .ensures (c .if2 .taken))
-
-add-passed : tie.Need-add-passed Inv-loop μ-loop
-add-passed c =
-    let turn = c .before .before .before .before in
-    omega (
-      arith,
-      turn .loop .inv .2,
-      c .before .search-block .ensures .few,
-      c .before .before .before .has-block .ensures (c .before .before .if2 .taken),
-    )
-
-number-after-requires : tie.Need-number-after-requires Inv-loop μ-loop
+number-after-requires : tie.Need-number-after-requires
 number-after-requires c κs = search needs
 
-returns-2 : tie.Need-returns-2 Inv-loop μ-loop
-returns-2 c =
-    let turn = c .before .before .before in
-    let at-loop = turn .before .before .before in
-    c .number-after .ensures
-    ∙ sym (turn .search-block .ensures .hit (c .before .if3 .taken) _ (at-loop .loop .inv .0))
+returns : tie.Need-returns
+returns c = c .number-after .ensures ∙ sym (c .before .before .search-index .ensures .hit (c .before .if1 .taken))
 
-add-at : tie.Need-add-at Inv-loop μ-loop
-add-at c =
-    let turn = c .before .before in
-    let at-loop = turn .before .before .before in
-    let room = turn .before .before .has-block .ensures (turn .before .if2 .taken) in
-    omega (arith, at-loop .loop .inv .1, room)
+mul-start : tie.Need-mul-start
+mul-start c =
+    let at-index = c .before .before in
+    omega (arith, at-index .search-index .ensures .none (c .before .if1 .left) .0)
 
-loop-less : tie.Need-loop-less Inv-loop μ-loop
-loop-less c =
-    let turn = c .before .before in
-    let at-loop = turn .before .before .before in
-    let room = turn .before .before .has-block .ensures (turn .before .if2 .taken) in
-    omega (arith, at-loop .loop .inv .1, room)
+mul-start-2 : tie.Need-mul-start-2
+mul-start-2 c =
+    let at-index = c .before .before in
+    omega (arith, at-index .search-index .ensures .none (c .before .if1 .left) .0)
 
-loop-again : tie.Need-loop-again Inv-loop μ-loop
-loop-again c =
-    let turn = c .before .before in
-    let at-loop = turn .before .before .before in
-    let room = turn .before .before .has-block .ensures (turn .before .if2 .taken) in (
-      turn .search-block .ensures .on (c .if3 .left) _ (at-loop .loop .inv .0),
-      omega (arith, room),
-      omega (arith, at-loop .loop .inv .2, turn .search-block .ensures .few),
-    )
+shared-slice-read-start : tie.Need-shared-slice-read-start
+shared-slice-read-start c =
+    let at-index = c .before .before .before in
+    omega (arith, at-index .search-index .ensures .none (c .before .before .if1 .left) .0)
 
-walk-requires : tie.Need-walk-requires Inv-loop μ-loop
-walk-requires c κs =
-    let back1 = c .before .before .before .before in
-    let start = back1 .before .before .before in
-    (start .pre, c .before .before .loop .inv .1, omega arith)
+cast-start : tie.Need-cast-start
+cast-start c =
+    let at-index = c .before .before .before in
+    omega (arith, at-index .search-index .ensures .none (c .before .before .if1 .left) .1 .fits)
 
-add-number-after : tie.Need-add-number-after Inv-loop μ-loop
-add-number-after c =
-    let at-walk = c .before .before in
-    let at-loop = at-walk .before .before .before in
-    omega (arith, at-loop .loop .inv .2, at-walk .walk .ensures .few)
+search-from-requires : tie.Need-search-from-requires
+search-from-requires c κs =
+    let at-index = c .before .before .before in
+    let start = at-index .before .before .before .before in
+    (start .pre .0, at-index .search-index .ensures .none (c .before .before .if1 .left) .1)
 
-number-after-requires-2 : tie.Need-number-after-requires-2 Inv-loop μ-loop
-number-after-requires-2 c κs = search needs
-
-returns-3 : tie.Need-returns-3 Inv-loop μ-loop
-returns-3 c =
-    let at-walk = c .before .before .before in
-    let at-loop = at-walk .before .before .before in
-    c .number-after2 .ensures
-    ∙ sym (at-walk .walk .ensures .hit (c .before .before .if4 .taken) _ (at-loop .loop .inv .0))
-
-returns-4 : tie.Need-returns-4 Inv-loop μ-loop
-returns-4 c =
-    let at-loop = c .before .before .before .before in
-    let start = at-loop .before .before .before .before .before in
-    let names = start .args .names .now in
-    sought-all names (start .args .word .now) (length names) (at-loop .loop .passed + c .before .walk .result .ends)
-    (c .before .walk .ensures .on (c .if4 .left) (at-loop .loop .passed) (at-loop .loop .inv .0)) (omega arith)
+returns-2 : tie.Need-returns-2
+returns-2 c = c .search-from .ensures
 
 pub number-of-spec : {M : Type 1} → statement M
 number-of-spec =
     tie.close
     (tie.spec
-    Inv-loop
-    μ-loop
-    is-name-line-requires
-    returns
-    loop-holds
-    has-block-requires
-    search-block-requires
-    add-passed
+    search-index-requires
     number-after-requires
-    returns-2
-    add-at
-    loop-less
-    loop-again
-    walk-requires
-    add-number-after
-    number-after-requires-2
-    returns-3
-    returns-4)
+    returns
+    mul-start
+    mul-start-2
+    shared-slice-read-start
+    cast-start
+    search-from-requires
+    returns-2)
