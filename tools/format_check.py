@@ -139,7 +139,7 @@ def refusals():
 def limits():
     places = [('terms/specs/Row.antt', 'maxRows'), ('calls/specs/Book.antt', 'maxSteps'),
               ('terms/specs/Nesting.antt', 'maxNesting'), ('xpath/specs/Document.antt', 'maxNodes'),
-              ('common/src/lib.rt', 'MAX_BYTES'), ('xpath/specs/Document.antt', 'maxName'),
+              ('common/src/lib.rt', 'MAX_BYTES'), ('common/specs/Limits.antt', 'maxNumber'),
               ('rules/specs/Yields.antt', 'wayBackRule')]
     specified = [constant('crates/' + path, name) for path, name in places]
     same('limits', [int(row[1]) for row in table('what | most')], specified)

@@ -12,6 +12,9 @@ ghost use mathlib.Core.Bool.{_&&_, _||_};
 // The most bytes of a text that a program takes.
 pub const MAX_BYTES: usize = 65536;
 
+// The largest number that a line may have and the largest name: the largest of 16 bits.
+pub const MAX_NUMBER: usize = 65535;
+
 pub fn wide(x: u16) -> usize
     ensures { λ r. ⌜ r ≡ x ⌝ }
 {

@@ -12,6 +12,12 @@ ghost use Rattle.script.specs.Command.{maxNumbers};
 
 const TEXT: u16 = node_kind::TEXT as u16;
 
+const ROWS: u16 = Session::ROWS as u16;
+
+const STEPS: u16 = Session::STEPS as u16;
+
+const POINTS: u16 = Session::POINTS as u16;
+
 // p <= p
 const REFLEXIVE: u16 = 2;
 
@@ -37,15 +43,15 @@ fn print_limits() {
     io::write_all(1, b"\n");
 }
 
-// Nesting 32 and 33: true, and each row `not` of the one before.
+// The deepest nesting, and one more: true, and each row `not` of the one before, so that row i + 1 nests i + 2 deep.
 fn nesting() {
     let first = Session::new().term(row_kind::TRUE, 0, 0, 0);
     let mut s = first.session;
     let mut i: u16 = 0;
-    while i < 32 {
+    while i < Session::NESTING {
         let next = s.term(row_kind::NOT, i, 0, 0);
         let answer = next.answer;
-        if 30 <= i {
+        if Session::NESTING <= i + 2 {
             print(answer.number(), answer.value());
         }
         let after = next.session;
@@ -54,14 +60,14 @@ fn nesting() {
     }
 }
 
-// 1,024 rows and one more: steps child::NAME.
+// All rows and one more: steps child::NAME.
 fn rows() {
     let mut s = Session::new();
     let mut i: u16 = 0;
-    while i < 1025 {
+    while i <= ROWS {
         let next = s.term(row_kind::STEP, axis::CHILD, node_test::NAME, i + 1);
         let answer = next.answer;
-        if 1023 <= i {
+        if ROWS <= i + 1 {
             print(answer.number(), answer.value());
         }
         let after = next.session;
@@ -70,15 +76,15 @@ fn rows() {
     }
 }
 
-// 2,048 steps and one more, of the same rule on the same row.
+// All steps and one more, of the same rule on the same row.
 fn steps() {
     let first = Session::new().term(row_kind::ROOT, 0, 0, 0);
     let mut s = first.session;
     let mut i: u16 = 0;
-    while i < 2049 {
+    while i <= STEPS {
         let next = s.step(REFLEXIVE, 0, 0, 0, 0);
         let answer = next.answer;
-        if 2047 <= i {
+        if STEPS <= i + 1 {
             print(answer.number(), answer.value());
         }
         let after = next.session;
@@ -92,10 +98,10 @@ fn texts() -> [u16; script::MAX_NUMBERS]
     ensures { λ r. ⌜ maxNumbers ≡ length r ⌝ }
 {
     let mut d = [0u16; script::MAX_NUMBERS];
-    let mut i: usize = 3;
+    let mut i: usize = xpath::NODE_WIDTH;
     while i < script::MAX_NUMBERS {
         d[i] = TEXT;
-        i += 3;
+        i += xpath::NODE_WIDTH;
     }
     d
 }
@@ -105,37 +111,40 @@ fn print_select(s: Session, row: u16, size: usize, limit: u32)
     requires { ⌜ size ≤ maxNumbers ⌝ }
 {
     let d = texts();
-    let mut marks = [7u8; 600];
+    let mut marks = [7u8; Session::NODES];
     let answer = s.select(row, &d[..size], 0, limit, &mut marks);
     print(answer.number(), answer.value());
 }
 
-// 512 nodes and 513.
+// All nodes and one more.
 fn nodes() {
     let made = Session::new().term(row_kind::ROOT, 0, 0, 0);
     let s = made.session;
-    print_select(s, 0, 3 * Session::NODES, 1);
+    print_select(s, 0, xpath::NODE_WIDTH * Session::NODES, 1);
     print_select(s, 0, script::MAX_NUMBERS, 1);
 }
 
-// descendant::node()/descendant::node() from the root of a document of 511 texts makes 513 visits: the limit met, and
-// one too few.
+// The visits of descendant::node()/descendant::node() from the root of a document of texts, with as many nodes as there
+// may be: one for the path, one for its left step, and one for its right step from each text.
+const VISITS: u32 = Session::NODES as u32 + 1;
+
+// The limit met, and one too few.
 fn visits() {
     let path = Session::new().term(row_kind::STEP, axis::DESCENDANT, node_test::NODE, 0);
     let made = path.session.term(row_kind::COMPOSITION, 0, 0, 0);
     let s = made.session;
-    print_select(s, 1, 3 * Session::NODES, 513);
-    print_select(s, 1, 3 * Session::NODES, 512);
+    print_select(s, 1, xpath::NODE_WIDTH * Session::NODES, VISITS);
+    print_select(s, 1, xpath::NODE_WIDTH * Session::NODES, VISITS - 1);
 }
 
-// Eight points and one more.
+// All points and one more.
 fn points() {
     let mut s = Session::new();
     let mut i: u16 = 0;
-    while i < 9 {
+    while i <= POINTS {
         let next = s.point(i + 1);
         let answer = next.answer;
-        if 7 <= i {
+        if POINTS <= i + 1 {
             print(answer.number(), answer.value());
         }
         let after = next.session;

@@ -5,6 +5,7 @@ use mathlib.Core.List.{List, [], _∷_}
 use mathlib.Core.Option.{Option, none, some, Option·elim}
 use lib.Dec.{leb, eqb}
 use lib.ListN.{replicate}
+pub use Rattle.common.specs.Limits.{maxNumber}
 use Rattle.lines.specs.Line.{Line, partsRead}
 
 abbrev pub digit0 : ℕ
@@ -12,9 +13,6 @@ digit0 = 48
 
 abbrev pub digit9 : ℕ
 digit9 = 57
-
-abbrev pub maxNumber : ℕ
-maxNumber = 65535
 
 unfoldable pub isDigit : ℕ → Bool
 isDigit x = leb digit0 x && leb x digit9
@@ -49,7 +47,7 @@ numbersUpTo (b ∷ bs) [] = none
 numbersUpTo (b ∷ bs) (w ∷ ws) =
     Option·elim (numberUpTo b w) none (λ n. Option·elim (numbersUpTo bs ws) none (λ ns. some (n ∷ ns)))
 
--- the numbers that the parts write, `count` of them, each at most 65535
+-- the numbers that the parts write, `count` of them, each at most maxNumber
 abbrev pub lineNumbers : (count : ℕ) → List (List ℕ) → Option (List ℕ)
 lineNumbers count ws = numbersUpTo (replicate count maxNumber) ws
 

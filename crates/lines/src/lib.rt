@@ -19,7 +19,7 @@ pub const DIGIT_0: u8 = 48;
 
 const DIGIT_9: u8 = 57;
 
-pub const MAX_NUMBER: u32 = 65535;
+pub const MAX_NUMBER: u32 = common::MAX_NUMBER as u32;
 
 // The most numbers of a line that is read.
 pub const MAX_COUNT: usize = 5;

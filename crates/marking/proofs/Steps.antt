@@ -13,7 +13,6 @@ use native.Mathlib.Nat.{pos-of-ne-zero}
 use Rattle.xpath.specs.Document.{Document, kindAt, parentAt, isAttribute, isChild, isAncestor, areSiblings}
 use Rattle.xpath.specs.Axis.{onAxis, passes}
 use Rattle.xpath.specs.code.Ends.{EndsAt, Ends, Prepared}
-use Rattle.common.proofs.Cases.{past-arms}
 use Rattle.common.proofs.Reflect.{facts, tests-equal, true-iff, and-iff, or-iff, and-via, not-via, eq-iff, le-iff}
 use Rattle.common.proofs.Reflect.{le-or-lt}
 use Rattle.xpath.proofs.Tree.{Child, Ancestor, parent-is, ancestor-cases, child-yes, yes-child, ancestor-smaller}
@@ -35,12 +34,6 @@ or-and true false true = refl
 or-and true false false = refl
 or-and false true c = refl
 or-and false false c = refl
-
--- a number that is no axis
-pub past-axes : (a : ℕ) → ¬ (a ≡ 0) → ¬ (a ≡ 1) → ¬ (a ≡ 2) → ¬ (a ≡ 3) → ¬ (a ≡ 4) → ¬ (a ≡ 5) → ¬ (a ≡ 6) →
-    ¬ (a ≡ 7) → ¬ (a ≡ 8) → ¬ (a ≡ 9) → ¬ (a ≡ 10) → ¬ (a ≡ 11) → 12 ≤ a
-past-axes a f₀ f₁ f₂ f₃ f₄ f₅ f₆ f₇ f₈ f₉ f₁₀ f₁₁ =
-    past-arms a 12 ((((((((((((tt, f₀), f₁), f₂), f₃), f₄), f₅), f₆), f₇), f₈), f₉), f₁₀), f₁₁)
 
 -- one walk after the other
 pub added-twice : {n : ℕ} {old mid new : List ℕ} (s t u : ℕ → Bool) → Added n old mid s → Added n mid new t →

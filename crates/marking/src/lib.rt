@@ -226,61 +226,26 @@ pub fn mark_step(
         && passes axis test name (documentOf (now (d .entry))) y) ⌝ }
 {
     let end = common::wide(ends[x]);
-    if axis == axis::SELF {
-        mark_node(d, axis::SELF, test, name, x, out);
-        return;
-    }
-    if axis == axis::CHILD {
-        mark_children(d, ends, axis::CHILD, test, name, x, x + 1, end, out);
-        return;
-    }
-    if axis == axis::PARENT {
-        mark_parent(d, ends, test, name, x, out);
-        return;
-    }
-    if axis == axis::DESCENDANT {
-        mark_range(d, axis::DESCENDANT, test, name, x + 1, end, out);
-        return;
-    }
-    if axis == axis::ANCESTOR {
-        mark_ancestors(d, test, name, x, out);
-        return;
-    }
-    if axis == axis::DESCENDANT_OR_SELF {
-        mark_node(d, axis::SELF, test, name, x, out);
-        mark_range(d, axis::DESCENDANT, test, name, x + 1, end, out);
-        return;
-    }
-    if axis == axis::ANCESTOR_OR_SELF {
-        mark_node(d, axis::SELF, test, name, x, out);
-        mark_ancestors(d, test, name, x, out);
-        return;
-    }
-    if axis == axis::FOLLOWING_SIBLING {
-        mark_following_siblings(d, ends, test, name, x, out);
-        return;
-    }
-    if axis == axis::PRECEDING_SIBLING {
-        mark_preceding_siblings(d, ends, test, name, x, out);
-        return;
-    }
-    if axis == axis::FOLLOWING {
-        mark_range(
-            d,
-            axis::FOLLOWING,
-            test,
-            name,
-            end,
-            xpath::node_count(d),
-            out,
-        );
-        return;
-    }
-    if axis == axis::PRECEDING {
-        mark_preceding(d, ends, test, name, x, out);
-        return;
-    }
-    if axis == axis::ATTRIBUTE {
-        mark_children(d, ends, axis::ATTRIBUTE, test, name, x, x + 1, end, out);
+    let n = xpath::node_count(d);
+    match axis {
+        axis::SELF => mark_node(d, axis::SELF, test, name, x, out),
+        axis::CHILD => mark_children(d, ends, axis::CHILD, test, name, x, x + 1, end, out),
+        axis::PARENT => mark_parent(d, ends, test, name, x, out),
+        axis::DESCENDANT => mark_range(d, axis::DESCENDANT, test, name, x + 1, end, out),
+        axis::ANCESTOR => mark_ancestors(d, test, name, x, out),
+        axis::DESCENDANT_OR_SELF => {
+            mark_node(d, axis::SELF, test, name, x, out);
+            mark_range(d, axis::DESCENDANT, test, name, x + 1, end, out);
+        }
+        axis::ANCESTOR_OR_SELF => {
+            mark_node(d, axis::SELF, test, name, x, out);
+            mark_ancestors(d, test, name, x, out);
+        }
+        axis::FOLLOWING_SIBLING => mark_following_siblings(d, ends, test, name, x, out),
+        axis::PRECEDING_SIBLING => mark_preceding_siblings(d, ends, test, name, x, out),
+        axis::FOLLOWING => mark_range(d, axis::FOLLOWING, test, name, end, n, out),
+        axis::PRECEDING => mark_preceding(d, ends, test, name, x, out),
+        axis::ATTRIBUTE => mark_children(d, ends, axis::ATTRIBUTE, test, name, x, x + 1, end, out),
+        _ => {}
     }
 }

@@ -12,7 +12,7 @@ use Rattle.common.proofs.Reflect.{facts, le-or-lt, true-iff}
 use Rattle.xpath.specs.Term.{Void, Root, AxisStep, Union, Composition, Filter, True, False, Not, And, Or, In}
 use Rattle.xpath.specs.Term as term
 use Rattle.terms.specs.Row.{Row, row, rowAt}
-use Rattle.terms.specs.Fields.{maxKind, isPath, isQualifier}
+use Rattle.terms.specs.Fields.{fieldsOf, maxKind, isPath, isQualifier}
 use Rattle.terms.specs.Terms.{Term, asPath, asQualifier, noTerm, pathIn, qualifierIn, termBy, terms}
 use Rattle.terms.specs.Terms.{termAt}
 use Rattle.terms.proofs.ByKind.{Kind, void-kind, root-kind, step-kind, union-kind, composition-kind}
@@ -26,7 +26,7 @@ use Rattle.ordering.specs.Order.{numberOrder}
 use Rattle.ordering.specs.TermOrder.{TermRow, termRow, TermField, number, operand, pathRow, qualifierRow}
 use Rattle.ordering.specs.TermOrder.{rowOfTerm}
 use Rattle.ordering.specs.TermOrder.{rowOrder, fieldOrder, termOrder}
-use Rattle.ordering.specs.code.Sorts.{noSorts, sortsOf, termKind, fieldAs, isOperand, numberAs}
+use Rattle.ordering.specs.code.Sorts.{noSorts, sortOf, sortsOf, termKind, fieldAs, isOperand, numberAs}
 use Rattle.ordering.proofs.Orders.{numbers-ordered}
 use Rattle.ordering.specs.OrderLaws.{reverse}
 use Rattle.ordering.proofs.TermOrder.{row-reversed}
@@ -40,7 +40,7 @@ kind-there rs e f = ap (λ r. r .kind) (row-there rs e f)
 
 -- a kind without fields that are compared
 pub sorts-rest : (k : ℕ) → NoneOf k kinds-in-use → sortsOf k ≡ noSorts
-unfolding sortsOf
+unfolding sortsOf sortOf fieldsOf
 sorts-rest k n = ⊎-elim (λ h. by (kind-of k h) n) (λ (h : maxKind < k). rw List·getD-eq-default) (le-or-lt k maxKind)
   where
     by : {j : ℕ} → Kind j → NoneOf j kinds-in-use → sortsOf j ≡ noSorts
@@ -71,7 +71,7 @@ no-term ts r h = rw List·getD-eq-default
 
 module _ (ts : List Term) (x y z : ℕ) where
   by-kind : {k : ℕ} → Kind k → rowOfTerm (termBy ts (row k x y z)) ≡ rowBy ts (row k x y z)
-  unfolding rowOfTerm pathRow termBy sortsOf termKind fieldAs
+  unfolding rowOfTerm pathRow termBy sortsOf sortOf fieldsOf termKind fieldAs
   by-kind void-kind = refl
   by-kind root-kind = refl
   by-kind step-kind = refl
@@ -86,7 +86,7 @@ module _ (ts : List Term) (x y z : ℕ) where
   by-kind in-kind = refl
 
   void-by : (k : ℕ) → termKind k ≡ void-row → rowOfTerm noTerm ≡ rowBy ts (row k x y z)
-  unfolding rowOfTerm pathRow sortsOf fieldAs
+  unfolding rowOfTerm pathRow sortsOf sortOf fieldsOf fieldAs
   void-by k e = rw e
 
   past-kinds : (k : ℕ) → maxKind < k → rowOfTerm (termBy ts (row k x y z)) ≡ rowBy ts (row k x y z)

@@ -11,7 +11,8 @@ use lib.Seq.{getD-set-same, getD-set-other}
 use borrow.Author.Count.{below-more}
 use Rattle.common.specs.Bounded.{anyBelow}
 use Rattle.xpath.specs.Document.{maxNodes}
-use Rattle.selection.specs.Marks.{Clear, written}
+use Rattle.selection.specs.Marks.{written}
+use Rattle.selection.specs.code.MarksHeld.{Clear}
 use Rattle.marking.specs.code.Added.{Added}
 use Rattle.marking.proofs.Added.{nothing-added, added-cong}
 use Rattle.marking.proofs.Steps.{added-twice}

@@ -13,7 +13,8 @@ use Rattle.xpath.specs.Meaning.{selects}
 use Rattle.xpath.specs.Visits.{visits}
 use Rattle.terms.specs.Row.{Row}
 use Rattle.terms.specs.Terms.{terms, termAt, pathIn, pathAt}
-use Rattle.selection.specs.Marks.{Clear, written}
+use Rattle.selection.specs.Marks.{written}
+use Rattle.selection.specs.code.MarksHeld.{Clear}
 use Rattle.marking.specs.code.Added.{marked}
 use Rattle.selection.specs.code.Parts.{PathAdded}
 use Rattle.selection.specs.Evaluation.{selected, no-room, too-many-visits, outcome, pathEvaluated}

@@ -15,7 +15,7 @@ use Rattle.xpath.specs.Meaning.{selects, holds}
 use Rattle.xpath.specs.Visits.{visits, qualifierVisits}
 use Rattle.terms.specs.Row.{Row, rowAt}
 use Rattle.terms.specs.Terms.{Term, noTerm, termBy, terms, asPath, asQualifier, pathIn, qualifierIn}
-use Rattle.selection.specs.Marks.{Marks, Clear}
+use Rattle.selection.specs.code.MarksHeld.{Marks, Clear}
 use Rattle.marking.specs.code.Added.{marked, Added}
 use Rattle.marking.proofs.Added.{nothing-added, added-cong}
 use Rattle.selection.specs.code.Parts.{PathAdded, QualifierFound, CompositionAdded, FilterAdded, SecondAdded}

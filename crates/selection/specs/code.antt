@@ -1,3 +1,4 @@
 pub mod EvaluatedTypes
+pub mod MarksHeld
 pub mod Limit
 pub mod Parts

@@ -15,11 +15,11 @@ ghost use Rattle.xpath.specs.Meaning.{selects};
 ghost use Rattle.terms.specs.code.RowTypes.{rowOf};
 ghost use Rattle.terms.specs.Terms.{termBy, asPath, asQualifier, pathIn, qualifierIn};
 ghost use Rattle.marking.specs.code.Added.{marked, Added, StepFrom};
-ghost use Rattle.selection.specs.Marks.{Clear};
+ghost use Rattle.selection.specs.code.MarksHeld.{Clear};
 ghost use Rattle.selection.specs.code.Limit.{Stopped};
-ghost use Rattle.selection.specs.code.Parts.{PathAdded, QualifierFound, CompositionAdded, FilterAdded, SecondAdded};
-ghost use Rattle.selection.specs.code.Parts.{SetFrom, NodeOf, termsBelow, pathHasOperands, qualifierHasOperands};
-ghost use Rattle.selection.specs.code.Parts.{leafPath};
+ghost use Rattle.selection.specs.code.Parts.{PathAdded, QualifierFound, CompositionAdded, FilterAdded};
+ghost use Rattle.selection.specs.code.Parts.{SecondAdded, SetFrom, NodeOf, termsBelow, pathHasOperands};
+ghost use Rattle.selection.specs.code.Parts.{qualifierHasOperands, leafPath};
 
 // Whether the visits that a path needs were within the limit, and how many they were.
 pub struct PathResult {

@@ -69,6 +69,7 @@ pub fn no_nestings() -> [u16; MAX_ROWS]
     [0u16; MAX_ROWS]
 }
 
+// Any filter is one of no rows, so its length is all that is promised; zeros spare searches.
 pub fn clear_filter() -> [u8; SLOTS]
     ensures { λ r. ⌜ length r ≡ slotCount ⌝ }
 {

@@ -1,11 +1,12 @@
 -- Documents: rows `kind parent name` in document order. Assumes nothing.
-use Prim.Native.Nat.{ℕ, zero, suc, _+_, _*_, _/_}
+use Prim.Native.Nat.{ℕ, zero, suc, _+_, _-_, _*_, _/_}
 use mathlib.Core.Bool.{Bool, false, not, cond, _&&_, _||_}
 use mathlib.Core.List.{List, [], _∷_}
 use mathlib.Core.Option.{Option, some}
 use lib.Dec.{leb, ltb, eqb}
 use lib.ListN.{length, getD}
 use Rattle.common.specs.Bounded.{allBelow, firstBelow}
+use Rattle.common.specs.Limits.{maxNumber}
 use Rattle.common.specs.NodeKinds.{root-kind, element-kind, text-kind, comment-kind, instruction-kind, attribute-kind}
 
 -- the kind is one of common's NodeKinds
@@ -56,15 +57,12 @@ unfoldable pub areSiblings : Document → ℕ → ℕ → Bool
 areSiblings d x y =
     not (eqb x 0) && isChild d (parentAt d x) y && not (eqb x y) && not (isAttribute d x) && not (isAttribute d y)
 
-abbrev pub maxName : ℕ
-maxName = 65535
-
--- the name of an element or an attribute is 1 to maxName; that of an instruction, its target, 1 to maxName, or 0 for
--- none recorded; any other's 0; a row after row 0 has a kind other than root's
+-- the name of an element or an attribute is 1 to maxNumber; that of an instruction, its target, 1 to maxNumber, or 0
+-- for none recorded; any other's 0; a row after row 0 has a kind other than root's
 unfoldable pub kindAndNameOk : ℕ → ℕ → Bool
 kindAndNameOk kind name =
-    (eqb kind element-kind || eqb kind attribute-kind) && leb 1 name && leb name maxName
-    || eqb kind instruction-kind && leb name maxName
+    (eqb kind element-kind || eqb kind attribute-kind) && leb 1 name && leb name maxNumber
+    || eqb kind instruction-kind && leb name maxNumber
     || (eqb kind text-kind || eqb kind comment-kind) && eqb name 0
 
 -- row n + 1, an attribute, stands where it must: its parent is an element, and is the row before it or has the row
@@ -94,6 +92,8 @@ unfoldable pub wellFormed : Document → Bool
 wellFormed d = leb 1 (length d) && allBelow (length d) (rowOk d)
 
 -- Documents as calls take them: lent 16-bit numbers, three a row.
+abbrev pub nodeWidth : ℕ
+nodeWidth = 3
 
 -- the document of the lent numbers, without an incomplete last row
 unfoldable pub documentOf : List ℕ → Document
@@ -104,14 +104,14 @@ documentOf (k ∷ p ∷ n ∷ xs) = node k p n ∷ documentOf xs
 
 -- how many rows are lent: an incomplete last row counts
 unfoldable pub lentRows : List ℕ → ℕ
-lentRows xs = (length xs + 2) / 3
+lentRows xs = (length xs + (nodeWidth - 1)) / nodeWidth
 
 abbrev pub maxNodes : ℕ
 maxNodes = 512
 
 -- row n of the lent numbers is bad; an incomplete row is
 abbrev pub badRowBy : (ancestor : Document → ℕ → ℕ → Bool) → List ℕ → ℕ → Bool
-badRowBy ancestor xs n = ltb (length xs) (3 * n + 3) || not (rowOkBy ancestor (documentOf xs) n)
+badRowBy ancestor xs n = ltb (length xs) (nodeWidth * n + nodeWidth) || not (rowOkBy ancestor (documentOf xs) n)
 
 unfoldable pub badRow : List ℕ → ℕ → Bool
 badRow = badRowBy isAncestor

@@ -3,7 +3,7 @@ use Prim.Native.Nat.{ℕ, _+_, _*_}
 use mathlib.Core.Path.{_≡_}
 use mathlib.Core.List.{List}
 use lib.ListN.{length, getD, set}
-use Rattle.xpath.specs.Document.{Document, node, kindAt, parentAt, nameAt, documentOf}
+use Rattle.xpath.specs.Document.{Document, node, kindAt, parentAt, nameAt, documentOf, nodeWidth}
 use Rattle.xpath.specs.Term.{AxisStep}
 use Rattle.xpath.specs.Meaning.{selects}
 
@@ -22,7 +22,7 @@ StepSameElsewhere = (m : ℕ) (d e : Document) → SameButName m d e → (a t c 
 -- lent numbers that are alike but for the name of row m, the third number of it
 pub record LentSameButName (m : ℕ) (xs ys : List ℕ) : Type 0 where
   pub size : length xs ≡ length ys
-  pub numbers : (i : ℕ) → ¬ (i ≡ 3 * m + 2) → getD xs i 0 ≡ getD ys i 0
+  pub numbers : (i : ℕ) → ¬ (i ≡ nodeWidth * m + 2) → getD xs i 0 ≡ getD ys i 0
 
 -- their documents are so alike
 abbrev pub LentDocuments : Type 0
@@ -33,4 +33,4 @@ abbrev pub Renamed : Type 0
 Renamed = (d : Document) (m name : ℕ) → SameButName m d (set d m (node (kindAt d m) (parentAt d m) name))
 
 abbrev pub LentRenamed : Type 0
-LentRenamed = (xs : List ℕ) (m name : ℕ) → LentSameButName m xs (set xs (3 * m + 2) name)
+LentRenamed = (xs : List ℕ) (m name : ℕ) → LentSameButName m xs (set xs (nodeWidth * m + 2) name)

@@ -4,6 +4,7 @@ use crate::Checked;
 use crate::Climb;
 use crate::DocumentCheck;
 use crate::MAX_NODES;
+use crate::NODE_WIDTH;
 use common::node_kind;
 ghost use mathlib.Core.Path.{_≡_};
 ghost use mathlib.Core.Bool.{_||_, not, cond};
@@ -11,37 +12,35 @@ ghost use Prim.Native.Nat.{suc, _+_, _*_, _/_, _<_, _≤_};
 ghost use lib.ListN.{length, getD};
 ghost use lib.Dec.{ltb};
 ghost use Rattle.xpath.specs.Document.{kindAt, parentAt, nameAt, isAttribute, attributePlaced, kindAndNameOk};
-ghost use Rattle.xpath.specs.Document.{rowOkBy, documentOf, maxNodes};
+ghost use Rattle.xpath.specs.Document.{rowOkBy, documentOf, nodeWidth, maxNodes};
 ghost use Rattle.xpath.specs.Climb.{climbMet};
 ghost use Rattle.xpath.specs.code.Ends.{Filled};
 ghost use Rattle.xpath.specs.code.Check.{DocumentChecked, ClimbMade, Placed, FirstBad, closedBefore};
-
-// The largest name.
-const MAX_NAME: usize = 65535;
 
 // The number of whole rows.
 pub fn node_count(d: &[u16]) -> usize
     ensures { λ r. ⌜ r ≡ length (documentOf (now (d .entry))) ⌝ }
 {
-    d.len() / 3
+    d.len() / NODE_WIDTH
 }
 
 // Number j of a whole row.
 fn number_of(d: &[u16], y: usize, j: usize) -> usize
-    requires { ⌜ y < length (now d) / 3 ⌝ }
-    requires { ⌜ j < 3 ⌝ }
-    ensures { λ r. ⌜ r ≡ getD (now (d .entry)) (3 * y + j) 0 ⌝ }
+    requires { ⌜ y < length (now d) / nodeWidth ⌝ }
+    requires { ⌜ j < nodeWidth ⌝ }
+    ensures { λ r. ⌜ r ≡ getD (now (d .entry)) (nodeWidth * y + j) 0 ⌝ }
 {
-    let i = 3 * y + j;
+    let i = NODE_WIDTH * y + j;
     common::wide(d[i])
 }
 
 // Number j of row y, if that row is whole.
 fn number_at(d: &[u16], y: usize, j: usize) -> usize
-    requires { ⌜ j < 3 ⌝ }
-    ensures { λ r. ⌜ r ≡ cond (ltb y (length (now (d .entry)) / 3)) (getD (now (d .entry)) (3 * y + j) 0) 0 ⌝ }
+    requires { ⌜ j < nodeWidth ⌝ }
+    ensures { λ r. ⌜ r ≡ cond (ltb y (length (now (d .entry)) / nodeWidth))
+        (getD (now (d .entry)) (nodeWidth * y + j) 0) 0 ⌝ }
 {
-    if y < d.len() / 3 {
+    if y < d.len() / NODE_WIDTH {
         return number_of(d, y, j);
     }
     0
@@ -124,7 +123,7 @@ fn kind_and_name_ok(kind: usize, name: usize) -> bool
         let named = common::or(kind == node_kind::ELEMENT, kind == node_kind::ATTRIBUTE);
         common::and(
             common::or(named, kind == node_kind::INSTRUCTION),
-            name <= MAX_NAME,
+            name <= common::MAX_NUMBER,
         )
     }
 }
@@ -238,7 +237,7 @@ fn filled(v: u16) -> [u16; MAX_NODES]
 pub fn check_document(d: &[u16]) -> Checked
     ensures { λ r. ⌜ DocumentChecked (now (d .entry)) r ⌝ }
 {
-    let n = (d.len() + 2) / 3;
+    let n = (d.len() + (NODE_WIDTH - 1)) / NODE_WIDTH;
     if n == 0 {
         return Checked {
             answer: DocumentCheck::Refused(0),

@@ -12,6 +12,9 @@ pub use node_tests::passes_test;
 // The largest document that a call takes.
 pub const MAX_NODES: usize = 512;
 
+// How many numbers a node has.
+pub const NODE_WIDTH: usize = 3;
+
 // What the check of lent numbers finds: a document, or refusal 8 with its value.
 pub enum DocumentCheck {
     Accepted,

@@ -10,6 +10,12 @@ use Rattle.common.specs.NodeTests.{name-test, star-test, node-test, text
 use Rattle.common.specs.NodeTests.{target-test, maxTest}
 use Rattle.common.specs.RowKinds.{void-row, root-row, step-row, union-row, composition-row, filter-row, true-row}
 use Rattle.common.specs.RowKinds.{false-row, not-row, and-row, or-row, inclusion-row}
+use Rattle.common.specs.Refusals.{bad-kind, bad-field, too-deep, no-rule, bad-side, bad-premise, not-yielded}
+use Rattle.common.specs.Refusals.{bad-document, bad-argument, wrong-form, terms-full, already-held, steps-full}
+use Rattle.common.specs.Refusals.{short-marks, limit-passed, short-buffer, bad-name, outside-grammar}
+use Rattle.common.specs.Refusals.{unlisted-name, bad-point, points-full, not-next, bad-record, full-or-in-use}
+use Rattle.common.specs.Refusals.{bad-lists, not-covered, no-record}
+use Rattle.common.specs.Limits.{maxBytes, maxNumber}
 
 -- root, element, text, comment, processing instruction, attribute
 pub node-kinds :
@@ -44,3 +50,16 @@ row-kinds = refl
 -- the last axis and the last test
 pub last : AllRight (maxAxis is 11 ∷ maxTest is 6 ∷ [])
 last = refl
+
+pub refusals :
+    AllRight
+    (bad-kind is 1 ∷ bad-field is 2 ∷ too-deep is 3 ∷ no-rule is 4 ∷ bad-side is 5 ∷ bad-premise is 6 ∷ not-yielded is 7
+    ∷ bad-document is 8 ∷ bad-argument is 9 ∷ wrong-form is 10 ∷ terms-full is 11 ∷ already-held is 12
+    ∷ steps-full is 13 ∷ short-marks is 14 ∷ limit-passed is 15 ∷ short-buffer is 16 ∷ bad-name is 17
+    ∷ outside-grammar is 18 ∷ unlisted-name is 19 ∷ bad-point is 20 ∷ points-full is 21 ∷ not-next is 22
+    ∷ bad-record is 23 ∷ full-or-in-use is 24 ∷ bad-lists is 25 ∷ not-covered is 26 ∷ no-record is 27
+    ∷ [])
+refusals = refl
+
+pub limits : AllRight (maxBytes is 65536 ∷ maxNumber is 65535 ∷ [])
+limits = refl

@@ -1,15 +1,16 @@
 -- `nesting` is safe and ends: the loop counts. Assumes nothing.
 use Prim.Native.Nat.{_≤_, _-_}
 use native.Mathlib.Omega.{arith}
+use Rattle.terms.specs.Nesting.{maxNesting}
 use borrow.Author.Needs.{needs}
 use Rattle.limits.proofs.nesting.Statement.{statement}
 use Rattle.limits.proofs.nesting.Tie as tie
 
 abbrev Inv-loop : tie.InvT-loop
-Inv-loop s₀ i₀ s i = i ≤ 32
+Inv-loop s₀ i₀ s i = i ≤ maxNesting
 
 abbrev μ-loop : tie.MeasureT-loop
-μ-loop s₀ i₀ s i = 32 - i
+μ-loop s₀ i₀ s i = maxNesting - i
 
 new-requires : tie.Need-new-requires Inv-loop μ-loop
 new-requires c κs = search needs
@@ -22,6 +23,9 @@ loop-holds c = omega arith
 
 term-requires-2 : tie.Need-term-requires-2 Inv-loop μ-loop
 term-requires-2 c κs = search needs
+
+add-if1 : tie.Need-add-if1 Inv-loop μ-loop
+add-if1 c = omega arith
 
 number-requires : tie.Need-number-requires Inv-loop μ-loop
 number-requires c κs = search needs
@@ -54,6 +58,7 @@ nesting-spec =
     term-requires
     loop-holds
     term-requires-2
+    add-if1
     number-requires
     value-requires
     print-requires

@@ -1,15 +1,16 @@
 -- `rows` is safe and ends: the loop counts. Assumes nothing.
-use Prim.Native.Nat.{_≤_, _-_}
+use Prim.Native.Nat.{suc, _≤_, _-_}
 use native.Mathlib.Omega.{arith}
+use Rattle.terms.specs.Row.{maxRows}
 use borrow.Author.Needs.{needs}
 use Rattle.limits.proofs.rows.Statement.{statement}
 use Rattle.limits.proofs.rows.Tie as tie
 
 abbrev Inv-loop : tie.InvT-loop
-Inv-loop s₀ i₀ s i = i ≤ 1025
+Inv-loop s₀ i₀ s i = i ≤ suc maxRows
 
 abbrev μ-loop : tie.MeasureT-loop
-μ-loop s₀ i₀ s i = 1025 - i
+μ-loop s₀ i₀ s i = suc maxRows - i
 
 new-requires : tie.Need-new-requires Inv-loop μ-loop
 new-requires c κs = search needs
@@ -22,6 +23,9 @@ add-term c = omega arith
 
 term-requires : tie.Need-term-requires Inv-loop μ-loop
 term-requires c κs = search needs
+
+add-if1 : tie.Need-add-if1 Inv-loop μ-loop
+add-if1 c = omega arith
 
 number-requires : tie.Need-number-requires Inv-loop μ-loop
 number-requires c κs = search needs
@@ -54,6 +58,7 @@ rows-spec =
     loop-holds
     add-term
     term-requires
+    add-if1
     number-requires
     value-requires
     print-requires

@@ -1,15 +1,16 @@
 -- `steps` is safe and ends: the loop counts. Assumes nothing.
-use Prim.Native.Nat.{_≤_, _-_}
+use Prim.Native.Nat.{suc, _≤_, _-_}
 use native.Mathlib.Omega.{arith}
+use Rattle.calls.specs.Book.{maxSteps}
 use borrow.Author.Needs.{needs}
 use Rattle.limits.proofs.steps.Statement.{statement}
 use Rattle.limits.proofs.steps.Tie as tie
 
 abbrev Inv-loop : tie.InvT-loop
-Inv-loop s₀ i₀ s i = i ≤ 2049
+Inv-loop s₀ i₀ s i = i ≤ suc maxSteps
 
 abbrev μ-loop : tie.MeasureT-loop
-μ-loop s₀ i₀ s i = 2049 - i
+μ-loop s₀ i₀ s i = suc maxSteps - i
 
 new-requires : tie.Need-new-requires Inv-loop μ-loop
 new-requires c κs = search needs
@@ -22,6 +23,9 @@ loop-holds c = omega arith
 
 step-requires : tie.Need-step-requires Inv-loop μ-loop
 step-requires c κs = search needs
+
+add-if1 : tie.Need-add-if1 Inv-loop μ-loop
+add-if1 c = omega arith
 
 number-requires : tie.Need-number-requires Inv-loop μ-loop
 number-requires c κs = search needs
@@ -54,6 +58,7 @@ steps-spec =
     term-requires
     loop-holds
     step-requires
+    add-if1
     number-requires
     value-requires
     print-requires

@@ -24,9 +24,12 @@ up-to-requires : tie.Need-up-to-requires
 up-to-requires c κs = search needs
 
 returns-3 : tie.Need-returns-3
-returns-3 c = c .up-to .ensures ∙ ap (upTo (c .before .before .before .before .before .args .most))
-    (c .before .digit .ensures) ∙ first-is-digit _ _ _ (c .before .before .before .before .if1 .left)
-    (sym (c .before .before .before .is-digit .ensures) ∙ not-false _ (c .before .before .if2 .left))
+returns-3 c =
+    let seen = c .before .before .before in
+    let start = seen .before .before in
+    c .up-to .ensures ∙ ap (upTo (start .args .most)) (c .before .digit .ensures)
+    ∙ first-is-digit _ _ _ (seen .before .if1 .left)
+    (sym (seen .is-digit .ensures) ∙ not-false _ (c .before .before .if2 .left))
 
 pub first-digit-spec : {M : Type 1} → statement M
 first-digit-spec =

@@ -41,21 +41,24 @@ no-number-requires-2 : tie.Need-no-number-requires-2 Inv-loop μ-loop
 no-number-requires-2 c κs = search needs
 
 returns-2 : tie.Need-returns-2 Inv-loop μ-loop
-returns-2 c = let told = ap writtenNumber (sym (c .before .enum-told .given .1))
-    ∙ c .before .before .before .first-digit .ensures in
+returns-2 c =
+    let digit = c .before .before .before in
+    let told = ap writtenNumber (sym (c .before .enum-told .given .1)) ∙ digit .first-digit .ensures in
     no-number-met _ _ _ _ _ _ _ (c .no-number2 .ensures)
-    (no-digit-there _ _ _ _ (c .before .before .before .before .before .if1 .left) told)
+    (no-digit-there _ _ _ _ (digit .before .before .if1 .left) told)
 
 add-i : tie.Need-add-i Inv-loop μ-loop
 add-i c = omega arith
 
 loop-holds : tie.Need-loop-holds Inv-loop μ-loop
-loop-holds c = let a = c .before .before .before .before .before .before .before .args in
-    let told = ap writtenNumber (sym (c .before .first .given .1)) ∙ c .before .before .before .first-digit .ensures in (
+loop-holds c =
+    let digit = c .before .before .before in
+    let a = digit .before .before .before .before .args in
+    let told = ap writtenNumber (sym (c .before .first .given .1)) ∙ digit .first-digit .ensures in (
       omega arith,
       omega arith,
       first-digit-fits (a .most) (a .end) (getD (a .bytes .now) (a .at) 0) _ told,
-      digit-there _ _ _ _ (c .before .before .before .before .before .if1 .left) _ told,
+      digit-there _ _ _ _ (digit .before .before .if1 .left) _ told,
     )
 
 shared-slice-read-b : tie.Need-shared-slice-read-b Inv-loop μ-loop
@@ -65,8 +68,11 @@ add-t19 : tie.Need-add-t19 Inv-loop μ-loop
 add-t19 c = omega arith
 
 returns-3 : tie.Need-returns-3 Inv-loop μ-loop
-returns-3 c = let a = c .before .before .before .before .before .before .before .before .before .before .before .args in
-    let l = c .before .before .before .loop in
+returns-3 c =
+    let at-loop = c .before .before .before in
+    let digit = at-loop .before .before .before .before in
+    let a = digit .before .before .before .before .args in
+    let l = at-loop .loop in
     number-met (a .most) (a .end) (a .bytes .now) (a .at) (l .value) (l .i + 1) (l .inv .2)
     (end-there (a .most) (a .end) (a .bytes .now) (a .at) (l .i) (l .value) (c .before .before .loop-test .taken)
     (l .inv .3) (c .if2 .taken)) (omega arith) (omega arith)
@@ -85,13 +91,16 @@ no-number-requires-3 c κs = search needs
 
 returns-4 : tie.Need-returns-4 Inv-loop μ-loop
 returns-4 c =
-    let a = c .before .before .before .before .before .before .before .before .before .before .before .before .before .before .before .args in let l = c .before .before .before .before .before .before .before .loop in
-    let told = ap writtenNumber (sym (c .before .enum-told2 .given .1))
-    ∙ c .before .before .before .one-more .ensures in
+    let more = c .before .before .before in
+    let tested = more .before .before .before in
+    let at-loop = tested .before in
+    let digit = at-loop .before .before .before .before in
+    let a = digit .before .before .before .before .args in
+    let l = at-loop .loop in
+    let told = ap writtenNumber (sym (c .before .enum-told2 .given .1)) ∙ more .one-more .ensures in
     no-number-met _ _ _ _ _ _ _ (c .no-number3 .ensures)
     (stops-there (a .most) (a .end) (a .bytes .now) (a .at) (l .i) (l .value)
-    (c .before .before .before .before .before .before .loop-test .taken) (l .inv .3)
-    (c .before .before .before .before .if2 .left) told)
+    (tested .loop-test .taken) (l .inv .3) (more .before .if2 .left) told)
 
 add-i-2 : tie.Need-add-i-2 Inv-loop μ-loop
 add-i-2 c = omega arith
@@ -101,14 +110,18 @@ loop-less c = omega arith
 
 loop-again : tie.Need-loop-again Inv-loop μ-loop
 loop-again c =
-    let a = c .before .before .before .before .before .before .before .before .before .before .before .before .before .before .before .args in let l = c .before .before .before .before .before .before .before .loop in
-    let told = ap writtenNumber (sym (c .before .more .given .1)) ∙ c .before .before .before .one-more .ensures in (
+    let more = c .before .before .before in
+    let tested = more .before .before .before in
+    let at-loop = tested .before in
+    let digit = at-loop .before .before .before .before in
+    let a = digit .before .before .before .before .args in
+    let l = at-loop .loop in
+    let told = ap writtenNumber (sym (c .before .more .given .1)) ∙ more .one-more .ensures in (
       omega arith,
       omega arith,
       one-more-fits (a .most) (l .value) (getD (a .bytes .now) (l .i) 0) _ told,
       goes-on-there (a .most) (a .end) (a .bytes .now) (a .at) (l .i) (l .value)
-          (c .before .before .before .before .before .before .loop-test .taken) (l .inv .3)
-          (c .before .before .before .before .if2 .left) _ told,
+          (tested .loop-test .taken) (l .inv .3) (more .before .if2 .left) _ told,
     )
 
 no-number-requires-4 : tie.Need-no-number-requires-4 Inv-loop μ-loop

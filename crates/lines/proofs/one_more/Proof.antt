@@ -30,11 +30,12 @@ up-to-requires : tie.Need-up-to-requires
 up-to-requires c κs = search needs
 
 returns-3 : tie.Need-returns-3
-returns-3 c = c .up-to .ensures
-    ∙ ap (λ d. upTo (c .before .before .before .before .before .args .most)
-    (10 * c .before .before .before .before .before .args .value + d)) (c .before .digit .ensures)
-    ∙ behind-digit _ _ _ (c .before .before .before .before .if1 .left)
-    (sym (c .before .before .before .is-digit .ensures) ∙ not-false _ (c .before .before .if2 .left))
+returns-3 c =
+    let seen = c .before .before .before in
+    let a = seen .before .before .args in
+    c .up-to .ensures ∙ ap (λ d. upTo (a .most) (10 * a .value + d)) (c .before .digit .ensures)
+    ∙ behind-digit _ _ _ (seen .before .if1 .left)
+    (sym (seen .is-digit .ensures) ∙ not-false _ (c .before .before .if2 .left))
 
 pub one-more-spec : {M : Type 1} → statement M
 one-more-spec =

@@ -43,8 +43,10 @@ shared-slice-read-if3-2 : tie.Need-shared-slice-read-if3-2 Inv-loop μ-loop
 shared-slice-read-if3-2 c = omega arith
 
 returns-3 : tie.Need-returns-3 Inv-loop μ-loop
-returns-3 c = sym (c .before .before .before .before .before .before .loop .inv .1
-    ∙ starts-differ _ _ _ _ (c .before .before .before .before .before .loop-test .taken) (omega arith) (c .if3 .taken))
+returns-3 c =
+    let tested = c .before .before .before .before .before in
+    sym (tested .before .loop .inv .1
+    ∙ starts-differ _ _ _ _ (tested .loop-test .taken) (omega arith) (c .if3 .taken))
 
 add-i : tie.Need-add-i Inv-loop μ-loop
 add-i c = omega arith
@@ -53,12 +55,12 @@ loop-less : tie.Need-loop-less Inv-loop μ-loop
 loop-less c = omega arith
 
 loop-again : tie.Need-loop-again Inv-loop μ-loop
-loop-again c = (
-  omega arith,
-  c .before .before .before .before .before .before .loop .inv .1
-      ∙ starts-further _ _ _ _ (c .before .before .before .before .before .loop-test .taken) (omega arith)
-      (c .if3 .left),
-)
+loop-again c =
+    let tested = c .before .before .before .before .before in (
+      omega arith,
+      tested .before .loop .inv .1
+          ∙ starts-further _ _ _ _ (tested .loop-test .taken) (omega arith) (c .if3 .left),
+    )
 
 returns-4 : tie.Need-returns-4 Inv-loop μ-loop
 returns-4 c = sym (c .before .loop .inv .1 ∙ starts-whole _ _ _ _ (c .loop-test .left))

@@ -2,13 +2,14 @@
 use Prim.Native.Nat.{ℕ, suc}
 use mathlib.Core.Path.{_≡_}
 use mathlib.Core.Bool.{Bool, false, cond, _&&_}
-use mathlib.Core.List.{List, [], _∷_}
+use mathlib.Core.List.{List}
 use lib.Dec.{leb, ltb}
 use lib.ListN.{getD}
 use Rattle.common.specs.RowKinds.{void-row, false-row}
 use Rattle.terms.specs.Row.{Row, rowAt}
 use Rattle.terms.specs.code.RowTypes.{rowOf}
-use Rattle.terms.specs.Fields.{maxKind, isPath, isQualifier}
+use Rattle.terms.specs.Fields.{Field, fieldsOf, maxKind, isPath, isQualifier}
+use Rattle.terms.specs.Fields as field
 use Rattle.terms.specs.Terms.{Term, pathIn, qualifierIn, termAt}
 use Rattle.ordering.specs.declared.Sort.{Sort}
 use Rattle.ordering.specs.declared.Sort.the-variants.{Nothing, Number, Path, Qualifier}
@@ -24,24 +25,17 @@ sortsIn s = (s .0, s .1, s .2)
 abbrev pub noSorts : Sort × Sort × Sort
 noSorts = (Nothing, Nothing, Nothing)
 
--- a line for each kind from void-row to inclusion-row
+-- axis, test and name are compared as numbers
+unfoldable pub sortOf : Field → Sort
+sortOf field.unused = Nothing
+sortOf field.axis = Number
+sortOf field.test = Number
+sortOf field.name = Number
+sortOf field.path = Path
+sortOf field.qualifier = Qualifier
+
 unfoldable pub sortsOf : ℕ → Sort × Sort × Sort
-sortsOf kind =
-    getD
-    (noSorts  -- 0 void
-    ∷ noSorts  -- 1 root
-    ∷ (Number, Number, Number)  -- 2 step
-    ∷ (Path, Path, Nothing)  -- 3 union
-    ∷ (Path, Path, Nothing)  -- 4 composition
-    ∷ (Path, Qualifier, Nothing)  -- 5 filter
-    ∷ noSorts  -- 6 true
-    ∷ noSorts  -- 7 false
-    ∷ (Qualifier, Nothing, Nothing)  -- 8 not
-    ∷ (Qualifier, Qualifier, Nothing)  -- 9 and
-    ∷ (Qualifier, Qualifier, Nothing)  -- 10 or
-    ∷ (Path, Path, Nothing)  -- 11 inclusion
-    ∷ [])
-    kind noSorts
+sortsOf kind = (sortOf (fieldsOf kind .a), sortOf (fieldsOf kind .b), sortOf (fieldsOf kind .c))
 
 -- the kind of a row's term: a row of a kind above 11 is read as the void path
 unfoldable pub termKind : ℕ → ℕ

@@ -9,13 +9,15 @@ use Rattle.terms.specs.Row.{Row, row}
 use Rattle.terms.specs.Fields.{isPath, heldPath}
 use Rattle.records.specs.declared.Record.{Record}
 use Rattle.calls.specs.Book as books
-use Rattle.calls.specs.Book.{Step, step, Book, pointedBook, Answer, answer}
+use Rattle.calls.specs.Book.{Step, step, Book, book, pointedBook, Answer, answer}
 use Rattle.calls.specs.PointCall.{placeOf, pointAnswer, returnAnswer}
-use Rattle.calls.specs.Runs.{next}
+use Rattle.calls.specs.Runs.{next, final}
 use Rattle.calls.specs.Calls.{point, return}
 use Rattle.calls.specs.Above.{both, passed, own}
+use Rattle.calls.specs.values.CallCases as calls
+use Rattle.calls.specs.values.CallCases.{seenFrom}
 use Rattle.records.specs.Records.{recorded, current, rowOf, isFitStep, recordAnswer, allKept}
-use Rattle.records.specs.Register.{plainRegister, RegisterCall, Holdings}
+use Rattle.records.specs.Register.{plainRegister, emptyRegister, RegisterCall, Holdings}
 
 -- child::1, child::*, child::node(), true, child::2
 abbrev rows : List Row
@@ -204,3 +206,15 @@ pub left :
     ∷ [])
 unfolding recordAnswer current rowOf isFitStep heldPath isPath allKept allOf returnAnswer placeOf
 left = refl
+
+-- on a fresh register: two rows, a step from one to the other, and two editions of a series
+pub from-fresh :
+    AllRight
+    (final plainRegister emptyRegister
+    (passed (calls.term 2 1 0 1) ∷ passed (calls.term 2 1 1 0) ∷ passed (calls.step 8 0 1 0 0)
+    ∷ own (recorded 7 1 0 0) ∷ own (recorded 7 2 1 1) ∷ [])
+    is both (book (row 2 1 0 1 ∷ row 2 1 1 0 ∷ []) (step 8 0 1 0 0 ∷ []))
+    (recorded 7 1 0 0 ∷ recorded 7 2 1 1 ∷ [])
+    ∷ [])
+unfolding final seenFrom recordAnswer current rowOf isFitStep
+from-fresh = refl

@@ -1,6 +1,6 @@
 -- Releases, and what the office and a crew see, by computation. Assumes nothing.
 use Prim.Native.Nat.{ℕ, _-_}
-use mathlib.Core.Path.{_≡_, refl}
+use mathlib.Core.Path.{refl}
 use mathlib.Core.Bool.{cond, not, _&&_}
 use mathlib.Core.List.{List, [], _∷_, _++_}
 use lib.Dec.{leb, ltb, eqb}
@@ -150,6 +150,7 @@ unfolding
 in-turn = refl
 
 -- releasing again is accepted
-again : plainOffice .answer (final plainOffice start (passed (own e1) ∷ own 1 ∷ [])) (own 1) ≡ answer 0 0
+again :
+    AllRight (plainOffice .answer (final plainOffice start (passed (own e1) ∷ own 1 ∷ [])) (own 1) is answer 0 0 ∷ [])
 unfolding final releaseAnswer recordAnswer current rowOf isFitStep heldPath isPath
 again = refl

@@ -4,7 +4,7 @@ use mathlib.Core.Path.{refl}
 use mathlib.Core.List.{List, [], _∷_}
 use lib.ListN.{replicate}
 use Rattle.common.specs.Bounded.{anyBelow, sumBelow}
-use Rattle.xpath.specs.Document.{rootNode, maxNodes, kindAt, parentAt, nameAt, isChild, documentOf}
+use Rattle.xpath.specs.Document.{rootNode, kindAt, parentAt, nameAt, isChild, documentOf}
 use Rattle.xpath.specs.Axis.{onAxis, passes}
 use Rattle.xpath.specs.Meaning.{selects}
 use Rattle.xpath.specs.Visits.{visits}
@@ -50,6 +50,6 @@ abbrev on-rows : ℕ → EvaluationAnswer
 on-rows size = (evaluated [] 0 (replicate size rootNode) 0 1 (replicate 600 7)) .answer
 
 -- 512 nodes are taken, one more is not
-pub most-nodes : AllRight (on-rows maxNodes is selected 1 ∷ on-rows 513 is no-room ∷ [])
+pub most-nodes : AllRight (on-rows 512 is selected 1 ∷ on-rows 513 is no-room ∷ [])
 unfolding pathEvaluated selects visits entriesFrom asPath termBy terms termAt
 most-nodes = refl

@@ -172,18 +172,27 @@ unfolding entries entriesBy ruleEntries eachFrom one three bundle uses total use
     asQualifier premiseCount firstCount formsOf formsIn rules decide yields-dec ruleFits
 entries-of = refl
 
-as-many-lines : length (entries []) ≡ 60
+as-many-lines : AllRight (length (entries []) is 60 ∷ [])
 unfolding entries entriesBy ruleEntries eachFrom
 as-many-lines = refl
 
 -- the total is counted from the steps: where they have a rule that no line is for, the column adds up to less
-other-rules : List (List Step)
-other-rules = (step 8 0 1 0 0 ∷ []) ∷ (step 60 0 1 0 0 ∷ step 0 0 1 0 0 ∷ []) ∷ []
+rule-8 : List Step
+rule-8 = step 8 0 1 0 0 ∷ []
 
-not-from-the-column : map (λ ps. withSteps freshTally ps .total) other-rules ≡ 1 ∷ 2 ∷ []
-unfolding other-rules withSteps freshTally plus
+other-rules : List Step
+other-rules = step 60 0 1 0 0 ∷ step 0 0 1 0 0 ∷ []
+
+total-of : List Step → ℕ
+total-of ps = withSteps freshTally ps .total
+
+column-of : List Step → ℕ
+column-of ps = sum (withSteps freshTally ps .uses)
+
+not-from-the-column :
+    AllRight
+    (total-of rule-8 is 1 ∷ column-of rule-8 is 1
+    ∷ total-of other-rules is 2 ∷ column-of other-rules is 0
+    ∷ [])
+unfolding total-of column-of rule-8 other-rules withSteps freshTally plusEach plus columnOf eachFrom usesOf sum
 not-from-the-column = refl
-
-column-only : map (λ ps. sum (withSteps freshTally ps .uses)) other-rules ≡ 1 ∷ 0 ∷ []
-unfolding other-rules withSteps freshTally plusEach plus columnOf eachFrom usesOf sum
-column-only = refl

@@ -7,6 +7,9 @@ use borrow.Author.Needs.{needs}
 use Rattle.xpath.proofs.document.check_document.Statement.{statement}
 use Rattle.xpath.proofs.document.check_document.Tie as tie
 
+sub-n : tie.Need-sub-n
+sub-n c = search needs
+
 add-n : tie.Need-add-n
 add-n c = search needs
 
@@ -17,8 +20,8 @@ returns : tie.Need-returns
 unfolding lentRows
 returns c = no-rows _ _ (c .before .if1 .taken)
 
-cast-t10 : tie.Need-cast-t10
-cast-t10 c = search needs
+cast-t11 : tie.Need-cast-t11
+cast-t11 c = search needs
 
 filled-requires-2 : tie.Need-filled-requires-2
 filled-requires-2 c κs = search needs
@@ -40,8 +43,8 @@ first-bad-row-requires : tie.Need-first-bad-row-requires
 first-bad-row-requires c κs =
     let f = c .before .before in omega (arith, nodes-lent (f .before .before .before .args .d .now))
 
-cast-t17 : tie.Need-cast-t17
-cast-t17 c = search needs
+cast-t18 : tie.Need-cast-t18
+cast-t18 c = search needs
 
 returns-3 : tie.Need-returns-3
 unfolding lentRows
@@ -63,16 +66,17 @@ pub check-document-spec : {M : Type 1} → statement M
 check-document-spec =
     tie.close
     (tie.spec
+    sub-n
     add-n
     filled-requires
     returns
-    cast-t10
+    cast-t11
     filled-requires-2
     returns-2
     cast-filled
     filled-requires-3
     slice-aggregate-first-bad-row
     first-bad-row-requires
-    cast-t17
+    cast-t18
     returns-3
     returns-4)
