@@ -13,7 +13,7 @@ RULES = [1, 2, 3, 4, 5, 6, 7, 8, 9, 14, 27, 28, 29, 60]
 
 def call(chance, rows, steps):
     """A line, which is accepted rather often."""
-    kind = chance.randrange(12)
+    kind = chance.randrange(14)
     old = lambda count: chance.randrange(count + 1)
     if kind < 5:
         row = chance.choice([(2, chance.randrange(13), 0, chance.randrange(5)), (2, chance.randrange(12), 1, 0),
@@ -28,7 +28,11 @@ def call(chance, rows, steps):
         return 'point %d' % chance.randrange(6)
     if kind == 10:
         return 'return %d' % chance.randrange(5)
-    return chance.choice(['term 2 01 0 2', 'point 65536', 'term 2 1 0', 'jump', '', 'step 1 1 1 1 1 1', 'point 1 '])
+    if kind == 11:
+        return chance.choice(['names', 'names a', 'names a b', 'names b a ', 'names  a'])
+    if kind == 12:
+        return 'text ' + chance.choice(['a', 'b', '//a', 'a/b', 'a|b', 'a[b]', '/', 'c', 'a]', ''])
+    return chance.choice(['text', 'term 2 01 0 2', 'point 65536', 'term 2 1 0', 'jump', '', 'step 1 1 1 1 1 1', 'point 1 '])
 
 
 def replay(lines):
@@ -37,17 +41,22 @@ def replay(lines):
     return done.stdout.decode().split('\n')[:-1]
 
 
+def calls_in(lines):
+    return sum(not line.startswith('names') for line in lines)
+
+
 def calls(chance):
     """A list of calls, of which at most the last one is refused."""
     lines, rows, steps = [], 0, 0
     for _ in range(chance.randrange(1, 60)):
         line = call(chance, rows, steps)
-        answer = replay(lines + [line])[len(lines)]
+        # replay prints nothing for names
+        answer = (replay(lines + [line])[calls_in(lines):] or ['0 0'])[0]
         if answer.startswith('0 ') or chance.random() < 0.03:
             lines.append(line)
             if not answer.startswith('0 '):
                 return lines, answer.split()[0]
-            rows, steps = rows + line.startswith('term'), steps + line.startswith('step')
+            rows, steps = rows + line.startswith(('term', 'text')), steps + line.startswith('step')
     return lines, '0'
 
 
@@ -60,7 +69,7 @@ def main():
         done = subprocess.run([spinebriar, 'file', '-'], input=text.encode(), stdout=subprocess.PIPE,
                               stderr=subprocess.PIPE)
         if answer == '0':
-            wanted = ''.join(line + '\n' for line in replay(lines + ['write 65536'])[len(lines) + 1:])
+            wanted = ''.join(line + '\n' for line in replay(lines + ['write 65536'])[calls_in(lines) + 1:])
             right = done.returncode == 0 and done.stdout.decode() == wanted
         else:
             refused += 1

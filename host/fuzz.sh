@@ -13,7 +13,7 @@ for package in clang libexpat1-dev; do
     dpkg -s $package >/dev/null 2>&1 || { apt-get update -qq && apt-get install -y -qq $package; }
 done
 archive=${ARCHIVE:-$(tools/archive.sh exports)}
-sources='host/fuzz.c host/check.c host/claim.c host/select.c host/file.c host/draft.c host/rows.c host/document.c
+sources='host/fuzz.c host/check.c host/claim.c host/select.c host/file.c host/rows.c host/document.c
     host/paths.c host/limit.c host/terms.c host/rules.c host/bundle.c host/names.c host/bytes.c'
 for what in BUNDLE XML SELECTOR NAMES CALLS; do
     out=target/fuzz/$what

@@ -61,6 +61,16 @@ static void call_select(void)
                       marks, NODES, &value);
 }
 
+/* A term, a step, and the selector as text. */
+static void call_file(void)
+{
+    static uint8_t out[MOST_BYTES];
+    static char calls[MOST_BYTES];
+    size_t value;
+    int length = snprintf(calls, sizeof calls, "names a\nterm 2 1 0 1\nstep 2 0 0 0 0\ntext %s\n", selector);
+    spinebriar_file((const uint8_t *)calls, (size_t)length, out, sizeof out, &value);
+}
+
 struct call {
     const char *name;
     void (*make)(void);
@@ -74,6 +84,7 @@ static struct call CALLS[] = {
     {"spinebriar_read_line", call_read_line, SPINEBRIAR_READ_STACK, 0},
     {"spinebriar_claim", call_claim, SPINEBRIAR_CLAIM_STACK, 0},
     {"spinebriar_select", call_select, SPINEBRIAR_SELECT_STACK, 0},
+    {"spinebriar_file", call_file, SPINEBRIAR_FILE_STACK, 0},
 };
 enum { CALL_COUNT = sizeof CALLS / sizeof *CALLS };
 

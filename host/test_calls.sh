@@ -219,12 +219,18 @@ point 65535\nterm 2 1 0 3\nstep 8 0 1 0 0\nreturn 1\nterm 2 3 1 0\nstep 8 0 1 0 
     not_filed 'a point above 65535' 'point 65536\n' 1 '10, a line of the wrong form' 'point 65536'
     not_filed 'two points' 'point 1 2\n' 1 '10, a line of the wrong form' 'point 1 2'
     not_filed 'no point' 'point \n' 1 '10, a line of the wrong form' 'point '
-    others='10, a line of the wrong form (file takes term, step, point and return alone)'
+    others='10, a line of the wrong form (file takes term, step, names, text, point and return alone)'
     not_filed 'an empty line' '\n' 1 "$others" ''
     not_filed 'byte 0' 'term 2 1 0 \0002\n' 1 '10, a line of the wrong form' 'term 2 1 0 ?2'
     not_filed 'refusal 10' "${two}jump\n" 3 "$others" 'jump'
     not_filed 'a call that leaves nothing held' "${two}select 0 0 1 1\n" 3 "$others" 'select 0 0 1 1'
-    not_filed 'a selector as text' "${two}text //mark\n" 3 "$others" 'text //mark'
+    printf 'names log mark\ntext mark\nnames\ntext *\nstep 8 0 1 0 0\n' >"$out/calls"
+    runs 'selectors as text' 0 "${T}2 1 0 2\n2 1 1 0\n${S}8 0 1 0 0\n" '' file "$out/calls"
+    not_filed 'refusal 18' "${two}text mark]\n" 3 '18, the text is outside the grammar of selectors' 'text mark]'
+    not_filed 'refusal 19' "names mark\nnames zero\ntext mark\n" 3 '19, a name of the text is not in the list' \
+        'text mark'
+    not_filed 'names forgotten' "names mark\nnames\ntext mark\n" 3 '19, a name of the text is not in the list' \
+        'text mark'
     not_filed 'no newline at the end' "${two}point 1" 3 '10, a line of the wrong form' \
         'point 1 (its newline is missing)'
     not_filed 'a carriage return' "${two}point 1\r\n" 3 '10, a line of the wrong form' 'point 1? (a carriage return)'

@@ -17,6 +17,7 @@
 #define SPINEBRIAR_READ_STACK 163840
 #define SPINEBRIAR_CLAIM_STACK 360448
 #define SPINEBRIAR_SELECT_STACK 327680
+#define SPINEBRIAR_FILE_STACK 786432
 
 #ifdef __cplusplus
 extern "C" {
@@ -41,7 +42,7 @@ enum spinebriar_answer {
     SPINEBRIAR_STEPS_FULL = 13,
     SPINEBRIAR_SHORT_MARKS = 14,
     SPINEBRIAR_LIMIT_PASSED = 15,
-    SPINEBRIAR_SHORT_BUFFER = 16, /* the call write's */
+    SPINEBRIAR_SHORT_BUFFER = 16, /* the calls write's and file's */
     SPINEBRIAR_BAD_NAME = 17, /* the program tally's */
     SPINEBRIAR_OUTSIDE_GRAMMAR = 18, /* 18 and 19 are the call text's */
     SPINEBRIAR_UNLISTED_NAME = 19,
@@ -127,6 +128,13 @@ uint16_t spinebriar_claim(const uint8_t *bundle, size_t bundle_length, const uin
 uint16_t spinebriar_select(const uint8_t *names, size_t names_length, const uint8_t *selector, size_t length,
                            const uint16_t *document, size_t document_length, uint16_t context, uint32_t limit,
                            uint8_t *marks, size_t marks_length, size_t *value);
+
+/* Makes calls, replay's lines term, step, names, text, point and return, from a fresh session, and writes the bundle of
+   what is then held to the start of `out`. 0: *value is its length, and later bytes stay. Else all bytes stay: the
+   number of the first refused line, 1 to 7, 10 to 13 or 18 to 21, and *value is the line, from 1; any other line, and
+   one without newline, is 10. 16: no line is refused, and *value is the length that the bundle needs; 62,504 bytes are
+   always enough. */
+uint16_t spinebriar_file(const uint8_t *calls, size_t length, uint8_t *out, size_t out_length, size_t *value);
 
 #ifdef __cplusplus
 }

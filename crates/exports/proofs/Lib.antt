@@ -4,4 +4,8 @@ pub mod Saying
 pub mod Texts
 pub mod Claims
 pub mod Selects
-pub mod Theorems
+pub mod ReadBack
+pub mod Files
+pub mod Takes
+pub mod Source
+pub mod Clauses

@@ -19,7 +19,8 @@ use Rattle.calls.specs.Promises.{SelectMade}
 use Rattle.calls.specs.code.Answers.{selectAnswerOf}
 use Rattle.calls.specs.declared.SelectAnswer.{SelectAnswer}
 use Rattle.calls.proofs.Cases.{select-case}
-use Rattle.calls.proofs.Marked.{SelectAccepted, select-leaves, select-takes, select-well-formed, select-marks, select-stays}
+use Rattle.calls.proofs.Marked.{SelectAccepted, select-leaves, select-takes, select-well-formed, select-marks}
+use Rattle.calls.proofs.Marked.{select-stays}
 use Rattle.session.specs.View.{freshSession}
 use Rattle.session.proofs.Simulation.{fresh-kept}
 use Rattle.exports.specs.TextSelect.{readAnswer, readRows, textSelectAnswer, textSelectBuffer}
@@ -28,12 +29,12 @@ use Rattle.exports.specs.SelectDemand.{TextSelectRelation, TextSelected,
 use Rattle.exports.proofs.Texts.{TextHeld, text-held}
 
 -- an answer that comes after another one: both accept, or the first refuses
-record Both (r s a : Answer) (c d e : List ℕ) : Type 0 where
+pub record Both (r s a : Answer) (c d e : List ℕ) : Type 0 where
   pub first : r .number ≡ 0
   pub answer : a ≡ s
   pub bytes : e ≡ c
 
-both : (r s a : Answer) (c d e : List ℕ) → a ≡ cond (accepted r) s r → e ≡ cond (accepted r) c d
+pub both : (r s a : Answer) (c d e : List ℕ) → a ≡ cond (accepted r) s r → e ≡ cond (accepted r) c d
     → (r .number ≡ 0 → Both r s a c d e) × (a .number ≡ 0 → r .number ≡ 0) × (¬ (r .number ≡ 0) → e ≡ d)
 both r s a c d e told left = by-test (accepted r) refl told left
   where

@@ -2,10 +2,12 @@
 use calls::STEP_WIDTH;
 use terms::ROW_WIDTH;
 ghost use mathlib.Core.Path.{_≡_};
-ghost use Prim.Native.Nat.{_≤_, _<_};
-ghost use lib.ListN.{length, getD};
+ghost use Prim.Native.Nat.{_+_, _≤_, _<_, min};
+ghost use lib.ListN.{length, getD, take, drop};
+ghost use Rattle.lines.specs.Line.{lines};
 ghost use Rattle.lines.specs.code.NumbersRead.{maxCount};
 ghost use Rattle.script.specs.Command.{maxNumbers, words, shapeOf, wordCommand, commandOf};
+ghost use Rattle.script.specs.Rest.{restOf, newlineForSpace, namesOf, firstBytes};
 ghost use Rattle.script.specs.code.CommandRead.{noNumbers, sizeOnly, plainLine, noCall, CallMet};
 ghost use Rattle.script.specs.code.CommandRead.{standsAlone, Fits, noEntry, EntryMet};
 
@@ -333,4 +335,74 @@ pub fn call_at(bytes: &[u8], at: usize) -> CallLine
         i += 1;
     }
     no_call(bytes)
+}
+
+// Where the rest of the line at `at` starts: behind its first space, or at the line's end where it has none.
+fn rest_start(bytes: &[u8], at: usize) -> usize
+    requires { ⌜ at ≤ length (now bytes) ⌝ }
+    ensures { λ r. ⌜ (firstBytes (lines (drop r (now (bytes .entry))))
+        ≡ restOf (firstBytes (lines (drop at (now (bytes .entry)))))) × (r ≤ length (now (bytes .entry))) ⌝ }
+{
+    let mut i = at;
+    while i < bytes.len() {
+        let b = bytes[i];
+        if b == lines::NEWLINE {
+            return i;
+        }
+        i += 1;
+        if b == lines::SPACE {
+            return i;
+        }
+    }
+    i
+}
+
+// Where the line ends that the byte at `from` is in.
+fn line_end(bytes: &[u8], from: usize) -> usize
+    requires { ⌜ from ≤ length (now bytes) ⌝ }
+    ensures { λ r. ⌜ (r ≡ from + length (firstBytes (lines (drop from (now (bytes .entry))))))
+        × (r ≤ length (now (bytes .entry))) ⌝ }
+{
+    let mut i = from;
+    while i < bytes.len() {
+        if bytes[i] == lines::NEWLINE {
+            return i;
+        }
+        i += 1;
+    }
+    i
+}
+
+// The bytes behind the first space of the line at `at`; none where it has none.
+pub fn rest_at(bytes: &[u8], at: usize) -> &[u8]
+    ensures { λ r. ⌜ now r ≡ restOf (firstBytes (lines (drop at (now (bytes .entry))))) ⌝ }
+{
+    let from = rest_start(bytes, calls::clamp(at, bytes.len()));
+    let end = line_end(bytes, from);
+    &bytes[from..end]
+}
+
+// A newline for a space; another byte stays.
+fn newline_for_space(b: u8) -> u8
+    ensures { λ r. ⌜ r ≡ newlineForSpace b ⌝ }
+{
+    if b == lines::SPACE {
+        return lines::NEWLINE;
+    }
+    b
+}
+
+// Writes the list of names that the bytes write, as much of it as there is room for. It gives how many bytes these are.
+pub fn put_names(bytes: &[u8], out: &mut [u8]) -> usize
+    ensures { λ r. ⌜ (r ≡ min (length (now (bytes .entry))) (length (now (out .entry))))
+        × (take r (now (out .exit)) ≡ take r (namesOf (now (bytes .entry))))
+        × (length (now (out .exit)) ≡ length (now (out .entry))) ⌝ }
+{
+    let size = calls::clamp(bytes.len(), out.len());
+    let mut i = 0;
+    while i < size {
+        out[i] = newline_for_space(bytes[i]);
+        i += 1;
+    }
+    size
 }

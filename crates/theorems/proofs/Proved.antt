@@ -19,7 +19,10 @@ use Rattle.session.proofs.Takes as session-takes
 use Rattle.session.proofs.Source as session
 use Rattle.register.proofs.Takes as register-takes
 use Rattle.register.proofs.Source as register
-use Rattle.theorems.proofs.Theorems.{SessionTheorems, RegisterTheorems, ProgramTheorems, Theorems}
+use Rattle.exports.proofs.Takes as exports-takes
+use Rattle.exports.proofs.Source as exports
+use Rattle.theorems.proofs.Theorems.{SessionTheorems, RegisterTheorems, HostTheorems}
+use Rattle.theorems.proofs.Theorems.{ProgramTheorems, Theorems}
 
 session-theorems : SessionTheorems
 session-theorems =
@@ -110,10 +113,30 @@ register-theorems =
       reads-exist = register.reads-exist;
     }
 
+host-theorems : HostTheorems
+host-theorems =
+    record {
+      takes = exports-takes.takes;
+      read = exports.read-tied;
+      read-line = exports.read-line-tied;
+      claim = exports.claim-tied;
+      claim-demand = exports.claim-demand;
+      select = exports.select-tied;
+      select-demand = exports.select-demand;
+      file = exports.file-tied;
+      file-demand = exports.file-demand;
+      reads-exist = exports.reads-exist;
+      read-lines-exist = exports.read-lines-exist;
+      claims-exist = exports.claims-exist;
+      text-selects-exist = exports.text-selects-exist;
+      files-exist = exports.files-exist;
+    }
+
 pub theorems : Theorems
 theorems =
     record {
       session = session-theorems;
       register = register-theorems;
+      host = host-theorems;
       programs = record { audit = λ κs a r s m. m; tally = tally-promise };
     }

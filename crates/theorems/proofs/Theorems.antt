@@ -1,5 +1,6 @@
--- All that is proved, as one list. `session.Called`, `register.Selected` and so on (proofs/Source.antt of crates session
--- and register) say of a call what its contract in the source does; Proved.antt has the proofs. Assumes nothing.
+-- All that is proved, as one list. `session.Called`, `register.Selected`, `exports.Claims` and so on
+-- (proofs/Source.antt of these crates) say of a call what its contract in the source does; Proved.antt has the proofs.
+-- Assumes nothing.
 use Prim.Native.Nat.{ℕ}
 use mathlib.Core.List.{List, map}
 use mathlib.Core.Logic.{_↔_}
@@ -62,6 +63,16 @@ use Rattle.session.proofs.Takes as session-takes
 use Rattle.session.proofs.Source as session
 use Rattle.register.proofs.Takes as register-takes
 use Rattle.register.proofs.Source as register
+use Rattle.exports.proofs.Takes as exports-takes
+use Rattle.exports.proofs.Source as exports
+use Rattle.grammar.specs.Bytes.{Bytes}
+use Rattle.session.specs.Reading.{reading}
+use Rattle.exports.specs.ClaimCall.{Claimed, claimAnswer}
+use Rattle.exports.specs.ClaimDemand.{ClaimDemand}
+use Rattle.exports.specs.TextSelect.{TextSelectMade}
+use Rattle.exports.specs.SelectDemand.{SelectDemand}
+use Rattle.exports.specs.FileDemand.{FileDemand}
+use Rattle.filing.specs.Filing.{FileMet}
 use Rattle.session.proofs.session.Session.step_saying.Reads as step-saying-reads
 use Rattle.session.proofs.session.Session.steps_held.Reads as steps-held-reads
 use Rattle.session.proofs.session.Session.rule_uses.Reads as rule-uses-reads
@@ -100,7 +111,8 @@ pub record SessionTheorems : Type 0 where
   pub replace : (s : Session) (old new by : List ℕ) (t : ReplaceAnswer)
       → session.Replaced s old new by t → ReplaceMet s old new by t
   -- order answers 5 for a row that is not held, or the order of the rows' terms; bundle order answers that of the steps
-  pub order : (s : Session) (i : ℕ) (t : Session) (j : ℕ) (r : OrderAnswer) → session.Ordered s i t j r → OrderMet s i t j r
+  pub order : (s : Session) (i : ℕ) (t : Session) (j : ℕ) (r : OrderAnswer) → session.Ordered s i t j r
+      → OrderMet s i t j r
   pub bundle-order : (s t : Session) (r : OrderAnswer) → session.BundleOrdered s t r → BundleOrderMet s t r
   -- write answers 0 with the length and leaves the bundle's text at the buffer's start, or 16 with the length needed
   -- and the buffer as it was
@@ -143,14 +155,16 @@ pub record SessionTheorems : Type 0 where
   -- a fresh session can be made as the contracts have it, and on every session every list of calls; so can every
   -- select, every read, every replace, every order, every bundle order and every write
   pub new-exists : session.New freshSession
-  pub calls-exist : (s : Session) (cs : List Call) → (os : List CallSeen) × (t : Session) × Run view session.Called s cs os t
+  pub calls-exist : (s : Session) (cs : List Call)
+      → (os : List CallSeen) × (t : Session) × Run view session.Called s cs os t
   pub selects-exist : (s : Session) (row : ℕ) (xs : List ℕ) (x limit : ℕ) (buffer : List ℕ)
       → (t : SelectAnswer) × (left : List ℕ) × session.Selected s row xs x limit buffer t left
   pub reads-exist : (bytes : List ℕ) → (t : ReadResult) × session.Read bytes t
   pub replaces-exist : (s : Session) (old new by : List ℕ) → (t : ReplaceAnswer) × session.Replaced s old new by t
   pub orders-exist : (s : Session) (i : ℕ) (t : Session) (j : ℕ) → (r : OrderAnswer) × session.Ordered s i t j r
   pub bundle-orders-exist : (s t : Session) → (r : OrderAnswer) × session.BundleOrdered s t r
-  pub writes-exist : (s : Session) (buffer : List ℕ) → (w : WriteAnswer) × (left : List ℕ) × session.Write s buffer w left
+  pub writes-exist : (s : Session) (buffer : List ℕ)
+      → (w : WriteAnswer) × (left : List ℕ) × session.Write s buffer w left
   -- a select call on a path of k steps, with a limit of at least the bound, is never answered 15; two accepted calls of
   -- one step of a path, on lent numbers that differ in the name of one node, mark every other node alike
   pub limit-suffices : LimitSuffices
@@ -181,11 +195,13 @@ pub record RegisterTheorems : Type 0 where
   -- record as released; the session's calls are passed on, but for a return that would drop a row or step in use
   pub call : (r : Register) (c : OfficeCall) (a : Answer) (t : Register) → register.Called r c a t → RegisterMet r c a t
   -- current answers the highest edition of the series, 0 if it has none
-  pub current-is : (r : Register) (series e : ℕ) → register.Current r series e → e ≡ current (recordsIn (r .records)) series
+  pub current-is : (r : Register) (series e : ℕ) → register.Current r series e
+      → e ≡ current (recordsIn (r .records)) series
   -- the office's listing has all records, a crew's the released ones, and so with a crew's current edition
   pub listing : (r : Register) (l : Records) → register.Listing r l → l ≡ listed (recordsIn (r .records))
   pub crew-listing : (r : Register) (l : Records) → register.CrewListing r l → l ≡ listed (crewListing (releasedIn r))
-  pub crew-current : (r : Register) (series e : ℕ) → register.CrewCurrent r series e → e ≡ crewCurrent (releasedIn r) series
+  pub crew-current : (r : Register) (series e : ℕ) → register.CrewCurrent r series e
+      → e ≡ crewCurrent (releasedIn r) series
   -- select, replace, order, bundle order and write are those of the register's session
   pub select : (s : Session) (row : ℕ) (xs : List ℕ) (x limit : ℕ) (buffer : List ℕ) (t : SelectAnswer) (left : List ℕ)
       → register.Selected s row xs x limit buffer t left → SelectMet s row xs x limit buffer t left
@@ -201,7 +217,8 @@ pub record RegisterTheorems : Type 0 where
   pub read : (bytes : List ℕ) (t : register-read.ReadResult) → register.Read bytes t → RegisterReadMet bytes t
   -- after every list of calls from a fresh register: all that demand 3 asks, the older path's nodes among the
   -- newer's where two editions of one series are held, or seen by a crew, and the current edition of both
-  pub register-demand : DemandOfRegister register.Selected register.Current register.CrewCurrent register.New register.Called
+  pub register-demand :
+      DemandOfRegister register.Selected register.Current register.CrewCurrent register.New register.Called
   -- a crew gets each released record and no other
   pub shows-released : (rs : List Record) (fs : List ℕ) → ShowsReleased rs fs
   -- what was released stays released, whatever calls are made
@@ -225,8 +242,39 @@ pub record RegisterTheorems : Type 0 where
   pub replaces-exist : (r : Register) (old new by : List ℕ) → (t : ReplaceAnswer) × register.Replaced r old new by t
   pub orders-exist : (q : Register) (i : ℕ) (r : Register) (j : ℕ) → (t : OrderAnswer) × register.Ordered q i r j t
   pub bundle-orders-exist : (q r : Register) → (t : OrderAnswer) × register.BundleOrdered q r t
-  pub writes-exist : (r : Register) (buffer : List ℕ) → (w : WriteAnswer) × (left : List ℕ) × register.Write r buffer w left
+  pub writes-exist : (r : Register) (buffer : List ℕ)
+      → (w : WriteAnswer) × (left : List ℕ) × register.Write r buffer w left
   pub reads-exist : (bytes : List ℕ) → (t : register-read.ReadResult) × register.Read bytes t
+
+-- the calls for a host in C
+pub record HostTheorems : Type 0 where
+  -- every call takes every input: the contracts in the source ask nothing
+  pub takes : exports-takes.Takes
+  -- a bundle is answered as read answers it, the number alone or with its value
+  pub read : (bytes : Bytes) (n : ℕ) → exports.Reads bytes n → n ≡ reading bytes .answer .number
+  pub read-line : (bytes : Bytes) (a : Answer) → exports.ReadLines bytes a → a ≡ reading bytes .answer
+  -- a claim is answered as it is defined; yes is said of a containment that a step of the bundle says and that holds on
+  -- every document, no where no step says so
+  pub claim : (bundle names old new : Bytes) (c : Claimed) → exports.Claims bundle names old new c
+      → c ≡ claimAnswer bundle names old new
+  pub claim-demand : ClaimDemand exports.Claims
+  -- a select by text is the text call on a fresh session and the select of its row; it marks what the text's path
+  -- selects
+  pub select : (names t : Bytes) (xs : List ℕ) (x limit : ℕ) (buffer left : List ℕ) (a : Answer)
+      → exports.Selects names t xs x limit buffer a left → TextSelectMade names t xs x limit buffer a left
+  pub select-demand : SelectDemand exports.Selects
+  -- a script is filed as it is defined: the calls of its lines from a fresh session, and the bundle of what they leave;
+  -- the first refused line is answered, and leaves the buffer
+  pub file : (script buffer left : Bytes) (a : Answer) → exports.Files script buffer a left
+      → FileMet script buffer a left
+  pub file-demand : FileDemand exports.Files
+  -- every input has an answer as the contracts have it
+  pub reads-exist : (bytes : Bytes) → (n : ℕ) × exports.Reads bytes n
+  pub read-lines-exist : (bytes : Bytes) → (a : Answer) × exports.ReadLines bytes a
+  pub claims-exist : (bundle names old new : Bytes) → (c : Claimed) × exports.Claims bundle names old new c
+  pub text-selects-exist : (names t : Bytes) (xs : List ℕ) (x limit : ℕ) (buffer : List ℕ)
+      → (a : Answer) × (left : List ℕ) × exports.Selects names t xs x limit buffer a left
+  pub files-exist : (script buffer : Bytes) → (a : Answer) × (left : Bytes) × exports.Files script buffer a left
 
 -- the programs: what audit prints is the report of the bytes; what tally prints are the uses of each rule over the
 -- accepted bundles, and they add up to the total
@@ -237,4 +285,5 @@ pub record ProgramTheorems : Type 0 where
 pub record Theorems : Type 0 where
   pub session : SessionTheorems
   pub register : RegisterTheorems
+  pub host : HostTheorems
   pub programs : ProgramTheorems

@@ -35,8 +35,8 @@ struct NumberList {
     count: usize,
 }
 
-// What later calls are lent: the document, the old rows and the new rows; the names stand in the script, from `names`
-// on to the line's end.
+// What later calls are lent: the document, the old rows and the new rows; the names stand in the script, in the line at
+// `names`.
 struct Lent {
     document: NumberList,
     old: NumberList,
@@ -141,48 +141,15 @@ fn return_to(r: Register, values: Values, style: Style) -> Register {
     made.register
 }
 
-// Where the rest of the line at `at` starts: behind its first space, or at the line's end where it has none.
-fn rest_at(input: &[u8], at: usize) -> usize {
-    let mut i = at;
-    while i < input.len() {
-        let b = input[i];
-        if b == lines::NEWLINE {
-            return i;
-        }
-        i += 1;
-        if b == lines::SPACE {
-            return i;
-        }
-    }
-    i
-}
-
-// Copies the bytes from `from` to the line's end, with `space` for each space; gives how many they are.
-fn copy_rest(input: &[u8], from: usize, space: u8, out: &mut [u8]) -> usize {
-    let mut used = 0;
-    let mut i = from;
-    while i < input.len() {
-        let b = input[i];
-        if b == lines::NEWLINE {
-            return used;
-        }
-        used = put(out, used, if b == lines::SPACE { space } else { b });
-        i += 1;
-    }
-    used
-}
-
 fn first_bytes(bytes: &[u8], n: usize) -> &[u8] {
     if n <= bytes.len() { &bytes[..n] } else { bytes }
 }
 
-// The lent names stand at `names`, with spaces for newlines, and the selector at `selector`.
-fn text(r: Register, input: &[u8], names: usize, selector: usize, style: Style) -> Register {
+// The selector of the line at `at`, with the names that the line at `names` lends.
+fn text(r: Register, input: &[u8], names: usize, at: usize, style: Style) -> Register {
     let mut list = [0u8; common::MAX_BYTES];
-    let mut bytes = [0u8; common::MAX_BYTES];
-    let listed = copy_rest(input, names, lines::NEWLINE, &mut list);
-    let length = copy_rest(input, selector, lines::SPACE, &mut bytes);
-    let made = r.text(first_bytes(&list, listed), first_bytes(&bytes, length));
+    let listed = script::put_names(script::rest_at(input, names), &mut list);
+    let made = r.text(first_bytes(&list, listed), script::rest_at(input, at));
     let answer = made.answer;
     print(style, answer.number, answer.value as u64);
     made.register
@@ -400,7 +367,7 @@ fn none_lent(input: &[u8]) -> Lent {
 }
 
 // What is lent after the line at `at`.
-fn lent_after(lent: Lent, input: &[u8], at: usize, read: CallLine) -> Lent {
+fn lent_after(lent: Lent, at: usize, read: CallLine) -> Lent {
     let word = read.word;
     let values = read.values;
     let numbers = read.numbers;
@@ -413,7 +380,7 @@ fn lent_after(lent: Lent, input: &[u8], at: usize, read: CallLine) -> Lent {
         Word::Document => document = listed,
         Word::Old => old = listed,
         Word::New => new = listed,
-        Word::Names => names = rest_at(input, at),
+        Word::Names => names = at,
         _ => {}
     }
     Lent {
@@ -466,7 +433,7 @@ fn make(
     match word {
         Word::Term => term(r, values, style),
         Word::Step => step(r, values, style),
-        Word::Text => text(r, input, lent.names, rest_at(input, at), style),
+        Word::Text => text(r, input, lent.names, at, style),
         Word::Point => point(r, values, style),
         Word::Return => return_to(r, values, style),
         Word::Record => record(r, values, style),
@@ -502,7 +469,7 @@ pub fn run(input: &[u8], style: Style) -> usize
         let aside = other_after(r, other, word);
         r = after;
         other = aside;
-        let later = lent_after(lent, input, at, read);
+        let later = lent_after(lent, at, read);
         lent = later;
         at = read.next;
     }

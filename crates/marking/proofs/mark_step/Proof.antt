@@ -218,7 +218,8 @@ returns-6 c =
     let start = lent .before .before .before .before in
     let a = start .args in
     let g = start .pre in
-    rw (at-match .match .keys6) (descendant-or-self-passed (documentOf (a .d .now)) (a .ends .now) (g .prepared) (a .test)
+    rw (at-match .match .keys6)
+    (descendant-or-self-passed (documentOf (a .d .now)) (a .ends .now) (g .prepared) (a .test)
     (a .name) (a .x) (g .row) _ refl (marked-self .mark-node2 .ensures)
     (rw (at-wide .wide .ensures) at (walked .mark-range2 .ensures)))
 

@@ -1,0 +1,4 @@
+pub mod LinesLaws
+pub mod LineLaws
+pub mod CallLaws
+pub mod Fits
