@@ -12,7 +12,7 @@ use Rattle.calls.specs.Book.{answer, accepted}
 use Rattle.calls.specs.StepCall.{stepNumbered}
 use Rattle.session.specs.View.{view}
 use Rattle.calls.specs.Promises.{sidesOf}
-use Rattle.calls.specs.Refusals.{wrong-form}
+use Rattle.common.specs.Refusals.{wrong-form}
 use Rattle.session.specs.Reading.{reading}
 use Rattle.session.specs.ReadCall.{readAnswerOf, readingOf, ReadMet}
 use Rattle.auditing.specs.Audit.{reportBy, readReport, report}

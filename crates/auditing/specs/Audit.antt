@@ -9,7 +9,7 @@ use Rattle.auditing.specs.declared.Report.{Report}
 use Rattle.calls.specs.Book.{accepted}
 use Rattle.calls.specs.StepCall.{stepNumbered}
 use Rattle.session.specs.View.{view}
-use Rattle.calls.specs.Refusals.{wrong-form}
+use Rattle.common.specs.Refusals.{wrong-form}
 use Rattle.session.specs.Reading.{Reading, reading}
 
 -- answer, refused line or 0, steps held, the rows of the last step or zeros

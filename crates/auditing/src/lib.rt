@@ -28,7 +28,7 @@ pub fn audit(bytes: &[u8]) -> Report
 {
     if common::MAX_BYTES < bytes.len() {
         return Report {
-            answer: calls::WRONG_FORM,
+            answer: common::refusal::WRONG_FORM,
             line: 0,
             steps: 0,
             left: 0,

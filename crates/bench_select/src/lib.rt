@@ -25,7 +25,7 @@ pub extern "C" fn bench_select(
     ensures { λ _. ⌜ now (marks .exit) ≡ selectBuffer (tableOf (now (rows .entry))) row (now (document .entry))
         context limit (now (marks .entry)) ⌝ }
 {
-    let answer = calls::select_on(rows, row, document, context, limit, marks);
+    let answer = select_calls::select_on(rows, row, document, context, limit, marks);
     answer.number()
 }
 

@@ -17,7 +17,8 @@ use Rattle.lines.specs.Line.{newline, space}
 use Rattle.lines.specs.Number.{maxNumber}
 use Rattle.lines.specs.Written.{digitsOf, decimal, AllFit, lineText}
 use Rattle.calls.specs.Book.{Step, maxSteps}
-use Rattle.bundles.specs.Bundle.{rowNames, stepNames, rowNumbers, rowText, stepText, rowsText, stepsText}
+use Rattle.bundles.specs.Bundle.{rowNames, stepNames, rowText, stepText, rowsText, stepsText}
+use Rattle.terms.specs.Row.{rowNumbers}
 use Rattle.bundles.specs.Bundle.{bundleText}
 use Rattle.bundles.specs.code.TextPut.{numbersLength}
 use Rattle.bundles.proofs.Decimals.{digits-1, digits-2, digits-4, digits-5}

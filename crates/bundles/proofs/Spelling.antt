@@ -17,7 +17,9 @@ use Rattle.lines.specs.Written.{decimal, lineText}
 use Rattle.lines.proofs.Parts.{parts-some}
 use Rattle.lines.proofs.Scan.{digit-range}
 use Rattle.calls.specs.Book.{Step}
-use Rattle.bundles.specs.Bundle.{rowOfNumbers, stepOfNumbers, rowOfLine, stepOfLine, rowNumbers, stepNumbers}
+use Rattle.bundles.specs.Bundle.{rowOfNumbers, stepOfNumbers, rowOfLine, stepOfLine}
+use Rattle.terms.specs.Row.{rowNumbers}
+use Rattle.calls.specs.Book.{stepNumbers}
 use Rattle.bundles.specs.Bundle.{rowText, stepText, rowsText, stepsText}
 use Rattle.bundles.proofs.Decimals.{one-digit, more-digits}
 

@@ -3,13 +3,12 @@ use Prim.Native.Nat.{ℕ}
 use mathlib.Core.List.{List, [], _∷_, _++_}
 use mathlib.Core.Option.{Option, Option·map}
 use lib.ListN.{getD}
-use Rattle.terms.specs.Row.{Row, row}
-pub use Rattle.terms.specs.Row.{rowNumbers}
+use Rattle.terms.specs.Row.{Row, row, rowNumbers}
 use Rattle.lines.specs.Ascii.{ascii}
 use Rattle.lines.specs.Line.{newline, Line}
 use Rattle.lines.specs.Number.{numbersOf}
 use Rattle.lines.specs.Written.{lineText}
-use Rattle.calls.specs.Book.{Step, step}
+use Rattle.calls.specs.Book.{Step, step, stepNumbers}
 use Rattle.calls.specs.code.Tables.{rowWidth, stepWidth}
 
 -- the names lines of document 01: the first stands before the term lines, the second before the step lines
@@ -32,10 +31,6 @@ rowOfLine l = Option·map rowOfNumbers (numbersOf rowWidth l)
 
 unfoldable pub stepOfLine : Line → Option Step
 stepOfLine l = Option·map stepOfNumbers (numbersOf stepWidth l)
-
--- the numbers of a step, in order
-abbrev pub stepNumbers : Step → List ℕ
-stepNumbers p = p .rule ∷ p .left ∷ p .right ∷ p .first ∷ p .second ∷ []
 
 -- the line of a row, and of a step
 abbrev pub rowText : Row → List ℕ

@@ -1,4 +1,6 @@
-// The text of a bundle, written from lent rows and steps.
+// The text of a bundle, written from lent rows and steps; the row and the step of a line's numbers.
+use calls::Step;
+use terms::Row;
 ghost use mathlib.Core.Path.{_≡_};
 ghost use mathlib.Core.List.{[], _∷_, _++_};
 ghost use Prim.Native.Nat.{_+_, _*_, _≤_, _<_};
@@ -6,8 +8,11 @@ ghost use lib.ListN.{length};
 ghost use Rattle.lines.specs.Line.{newline};
 ghost use Rattle.lines.specs.Written.{decimal};
 ghost use Rattle.terms.specs.Row.{maxRows};
+ghost use Rattle.terms.specs.code.RowTypes.{rowOf};
 ghost use Rattle.calls.specs.Book.{maxSteps};
 ghost use Rattle.calls.specs.code.Tables.{rowWidth, stepWidth};
+ghost use Rattle.calls.specs.code.Answers.{stepOf};
+ghost use Rattle.bundles.specs.Bundle.{rowOfNumbers, stepOfNumbers};
 ghost use Rattle.bundles.specs.code.TextPut.{Put, behind, leftNext, linesText, numbersLength};
 ghost use Rattle.bundles.specs.code.TextPut.{tablesText, heldText, TextWritten};
 
@@ -19,6 +24,35 @@ pub const ROW_NAMES_LENGTH: usize = 10;
 pub const STEP_NAMES: [u8; STEP_NAMES_LENGTH] = *b"rule left right first second";
 
 pub const STEP_NAMES_LENGTH: usize = 28;
+
+// The row of a term line's numbers.
+pub fn row_of_numbers(numbers: [u16; lines::MAX_COUNT]) -> Row
+    ensures { λ r. ⌜ rowOf r ≡ rowOfNumbers numbers ⌝ }
+{
+    let kind = numbers[0];
+    let a = numbers[1];
+    let b = numbers[2];
+    let c = numbers[3];
+    Row { kind, a, b, c }
+}
+
+// The step of a step line's numbers.
+pub fn step_of_numbers(numbers: [u16; lines::MAX_COUNT]) -> Step
+    ensures { λ r. ⌜ stepOf r ≡ stepOfNumbers numbers ⌝ }
+{
+    let rule = numbers[0];
+    let left = numbers[1];
+    let right = numbers[2];
+    let first = numbers[3];
+    let second = numbers[4];
+    Step {
+        rule,
+        left,
+        right,
+        first,
+        second,
+    }
+}
 
 // How many digits n has.
 fn digits(n: u16) -> usize

@@ -3,7 +3,7 @@ use mathlib.Core.Path.{_≡_, refl, sym, ap, subst, _∙_}
 use mathlib.Core.Bool.{Bool, true, false, cond, _&&_, false≢true}
 use borrow.Author.Tests.{eqb-true, eq-eqb, ne-eqb}
 use Rattle.calls.specs.Book.{Answer, accepted}
-use Rattle.calls.specs.Runs.{Machine, next, Made, Reached, first, after}
+use Rattle.calls.specs.Runs.{Machine, Made, Reached, first, after}
 use Rattle.calls.specs.Above.{Both, both, Above, passed, own, Layer, above, along}
 use Rattle.calls.proofs.Accepted.{if-accepted, if-refused}
 use Rattle.calls.proofs.Runs.{Simulates, reached-law}

@@ -18,7 +18,7 @@ use Rattle.calls.specs.declared.StepAnswer.the-variants as StepCases
 use Rattle.calls.specs.declared.SelectAnswer.the-variants as SelectCases
 use Rattle.calls.specs.declared.points.PointAnswer.the-variants as PointCases
 use Rattle.calls.specs.Book.{Step, maxSteps, maxPoints, Book, Answer, answer}
-use Rattle.calls.specs.Refusals as refusals
+use Rattle.common.specs.Refusals as refusals
 use Rattle.calls.specs.TermCall.{termAnswer}
 use Rattle.calls.specs.StepCall.{badSide, badPremise, stepAnswerBy}
 use Rattle.calls.specs.SelectCall.{selectAnswer}

@@ -1,7 +1,6 @@
 pub mod Accepted
 pub mod TermJudged
 pub mod StepJudged
-pub mod SelectJudged
 pub mod Marked
 pub mod SelectLaws
 pub mod Tables
@@ -17,4 +16,3 @@ pub mod RowAdded
 pub mod Yielded
 pub mod ByTerms
 pub mod TextLaws
-pub mod RuleUses

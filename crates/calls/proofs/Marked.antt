@@ -19,7 +19,7 @@ use Rattle.terms.specs.Fields.{heldPath}
 use Rattle.terms.specs.Terms.{pathAt}
 use Rattle.selection.specs.Marks.{written}
 use Rattle.calls.specs.Book.{Answer, answer}
-use Rattle.calls.specs.Refusals as refusals
+use Rattle.common.specs.Refusals as refusals
 use Rattle.calls.specs.SelectCall.{selectAnswer, selectBuffer}
 use Rattle.calls.specs.declared.SelectAnswer.{SelectAnswer}
 use Rattle.calls.specs.code.Answers.{selectAnswerOf}

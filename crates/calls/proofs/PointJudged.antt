@@ -8,7 +8,7 @@ use lib.Dec.{leb, ltb, eqb}
 use lib.ListN.{length}
 use borrow.Author.Tests.{le-leb, lt-leb, leb-false, ltb-false}
 use Rattle.calls.specs.Book.{maxPoints, answer}
-use Rattle.calls.specs.Refusals as refusals
+use Rattle.common.specs.Refusals as refusals
 use Rattle.calls.specs.PointCall.{placeOf, pointAnswer, returnAnswer}
 use Rattle.calls.proofs.Accepted.{test-failed}
 

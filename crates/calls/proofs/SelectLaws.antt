@@ -18,7 +18,7 @@ use Rattle.terms.specs.Fields.{heldPath}
 use Rattle.terms.specs.Terms.{asPath, termBy, pathAt}
 use Rattle.terms.proofs.Terms.{term-at}
 use Rattle.calls.specs.Book.{answer}
-use Rattle.calls.specs.Refusals as refusals
+use Rattle.common.specs.Refusals as refusals
 use Rattle.calls.specs.SelectCall.{selectAnswer}
 use Rattle.calls.specs.SelectLaws.{LimitSuffices, MarksSameElsewhere}
 use Rattle.calls.proofs.Marked.{select-marks}

@@ -8,7 +8,7 @@ use lib.ListN.{length}
 use borrow.Author.Tests.{lt-ltb, le-ltb, le-leb, lt-leb, ltb-false, leb-false, eqb-false, not-false}
 use Rattle.rules.specs.Yields.{maxRule}
 use Rattle.calls.specs.Book.{Step, maxSteps, Book, answer}
-use Rattle.calls.specs.Refusals as refusals
+use Rattle.common.specs.Refusals as refusals
 use Rattle.calls.specs.StepCall.{badSide, badPremise, stepAnswerBy}
 use Rattle.calls.proofs.Accepted.{test-failed}
 

@@ -11,7 +11,7 @@ use Rattle.terms.specs.Row.{Row, maxRows, find}
 use Rattle.terms.specs.Fields.{maxKind, badPlace}
 use Rattle.terms.specs.Nesting.{maxNesting, nesting}
 use Rattle.calls.specs.Book.{answer}
-use Rattle.calls.specs.Refusals as refusals
+use Rattle.common.specs.Refusals as refusals
 use Rattle.calls.specs.TermCall.{termAnswer}
 use Rattle.calls.proofs.Accepted.{test-failed}
 

@@ -1,34 +1,32 @@
 -- The laws of text calls. Assumes nothing.
-use Prim.Native.Nat.{ℕ, suc, _+_, _≤_}
+use Prim.Native.Nat.{suc, _+_, _≤_}
 use mathlib.Core.Path.{_≡_, refl, sym, ap, subst, _∙_}
-use mathlib.Core.Bool.{_&&_}
 use mathlib.Core.List.{List, [], _∷_, _++_, map, append-assoc, append-nil}
 use native.Mathlib.Omega.{arith}
-use lib.Dec.{leb, eqb}
 use lib.ListN.{length, take, drop, length-append}
 use lib.Seq.{drop-append-seam, take-append-seam, getD-append-seam}
 use Rattle.common.specs.Lists.{Every}
 use Rattle.common.proofs.Reflect.{facts}
 use Rattle.terms.specs.Row.{Row, noRow, rowAt, maxRows, find}
-use Rattle.terms.specs.Fields.{maxKind, badPlace}
+use Rattle.terms.specs.Fields.{badPlace}
 use Rattle.terms.specs.Nesting.{nesting}
-use Rattle.terms.specs.Terms.{ofPath, termAt}
+use Rattle.terms.specs.Terms.{ofPath}
 use Rattle.terms.specs.AcceptedRows.{isWellFormed, isNew, Built}
 use Rattle.terms.proofs.Built.{built-at, Accepted}
 use Rattle.grammar.specs.Bytes.{Bytes}
 use Rattle.grammar.specs.Words.{numberOf}
-use Rattle.grammar.specs.Grammar.{Union, Spells}
+use Rattle.grammar.specs.Grammar.{Union}
 use Rattle.grammar.specs.Denotes.{unionOf, nestPath}
-use Rattle.grammar.specs.Answer.{Reply, reply, Answers}
+use Rattle.grammar.specs.Answer.{Reply, Answers}
 use Rattle.grammar.proofs.Answered.{answered, only}
 use Rattle.grammar.proofs.Place.{one-tree}
 use Rattle.grammar.proofs.Longer.{answer-longer, accepted-few}
 use Rattle.grammar.proofs.Standing.{answer-built, accepted}
 use Rattle.calls.specs.Book.{Step, Point, Book, pointedBook, Answer, answer}
 use Rattle.calls.specs.TermCall.{termAnswer}
-use Rattle.calls.specs.TextCall.{textReply, textAnswer, textBook}
+use Rattle.calls.specs.TextCall.{textReply, textAnswer}
 use Rattle.calls.specs.Runs.{next, shown, final}
-use Rattle.calls.specs.Calls.{Call, term, CallSeen, plainBook, Reachable}
+use Rattle.calls.specs.Calls.{Call, term, CallSeen, plainBook}
 use Rattle.calls.specs.TextLaws.{AnswersAsDefined, newRows, AsTermCalls, GivesItsTerm, GivesItsNesting}
 use Rattle.calls.proofs.Accepted.{if-accepted}
 use Rattle.calls.proofs.TermJudged.{row-held}

@@ -1,7 +1,7 @@
 -- The plain book of document 01: a list of rows and a list of steps; document 02 gives it points. Assumes nothing.
 use Prim.Native.Nat.{ℕ}
 use mathlib.Core.Bool.{Bool}
-use mathlib.Core.List.{List, []}
+use mathlib.Core.List.{List, [], _∷_}
 use lib.Dec.{eqb}
 use Rattle.terms.specs.Row.{Row}
 
@@ -15,6 +15,10 @@ pub record Step : Type 0 where
 
 abbrev pub step : ℕ → ℕ → ℕ → ℕ → ℕ → Step
 step n l r i j = record { rule = n; left = l; right = r; first = i; second = j }
+
+-- the numbers of a step, in order
+abbrev pub stepNumbers : Step → List ℕ
+stepNumbers p = p .rule ∷ p .left ∷ p .right ∷ p .first ∷ p .second ∷ []
 
 abbrev pub noStep : Step
 noStep = step 0 0 0 0 0

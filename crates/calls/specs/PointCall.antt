@@ -5,7 +5,7 @@ use mathlib.Core.List.{List, [], _∷_, _++_, map}
 use lib.Dec.{leb, ltb, eqb}
 use lib.ListN.{length, getD, take}
 use Rattle.calls.specs.Book.{Point, point, noPoint, maxPoints, Book, pointedBook, Answer, answer}
-use Rattle.calls.specs.Refusals.{bad-point, points-full}
+use Rattle.common.specs.Refusals.{bad-point, points-full}
 
 abbrev pub pointNames : List Point → List ℕ
 pointNames ps = map (λ p. p .name) ps

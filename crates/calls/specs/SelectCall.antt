@@ -13,7 +13,7 @@ use Rattle.terms.specs.Fields.{heldPath}
 use Rattle.terms.specs.Terms.{pathAt}
 use Rattle.selection.specs.Marks.{written}
 use Rattle.calls.specs.Book.{Answer, answer, accepted}
-use Rattle.calls.specs.Refusals.{bad-document, bad-argument, short-marks, limit-passed}
+use Rattle.common.specs.Refusals.{bad-document, bad-argument, short-marks, limit-passed}
 
 -- the first refusal that applies, in the order 8, 9, 14, 15, on the lent numbers xs from node x with a buffer of `room`
 -- bytes; else 0 with the visits

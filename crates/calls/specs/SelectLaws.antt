@@ -9,7 +9,7 @@ use Rattle.xpath.specs.Chain.{Chain, visitBound}
 use Rattle.xpath.specs.OneName.{LentSameButName}
 use Rattle.terms.specs.Row.{Row, rowAt}
 use Rattle.terms.specs.Terms.{pathAt}
-use Rattle.calls.specs.Refusals.{limit-passed}
+use Rattle.common.specs.Refusals.{limit-passed}
 use Rattle.calls.specs.declared.SelectAnswer.{SelectAnswer}
 use Rattle.calls.specs.code.Answers.{selectAnswerOf}
 use Rattle.calls.specs.Promises.{SelectMade}

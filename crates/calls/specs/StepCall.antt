@@ -10,7 +10,7 @@ use Rattle.rules.specs.Claim.{Claim, says}
 use Rattle.rules.specs.Yields.{maxRule, premiseCount}
 use Rattle.rules.specs.Decision.{yields-dec}
 use Rattle.calls.specs.Book.{Step, noStep, maxSteps, Book, pointedBook, Answer, answer}
-use Rattle.calls.specs.Refusals.{no-rule, bad-side, bad-premise, not-yielded, steps-full}
+use Rattle.common.specs.Refusals.{no-rule, bad-side, bad-premise, not-yielded, steps-full}
 
 -- rows i and j are both paths, or neither is
 unfoldable pub sameSort : List Row → ℕ → ℕ → Bool

@@ -7,7 +7,7 @@ use Rattle.terms.specs.Row.{Row, maxRows, find}
 use Rattle.terms.specs.Fields.{maxKind, badPlace}
 use Rattle.terms.specs.Nesting.{maxNesting, nesting}
 use Rattle.calls.specs.Book.{Book, pointedBook, Answer, answer}
-use Rattle.calls.specs.Refusals.{bad-kind, bad-field, too-deep, terms-full, already-held}
+use Rattle.common.specs.Refusals.{bad-kind, bad-field, too-deep, terms-full, already-held}
 
 -- the first refusal that applies, in the order 1, 2, 3, 12, 11; else 0 with the row's number
 unfoldable pub termAnswer : List Row → Row → Answer

@@ -1,55 +1,18 @@
-// The answers of the calls term, step, point, return and select, on lent rows, steps and points: a module for each.
+// What the calls on lent rows, steps and points have in common: their answers, steps and points, and the first rows and
+// steps of a table. Each call is judged in a crate of its own.
 mod points;
-mod select;
 mod step;
-mod term;
 
-pub use common::refusal::ALREADY_HELD;
-pub use common::refusal::BAD_ARGUMENT;
-pub use common::refusal::BAD_DOCUMENT;
-pub use common::refusal::BAD_FIELD;
-pub use common::refusal::BAD_KIND;
-pub use common::refusal::BAD_LISTS;
-pub use common::refusal::BAD_NAME;
-pub use common::refusal::BAD_POINT;
-pub use common::refusal::BAD_PREMISE;
-pub use common::refusal::BAD_RECORD;
-pub use common::refusal::BAD_SIDE;
-pub use common::refusal::FULL_OR_IN_USE;
-pub use common::refusal::LIMIT_PASSED;
-pub use common::refusal::NO_RECORD;
-pub use common::refusal::NO_RULE;
-pub use common::refusal::NOT_COVERED;
-pub use common::refusal::NOT_NEXT;
-pub use common::refusal::NOT_YIELDED;
-pub use common::refusal::OUTSIDE_GRAMMAR;
-pub use common::refusal::POINTS_FULL;
-pub use common::refusal::SHORT_BUFFER;
-pub use common::refusal::SHORT_MARKS;
-pub use common::refusal::STEPS_FULL;
-pub use common::refusal::TERMS_FULL;
-pub use common::refusal::TOO_DEEP;
-pub use common::refusal::UNLISTED_NAME;
-pub use common::refusal::WRONG_FORM;
+use common::refusal;
 pub use points::MAX_POINTS;
 pub use points::POINT_WIDTH;
 pub use points::PointAnswer;
 pub use points::PointCounts;
-pub use points::clear;
-pub use points::judge_point;
-pub use points::judge_return;
-pub use points::point_named;
-pub use points::point_place;
-pub use select::select_on;
 pub use step::MAX_STEPS;
 pub use step::STEP_WIDTH;
 pub use step::Step;
-pub use step::judge_noted;
-pub use step::judge_step;
-pub use step::rule_uses;
 pub use step::sides_of;
-pub use term::judge_kept;
-pub use term::judge_term;
+pub use step::step_count;
 ghost use mathlib.Core.Path.{_≡_};
 ghost use Prim.Native.Nat.{min};
 ghost use lib.ListN.{take};
@@ -120,11 +83,11 @@ impl TermAnswer {
     {
         match self {
             TermAnswer::Held(_) => 0,
-            TermAnswer::BadKind => BAD_KIND,
-            TermAnswer::BadField(_) => BAD_FIELD,
-            TermAnswer::TooDeep => TOO_DEEP,
-            TermAnswer::AlreadyHeld(_) => ALREADY_HELD,
-            TermAnswer::TermsFull => TERMS_FULL,
+            TermAnswer::BadKind => refusal::BAD_KIND,
+            TermAnswer::BadField(_) => refusal::BAD_FIELD,
+            TermAnswer::TooDeep => refusal::TOO_DEEP,
+            TermAnswer::AlreadyHeld(_) => refusal::ALREADY_HELD,
+            TermAnswer::TermsFull => refusal::TERMS_FULL,
         }
     }
 
@@ -148,11 +111,11 @@ impl StepAnswer {
     {
         match self {
             StepAnswer::Held(_) => 0,
-            StepAnswer::NoRule => NO_RULE,
-            StepAnswer::BadSide(_) => BAD_SIDE,
-            StepAnswer::BadPremise(_) => BAD_PREMISE,
-            StepAnswer::NotYielded => NOT_YIELDED,
-            StepAnswer::StepsFull => STEPS_FULL,
+            StepAnswer::NoRule => refusal::NO_RULE,
+            StepAnswer::BadSide(_) => refusal::BAD_SIDE,
+            StepAnswer::BadPremise(_) => refusal::BAD_PREMISE,
+            StepAnswer::NotYielded => refusal::NOT_YIELDED,
+            StepAnswer::StepsFull => refusal::STEPS_FULL,
         }
     }
 
@@ -176,10 +139,10 @@ impl SelectAnswer {
     {
         match self {
             SelectAnswer::Selected(_) => 0,
-            SelectAnswer::BadDocument(_) => BAD_DOCUMENT,
-            SelectAnswer::BadArgument(_) => BAD_ARGUMENT,
-            SelectAnswer::ShortMarks => SHORT_MARKS,
-            SelectAnswer::LimitPassed => LIMIT_PASSED,
+            SelectAnswer::BadDocument(_) => refusal::BAD_DOCUMENT,
+            SelectAnswer::BadArgument(_) => refusal::BAD_ARGUMENT,
+            SelectAnswer::ShortMarks => refusal::SHORT_MARKS,
+            SelectAnswer::LimitPassed => refusal::LIMIT_PASSED,
         }
     }
 

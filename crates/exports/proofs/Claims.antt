@@ -22,7 +22,7 @@ use Rattle.grammar.specs.Words.{numberOf}
 use Rattle.grammar.specs.Grammar.{Union, Spells}
 use Rattle.grammar.specs.Denotes.{unionOf}
 use Rattle.calls.specs.Book.{Step, noStep, Book, Answer, answer, accepted}
-use Rattle.calls.specs.Refusals.{not-covered}
+use Rattle.common.specs.Refusals.{not-covered}
 use Rattle.calls.specs.StepCall.{claimOf}
 use Rattle.calls.specs.Calls.{text}
 use Rattle.calls.proofs.ByTerms.{path-held}

@@ -13,7 +13,7 @@ use Rattle.common.specs.Lists.{Every}
 use Rattle.lines.specs.Line.{Line, lines}
 use Rattle.grammar.specs.Bytes.{Bytes}
 use Rattle.calls.specs.Book.{Answer, answer, accepted}
-use Rattle.calls.specs.Refusals.{short-buffer}
+use Rattle.common.specs.Refusals.{short-buffer}
 use Rattle.calls.specs.Calls.{Call, CallSeen}
 use Rattle.calls.specs.Runs.{next, done, then, seen}
 use Rattle.calls.proofs.Runs.{made}

@@ -9,7 +9,7 @@ use Rattle.terms.specs.Row.{maxRows}
 use Rattle.grammar.specs.Bytes.{Bytes}
 use Rattle.calls.specs.declared.SelectAnswer.{SelectAnswer}
 use Rattle.calls.specs.Book.{Book, Answer, answer, accepted}
-use Rattle.calls.specs.Refusals.{not-covered}
+use Rattle.common.specs.Refusals.{not-covered}
 use Rattle.calls.specs.Calls.{Call, text}
 use Rattle.calls.specs.Promises.{SelectMade}
 use Rattle.calls.specs.SelectCall.{selectAnswer, selectBuffer}

@@ -19,7 +19,7 @@ use Rattle.calls.specs.Promises.{SelectMade}
 use Rattle.calls.specs.code.Answers.{selectAnswerOf}
 use Rattle.calls.specs.declared.SelectAnswer.{SelectAnswer}
 use Rattle.calls.proofs.Cases.{select-case}
-use Rattle.calls.proofs.Marked.{SelectAccepted, select-leaves, select-takes, select-well-formed, select-marks}
+use Rattle.calls.proofs.Marked.{select-leaves, select-takes, select-well-formed, select-marks}
 use Rattle.calls.proofs.Marked.{select-stays}
 use Rattle.session.specs.View.{freshSession}
 use Rattle.session.proofs.Simulation.{fresh-kept}

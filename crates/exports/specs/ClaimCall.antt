@@ -5,7 +5,7 @@ use mathlib.Core.Bool.{cond}
 use lib.Dec.{eqb}
 use Rattle.grammar.specs.Bytes.{Bytes}
 use Rattle.calls.specs.Book.{Book, Answer, answer, accepted}
-use Rattle.calls.specs.Refusals.{not-covered}
+use Rattle.common.specs.Refusals.{not-covered}
 use Rattle.calls.specs.Calls.{text}
 use Rattle.replacing.specs.Covered.{stepSaying}
 use Rattle.session.specs.declared.session.Session.{Session}

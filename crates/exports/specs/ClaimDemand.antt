@@ -12,7 +12,7 @@ use Rattle.grammar.specs.Words.{numberOf}
 use Rattle.grammar.specs.Grammar.{Union, Spells}
 use Rattle.grammar.specs.Denotes.{unionOf}
 use Rattle.calls.specs.Book.{Answer, answer}
-use Rattle.calls.specs.Refusals.{not-covered}
+use Rattle.common.specs.Refusals.{not-covered}
 use Rattle.calls.specs.Calls.{text}
 use Rattle.replacing.specs.NoneLost.{StepSays}
 use Rattle.session.specs.View.{view}

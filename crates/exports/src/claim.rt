@@ -1,7 +1,6 @@
 // Whether an accepted bundle has a step that says that one selector is contained in another.
 use session::Session;
 ghost use mathlib.Core.Path.{_≡_};
-ghost use Prim.Native.Nat.{_≤_};
 ghost use Rattle.calls.specs.Book.{answer};
 ghost use Rattle.session.specs.View.{view};
 ghost use Rattle.exports.specs.ClaimCall.{claimed, saidAnswer, newClaimed, oldClaimed, claimAnswer};
@@ -32,7 +31,7 @@ fn claim_rows(session: Session, old: u16, new: u16) -> ClaimAnswer
     if step == 0 {
         return ClaimAnswer {
             part: THE_CLAIM,
-            number: calls::NOT_COVERED,
+            number: common::refusal::NOT_COVERED,
             value: 1,
         };
     }

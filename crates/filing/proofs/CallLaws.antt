@@ -1,25 +1,25 @@
 -- What the functions that file a script leave, by what they call. Assumes nothing.
 use Prim.Native.Nat.{ℕ, _≤_, _<_, min}
 use mathlib.Core.Path.{_≡_, refl, sym, ap, ap₂, subst, _∙_}
-use mathlib.Core.Bool.{Bool, true, false, cond}
-use mathlib.Core.List.{List, []}
-use mathlib.Core.Option.{none, some}
+use mathlib.Core.Bool.{true}
+use mathlib.Core.List.{[]}
+use mathlib.Core.Option.{none}
 use native.Mathlib.Omega.{arith}
 use lib.Dec.{leb}
-use lib.ListN.{length, take, drop, length-map, drop-of-length-le}
+use lib.ListN.{length, take, length-map}
 use lib.Seq.{take-all}
 use borrow.Author.Tests.{le-leb, lt-leb, eq-eqb, ne-eqb}
 use Rattle.common.specs.Limits.{maxBytes}
 use Rattle.lines.specs.Line.{lines}
 use Rattle.lines.proofs.Cutting.{no-lines}
 use Rattle.grammar.specs.Bytes.{Bytes}
-use Rattle.calls.specs.Book.{Answer, answer, accepted}
+use Rattle.calls.specs.Book.{Answer, answer}
 use Rattle.calls.specs.Calls.{Call, text}
 use Rattle.session.specs.declared.session.Session.{Session}
 use Rattle.session.specs.declared.write.WriteAnswer.{WriteAnswer}
 use Rattle.session.specs.View.{freshSession}
 use Rattle.session.specs.Promises.{Met}
-use Rattle.session.specs.Reading.{Reading, refusedAt}
+use Rattle.session.specs.Reading.{refusedAt}
 use Rattle.session.specs.WriteCall.{writeAnswerOf, WriteMet}
 use Rattle.script.specs.Rest.{restOf, newlineForSpace, namesOf, firstBytes}
 use Rattle.filing.specs.declared.ActionMade.{ActionMade}

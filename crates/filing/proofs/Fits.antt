@@ -6,7 +6,7 @@ use mathlib.Core.List.{List, [], _∷_, _++_}
 use mathlib.Core.Option.{Option, none, some, Option·elim, Option·some-injective, Option·none-ne-some}
 use native.Mathlib.Omega.{arith}
 use lib.Dec.{leb}
-use lib.ListN.{getD, length, replicate}
+use lib.ListN.{getD, length}
 use borrow.Author.Tests.{leb-true}
 use Rattle.common.specs.Limits.{maxBytes}
 use Rattle.common.specs.Lists.{Every}
@@ -15,11 +15,12 @@ use Rattle.lines.specs.Number.{maxNumber, isDecimal, appendDigits, numberUpTo, 
 use Rattle.grammar.specs.Bytes.{Bytes}
 use Rattle.calls.specs.Calls.{Call}
 use Rattle.session.specs.ReadDemand.{CallFits}
-use Rattle.script.specs.declared.Word.{Word}
-use Rattle.script.specs.declared.Word.the-variants.{Term, Step, Select, Document, Fresh, Old, New, Replace}
-use Rattle.script.specs.declared.Word.the-variants.{Write, Point, Return, Other, Order, BundleOrder, Names, Text}
-use Rattle.script.specs.declared.Word.the-variants.{Record, Current, Release, Records, Released, CrewCurrent}
-use Rattle.script.specs.Command.{words, shapeOf, numbersIn, named, wordFor, wordCommand, commandBy}
+use Rattle.script_words.specs.declared.Word.{Word}
+use Rattle.script_words.specs.declared.Word.the-variants.{Term, Step, Select, Document, Fresh, Old, New, Replace}
+use Rattle.script_words.specs.declared.Word.the-variants.{Write, Point, Return, Other, Order, BundleOrder, Names, Text}
+use Rattle.script_words.specs.declared.Word.the-variants.{Record, Current, Release, Records, Released, CrewCurrent}
+use Rattle.script.specs.Command.{numbersIn, named, wordFor, wordCommand, commandBy}
+use Rattle.script_words.specs.Words.{words, shapeOf}
 use Rattle.script.specs.Rest.{restOf, namesOf}
 use Rattle.filing.specs.Filing.{lends, lending, actionOf, actionCalls, lineAction, lineNames, callsFrom}
 

@@ -6,7 +6,7 @@ use native.Mathlib.Omega.{arith}
 use lib.ListN.{length}
 use Rattle.common.specs.Limits.{maxBytes}
 use Rattle.grammar.specs.Bytes.{Bytes}
-use Rattle.calls.specs.Refusals.{wrong-form}
+use Rattle.common.specs.Refusals.{wrong-form}
 use Rattle.session.specs.declared.session.Session.{Session}
 use Rattle.script.specs.declared.CallLine.{CallLine}
 use Rattle.script.specs.Command.{commandOf}

@@ -4,7 +4,6 @@ use mathlib.Core.Path.{_≡_, refl, sym, ap, _∙_}
 use mathlib.Core.Bool.{Bool, true, false, cond, false≢true}
 use mathlib.Core.List.{List, [], _∷_}
 use mathlib.Core.Option.{Option, none, some, Option·elim}
-use native.Mathlib.Omega.{arith}
 use lib.Dec.{eqb, leb}
 use lib.ListN.{length, drop}
 use borrow.Author.Tests.{eq-eqb, ne-eqb, leb-true}
@@ -16,15 +15,16 @@ use Rattle.grammar.specs.Bytes.{Bytes}
 use Rattle.calls.specs.Book.{answer}
 use Rattle.session.specs.declared.session.Session.{Session}
 use Rattle.session.specs.Reading.{Reading, refusedAt}
-use Rattle.script.specs.declared.Word.{Word}
-use Rattle.script.specs.declared.Word.the-variants.{Term, Step, Select, Document, Fresh, Old, New, Replace}
-use Rattle.script.specs.declared.Word.the-variants.{Write, Point, Return, Other, Order, BundleOrder, Names, Text}
-use Rattle.script.specs.declared.Word.the-variants.{Record, Current, Release, Records, Released, CrewCurrent}
+use Rattle.script_words.specs.declared.Word.{Word}
+use Rattle.script_words.specs.declared.Word.the-variants.{Term, Step, Select, Document, Fresh, Old, New, Replace}
+use Rattle.script_words.specs.declared.Word.the-variants.{Write, Point, Return, Other, Order, BundleOrder, Names, Text}
+use Rattle.script_words.specs.declared.Word.the-variants.{Record, Current, Release, Records, Released, CrewCurrent}
 use Rattle.script.specs.declared.CallLine.{CallLine}
-use Rattle.script.specs.Command.{Command, commandOf, shapeOf}
+use Rattle.script.specs.Command.{Command, commandOf}
+use Rattle.script_words.specs.Words.{shapeOf}
 use Rattle.script.specs.Rest.{restOf, namesOf, firstBytes}
 use Rattle.script.specs.code.CommandRead.{valuesOf, noCall, callLine, CallMet}
-use Rattle.filing.specs.Filing.{Action, lends, makes, lending, actionOf, lineAction, lineNumber, lineSession}
+use Rattle.filing.specs.Filing.{Action, lends, lending, actionOf, lineAction, lineNumber, lineSession}
 use Rattle.filing.specs.Filing.{lineNames, linesFiled}
 use Rattle.filing.specs.declared.LineMade.{LineMade}
 use Rattle.filing.specs.code.FilingMade.{restAt, namesAt, counted, lendsNames, firstAction, LineMet}

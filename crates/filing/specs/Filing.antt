@@ -13,7 +13,7 @@ use Rattle.lines.specs.Line.{Line, lines, partsRead}
 use Rattle.grammar.specs.Bytes.{Bytes}
 use Rattle.calls.specs.Book as book
 use Rattle.calls.specs.Book.{Answer, answer, accepted}
-use Rattle.calls.specs.Refusals.{wrong-form}
+use Rattle.common.specs.Refusals.{wrong-form}
 use Rattle.calls.specs.Runs.{next}
 use Rattle.calls.specs.Calls.{Call, term, step, text, point, return}
 use Rattle.session.specs.declared.session.Session.{Session}
@@ -21,10 +21,10 @@ use Rattle.session.specs.View.{freshSession}
 use Rattle.session.specs.Promises.{sessionAnswer, session}
 use Rattle.session.specs.Reading.{Reading, refusedAt}
 use Rattle.session.specs.WriteCall.{sessionText, writeAnswer, writeBuffer}
-use Rattle.script.specs.declared.Word.{Word}
-use Rattle.script.specs.declared.Word.the-variants.{Term, Step, Select, Document, Fresh, Old, New, Replace}
-use Rattle.script.specs.declared.Word.the-variants.{Write, Point, Return, Other, Order, BundleOrder, Names, Text}
-use Rattle.script.specs.declared.Word.the-variants.{Record, Current, Release, Records, Released, CrewCurrent}
+use Rattle.script_words.specs.declared.Word.{Word}
+use Rattle.script_words.specs.declared.Word.the-variants.{Term, Step, Select, Document, Fresh, Old, New, Replace}
+use Rattle.script_words.specs.declared.Word.the-variants.{Write, Point, Return, Other, Order, BundleOrder, Names, Text}
+use Rattle.script_words.specs.declared.Word.the-variants.{Record, Current, Release, Records, Released, CrewCurrent}
 use Rattle.script.specs.Command.{commandOf}
 use Rattle.script.specs.Rest.{restOf, namesOf}
 

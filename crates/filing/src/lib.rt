@@ -1,6 +1,6 @@
 // Makes the calls of a script's lines from a fresh session, and writes the bundle of what they leave.
 use script::Values;
-use script::Word;
+use script_words::Word;
 use session::Session;
 ghost use mathlib.Core.Path.{_≡_};
 ghost use mathlib.Core.Bool.{cond};
@@ -123,7 +123,7 @@ fn lend_names(s: Session, script: &[u8], at: usize) -> ActionMade
 fn not_taken(s: Session) -> ActionMade
     ensures { λ r. ⌜ ActionDone s none r ⌝ }
 {
-    call_made(calls::WRONG_FORM, s)
+    call_made(common::refusal::WRONG_FORM, s)
 }
 
 // What the line at `at` does, which has this word and these values.
@@ -180,7 +180,7 @@ fn make_line(s: Session, script: &[u8], names: usize, at: usize) -> LineMade
     let read = script::call_at(script, at);
     if !read.ok {
         return LineMade {
-            number: calls::WRONG_FORM,
+            number: common::refusal::WRONG_FORM,
             session: s,
             names,
             next: read.next,

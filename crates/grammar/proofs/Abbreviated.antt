@@ -1,8 +1,7 @@
 -- The laws of abbreviations and of predicates. Assumes nothing.
 use Prim.Native.Nat.{ℕ, zero, suc, _<_}
-use mathlib.Core.Path.{_≡_, refl, sym, ap, ap₂, _∙_}
-use mathlib.Core.Bool.{Bool, true, false, not, cond, _&&_, _||_}
-use mathlib.Core.List.{List, []}
+use mathlib.Core.Path.{_≡_, refl, sym, ap, ap₂}
+use mathlib.Core.Bool.{Bool, true, false, not, _&&_, _||_}
 use native.Mathlib.Omega.{arith}
 use lib.Dec.{ltb, eqb}
 use lib.ListN.{length}
@@ -13,12 +12,13 @@ use Rattle.lines.specs.Ascii.{ascii}
 use Rattle.xpath.specs.Document.{Document}
 use Rattle.xpath.specs.Term as term
 use Rattle.xpath.specs.Meaning.{selects, holds}
-use Rattle.grammar.specs.Bytes.{Bytes, same}
+use Rattle.lines.specs.Line.{sameBytes}
+use Rattle.grammar.specs.Bytes.{Bytes}
 use Rattle.grammar.specs.Words.{find, next, orZero, axes, types}
 use Rattle.grammar.specs.Grammar.{Rel, one, slash, slashes}
 use Rattle.grammar.specs.Denotes.{axisOf, testOf, constantOf, stepOf, relOf, relAfter, pathOf, unionOf, unaryOf}
 use Rattle.grammar.specs.Denotes.{andOf, orOf, everyBelow}
-use Rattle.grammar.specs.Abbreviations.{written, anyNode, before, Expansions, Meanings, Expanded, Meant}
+use Rattle.grammar.specs.Abbreviations.{unabbreviated, anyNode, before, Expansions, Meanings, Expanded, Meant}
 
 -- the same test below a bound
 any-same : (n : ℕ) (f g : ℕ → Bool) → ((z : ℕ) → f z ≡ g z) → anyBelow n f ≡ anyBelow n g
@@ -58,16 +58,16 @@ some-passes (suc n) f = go (allBelow n (λ y. not (f y) || false)) (f n) (anyBel
 
 -- steps after the root, and a step in front of others
 module _ (num : Bytes → ℕ) where
-  before-after : (r : Rel) (p : term.Path) → relAfter num (before (written "descendant-or-self" anyNode) r) p
+  before-after : (r : Rel) (p : term.Path) → relAfter num (before (unabbreviated "descendant-or-self" anyNode) r) p
       ≡ relAfter num r (term.Composition p everyBelow)
-  unfolding before relAfter stepOf testOf axisOf find next orZero axes types same ascii
+  unfolding before relAfter stepOf testOf axisOf find next orZero axes types sameBytes ascii
   before-after (one s) p = refl
   before-after (slash r w s) p = ap (λ (q : term.Path). term.Composition q (stepOf num s)) (before-after r p)
   before-after (slashes r w s) p =
       ap (λ (q : term.Path). term.Composition (term.Composition q everyBelow) (stepOf num s)) (before-after r p)
 
   pub expansions : Expansions num
-  unfolding stepOf relOf pathOf testOf axisOf find next orZero axes types same ascii
+  unfolding stepOf relOf pathOf testOf axisOf find next orZero axes types sameBytes ascii
   expansions =
       record {
         child = λ t. refl;

@@ -1,23 +1,22 @@
 -- The answer of the book is the one that the grammar gives, and there is no other. Assumes nothing.
-use Prim.Native.Nat.{ℕ, suc, _-_, _<_, _≤_}
-use mathlib.Core.Path.{_≡_, refl, sym, ap, _∙_, subst}
-use mathlib.Core.Bool.{Bool, true, false, cond}
+use Prim.Native.Nat.{ℕ, _-_, _<_, _≤_}
+use mathlib.Core.Path.{_≡_, refl, ap}
+use mathlib.Core.Bool.{Bool, true, false}
 use mathlib.Core.List.{List}
 use mathlib.Core.Option.{Option, none, some}
 use native.Mathlib.Omega.{arith}
 use lib.Dec.{leb, leb→le, le→leb, nleb→lt}
 use lib.ListN.{length}
-use Rattle.terms.specs.Row.{Row, maxRows}
-use Rattle.terms.specs.Nesting.{maxNesting}
+use Rattle.terms.specs.Row.{Row}
 use Rattle.grammar.specs.Bytes.{Bytes}
 use Rattle.grammar.specs.Words.{numberOf}
-use Rattle.grammar.specs.Grammar.{Union, Spells, Outside}
+use Rattle.grammar.specs.Grammar.{Union, Spells}
 use Rattle.grammar.specs.Denotes.{unlisted, unionNames, unionOf, putPath, nestPath}
 use Rattle.grammar.specs.Answer.{Reply, reply, Answers, outside, unnumbered, deep, full, held}
-use Rattle.grammar.specs.Reader.{Outcome, good, bad, run, initial, Text}
-use Rattle.grammar.specs.ReaderAnswer.{answer, readAnswer, namesAnswer, termAnswer}
+use Rattle.grammar.specs.code.Reader.{Outcome, good, bad, run, initial}
+use Rattle.grammar.specs.code.ReaderAnswer.{answer, readAnswer, namesAnswer, termAnswer}
 use Rattle.grammar.proofs.Basics.{so, is-true}
-use Rattle.grammar.proofs.Place.{sound-run, complete-run, bad-outside, one-place, textOf}
+use Rattle.grammar.proofs.Place.{sound-run, complete-run, bad-outside, one-place}
 
 over : (m n : ℕ) → n < m → leb m n ≡ false
 over m n h = go (leb m n) refl

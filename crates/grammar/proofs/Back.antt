@@ -1,35 +1,35 @@
 -- What a state has read: its bytes are those of its trees, and the trees are fine. Assumes nothing.
-use Prim.Native.Nat.{ℕ, suc, _+_, _-_, _<_, _≤_}
+use Prim.Native.Nat.{ℕ, _+_, _-_, _<_}
 use mathlib.Core.Path.{_≡_, refl, sym, ap, _∙_, subst}
-use mathlib.Core.Bool.{Bool, true, false, not, cond, _&&_, _||_}
-use mathlib.Core.List.{List, [], _∷_, _++_, append-assoc, append-nil}
-use mathlib.Core.Option.{Option, none, some}
-use mathlib.Core.Logic.{_⊎_, inl, inr, ⊎-elim}
-use native.Mathlib.Omega.{arith}
-use lib.Dec.{eqb, leb, ltb, ltb→lt}
-use Rattle.grammar.specs.Bytes.{Bytes, isSpace, isStart, isName, isQuote, every, same, isWord, nonempty}
+use mathlib.Core.Bool.{Bool, true, false, not, _&&_}
+use mathlib.Core.List.{[], _∷_, _++_, append-assoc, append-nil}
+use mathlib.Core.Option.{none, some}
+use lib.Dec.{eqb, ltb, ltb→lt}
+use Rattle.lines.specs.Ascii.{ascii}
+use Rattle.lines.specs.Line.{sameBytes}
+use Rattle.grammar.specs.Bytes.{Bytes, isSpace, isStart, isName, isQuote, every, isWord, nonempty}
 use Rattle.grammar.specs.Bytes.{apart, notWord, trueWord, falseWord}
-use Rattle.grammar.specs.Words.{find, next, axes, types, isSome, isAxis, isType, instructionWord}
+use Rattle.grammar.specs.Words.{isAxis, isType, instructionWord}
 use Rattle.grammar.specs.Grammar.{Axis, implied, attribute, axis, Test, any, called, kind, target, Step}
-use Rattle.grammar.specs.Grammar.{dot, dots, test, filter, Rel, one, slash, slashes, Path, relative, root}
-use Rattle.grammar.specs.Grammar.{rooted, anywhere, Union, single, union, Unary, paths, group, negation}
-use Rattle.grammar.specs.Grammar.{constant, And, operand, conj, Or, alone, disj, spellAxis, spellTest}
+use Rattle.grammar.specs.Grammar.{dot, dots, test, filter, Rel, one, slash, Path, root}
+use Rattle.grammar.specs.Grammar.{Union, union, Unary, paths, group, negation}
+use Rattle.grammar.specs.Grammar.{constant, And, operand, Or, spellAxis, spellTest}
 use Rattle.grammar.specs.Grammar.{spellStep, spellRel, spellPath, spellUnion, spellUnary, spellAnd}
-use Rattle.grammar.specs.Grammar.{spellOr, spellBool, Last, word, slashed, other, lastTest, lastStep}
+use Rattle.grammar.specs.Grammar.{spellOr, spellBool, Last, word, other, lastTest, lastStep}
 use Rattle.grammar.specs.Grammar.{lastRel, lastPath, lastUnion, lastUnary, lastAnd, lastOr, mayFollow}
-use Rattle.grammar.specs.Grammar.{takesPredicate, Spaces, FineAxis, FineTest, FineStep, FineRel, FinePath}
+use Rattle.grammar.specs.Grammar.{takesPredicate, Spaces, FineAxis, FineStep, FineRel, FinePath}
 use Rattle.grammar.specs.Grammar.{FineUnion, FineUnary, FineAnd, FineOr}
-use Rattle.grammar.specs.Reader.{State, Next, need, root1, slash1, dot1, name, colon, testing, typeOpen}
-use Rattle.grammar.specs.Reader.{quote, quoted, unquoted, after, constOpen, closed, keyword, Keyword, kA}
-use Rattle.grammar.specs.Reader.{kAn, kAnd, kO, kOr, Ctx, top, inside, Open, bracket, negate, grouped}
-use Rattle.grammar.specs.Reader.{Prefix, bare, atRoot, atAny, Lead, start, after1, after2, Alt, first}
-use Rattle.grammar.specs.Reader.{more, Left, nothing, either, Pend, plain, both, prefixOf, join}
-use Rattle.grammar.specs.Reader.{withPrefix, pathTo, joinAlt, wrap, leftOf, andTo, orTo, room, roomOf}
-use Rattle.grammar.specs.Reader.{begin, enter, step, walk, follow, needByte, shut, unaryByte, unionByte}
-use Rattle.grammar.specs.Reader.{pathByte, groupByte, leadByte, callByte, parenByte, colonByte, afterByte}
-use Rattle.grammar.specs.Reader.{keywordByte}
-use Rattle.grammar.proofs.Basics.{so, never, is-true, and-out, and-in, or-out, branch, eq-byte, same-eq}
-use Rattle.grammar.proofs.Basics.{space-name, space-start, start-name}
+use Rattle.grammar.specs.code.Reader.{State, Next, need, root1, slash1, dot1, name, colon, testing, typeOpen}
+use Rattle.grammar.specs.code.Reader.{quote, quoted, unquoted, after, constOpen, closed, keyword, Keyword, kA}
+use Rattle.grammar.specs.code.Reader.{kAn, kAnd, kO, kOr, Ctx, top, inside, Open, bracket, negate, grouped}
+use Rattle.grammar.specs.code.Reader.{Prefix, bare, atRoot, atAny, Lead, start, after1, after2, Alt, first}
+use Rattle.grammar.specs.code.Reader.{more, Left, nothing, either, Pend, plain, both, prefixOf, join}
+use Rattle.grammar.specs.code.Reader.{withPrefix, pathTo, joinAlt, wrap, leftOf, andTo, orTo, room, roomOf}
+use Rattle.grammar.specs.code.Reader.{begin, enter, step, needByte, shut, unaryByte, unionByte}
+use Rattle.grammar.specs.code.Reader.{pathByte, groupByte, leadByte, callByte, parenByte, colonByte, afterByte}
+use Rattle.grammar.specs.code.Reader.{keywordByte}
+use Rattle.lines.proofs.SameBytes.{same-bytes}
+use Rattle.grammar.proofs.Basics.{so, never, and-out, and-in, branch, eq-byte}
 
 unfoldable pub toldPrefix : Prefix → Bytes
 toldPrefix bare = []
@@ -360,7 +360,7 @@ spell-filter s w e v = refl
 
 spell-negation : (w v : Bytes) (e : Or) (u : Bytes) → spellUnary (negation w v e u)
     ≡ w ++ (110 ∷ 111 ∷ 116 ∷ (v ++ (40 ∷ (spellOr e ++ (u ++ (41 ∷ []))))))
-unfolding spellUnary
+unfolding spellUnary ascii
 spell-negation w v e u = refl
 
 spell-group : (w : Bytes) (e : Or) (v : Bytes) → spellUnary (group w e v)
@@ -382,6 +382,7 @@ list-group : (x p w e u : Bytes) → (x ++ (p ++ (w ++ (40 ∷ [])))) ++ (e ++ (
 list-group x p w e u = simp (append-assoc, append-nil)
 
 clear-negation : (p : Pend) (w t : Bytes) → ClearPend p (w ++ notWord) → ClearPend p (w ++ (110 ∷ 111 ∷ 116 ∷ t))
+unfolding ascii
 clear-negation p w t h = rw append-assoc at (more-pend p (w ++ notWord) t h)
 
 clear-group : (p : Pend) (w t : Bytes) → ClearPend p (w ++ (40 ∷ [])) → ClearPend p (w ++ (40 ∷ t))
@@ -587,17 +588,17 @@ call-read : (c : Ctx) (g : Alt) (l : Lead) (a : Axis) (w n v t : Bytes)
     → before c g l ++ (spellAxis a ++ (w ++ (n ++ (v ++ (40 ∷ []))))) ≡ t → FineAt c g l
     → Clr c g l (spellAxis a ++ (w ++ n)) → Spaces w → Spaces v
     → Read t (callByte c g l a w n v)
-unfolding callByte before toldCtx toldAlt toldLead toldPrefix toldOpen spellAxis told spellBool every
+unfolding callByte before toldCtx toldAlt toldLead toldPrefix toldOpen spellAxis told spellBool every ascii
 call-read (inside x p) first (start bare) implied w n v t h fa fl fw fv =
     let k = operand-list (toldOpen x) (toldPend p) (w ++ (n ++ (v ++ (40 ∷ [])))) t h in
-    branch (Read t) (same n notWord) _ _
+    branch (Read t) (sameBytes n notWord) _ _
     (λ i. branch (Read t) (ltb 0 (roomOf x)) _ _
-    (λ j. enter-read t (negate x p w v) (rw (same-eq n notWord i) at k)
-    (fa .0 .0, fa .0 .1, rw (same-eq n notWord i) at fl, fw, fv, room-of (roomOf x) j)) (λ _. tt))
-    (λ _. branch (Read t) (same n trueWord) _ _
-    (λ i. (rw (same-eq n trueWord i) at k, (fa .0 .0, fa .0 .1, rw (same-eq n trueWord i) at fl, fw, fv, refl)))
-    (λ _. branch (Read t) (same n falseWord) _ _
-    (λ i. (rw (same-eq n falseWord i) at k, (fa .0 .0, fa .0 .1, rw (same-eq n falseWord i) at fl, fw, fv, refl)))
+    (λ j. enter-read t (negate x p w v) (rw (same-bytes n notWord i) at k)
+    (fa .0 .0, fa .0 .1, rw (same-bytes n notWord i) at fl, fw, fv, room-of (roomOf x) j)) (λ _. tt))
+    (λ _. branch (Read t) (sameBytes n trueWord) _ _
+    (λ i. (rw (same-bytes n trueWord i) at k, (fa .0 .0, fa .0 .1, rw (same-bytes n trueWord i) at fl, fw, fv, refl)))
+    (λ _. branch (Read t) (sameBytes n falseWord) _ _
+    (λ i. (rw (same-bytes n falseWord i) at k, (fa .0 .0, fa .0 .1, rw (same-bytes n falseWord i) at fl, fw, fv, refl)))
     (λ _. tt)))
 call-read top g l a w n v t h fa fl fw fv = tt
 call-read (inside x p) (more u y) l a w n v t h fa fl fw fv = tt
@@ -918,10 +919,10 @@ step-read (typeOpen c g l a w n v u) b f =
       rw (eq-byte b 41 i) (kind-list (before c g l) (spellAxis a) w n v u (41 ∷ [])),
       (f .0, clr-name c g l (spellAxis a) w n _ (f .1), (f .2, (f .3, f .4, f .5, f .6)), refl, refl),
     ))
-    (λ _. branch (Read _) (isQuote b && same n instructionWord) _ _
-    (λ i. let z = and-out (isQuote b) (same n instructionWord) i in (
-      rw (← same-eq n instructionWord (z .1)) (quote-list (before c g l) (spellAxis a) w n v u (b ∷ [])),
-      (f .0, rw (same-eq n instructionWord (z .1)) at (f .1), f .2, f .3, f .5, f .6, z .0),
+    (λ _. branch (Read _) (isQuote b && sameBytes n instructionWord) _ _
+    (λ i. let z = and-out (isQuote b) (sameBytes n instructionWord) i in (
+      rw (← same-bytes n instructionWord (z .1)) (quote-list (before c g l) (spellAxis a) w n v u (b ∷ [])),
+      (f .0, rw (same-bytes n instructionWord (z .1)) at (f .1), f .2, f .3, f .5, f .6, z .0),
     )) (λ _. tt)))
 step-read (quote c g l a w v u q) b f =
     branch (Read _) (isStart b) _ _

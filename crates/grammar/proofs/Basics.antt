@@ -1,14 +1,14 @@
 -- Tests as facts, and walks of the reader over parts of a text. Assumes nothing.
-use Prim.Native.Nat.{ℕ, zero, suc}
-use mathlib.Core.Path.{_≡_, refl, sym, ap, _∙_, subst}
-use mathlib.Core.Bool.{Bool, true, false, not, cond, _&&_, _||_}
-use mathlib.Core.List.{List, [], _∷_, _++_, append-assoc, append-nil}
-use mathlib.Core.Option.{Option, none, some}
+use Prim.Native.Nat.{ℕ}
+use mathlib.Core.Path.{_≡_, refl, ap, _∙_}
+use mathlib.Core.Bool.{Bool, true, false, cond, _&&_, _||_}
+use mathlib.Core.List.{[], _∷_, _++_, append-assoc, append-nil}
+use mathlib.Core.Option.{none, some}
 use mathlib.Core.Logic.{_⊎_, inl, inr, ⊎-elim}
 use native.Mathlib.Omega.{arith}
-use lib.Dec.{T, eqb, leb, ltb, eqb→eq, eqb-refl}
-use Rattle.grammar.specs.Bytes.{Bytes, isSpace, isStart, isName, every, same}
-use Rattle.grammar.specs.Reader.{State, Next, step, walk, follow}
+use lib.Dec.{T, eqb, eqb→eq}
+use Rattle.grammar.specs.Bytes.{Bytes, isSpace, isStart, isName, every}
+use Rattle.grammar.specs.code.Reader.{State, Next, step, walk, follow}
 
 pub so : (b : Bool) → b ≡ true → T b
 so b e = rw e tt
@@ -61,13 +61,6 @@ space-start b t = space-cases (λ c. isStart c ≡ false) b t refl refl refl ref
 pub start-name : (b : ℕ) → isStart b ≡ true → isName b ≡ true
 unfolding isName
 start-name b t = rw t
-
-pub same-eq : (s t : Bytes) → same s t ≡ true → s ≡ t
-unfolding same
-same-eq [] [] h = refl
-same-eq [] (b ∷ t) h = absurd (never h)
-same-eq (b ∷ t) [] h = absurd (never h)
-same-eq (b ∷ s) (c ∷ t) h = let u = and-out (eqb b c) (same s t) h in rw (eq-byte b c (u .0), same-eq s t (u .1))
 
 -- walks, joined
 pub walk-byte : (st x : State) (y : Next) (b : ℕ) (t : Bytes) → step st b ≡ some x → walk t x ≡ y → walk (b ∷ t) st

@@ -8,15 +8,14 @@ use mathlib.Core.Option.{Option, none, some}
 use native.Mathlib.Omega.{arith}
 use lib.Dec.{leb, eqb}
 use lib.ListN.{length}
-use mir.Facts.{yes-leb}
 use borrow.Author.Tests.{le-leb}
 use Rattle.common.specs.Axes.{maxAxis}
 use Rattle.lines.specs.Number.{maxNumber}
 use Rattle.xpath.specs.Term as term
-use Rattle.terms.specs.Row.{Row, row}
 use Rattle.terms.specs.Fields.{fieldsOf, fieldOk}
 use Rattle.terms.specs.Nesting.{operandNesting, nestingBy, nesting}
-use Rattle.grammar.specs.Bytes.{Bytes, same}
+use Rattle.lines.specs.Line.{sameBytes}
+use Rattle.grammar.specs.Bytes.{Bytes}
 use Rattle.grammar.specs.Words.{find, next, isSome, orZero, axes, types}
 use Rattle.grammar.specs.Grammar.{Axis, implied, attribute, axis, Test, any, called, kind, target, Step}
 use Rattle.grammar.specs.Grammar.{dot, dots, test, filter, Rel, one, slash, slashes, Path, relative, root}
@@ -26,7 +25,7 @@ use Rattle.grammar.specs.Grammar.{FineRel, FinePath, FineUnion, FineUnar
 use Rattle.grammar.specs.Denotes.{axisOf, testOf, constantOf, stepOf, relOf, relAfter, pathOf, unionOf, unaryOf}
 use Rattle.grammar.specs.Denotes.{andOf, orOf, Named, testNames, stepNames, relNames, pathNames, unionNames}
 use Rattle.grammar.specs.Denotes.{unaryNames, andNames, orNames, unlisted}
-use Rattle.grammar.proofs.Basics.{is-true, never}
+use Rattle.grammar.proofs.Basics.{never}
 use Rattle.grammar.proofs.Stands.{well-formed, StepFits, PathFits, QualifierFits}
 
 -- a word that is found stands in the list
@@ -40,7 +39,7 @@ found-first k false (some i) h e = omega (arith, h refl)
 find-below : (n : Bytes) (ms : List Bytes) → isSome (find n ms) ≡ true → orZero (find n ms) < length ms
 unfolding find isSome
 find-below n [] e = absurd (never e)
-find-below n (m ∷ ms) e = found-first (length ms) (same n m) (find n ms) (find-below n ms) e
+find-below n (m ∷ ms) e = found-first (length ms) (sameBytes n m) (find n ms) (find-below n ms) e
 
 axis-below : (n : Bytes) → isSome (find n axes) ≡ true → orZero (find n axes) ≤ maxAxis
 unfolding axes

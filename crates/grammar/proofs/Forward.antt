@@ -1,13 +1,14 @@
 -- A text of the grammar is read to its end. Assumes nothing.
-use Prim.Native.Nat.{ℕ, suc, _+_, _-_, _<_, _≤_}
+use Prim.Native.Nat.{ℕ, _+_, _-_, _<_}
 use mathlib.Core.Path.{_≡_, refl, sym, ap, _∙_}
-use mathlib.Core.Bool.{Bool, true, false, not, cond, _&&_, _||_}
+use mathlib.Core.Bool.{Bool, true, false, not, _&&_, _||_}
 use mathlib.Core.List.{List, [], _∷_, _++_, append-assoc, append-nil}
 use mathlib.Core.Option.{Option, none, some}
 use mathlib.Core.Logic.{_⊎_, inl, inr, ⊎-elim}
-use native.Mathlib.Omega.{arith}
-use lib.Dec.{eqb, leb, ltb, lt→ltb}
-use Rattle.grammar.specs.Bytes.{Bytes, isSpace, isStart, isName, isQuote, every, same, isWord, nonempty}
+use lib.Dec.{eqb, ltb, lt→ltb}
+use Rattle.lines.specs.Ascii.{ascii}
+use Rattle.lines.specs.Line.{sameBytes}
+use Rattle.grammar.specs.Bytes.{Bytes, isSpace, isStart, isName, isQuote, every, isWord, nonempty}
 use Rattle.grammar.specs.Bytes.{apart, notWord, trueWord, falseWord}
 use Rattle.grammar.specs.Words.{find, next, axes, types, isSome, isAxis, isType, instructionWord}
 use Rattle.grammar.specs.Grammar.{Axis, implied, attribute, axis, Test, any, called, kind, target, Step}
@@ -15,20 +16,21 @@ use Rattle.grammar.specs.Grammar.{dot, dots, test, filter, Rel, one, sla
 use Rattle.grammar.specs.Grammar.{rooted, anywhere, Union, single, union, Unary, paths, group, negation}
 use Rattle.grammar.specs.Grammar.{constant, And, operand, conj, Or, alone, disj, spellAxis, spellTest}
 use Rattle.grammar.specs.Grammar.{spellStep, spellRel, spellPath, spellUnion, spellUnary, spellAnd}
-use Rattle.grammar.specs.Grammar.{spellOr, spellBool, Last, word, slashed, other, lastTest, lastStep}
+use Rattle.grammar.specs.Grammar.{spellOr, spellBool, Last, word, lastTest, lastStep}
 use Rattle.grammar.specs.Grammar.{lastRel, lastPath, lastUnion, lastUnary, lastAnd, lastOr, mayFollow}
 use Rattle.grammar.specs.Grammar.{takesPredicate, Spaces, FineAxis, FineTest, FineStep, FineRel, FinePath}
 use Rattle.grammar.specs.Grammar.{FineUnion, FineUnary, FineAnd, FineOr}
-use Rattle.grammar.specs.Reader.{State, Next, need, root1, slash1, dot1, name, colon, testing, typeOpen}
-use Rattle.grammar.specs.Reader.{quote, quoted, unquoted, after, constOpen, closed, keyword, Keyword, kA}
-use Rattle.grammar.specs.Reader.{kAn, kAnd, kO, kOr, Ctx, top, inside, Open, bracket, negate, grouped}
-use Rattle.grammar.specs.Reader.{Prefix, bare, atRoot, atAny, Lead, start, after1, after2, Alt, first}
-use Rattle.grammar.specs.Reader.{more, Left, nothing, either, Pend, plain, both, prefixOf, join}
-use Rattle.grammar.specs.Reader.{withPrefix, pathTo, joinAlt, wrap, leftOf, andTo, orTo, room, roomOf}
-use Rattle.grammar.specs.Reader.{begin, enter, step, walk, follow, needByte, shut, unaryByte, unionByte}
-use Rattle.grammar.specs.Reader.{pathByte, groupByte, leadByte, callByte, parenByte, colonByte, afterByte}
-use Rattle.grammar.specs.Reader.{keywordByte}
-use Rattle.grammar.proofs.Basics.{never, is-true, and-out, and-in, or-out, eq-byte, same-eq, space-cases}
+use Rattle.grammar.specs.code.Reader.{State, Next, need, root1, slash1, dot1, name, colon, testing, typeOpen}
+use Rattle.grammar.specs.code.Reader.{quote, quoted, unquoted, after, constOpen, closed, keyword, kA}
+use Rattle.grammar.specs.code.Reader.{kAn, kAnd, kO, kOr, Ctx, inside, Open, bracket, negate, grouped}
+use Rattle.grammar.specs.code.Reader.{Prefix, bare, atRoot, atAny, Lead, start, after1, after2, Alt, first}
+use Rattle.grammar.specs.code.Reader.{more, Left, nothing, either, Pend, plain, both, prefixOf, join}
+use Rattle.grammar.specs.code.Reader.{withPrefix, joinAlt, wrap, leftOf, andTo, orTo, room, roomOf}
+use Rattle.grammar.specs.code.Reader.{begin, enter, step, walk, follow, needByte, shut, unaryByte, unionByte}
+use Rattle.grammar.specs.code.Reader.{pathByte, groupByte, leadByte, callByte, parenByte, colonByte, afterByte}
+use Rattle.grammar.specs.code.Reader.{keywordByte}
+use Rattle.lines.proofs.SameBytes.{same-bytes}
+use Rattle.grammar.proofs.Basics.{never, is-true, and-out, and-in, or-out, eq-byte, space-cases}
 use Rattle.grammar.proofs.Basics.{space-name, space-start, start-name, walk-byte, walk-next, walk-join}
 use Rattle.grammar.proofs.Basics.{collect}
 
@@ -497,10 +499,10 @@ axis-list w n v t st y h = simp append-assoc h
 found-word : (n : Bytes) (ms : List Bytes) → allWords ms ≡ true → isSome (find n ms) ≡ true → isWord n ≡ true
 unfolding allWords find isSome
 found-word n [] h e = absurd (never e)
-found-word n (m ∷ ms) h e = go (same n m) refl (found-word n ms (and-out (isWord m) (allWords ms) h .1))
+found-word n (m ∷ ms) h e = go (sameBytes n m) refl (found-word n ms (and-out (isWord m) (allWords ms) h .1))
   where
-    go : (c : Bool) → same n m ≡ c → (isSome (find n ms) ≡ true → isWord n ≡ true) → isWord n ≡ true
-    go true i k = rw (same-eq n m i) (and-out (isWord m) (allWords ms) h .0)
+    go : (c : Bool) → sameBytes n m ≡ c → (isSome (find n ms) ≡ true → isWord n ≡ true) → isWord n ≡ true
+    go true i k = rw (same-bytes n m i) (and-out (isWord m) (allWords ms) h .0)
     go false i k = k (some-next (find n ms) (rw i at e))
 
 axis-word : (n : Bytes) → isAxis n ≡ true → isWord n ≡ true
@@ -543,7 +545,7 @@ module _ (c : Ctx) (g : Alt) (l : Lead) where
       ≡ true → Spaces y
       → walk (v ++ (40 ∷ (u ++ (q ∷ (m ++ (q ∷ (y ++ (41 ∷ [])))))))) (name c g l a w instructionWord)
       ≡ some (after c g l (test a (target w v u q m y)) [])
-  unfolding isSpace isName isStart afterByte parenByte step walk follow touches endStep find next types isSome same
+  unfolding isSpace isName isStart afterByte parenByte step walk follow touches endStep find next types isSome sameBytes
       instructionWord
   test-target a w v u q m y h k j n z =
       step-then c g l (test a (called w instructionWord)) v 40 (u ++ (q ∷ (m ++ (q ∷ (y ++ (41 ∷ [])))))) _ h refl
@@ -671,7 +673,7 @@ fits-bracket s w = fits-step s w 91 (inl refl) refl
 mutual
   unfolding spellStep spellRel spellPath spellUnion spellUnary spellAnd spellOr spellBool endStep endRel endPath
       endUnion endUnary endAnd endOr isName isStart isSpace afterByte parenByte callByte leadByte groupByte walk
-      follow step shut room roomOf needByte same touches find next types isSome
+      follow step shut room roomOf needByte sameBytes touches find next types isSome ascii
 
   pub read-step : (s : Step) (c : Ctx) (g : Alt) (l : Lead) → FineStep s (room c) → walk (spellStep s) (need c g l [])
       ≡ some (endStep c g l s)

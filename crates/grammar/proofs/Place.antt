@@ -2,42 +2,37 @@
 -- Assumes nothing.
 use Prim.Native.Nat.{ℕ, suc, _+_, _-_, _<_, _≤_}
 use mathlib.Core.Path.{_≡_, refl, sym, ap, _∙_, subst}
-use mathlib.Core.Bool.{Bool, true, false, not, cond, _&&_, _||_}
-use mathlib.Core.List.{List, [], _∷_, _++_, append-assoc, append-nil}
+use mathlib.Core.Bool.{true, not}
+use mathlib.Core.List.{[], _∷_, _++_, append-assoc, append-nil}
 use mathlib.Core.Option.{Option, none, some}
-use mathlib.Core.Logic.{_⊎_, inl, inr, ⊎-elim}
 use native.Mathlib.Omega.{arith}
-use lib.Dec.{eqb, leb, ltb, lt→ltb}
-use Rattle.grammar.specs.Bytes.{Bytes, isSpace, isStart, isName, isQuote, every, same, isWord, nonempty}
-use Rattle.grammar.specs.Bytes.{apart, notWord, trueWord, falseWord}
-use Rattle.grammar.specs.Words.{find, next, axes, types, isSome, isAxis, isType, instructionWord}
-use Rattle.grammar.specs.Grammar.{Axis, implied, attribute, axis, Test, any, called, kind, target, Step}
+use Rattle.grammar.specs.Bytes.{Bytes, isSpace, isStart, isName, isQuote, every}
+use Rattle.grammar.specs.Grammar.{Axis, implied, axis, Test, any, called, kind, target, Step}
 use Rattle.grammar.specs.Grammar.{dot, dots, test, filter, Rel, one, slash, slashes, Path, relative, root}
 use Rattle.grammar.specs.Grammar.{rooted, anywhere, Union, single, union, Unary, paths, group, negation}
-use Rattle.grammar.specs.Grammar.{constant, And, operand, conj, Or, alone, disj, spellAxis, spellTest}
-use Rattle.grammar.specs.Grammar.{spellStep, spellRel, spellPath, spellUnion, spellUnary, spellAnd}
-use Rattle.grammar.specs.Grammar.{spellOr, spellBool, Last, word, slashed, other, lastTest, lastStep}
-use Rattle.grammar.specs.Grammar.{lastRel, lastPath, lastUnion, lastUnary, lastAnd, lastOr, mayFollow}
-use Rattle.grammar.specs.Grammar.{takesPredicate, Spaces, FineAxis, FineTest, FineStep, FineRel, FinePath}
-use Rattle.grammar.specs.Grammar.{FineUnion, FineUnary, FineAnd, FineOr, Spells, Viable, Outside}
-use Rattle.grammar.specs.Reader.{State, Next, need, root1, slash1, dot1, name, colon, testing, typeOpen}
-use Rattle.grammar.specs.Reader.{quote, quoted, unquoted, after, constOpen, closed, keyword, Keyword, kA}
-use Rattle.grammar.specs.Reader.{kAn, kAnd, kO, kOr, Ctx, top, inside, Open, bracket, negate, grouped}
-use Rattle.grammar.specs.Reader.{Prefix, bare, atRoot, atAny, Lead, start, after1, after2, Alt, first}
-use Rattle.grammar.specs.Reader.{more, Left, nothing, either, Pend, plain, both, prefixOf, join}
-use Rattle.grammar.specs.Reader.{withPrefix, pathTo, joinAlt, wrap, leftOf, andTo, orTo, room, roomOf}
-use Rattle.grammar.specs.Reader.{begin, enter, step, walk, follow, needByte, shut, unaryByte, unionByte}
-use Rattle.grammar.specs.Reader.{pathByte, groupByte, leadByte, callByte, parenByte, colonByte, afterByte}
-use Rattle.grammar.specs.Reader.{keywordByte, finish, atTop, leadEnd, Text, run, outcome, Outcome, good}
-use Rattle.grammar.specs.Reader.{bad, initial}
+use Rattle.grammar.specs.Grammar.{constant, And, Or, spellAxis, spellTest}
+use Rattle.grammar.specs.Grammar.{spellStep, spellPath, spellUnion}
+use Rattle.grammar.specs.Grammar.{word}
+use Rattle.grammar.specs.Grammar.{Spaces, FineStep, FinePath}
+use Rattle.grammar.specs.Grammar.{Spells, Viable, Outside}
+use Rattle.grammar.specs.code.Reader.{State, Next, need, root1, slash1, dot1, name, colon, testing, typeOpen}
+use Rattle.grammar.specs.code.Reader.{quote, quoted, unquoted, after, constOpen, closed, keyword, kA}
+use Rattle.grammar.specs.code.Reader.{kAn, kAnd, kO, kOr, Ctx, top, inside, Open, bracket, negate, grouped}
+use Rattle.grammar.specs.code.Reader.{Prefix, bare, atRoot, atAny, Lead, start, after1, after2, Alt, first}
+use Rattle.grammar.specs.code.Reader.{more, either, Pend, plain, both, prefixOf, join}
+use Rattle.grammar.specs.code.Reader.{withPrefix, pathTo, joinAlt, leftOf, andTo, orTo, room}
+use Rattle.grammar.specs.code.Reader.{begin, step, walk, follow, needByte, shut, unaryByte, unionByte}
+use Rattle.grammar.specs.code.Reader.{pathByte, afterByte}
+use Rattle.grammar.specs.code.Reader.{keywordByte, finish, atTop, leadEnd, Text, run, outcome, Outcome, good}
+use Rattle.grammar.specs.code.Reader.{bad, initial}
 use lib.ListN.{length, take, drop, take-append-drop, length-append}
 use lib.Seq.{take-at, take-take}
-use Rattle.grammar.proofs.Basics.{never, and-out, space-name, space-start, walk-byte, walk-join}
-use Rattle.grammar.proofs.Forward.{endStep, endRel, endPath, endUnion, leadTo, lastOf, lead-prefix}
-use Rattle.grammar.proofs.Forward.{lead-join, read-union, after-spaces, root-spaces, space-dot}
+use Rattle.grammar.proofs.Basics.{and-out, space-name, space-start, walk-byte, walk-join}
+use Rattle.grammar.proofs.Forward.{endStep, endRel, endPath, endUnion}
+use Rattle.grammar.proofs.Forward.{read-union, after-spaces, root-spaces, space-dot}
 use Rattle.grammar.proofs.Forward.{space-slash, quote-name, quote-self}
-use Rattle.grammar.proofs.Back.{told, before, toldCtx, toldAlt, toldLead, toldPrefix, FineState, FineCtx}
-use Rattle.grammar.proofs.Back.{FineAlt, FineLead, FineOpen, Read, step-read, path-told, alt-told}
+use Rattle.grammar.proofs.Back.{told, before, toldCtx, toldAlt, toldLead, toldPrefix, FineState}
+use Rattle.grammar.proofs.Back.{FineAlt, FineLead, step-read, path-told, alt-told}
 use Rattle.grammar.proofs.Back.{path-fine, alt-fine}
 
 -- a state from which some bytes lead to the end of a text

@@ -11,14 +11,13 @@ use borrow.Author.Tests.{ltb-false}
 use lib.ListN.{length, getD, take, length-append}
 use lib.Seq.{getD-at, getD-take, take-append-seam}
 use mir.Facts.{yes-and, yes-ltb, yes-leb, yes-eqb}
-use Rattle.common.proofs.Reflect.{facts, true-iff}
 use Rattle.lines.specs.Number.{maxNumber}
 use Rattle.xpath.specs.Term as term
 use Rattle.terms.specs.Row.{Row, row, noRow, rowAt, sameRow, find}
 use Rattle.terms.specs.Fields.{Field, unused, axis, test, name, path, qualifier, fieldsOf, maxKind, isPath}
 use Rattle.terms.specs.Fields.{isQualifier, heldPath, heldQualifier, fieldOk, badPlace}
 use Rattle.terms.specs.Nesting.{maxNesting, operandNesting, nestingBy, nestings, nesting}
-use Rattle.terms.specs.Terms.{Term, ofPath, ofQualifier, asPath, asQualifier, noTerm, termBy, terms, termAt}
+use Rattle.terms.specs.Terms.{Term, ofPath, ofQualifier, asPath, asQualifier, termBy, terms, termAt}
 use Rattle.terms.specs.AcceptedRows.{isWellFormed, isNew, Built, more}
 use Rattle.terms.proofs.ByKind.{kindOf}
 use Rattle.terms.proofs.Built.{FieldLaw, built-row, built-term, built-kind}
@@ -26,7 +25,7 @@ use Rattle.terms.proofs.Entries.{entries-take, length-entries}
 use Rattle.terms.proofs.Find.{same-is, find-le}
 use Rattle.terms.proofs.Nesting.{nestings-snoc, nesting-at}
 use Rattle.terms.proofs.Terms.{term-at, term-stays}
-use Rattle.grammar.specs.Denotes.{Put, put, putPath, putQual, nestPath, nestQual}
+use Rattle.grammar.specs.Denotes.{put, putPath, putQual, nestPath, nestQual}
 use Rattle.grammar.proofs.Basics.{so, is-true}
 use Rattle.grammar.proofs.Longer.{Longer, path-longer, qualifier-longer}
 

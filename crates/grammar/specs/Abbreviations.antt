@@ -3,8 +3,8 @@
 use Prim.Native.Nat.{ℕ, _<_}
 use Prim.Native.String.{String}
 use mathlib.Core.Path.{_≡_}
-use mathlib.Core.Bool.{Bool, true, false, not, _&&_, _||_}
-use mathlib.Core.List.{List, []}
+use mathlib.Core.Bool.{Bool, not, _&&_, _||_}
+use mathlib.Core.List.{[]}
 use lib.Dec.{ltb, eqb}
 use lib.ListN.{length}
 use Rattle.common.specs.Bounded.{anyBelow}
@@ -13,13 +13,13 @@ use Rattle.xpath.specs.Document.{Document}
 use Rattle.xpath.specs.Meaning.{selects, holds}
 use Rattle.grammar.specs.Bytes.{Bytes}
 use Rattle.grammar.specs.Grammar.{implied, attribute, axis, Test, kind, Step, dot, dots, test, filter, Rel, one}
-use Rattle.grammar.specs.Grammar.{slash, slashes, Path, relative, root, rooted, anywhere, Union, single, union}
-use Rattle.grammar.specs.Grammar.{Unary, paths, group, negation, constant, And, operand, conj, Or, alone, disj}
+use Rattle.grammar.specs.Grammar.{slash, slashes, Path, relative, root, rooted, anywhere, Union, union}
+use Rattle.grammar.specs.Grammar.{Unary, paths, group, negation, constant, And, conj, Or, disj}
 use Rattle.grammar.specs.Denotes.{stepOf, relOf, pathOf, unionOf, unaryOf, andOf, orOf}
 
 -- a step with its axis written out, and node()
-abbrev pub written : String → Test → Step
-written a t = test (axis [] (ascii a) []) t
+abbrev pub unabbreviated : String → Test → Step
+unabbreviated a t = test (axis [] (ascii a) []) t
 
 abbrev pub anyNode : Test
 anyNode = kind [] (ascii "node") [] []
@@ -33,15 +33,15 @@ before s (slashes r w t) = slashes (before s r) w t
 -- an abbreviation has the very term of what it stands for, so it selects the same nodes of every document
 pub record Expansions (num : Bytes → ℕ) : Type 0 where
   -- child by default, `@`, `.` and `..`
-  pub child : (t : Test) → stepOf num (test implied t) ≡ stepOf num (written "child" t)
-  pub attributes : (w : Bytes) (t : Test) → stepOf num (test (attribute w) t) ≡ stepOf num (written "attribute" t)
-  pub self : (w : Bytes) → stepOf num (dot w) ≡ stepOf num (written "self" anyNode)
-  pub parent : (w : Bytes) → stepOf num (dots w) ≡ stepOf num (written "parent" anyNode)
+  pub child : (t : Test) → stepOf num (test implied t) ≡ stepOf num (unabbreviated "child" t)
+  pub attributes : (w : Bytes) (t : Test) → stepOf num (test (attribute w) t) ≡ stepOf num (unabbreviated "attribute" t)
+  pub self : (w : Bytes) → stepOf num (dot w) ≡ stepOf num (unabbreviated "self" anyNode)
+  pub parent : (w : Bytes) → stepOf num (dots w) ≡ stepOf num (unabbreviated "parent" anyNode)
   -- `//` is `/descendant-or-self::node()/`, at the beginning too
   pub below : (r : Rel) (w : Bytes) (s : Step)
-      → relOf num (slashes r w s) ≡ relOf num (slash (slash r w (written "descendant-or-self" anyNode)) [] s)
+      → relOf num (slashes r w s) ≡ relOf num (slash (slash r w (unabbreviated "descendant-or-self" anyNode)) [] s)
   pub anywhere : (w : Bytes) (r : Rel)
-      → pathOf num (anywhere w r) ≡ pathOf num (rooted w (before (written "descendant-or-self" anyNode) r))
+      → pathOf num (anywhere w r) ≡ pathOf num (rooted w (before (unabbreviated "descendant-or-self" anyNode) r))
 
 -- on a document, which has a root, from node x
 pub record Meanings (num : Bytes → ℕ) (d : Document) (x : ℕ) : Type 0 where

@@ -1,27 +1,27 @@
 -- The term of a tree, the names in it with their places, and the rows that a term needs. Assumes nothing.
-use Prim.Native.Nat.{ℕ, suc, _+_, _<_, _≤_, max}
-use mathlib.Core.Path.{_≡_}
-use mathlib.Core.Bool.{Bool, true, false, cond, _&&_}
+use Prim.Native.Nat.{ℕ, suc, _+_, max}
+use mathlib.Core.Bool.{Bool, true, false, cond}
 use mathlib.Core.List.{List, [], _∷_, _++_}
 use mathlib.Core.Option.{Option, none, some}
 use lib.Dec.{eqb, ltb}
 use lib.ListN.{length}
-use Rattle.grammar.specs.Bytes.{Bytes}
-use Rattle.grammar.specs.Words.{axisCode, typeCode, instructionWord, numberOf}
+use Rattle.grammar.specs.Bytes.{Bytes, notWord}
+use Rattle.grammar.specs.Bytes.{open-byte, slash-byte, open-bracket, bar-byte, letter-a, letter-d, letter-n}
+use Rattle.grammar.specs.Bytes.{letter-o, letter-r}
+use Rattle.grammar.specs.Words.{axisCode, typeCode, instructionWord}
 use Rattle.common.specs.Axes.{self, child, parent, descendant-or-self, attribute as attribute-axis}
 use Rattle.common.specs.NodeTests.{name-test, star-test, node-test, target-test}
 use Rattle.common.specs.RowKinds.{void-row, root-row, step-row, union-row, composition-row, filter-row, true-row}
 use Rattle.common.specs.RowKinds.{false-row, not-row, and-row, or-row, inclusion-row}
 use Rattle.xpath.specs.Term as term
 use Rattle.xpath.specs.Term.{some-of}
-use Rattle.terms.specs.Row.{Row, row, find, maxRows}
-use Rattle.terms.specs.Nesting.{maxNesting}
+use Rattle.terms.specs.Row.{Row, row, find}
 use Rattle.grammar.specs.Grammar.{Axis, implied, attribute, axis, Test, any, called, kind, target, Step}
 use Rattle.grammar.specs.Grammar.{dot, dots, test, filter, Rel, one, slash, slashes, Path, relative, root}
 use Rattle.grammar.specs.Grammar.{rooted, anywhere, Union, single, union, Unary, paths, group, negation}
-use Rattle.grammar.specs.Grammar.{constant, And, operand, conj, Or, alone, disj, spellAxis, spellTest}
-use Rattle.grammar.specs.Grammar.{spellStep, spellRel, spellPath, spellUnion, spellUnary, spellAnd}
-use Rattle.grammar.specs.Grammar.{spellOr, spellBool, Spells, Outside}
+use Rattle.grammar.specs.Grammar.{constant, And, operand, conj, Or, alone, disj, spellAxis}
+use Rattle.grammar.specs.Grammar.{spellStep, spellRel, spellUnion, spellAnd}
+use Rattle.grammar.specs.Grammar.{spellOr}
 
 unfoldable pub axisOf : Axis → ℕ
 axisOf implied = child
@@ -96,7 +96,7 @@ testNames i (any w) = []
 testNames i (called w n) = record { place = i + length w; name = n } ∷ []
 testNames i (kind w n v u) = []
 testNames i (target w v u q m y) =
-    record { place = i + length (w ++ (instructionWord ++ (v ++ (40 ∷ (u ++ (q ∷ [])))))); name = m } ∷ []
+    record { place = i + length (w ++ (instructionWord ++ (v ++ (open-byte ∷ (u ++ (q ∷ [])))))); name = m } ∷ []
 
 -- the names of a tree that begins at place i, of tests and of targets, in order
 unfoldable mutual
@@ -104,36 +104,38 @@ unfoldable mutual
   stepNames (dot w) i = []
   stepNames (dots w) i = []
   stepNames (test a t) i = testNames (i + length (spellAxis a)) t
-  stepNames (filter s w e v) i = stepNames s i ++ orNames e (i + length (spellStep s ++ (w ++ (91 ∷ []))))
+  stepNames (filter s w e v) i = stepNames s i ++ orNames e (i + length (spellStep s ++ (w ++ (open-bracket ∷ []))))
 
   pub relNames : Rel → ℕ → List Named
   relNames (one s) i = stepNames s i
-  relNames (slash r w s) i = relNames r i ++ stepNames s (i + length (spellRel r ++ (w ++ (47 ∷ []))))
-  relNames (slashes r w s) i = relNames r i ++ stepNames s (i + length (spellRel r ++ (w ++ (47 ∷ 47 ∷ []))))
+  relNames (slash r w s) i = relNames r i ++ stepNames s (i + length (spellRel r ++ (w ++ (slash-byte ∷ []))))
+  relNames (slashes r w s) i =
+      relNames r i ++ stepNames s (i + length (spellRel r ++ (w ++ (slash-byte ∷ slash-byte ∷ []))))
 
   pub pathNames : Path → ℕ → List Named
   pathNames (relative r) i = relNames r i
   pathNames (root w) i = []
-  pathNames (rooted w r) i = relNames r (i + length (w ++ (47 ∷ [])))
-  pathNames (anywhere w r) i = relNames r (i + length (w ++ (47 ∷ 47 ∷ [])))
+  pathNames (rooted w r) i = relNames r (i + length (w ++ (slash-byte ∷ [])))
+  pathNames (anywhere w r) i = relNames r (i + length (w ++ (slash-byte ∷ slash-byte ∷ [])))
 
   pub unionNames : Union → ℕ → List Named
   unionNames (single p) i = pathNames p i
-  unionNames (union u w p) i = unionNames u i ++ pathNames p (i + length (spellUnion u ++ (w ++ (124 ∷ []))))
+  unionNames (union u w p) i = unionNames u i ++ pathNames p (i + length (spellUnion u ++ (w ++ (bar-byte ∷ []))))
 
   pub unaryNames : Unary → ℕ → List Named
   unaryNames (paths u) i = unionNames u i
-  unaryNames (group w e v) i = orNames e (i + length (w ++ (40 ∷ [])))
-  unaryNames (negation w v e u) i = orNames e (i + length (w ++ (110 ∷ 111 ∷ 116 ∷ (v ++ (40 ∷ [])))))
+  unaryNames (group w e v) i = orNames e (i + length (w ++ (open-byte ∷ [])))
+  unaryNames (negation w v e u) i = orNames e (i + length (w ++ (notWord ++ (v ++ (open-byte ∷ [])))))
   unaryNames (constant b w v u) i = []
 
   pub andNames : And → ℕ → List Named
   andNames (operand u) i = unaryNames u i
-  andNames (conj a w u) i = andNames a i ++ unaryNames u (i + length (spellAnd a ++ (w ++ (97 ∷ 110 ∷ 100 ∷ []))))
+  andNames (conj a w u) i =
+      andNames a i ++ unaryNames u (i + length (spellAnd a ++ (w ++ (letter-a ∷ letter-n ∷ letter-d ∷ []))))
 
   pub orNames : Or → ℕ → List Named
   orNames (alone a) i = andNames a i
-  orNames (disj o w a) i = orNames o i ++ andNames a (i + length (spellOr o ++ (w ++ (111 ∷ 114 ∷ []))))
+  orNames (disj o w a) i = orNames o i ++ andNames a (i + length (spellOr o ++ (w ++ (letter-o ∷ letter-r ∷ []))))
 
 -- the place of the first name that is not in the list
 unfoldable pub unlisted : (Bytes → ℕ) → List Named → Option ℕ

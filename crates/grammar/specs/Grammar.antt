@@ -2,11 +2,14 @@
 -- tokens, so `spell..` is the very text. Bytes are w whitespace, n a name. Assumes nothing.
 use Prim.Native.Nat.{ℕ, suc, _<_, _≤_, _-_, _+_}
 use mathlib.Core.Path.{_≡_}
-use mathlib.Core.Bool.{Bool, true, false, not, _||_, _&&_}
-use mathlib.Core.List.{List, [], _∷_, _++_}
+use mathlib.Core.Bool.{Bool, true, false, not}
+use mathlib.Core.List.{[], _∷_, _++_}
 use lib.ListN.{length, take}
 use Rattle.grammar.specs.Bytes.{Bytes, isSpace, isQuote, every, isWord, nonempty, apart, notWord}
 use Rattle.grammar.specs.Bytes.{trueWord, falseWord}
+use Rattle.grammar.specs.Bytes.{open-byte, close-byte, star-byte, dot-byte, slash-byte, colon-byte, at-byte}
+use Rattle.grammar.specs.Bytes.{open-bracket, close-bracket, bar-byte, letter-a, letter-d, letter-n}
+use Rattle.grammar.specs.Bytes.{letter-o, letter-r}
 use Rattle.grammar.specs.Words.{isAxis, isType, instructionWord}
 
 -- [5] AxisSpecifier: nothing or `@`, [13] AbbreviatedAxisSpecifier, or [6] AxisName and `::`
@@ -65,14 +68,15 @@ mutual
 
 unfoldable pub spellAxis : Axis → Bytes
 spellAxis implied = []
-spellAxis (attribute w) = w ++ (64 ∷ [])
-spellAxis (axis w n v) = w ++ (n ++ (v ++ (58 ∷ 58 ∷ [])))
+spellAxis (attribute w) = w ++ (at-byte ∷ [])
+spellAxis (axis w n v) = w ++ (n ++ (v ++ (colon-byte ∷ colon-byte ∷ [])))
 
 unfoldable pub spellTest : Test → Bytes
-spellTest (any w) = w ++ (42 ∷ [])
+spellTest (any w) = w ++ (star-byte ∷ [])
 spellTest (called w n) = w ++ n
-spellTest (kind w n v u) = w ++ (n ++ (v ++ (40 ∷ (u ++ (41 ∷ [])))))
-spellTest (target w v u q m y) = w ++ (instructionWord ++ (v ++ (40 ∷ (u ++ (q ∷ (m ++ (q ∷ (y ++ (41 ∷ [])))))))))
+spellTest (kind w n v u) = w ++ (n ++ (v ++ (open-byte ∷ (u ++ (close-byte ∷ [])))))
+spellTest (target w v u q m y) =
+    w ++ (instructionWord ++ (v ++ (open-byte ∷ (u ++ (q ∷ (m ++ (q ∷ (y ++ (close-byte ∷ [])))))))))
 
 unfoldable pub spellBool : Bool → Bytes
 spellBool true = trueWord
@@ -80,39 +84,39 @@ spellBool false = falseWord
 
 unfoldable mutual
   pub spellStep : Step → Bytes
-  spellStep (dot w) = w ++ (46 ∷ [])
-  spellStep (dots w) = w ++ (46 ∷ 46 ∷ [])
+  spellStep (dot w) = w ++ (dot-byte ∷ [])
+  spellStep (dots w) = w ++ (dot-byte ∷ dot-byte ∷ [])
   spellStep (test a t) = spellAxis a ++ spellTest t
-  spellStep (filter s w e v) = spellStep s ++ (w ++ (91 ∷ (spellOr e ++ (v ++ (93 ∷ [])))))
+  spellStep (filter s w e v) = spellStep s ++ (w ++ (open-bracket ∷ (spellOr e ++ (v ++ (close-bracket ∷ [])))))
 
   pub spellRel : Rel → Bytes
   spellRel (one s) = spellStep s
-  spellRel (slash r w s) = spellRel r ++ (w ++ (47 ∷ spellStep s))
-  spellRel (slashes r w s) = spellRel r ++ (w ++ (47 ∷ 47 ∷ spellStep s))
+  spellRel (slash r w s) = spellRel r ++ (w ++ (slash-byte ∷ spellStep s))
+  spellRel (slashes r w s) = spellRel r ++ (w ++ (slash-byte ∷ slash-byte ∷ spellStep s))
 
   pub spellPath : Path → Bytes
   spellPath (relative r) = spellRel r
-  spellPath (root w) = w ++ (47 ∷ [])
-  spellPath (rooted w r) = w ++ (47 ∷ spellRel r)
-  spellPath (anywhere w r) = w ++ (47 ∷ 47 ∷ spellRel r)
+  spellPath (root w) = w ++ (slash-byte ∷ [])
+  spellPath (rooted w r) = w ++ (slash-byte ∷ spellRel r)
+  spellPath (anywhere w r) = w ++ (slash-byte ∷ slash-byte ∷ spellRel r)
 
   pub spellUnion : Union → Bytes
   spellUnion (single p) = spellPath p
-  spellUnion (union u w p) = spellUnion u ++ (w ++ (124 ∷ spellPath p))
+  spellUnion (union u w p) = spellUnion u ++ (w ++ (bar-byte ∷ spellPath p))
 
   pub spellUnary : Unary → Bytes
   spellUnary (paths u) = spellUnion u
-  spellUnary (group w e v) = w ++ (40 ∷ (spellOr e ++ (v ++ (41 ∷ []))))
-  spellUnary (negation w v e u) = w ++ (notWord ++ (v ++ (40 ∷ (spellOr e ++ (u ++ (41 ∷ []))))))
-  spellUnary (constant b w v u) = w ++ (spellBool b ++ (v ++ (40 ∷ (u ++ (41 ∷ [])))))
+  spellUnary (group w e v) = w ++ (open-byte ∷ (spellOr e ++ (v ++ (close-byte ∷ []))))
+  spellUnary (negation w v e u) = w ++ (notWord ++ (v ++ (open-byte ∷ (spellOr e ++ (u ++ (close-byte ∷ []))))))
+  spellUnary (constant b w v u) = w ++ (spellBool b ++ (v ++ (open-byte ∷ (u ++ (close-byte ∷ [])))))
 
   pub spellAnd : And → Bytes
   spellAnd (operand u) = spellUnary u
-  spellAnd (conj a w u) = spellAnd a ++ (w ++ (97 ∷ 110 ∷ 100 ∷ spellUnary u))
+  spellAnd (conj a w u) = spellAnd a ++ (w ++ (letter-a ∷ letter-n ∷ letter-d ∷ spellUnary u))
 
   pub spellOr : Or → Bytes
   spellOr (alone a) = spellAnd a
-  spellOr (disj o w a) = spellOr o ++ (w ++ (111 ∷ 114 ∷ spellAnd a))
+  spellOr (disj o w a) = spellOr o ++ (w ++ (letter-o ∷ letter-r ∷ spellAnd a))
 
 -- The last token: a name, the operator `/`, or another. Clause 3.7: a name right before a byte of a name would be one
 -- longer token, and after the operator `/` the names `and` and `or` are no operators.
@@ -227,11 +231,15 @@ abbrev mutual
   FineOr (disj o w a) d = FineOr o d × Spaces w × FineAnd a d × (mayFollow (lastOr o) w ≡ true)
       × (apart (spellAnd a) ≡ true)
 
+-- how deep expressions may nest, each `[`, group and `not` counted
+abbrev pub maxLevels : ℕ
+maxLevels = 32
+
 -- the text t is a text of the grammar, with the tree u
 pub record Spells (t : Bytes) (u : Union) : Type 0 where
   pub after : Bytes
   pub spaces : Spaces after
-  pub fine : FineUnion u 32
+  pub fine : FineUnion u maxLevels
   pub spelt : t ≡ spellUnion u ++ after
 
 -- some text of the grammar begins with t

@@ -1,27 +1,31 @@
 -- One law for each way through the functions that read a step's head. Assumes nothing.
-use Prim.Native.Nat.{ℕ, zero, suc, _+_, _-_, _<_, _≤_}
+use Prim.Native.Nat.{ℕ, suc, _+_, _-_, _<_, _≤_}
 use mathlib.Core.Path.{_≡_, refl, sym, ap, _∙_, subst}
 use mathlib.Core.Bool.{Bool, true, false, not, cond, _&&_, _||_}
-use mathlib.Core.List.{List, [], _∷_, _++_, append-assoc, append-nil}
+use mathlib.Core.List.{List, [], _∷_, _++_, append-assoc}
 use mathlib.Core.Option.{Option, none, some}
 use native.Mathlib.Omega.{arith}
-use native.Mathlib.Numerals.{add-one}
-use lib.Dec.{T, eqb, leb, eqb-refl}
+use lib.Dec.{T, eqb, eqb-refl}
 use lib.ListN.{length, getD, take, drop, length-drop, length-append}
 use lib.Seq.{drop-cons}
+use Rattle.common.specs.Axes.{maxAxis}
+use Rattle.common.specs.NodeTests.{node-test}
 use Rattle.xpath.specs.Term as term
-use Rattle.grammar.specs.Bytes.{Bytes, isSpace, isStart, isName, isQuote, every, isWord, same, notWord}
+use Rattle.lines.specs.Ascii.{ascii}
+use Rattle.lines.specs.Line.{sameBytes}
+use Rattle.grammar.specs.Bytes.{Bytes, isSpace, isStart, isName, isQuote, every, isWord, notWord}
 use Rattle.grammar.specs.Bytes.{trueWord, falseWord}
 use Rattle.grammar.specs.Words.{find, next, types, axes, isSome, orZero, isType, typeCode, isAxis, axisCode}
 use Rattle.grammar.specs.Words.{instructionWord, numberOf}
 use Rattle.grammar.specs.Grammar.{Axis, implied, attribute, axis, Test, any, called, kind, target, Step, dot}
 use Rattle.grammar.specs.Grammar.{dots, test, Spaces, spellAxis, spellTest, spellStep, takesPredicate}
-use Rattle.grammar.specs.Denotes.{stepOf, testOf, axisOf, stepNames, testNames, unlisted, Named}
-use Rattle.grammar.specs.Reader.{State, Next, need, name, testing, colon, typeOpen, quote, quoted, unquoted}
-use Rattle.grammar.specs.Reader.{after, dot1, Ctx, top, inside, Alt, first, more, Lead, start, bare, atRoot}
-use Rattle.grammar.specs.Reader.{atAny, after1, after2, step, follow, finish, atTop, run, Outcome, bad}
-use Rattle.grammar.specs.Reader.{needByte, afterByte, parenByte, colonByte, callByte, leadByte, leadEnd}
-use Rattle.grammar.proofs.Basics.{so, never, is-true, and-out, and-in, eq-byte, same-eq, start-name, space-name}
+use Rattle.grammar.specs.Denotes.{stepOf, testOf, axisOf, stepNames, testNames, unlisted}
+use Rattle.grammar.specs.code.Reader.{State, need, name, testing, colon, typeOpen, quote, quoted, unquoted}
+use Rattle.grammar.specs.code.Reader.{after, dot1, Ctx, top, inside, Alt, first, more, Lead, start, bare, atRoot}
+use Rattle.grammar.specs.code.Reader.{atAny, after1, after2, step, follow, finish, run, bad}
+use Rattle.grammar.specs.code.Reader.{needByte, afterByte, parenByte, colonByte, callByte}
+use Rattle.lines.proofs.SameBytes.{same-bytes}
+use Rattle.grammar.proofs.Basics.{so, never, is-true, and-out, and-in, eq-byte, start-name, space-name}
 use Rattle.grammar.proofs.Forward.{quote-cases}
 use Rattle.heads.specs.declared.Head.{Head}
 use Rattle.heads.specs.declared.Opens.{Opens}
@@ -29,11 +33,11 @@ use Rattle.heads.specs.declared.Opens.the-variants as Opening
 use Rattle.words.specs.code.Names.{pickFrom}
 use Rattle.words.specs.code.Scan.{byteAt, Passed, beginsStep}
 use Rattle.heads.specs.code.Head.{part, noHead, plainHead, namedHead, Between, NameAt, callable, isImplied}
-use Rattle.heads.specs.code.Head.{opensCall, NoCall, Begins, Stuck, TestTold, TestRead, TestMet, TypeRead}
-use Rattle.heads.specs.code.Head.{TypeMet, TargetRead, TargetMet, Due, HeadRead, HeadMet, DotMet, CallAt}
+use Rattle.heads.specs.code.Head.{opensCall, NoCall, Begins, Stuck, TestMet}
+use Rattle.heads.specs.code.Head.{TypeMet, TargetMet, HeadMet, DotMet, CallAt}
 use Rattle.heads.specs.code.Head.{OperandMet, openedBy, proceed}
-use Rattle.words.proofs.Scanned.{past, there, head-drop}
-use Rattle.heads.proofs.Ran.{on-here, on-pass, on-stop, need-over, after-over, testing-over, type-over}
+use Rattle.words.proofs.Scanned.{there, head-drop}
+use Rattle.heads.proofs.Ran.{on-here, on-pass, on-stop, after-over, testing-over, type-over}
 use Rattle.heads.proofs.Ran.{unquoted-over, quoted-over, wordOf, name-there, word-split, word-length}
 use Rattle.heads.proofs.Ran.{word-part, word-is, word-runs}
 
@@ -245,14 +249,15 @@ from-next o i (some k) = omega arith
 picked : (o i : ℕ) (ms : List Bytes) (n : Bytes) → pickFrom o i ms n ≡ fromSome o i (find n ms)
 unfolding pickFrom find fromSome
 picked o i [] n = refl
-picked o i (m ∷ ms) n = go (same n m) refl (picked o (suc i) ms n)
+picked o i (m ∷ ms) n = go (sameBytes n m) refl (picked o (suc i) ms n)
   where
-    go : (b : Bool) → same n m ≡ b → pickFrom o (suc i) ms n ≡ fromSome o (suc i) (find n ms)
-        → cond (same n m) i (pickFrom o (suc i) ms n) ≡ fromSome o i (cond (same n m) (some 0) (next (find n ms)))
+    go : (b : Bool) → sameBytes n m ≡ b → pickFrom o (suc i) ms n ≡ fromSome o (suc i) (find n ms)
+        → cond (sameBytes n m) i (pickFrom o (suc i) ms n)
+        ≡ fromSome o i (cond (sameBytes n m) (some 0) (next (find n ms)))
     go true e k = rw e (omega arith)
     go false e k = rw e (k ∙ from-next o i (find n ms))
 
-pub type-none : (n : Bytes) (t : ℕ) → t ≡ pickFrom 0 2 types n → t ≡ 0 → isType n ≡ false
+pub type-none : (n : Bytes) (t : ℕ) → t ≡ pickFrom 0 node-test types n → t ≡ 0 → isType n ≡ false
 unfolding isSome fromSome
 type-none n t e f = go (find n types) (sym f ∙ e ∙ picked 0 2 types n)
   where
@@ -260,7 +265,8 @@ type-none n t e f = go (find n types) (sym f ∙ e ∙ picked 0 2 types n)
     go none h = refl
     go (some k) h = absurd (omega (arith, h))
 
-pub type-some : (n : Bytes) (t : ℕ) → t ≡ pickFrom 0 2 types n → (t ≡ 0 → ⊥) → (isType n ≡ true) × (t ≡ typeCode n)
+pub type-some : (n : Bytes) (t : ℕ) → t ≡ pickFrom 0 node-test types n → (t ≡ 0 → ⊥)
+    → (isType n ≡ true) × (t ≡ typeCode n)
 unfolding isSome fromSome orZero
 type-some n t e f = go (find n types) (e ∙ picked 0 2 types n)
   where
@@ -282,9 +288,9 @@ less-next (some i) m k h e = omega (arith, some-same (suc i) k e, h i refl)
 find-less : (n : Bytes) (ms : List Bytes) (k : ℕ) → find n ms ≡ some k → k < length ms
 unfolding find
 find-less n [] k e = absurd (none-some k e)
-find-less n (m ∷ ms) k e = go (same n m) refl (λ i f. find-less n ms i f)
+find-less n (m ∷ ms) k e = go (sameBytes n m) refl (λ i f. find-less n ms i f)
   where
-    go : (b : Bool) → same n m ≡ b → ((i : ℕ) → find n ms ≡ some i → i < length ms) → k < suc (length ms)
+    go : (b : Bool) → sameBytes n m ≡ b → ((i : ℕ) → find n ms ≡ some i → i < length ms) → k < suc (length ms)
     go true f h = omega (arith, some-same 0 k (rw f at e))
     go false f h = less-next (find n ms) (length ms) k h (rw f at e)
 
@@ -292,7 +298,7 @@ axes-length : length axes ≡ 12
 unfolding axes
 axes-length = refl
 
-pub axis-none : (n : Bytes) (t : ℕ) → t ≡ pickFrom 12 0 axes n → t ≡ 12 → isAxis n ≡ false
+pub axis-none : (n : Bytes) (t : ℕ) → t ≡ pickFrom (maxAxis + 1) 0 axes n → t ≡ maxAxis + 1 → isAxis n ≡ false
 unfolding isSome fromSome
 axis-none n t e f = go (find n axes) refl (sym f ∙ e ∙ picked 12 0 axes n)
   where
@@ -300,7 +306,8 @@ axis-none n t e f = go (find n axes) refl (sym f ∙ e ∙ picked 12 0 axes n)
     go none g h = refl
     go (some k) g h = absurd (omega (arith, h, find-less n axes k g, axes-length))
 
-pub axis-some : (n : Bytes) (t : ℕ) → t ≡ pickFrom 12 0 axes n → (t ≡ 12 → ⊥) → (isAxis n ≡ true) × (t ≡ axisCode n)
+pub axis-some : (n : Bytes) (t : ℕ) → t ≡ pickFrom (maxAxis + 1) 0 axes n → (t ≡ maxAxis + 1 → ⊥)
+    → (isAxis n ≡ true) × (t ≡ axisCode n)
 unfolding isSome fromSome orZero
 axis-some n t e f = go (find n axes) (e ∙ picked 12 0 axes n)
   where
@@ -310,24 +317,23 @@ axis-some n t e f = go (find n axes) (e ∙ picked 12 0 axes n)
 
 -- node types
 instruction-code : typeCode instructionWord ≡ 5
-unfolding instructionWord types find same next orZero
+unfolding instructionWord types find sameBytes next orZero
 instruction-code = refl
 
-not-instruction : (n : Bytes) (t : ℕ) → t ≡ typeCode n → (t ≡ 5 → ⊥) → same n instructionWord ≡ false
-not-instruction n t e f = go (same n instructionWord) refl
+not-instruction : (n : Bytes) (t : ℕ) → t ≡ typeCode n → (t ≡ 5 → ⊥) → sameBytes n instructionWord ≡ false
+not-instruction n t e f = go (sameBytes n instructionWord) refl
   where
-    go : (b : Bool) → same n instructionWord ≡ b → same n instructionWord ≡ false
-    go true h = absurd (f (e ∙ ap typeCode (same-eq n instructionWord h) ∙ instruction-code))
+    go : (b : Bool) → sameBytes n instructionWord ≡ b → sameBytes n instructionWord ≡ false
+    go true h = absurd (f (e ∙ ap typeCode (same-bytes n instructionWord h) ∙ instruction-code))
     go false h = h
 
 -- a type of code 5 is `processing-instruction`
-is-instruction : (n : Bytes) → isType n ≡ true → 5 ≡ typeCode n → same n instructionWord ≡ true
+is-instruction : (n : Bytes) → isType n ≡ true → 5 ≡ typeCode n → sameBytes n instructionWord ≡ true
 unfolding types find isSome next orZero instructionWord
 is-instruction n h e = go _ _ _ _ refl refl refl refl
   where
-    go : (a b c d : Bool) → same n (110 ∷ 111 ∷ 100 ∷ 101 ∷ []) ≡ a → same n (116 ∷ 101 ∷ 120 ∷ 116 ∷ []) ≡ b
-        → same n (99 ∷ 111 ∷ 109 ∷ 109 ∷ 101 ∷ 110 ∷ 116 ∷ []) ≡ c → same n instructionWord ≡ d
-        → same n instructionWord ≡ true
+    go : (a b c d : Bool) → sameBytes n (ascii "node") ≡ a → sameBytes n (ascii "text") ≡ b
+        → sameBytes n (ascii "comment") ≡ c → sameBytes n instructionWord ≡ d → sameBytes n instructionWord ≡ true
     go a b c true i j k l = l
     go true b c false i j k l = absurd (omega (arith, rw i at e))
     go false true c false i j k l = absurd (omega (arith, rw (i, j) at e))
@@ -383,7 +389,7 @@ module _ (s list : Bytes) (at ax t inner : ℕ) (q : Passed isSpace s at inner) 
       colon-kind c g l (axis x m o) w n v u y = refl
 
   type-fails : (byteAt s inner ≡ 41 → ⊥)
-      → ((n : Bytes) → isType n ≡ true → t ≡ typeCode n → (isQuote (byteAt s inner) && same n instructionWord)
+      → ((n : Bytes) → isType n ≡ true → t ≡ typeCode n → (isQuote (byteAt s inner) && sameBytes n instructionWord)
       ≡ false) → TypeMet s list at ax t (noHead inner)
   unfolding step finish
   type-fails b f =
@@ -424,7 +430,7 @@ module _ (s list : Bytes) (at ax t inner : ℕ) (q : Passed isSpace s at inner) 
           paren = λ c g l a w. refl;
           colon = λ c g l a w. colon-target c g l a w v (q .bytes) (byteAt s inner) (r .word) (r .inner) (r .spaces);
           takes = r .takes;
-          size = λ w. rw (same-eq n instructionWord (is-instruction n i (sym f ∙ j))) (simp length-append
+          size = λ w. rw (same-bytes n instructionWord (is-instruction n i (sym f ∙ j))) (simp length-append
               (omega (arith, r .size, passed-length isSpace s at inner q, q .from)));
           stops = r .stops;
         };
@@ -444,7 +450,7 @@ module _ (s list : Bytes) (at ax t inner : ℕ) (q : Passed isSpace s at inner) 
           (rw (
             q .stops,
             not-close,
-            and-in (isQuote (byteAt s inner)) (same n instructionWord) k (is-instruction n i (sym f ∙ j)),
+            and-in (isQuote (byteAt s inner)) (sameBytes n instructionWord) k (is-instruction n i (sym f ∙ j)),
           )
           refl)
 
@@ -457,7 +463,7 @@ module _ (s list : Bytes) (at ax t inner : ℕ) (q : Passed isSpace s at inner) 
       place : (w n v : Bytes) (x : ℕ) → isType n ≡ true → t ≡ typeCode n → x + length (w ++ (n ++ (v ++ (40 ∷ []))))
           ≡ at → x + length (w ++ (instructionWord ++ (v ++ (40 ∷ (q .bytes ++ (byteAt s inner ∷ [])))))) ≡ inner + 1
       place w n v x i j g =
-          rw (← same-eq n instructionWord (is-instruction n i (sym f ∙ j)))
+          rw (← same-bytes n instructionWord (is-instruction n i (sym f ∙ j)))
           (omega (
             arith,
             lengths w n v (q .bytes) (byteAt s inner),
@@ -477,10 +483,10 @@ call-none : (c : Ctx) (g : Alt) (l : Lead) (a : Axis) (w n v : Bytes)
     → (isImplied a ≡ true → callable c g l ≡ true → opensCall n ≡ false) → callByte c g l a w n v ≡ none
 unfolding callByte callable isImplied opensCall
 call-none (inside x p) first (start bare) implied w n v h =
-    go (same n notWord) (same n trueWord) (same n falseWord) refl refl refl (h refl refl)
+    go (sameBytes n notWord) (sameBytes n trueWord) (sameBytes n falseWord) refl refl refl (h refl refl)
   where
-    go : (b d e : Bool) → same n notWord ≡ b → same n trueWord ≡ d → same n falseWord ≡ e
-        → (same n notWord || (same n trueWord || same n falseWord)) ≡ false
+    go : (b d e : Bool) → sameBytes n notWord ≡ b → sameBytes n trueWord ≡ d → sameBytes n falseWord ≡ e
+        → (sameBytes n notWord || (sameBytes n trueWord || sameBytes n falseWord)) ≡ false
         → callByte (inside x p) first (start bare) implied w n v ≡ none
     go false false false i j k f = rw (i, j, k) refl
     go true d e i j k f = yes-no (rw i at f)
@@ -923,7 +929,7 @@ module _ (s : Bytes) (at end paren : ℕ) (m : NameAt s at end paren) where
   pub operand-named : (byteAt s paren ≡ 40 → ⊥) → OperandMet s at Opening.Paths at
   operand-named b = (λ n v t i j e. absurd (b (same-call n v t i j e .1)), no-open)
 
-  operand-call : (word : Bytes) → byteAt s paren ≡ 40 → same operand-word word ≡ true → CallAt s at paren word
+  operand-call : (word : Bytes) → byteAt s paren ≡ 40 → sameBytes operand-word word ≡ true → CallAt s at paren word
   operand-call word b e =
       record {
         spaces = m .spaces .bytes;
@@ -931,11 +937,11 @@ module _ (s : Bytes) (at end paren : ℕ) (m : NameAt s at end paren) where
         runs = λ c g l w. named-runs s [] at end paren 0 m (need c g l w) c g l implied w
             (need-begins c g l w (byteAt s at))
             ∙ ap (λ (n : Bytes). run (drop paren s) (after c g l (test implied (called w n)) (m .spaces .bytes)))
-            (same-eq operand-word word e);
+            (same-bytes operand-word word e);
         byte = b;
         size = omega (
           arith,
-          ap length (same-eq operand-word word e),
+          ap length (same-bytes operand-word word e),
           word-length s at end (m .begins) (m .names),
           passed-length isSpace s end paren (m .spaces),
           m .names .from,
@@ -949,8 +955,8 @@ module _ (s : Bytes) (at end paren : ℕ) (m : NameAt s at end paren) where
       subst (λ (y : Opens). OperandMet s at y paren)
       (sym (e ∙ ap openedBy (word-part s at end (m .begins) (m .names)))) (go _ _ _ refl refl refl)
     where
-      go : (p q r : Bool) → same operand-word notWord ≡ p → same operand-word trueWord ≡ q
-          → same operand-word falseWord ≡ r → OperandMet s at (openedBy operand-word) paren
+      go : (p q r : Bool) → sameBytes operand-word notWord ≡ p → sameBytes operand-word trueWord ≡ q
+          → sameBytes operand-word falseWord ≡ r → OperandMet s at (openedBy operand-word) paren
       go true q r i j k = rw i (operand-call notWord b i)
       go false true r i j k = rw (i, j) (operand-call trueWord b j)
       go false false true i j k = rw (i, j, k) (operand-call falseWord b k)

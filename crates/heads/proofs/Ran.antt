@@ -1,24 +1,23 @@
 -- Runs of the grammar's reader over parts of a text. Assumes nothing.
-use Prim.Native.Nat.{ℕ, zero, suc, _+_, _-_, _<_, _≤_}
-use mathlib.Core.Path.{_≡_, refl, sym, ap, _∙_, subst}
-use mathlib.Core.Bool.{Bool, true, false, not, cond, _&&_, _||_}
-use mathlib.Core.List.{List, [], _∷_, _++_, append-assoc, append-nil}
-use mathlib.Core.Option.{Option, none, some}
+use Prim.Native.Nat.{ℕ, suc, _+_, _-_, _<_, _≤_}
+use mathlib.Core.Path.{_≡_, refl, sym, ap, _∙_}
+use mathlib.Core.Bool.{Bool, true, false}
+use mathlib.Core.List.{[], _∷_, _++_, append-assoc, append-nil}
+use mathlib.Core.Option.{none, some}
 use native.Mathlib.Omega.{arith}
 use native.Mathlib.Decide.{decLt}
 use native.Mathlib.Numerals.{add-one}
-use lib.Dec.{T, eqb}
 use lib.ListN.{length, getD, take, drop, length-drop, length-append, drop-of-length-le}
 use lib.Seq.{drop-cons, take-at}
 use Rattle.grammar.specs.Bytes.{Bytes, isSpace, isStart, isName, every, isWord}
-use Rattle.grammar.specs.Grammar.{Axis, implied, Test, called, Step, test, Spaces}
-use Rattle.grammar.specs.Reader.{State, Next, need, name, testing, typeOpen, quote, quoted, unquoted, after}
-use Rattle.grammar.specs.Reader.{dot1, constOpen, closed, Ctx, top, inside, Open, Pend, Alt, Lead, step, follow}
-use Rattle.grammar.specs.Reader.{finish, atTop, run, outcome, Outcome, bad, needByte, afterByte}
-use Rattle.grammar.proofs.Basics.{never, and-out, eq-byte, space-start, space-name}
+use Rattle.grammar.specs.Grammar.{Axis, called, Step, test}
+use Rattle.grammar.specs.code.Reader.{State, need, name, testing, typeOpen, quote, quoted, unquoted, after}
+use Rattle.grammar.specs.code.Reader.{closed, Ctx, top, Open, Pend, Alt, Lead, step, follow}
+use Rattle.grammar.specs.code.Reader.{finish, run, outcome, bad, needByte, afterByte}
+use Rattle.grammar.proofs.Basics.{and-out, space-start}
 use Rattle.words.specs.code.Scan.{byteAt, Passed}
-use Rattle.heads.specs.code.Head.{part, NameAt, proceed}
-use Rattle.words.proofs.Scanned.{past, there, head-drop}
+use Rattle.heads.specs.code.Head.{part, proceed}
+use Rattle.words.proofs.Scanned.{there, head-drop}
 
 pub on-here : (s : Bytes) (at : ℕ) (st : State) → at < length s → run (drop at s) st
     ≡ proceed s at (step st (byteAt s at))

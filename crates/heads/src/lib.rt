@@ -2,7 +2,7 @@
 ghost use mathlib.Core.Path.{_≡_};
 ghost use mathlib.Core.Bool.{true, false};
 ghost use Prim.Native.Nat.{_≤_};
-ghost use Rattle.grammar.specs.Bytes.{isSpace, isStart, isQuote, isWord};
+ghost use Rattle.grammar.specs.Bytes.{isSpace, isStart, isQuote, isWord, dot-byte, colon-byte};
 ghost use Rattle.grammar.specs.Words.{numberOf};
 ghost use Rattle.words.specs.code.Scan.{byteAt, beginsStep};
 ghost use Rattle.words.specs.code.Index.{Indexed};
@@ -113,7 +113,7 @@ fn is_quote(b: u8) -> bool
 
 // `.` or `..` at `at`.
 fn dot_head(s: &[u8], at: usize) -> Head
-    requires { ⌜ byteAt (now s) at ≡ 46 ⌝ }
+    requires { ⌜ byteAt (now s) at ≡ dot-byte ⌝ }
     ensures { λ h. ⌜ DotMet (now (s .entry)) at h ⌝ }
 {
     let next = at + 1;
@@ -191,7 +191,8 @@ fn name_test(
 ) -> Head
     requires { ⌜ NameAt (now s) at end to ⌝ }
     requires { ⌜ Indexed (now names) (now index) ⌝ }
-    ensures { λ h. ⌜ TestMet (now (s .entry)) (now (names .entry)) at axis (byteAt (now (s .entry)) to ≡ 58 → ⊥) h ⌝ }
+    ensures { λ h. ⌜ TestMet (now (s .entry)) (now (names .entry)) at axis
+        (byteAt (now (s .entry)) to ≡ colon-byte → ⊥) h ⌝ }
 {
     if byte_at(s, to) != bytes::OPEN {
         return named_head(s, names, index, at, end, to, axis, node_test::NAME);
@@ -225,7 +226,7 @@ fn test_head(s: &[u8], names: &[u8], index: &[u32], at: usize, axis: u16) -> Hea
 // A head whose axis name stands from `at` up to `end`, with a `:` at `colon`.
 fn axis_head(s: &[u8], names: &[u8], index: &[u32], at: usize, end: usize, colon: usize) -> Head
     requires { ⌜ NameAt (now s) at end colon ⌝ }
-    requires { ⌜ byteAt (now s) colon ≡ 58 ⌝ }
+    requires { ⌜ byteAt (now s) colon ≡ colon-byte ⌝ }
     requires { ⌜ Indexed (now names) (now index) ⌝ }
     ensures { λ h. ⌜ HeadMet (now (s .entry)) (now (names .entry)) at h ⌝ }
 {

@@ -8,7 +8,7 @@ use session::Session;
 ghost use mathlib.Core.Path.{_≡_};
 ghost use Prim.Native.Nat.{_≤_};
 ghost use lib.ListN.{length};
-ghost use Rattle.script.specs.Command.{maxNumbers};
+ghost use Rattle.script_words.specs.Words.{maxNumbers};
 
 const TEXT: u16 = node_kind::TEXT as u16;
 
@@ -94,12 +94,12 @@ fn steps() {
 }
 
 // The root, and texts under it: the first n rows of it are a document of n nodes.
-fn texts() -> [u16; script::MAX_NUMBERS]
+fn texts() -> [u16; script_words::MAX_NUMBERS]
     ensures { λ r. ⌜ maxNumbers ≡ length r ⌝ }
 {
-    let mut d = [0u16; script::MAX_NUMBERS];
+    let mut d = [0u16; script_words::MAX_NUMBERS];
     let mut i: usize = xpath::NODE_WIDTH;
-    while i < script::MAX_NUMBERS {
+    while i < script_words::MAX_NUMBERS {
         d[i] = TEXT;
         i += xpath::NODE_WIDTH;
     }
@@ -121,7 +121,7 @@ fn nodes() {
     let made = Session::new().term(row_kind::ROOT, 0, 0, 0);
     let s = made.session;
     print_select(s, 0, xpath::NODE_WIDTH * Session::NODES, 1);
-    print_select(s, 0, script::MAX_NUMBERS, 1);
+    print_select(s, 0, script_words::MAX_NUMBERS, 1);
 }
 
 // The visits of descendant::node()/descendant::node() from the root of a document of texts, with as many nodes as there

@@ -17,7 +17,7 @@ pub const SPACE: u8 = 32;
 
 pub const DIGIT_0: u8 = 48;
 
-const DIGIT_9: u8 = 57;
+pub const DIGIT_9: u8 = 57;
 
 pub const MAX_NUMBER: u32 = common::MAX_NUMBER as u32;
 

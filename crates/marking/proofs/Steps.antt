@@ -12,12 +12,12 @@ use borrow.Author.Tests.{ne-eqb}
 use native.Mathlib.Nat.{pos-of-ne-zero}
 use Rattle.xpath.specs.Document.{Document, kindAt, parentAt, isAttribute, isChild, isAncestor, areSiblings}
 use Rattle.xpath.specs.Axis.{onAxis, passes}
-use Rattle.xpath.specs.code.Ends.{EndsAt, Ends, Prepared}
+use Rattle.xpath.specs.code.Ends.{Prepared}
 use Rattle.common.proofs.Reflect.{facts, tests-equal, true-iff, and-iff, or-iff, and-via, not-via, eq-iff, le-iff}
 use Rattle.common.proofs.Reflect.{le-or-lt}
 use Rattle.xpath.proofs.Tree.{Child, Ancestor, parent-is, ancestor-cases, child-yes, yes-child, ancestor-smaller}
 use Rattle.xpath.proofs.Tree.{parent-smaller}
-use Rattle.xpath.proofs.Facts.{NoAttribute, FollowingSibling, Following, OnAxis, on-axis-iff}
+use Rattle.xpath.proofs.Facts.{NoAttribute, OnAxis, on-axis-iff}
 use Rattle.xpath.proofs.Axes.{past-last-axis}
 use Rattle.marking.specs.code.Added.{marked, Added, mayHold, candidate, ChildrenFrom}
 use Rattle.marking.proofs.Added.{between, added-cong, nothing-added}

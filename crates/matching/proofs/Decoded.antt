@@ -1,7 +1,7 @@
 -- The numbers of the table stand for the rule table: antt computes both. Assumes nothing.
 use Prim.Native.Nat.{ℕ, zero, suc, _<_, _≤_}
 use mathlib.Core.Path.{_≡_, refl, ap}
-use mathlib.Core.Bool.{Bool, cond, _&&_}
+use mathlib.Core.Bool.{cond}
 use mathlib.Core.List.{List, [], _∷_, map, head-eq-of-cons-eq, tail-eq-of-cons-eq}
 use mathlib.Core.Logic.{⊎-elim}
 use native.Mathlib.Omega.{arith}

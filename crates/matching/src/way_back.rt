@@ -11,7 +11,7 @@ use terms::is_noted;
 use terms::note;
 use terms::row_at;
 ghost use mathlib.Core.Path.{_≡_};
-ghost use Rattle.terms.specs.Row.{rowAt, tableOf};
+ghost use Rattle.terms.specs.Row.{tableOf};
 ghost use Rattle.terms.specs.code.RowTypes.{rowOf};
 ghost use Rattle.rules.specs.Order.{isPair};
 ghost use Rattle.rules.specs.WayBack.{opposites};

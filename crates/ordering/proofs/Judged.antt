@@ -11,7 +11,7 @@ use borrow.Author.Tests.{leb-false, lt-leb}
 use Rattle.terms.specs.Row.{Row}
 use Rattle.terms.specs.Terms.{termAt}
 use Rattle.calls.specs.Book.{Book, Answer, answer}
-use Rattle.calls.specs.Refusals.{bad-side}
+use Rattle.common.specs.Refusals.{bad-side}
 use Rattle.ordering.specs.declared.OrderAnswer.{OrderAnswer}
 use Rattle.ordering.specs.declared.OrderAnswer.the-variants as OrderCases
 use Rattle.ordering.specs.Order.{Order, greater}

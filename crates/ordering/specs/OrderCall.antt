@@ -7,7 +7,7 @@ use lib.ListN.{length}
 use Rattle.terms.specs.Row.{Row}
 use Rattle.terms.specs.Terms.{termAt}
 use Rattle.calls.specs.Book.{Book, Answer, answer}
-use Rattle.calls.specs.Refusals.{bad-side}
+use Rattle.common.specs.Refusals.{bad-side}
 use Rattle.ordering.specs.declared.OrderAnswer.{OrderAnswer}
 use Rattle.ordering.specs.declared.OrderAnswer.the-variants as OrderCases
 use Rattle.ordering.specs.Order.{Order, less, equal, greater}

@@ -303,7 +303,7 @@ impl OrderAnswer {
     {
         match self {
             OrderAnswer::Compared(_) => 0,
-            OrderAnswer::BadSide(_) => calls::BAD_SIDE,
+            OrderAnswer::BadSide(_) => common::refusal::BAD_SIDE,
         }
     }
 

@@ -1,5 +1,5 @@
 -- Rows put one by one. Assumes nothing.
-use Prim.Native.Nat.{ℕ, zero, suc, _+_, _*_, _-_, _<_, _≤_, min, max}
+use Prim.Native.Nat.{ℕ, suc, _+_, _*_, _-_, _<_, _≤_, max}
 use mathlib.Core.Path.{_≡_, refl, sym, ap, _∙_, subst}
 use mathlib.Core.Bool.{Bool, true, false, cond, _&&_}
 use mathlib.Core.List.{List, [], _∷_, _++_}
@@ -17,7 +17,7 @@ use Rattle.grammar.proofs.Basics.{so, is-true, never}
 use Rattle.readings.specs.declared.Reading.{Reading}
 use Rattle.heads.specs.declared.Head.{Head}
 use Rattle.readings.specs.code.Build.{rowWidth, rowNumbers, capped, movedTo, failedAt, rowTaken, noRoom, Sized}
-use Rattle.readings.specs.code.Build.{Holds, Beyond, Puts, SameText, PutMet, missingOf, firstOf, Made, Grown}
+use Rattle.readings.specs.code.Build.{Holds, Beyond, SameText, PutMet, missingOf, firstOf, Made, Grown}
 use Rattle.readings.specs.code.Build.{HeadPut, unlistedAt, joined, over, leaf}
 
 not-less : (m n : ℕ) → n ≤ m → ltb m n ≡ false

@@ -4,20 +4,18 @@ use Rattle.terms.specs.Row.{row}
 use mathlib.Core.Path.{_≡_, refl, sym, ap, _∙_}
 use mathlib.Core.Bool.{Bool, true, false, cond}
 use mathlib.Core.List.{List, [], _∷_}
-use mathlib.Core.Option.{Option, none, some}
 use native.Mathlib.Omega.{arith}
 use native.Mathlib.Numerals.{add-one}
-use lib.Dec.{eqb}
 use lib.ListN.{length, getD, drop}
 use Rattle.grammar.specs.Bytes.{Bytes, isSpace, isStart, isName}
 use Rattle.grammar.specs.Grammar.{Unary}
-use Rattle.grammar.specs.Reader.{State, need, keyword, kA, kAn, kAnd, kO, kOr, Ctx, inside, Open, Pend, plain}
-use Rattle.grammar.specs.Reader.{both, either, leftOf, andTo, orTo, first, begin, step, follow, finish, run}
-use Rattle.grammar.specs.Reader.{bad, unaryByte, keywordByte, needByte, leadEnd}
+use Rattle.grammar.specs.code.Reader.{need, keyword, kA, kAn, kAnd, kO, kOr, inside, Open, Pend, plain}
+use Rattle.grammar.specs.code.Reader.{both, either, leftOf, andTo, orTo, first, begin, step, follow, finish, run}
+use Rattle.grammar.specs.code.Reader.{bad, unaryByte, keywordByte, leadEnd}
 use Rattle.grammar.proofs.Basics.{never}
 use Rattle.readings.specs.declared.Reading.{Reading}
 use Rattle.words.specs.code.Scan.{byteAt, Passed, beginsStep}
-use Rattle.heads.specs.code.Head.{Between, proceed}
+use Rattle.heads.specs.code.Head.{proceed}
 use Rattle.readings.specs.code.Build.{capped, movedTo, failedAt, Sized, PutMet, Grown, belowOf}
 use Rattle.readings.specs.code.Passing.{WordMet, CloseMet, FirstPut, SlashPut, BeginPut, startOf, rootStart}
 use Rattle.readings.specs.code.Passing.{afterAnd, afterOr}

@@ -3,12 +3,11 @@ ghost use mathlib.Core.Path.{_≡_};
 ghost use mathlib.Core.Bool.{true, false, cond, _&&_};
 ghost use Prim.Native.Nat.{suc, _+_, _*_, _<_, _≤_, max};
 ghost use lib.Dec.{eqb};
-ghost use lib.ListN.{length};
-ghost use lib.Seq.{sets};
+ghost use Rattle.grammar.specs.Bytes.{slash-byte, letter-a, letter-o};
 ghost use Rattle.terms.specs.Row.{row, maxRows};
 ghost use Rattle.terms.specs.code.RowTypes.{rowOf};
 ghost use Rattle.words.specs.code.Scan.{byteAt};
-ghost use Rattle.readings.specs.code.Build.{rowWidth, rowNumbers, capped, movedTo, failedAt, rowTaken, noRoom};
+ghost use Rattle.readings.specs.code.Build.{capped, movedTo, failedAt, rowTaken, noRoom};
 ghost use Rattle.readings.specs.code.Build.{Sized, PutMet, Grown, belowOf, someOf, onlyInStep, unlistedAt};
 ghost use Rattle.readings.specs.code.Build.{nothingRead, HeadPut};
 ghost use Rattle.readings.specs.code.Passing.{WordMet, CloseMet, FirstPut, ConstPut, SlashPut, NegatePut};
@@ -284,7 +283,7 @@ fn every_below(rows: &mut [u16], path: Reading) -> Reading
 
 // Passes the `/` or `//` that follows a path, and the whitespace after it.
 pub fn pass_slash(s: &[u8], rows: &mut [u16], path: Reading) -> Reading
-    requires { ⌜ (byteAt (now s) (path .at) ≡ 47) × Sized (now rows) (path .count) ⌝ }
+    requires { ⌜ (byteAt (now s) (path .at) ≡ slash-byte) × Sized (now rows) (path .count) ⌝ }
     ensures { λ q. ⌜ SlashPut (now (s .entry)) (now (rows .entry)) path (now (rows .exit)) q ⌝ }
 {
     let next = path.at + 1;
@@ -397,7 +396,7 @@ pub fn constant(s: &[u8], rows: &mut [u16], from: Reading, kind: u16) -> Reading
 
 // `and`, which begins where r ends.
 pub fn pass_and(s: &[u8], r: Reading) -> Reading
-    requires { ⌜ (r .ok ≡ true) × (byteAt (now s) (r .at) ≡ 97) ⌝ }
+    requires { ⌜ (r .ok ≡ true) × (byteAt (now s) (r .at) ≡ letter-a) ⌝ }
     ensures { λ q. ⌜ WordMet (now (s .entry)) r q 3 afterAnd ⌝ }
 {
     let second = r.at + 1;
@@ -417,7 +416,7 @@ pub fn pass_and(s: &[u8], r: Reading) -> Reading
 
 // `or`, which begins where r ends.
 pub fn pass_or(s: &[u8], r: Reading) -> Reading
-    requires { ⌜ (r .ok ≡ true) × (byteAt (now s) (r .at) ≡ 111) ⌝ }
+    requires { ⌜ (r .ok ≡ true) × (byteAt (now s) (r .at) ≡ letter-o) ⌝ }
     ensures { λ q. ⌜ WordMet (now (s .entry)) r q 2 afterOr ⌝ }
 {
     let second = r.at + 1;

@@ -3,7 +3,7 @@
 use Prim.Native.Nat.{ℕ, zero, suc, _+_, _-_, _≤_, _<_}
 use mathlib.Core.Path.{_≡_, refl, sym, ap, subst, _∙_}
 use mathlib.Core.Bool.{Bool, true, false, cond}
-use mathlib.Core.List.{List, [], _∷_, _++_}
+use mathlib.Core.List.{List, [], _∷_}
 use native.Mathlib.Omega.{arith}
 use lib.Dec.{T, eqb}
 use borrow.Author.Tests.{eq-eqb, eqb-true}
@@ -16,7 +16,7 @@ use Rattle.calls.specs.Runs.{next, final}
 use Rattle.calls.specs.Above.{passed, own}
 use Rattle.calls.proofs.Accepted.{by-accepted}
 use Rattle.records.specs.Records.{noRecord, maxRecords}
-use Rattle.records.specs.Held.{sizeOf, recordsIn}
+use Rattle.records.specs.code.Held.{sizeOf, recordsIn}
 use Rattle.records.specs.Register.{Within, EditionsContained}
 use Rattle.records.specs.Releases.{released, withRelease, IsReleased, OfficeCall, OfficeHoldings, plainOffice}
 use Rattle.records.specs.Releases.{ShowsReleased, StillReleased, ReleasesStay}

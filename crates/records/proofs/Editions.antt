@@ -20,7 +20,7 @@ use Rattle.terms.specs.Terms.{pathAt, asPath}
 use Rattle.terms.proofs.Terms.{term-stays}
 use Rattle.rules.specs.Claim.{Containment, says, TrueOn, IsTrue}
 use Rattle.calls.specs.Book.{Step, noStep, noPoint, Answer, answer, accepted}
-use Rattle.calls.specs.Refusals.{full-or-in-use}
+use Rattle.common.specs.Refusals.{full-or-in-use}
 use Rattle.calls.specs.StepCall.{sameSort, claimOf, stepNumbered}
 use Rattle.calls.specs.PointCall.{pointNames, placeOf}
 use Rattle.calls.specs.Runs.{Reached, first}

@@ -10,7 +10,7 @@ use borrow.Author.Tests.{eq-eqb, ne-eqb, eqb-true, leb-false, not-false}
 use Rattle.terms.specs.Row.{Row}
 use Rattle.terms.specs.Fields.{heldPath}
 use Rattle.calls.specs.Book.{Step, answer}
-use Rattle.calls.specs.Refusals.{not-next, bad-record, full-or-in-use}
+use Rattle.common.specs.Refusals.{not-next, bad-record, full-or-in-use}
 use Rattle.calls.proofs.Accepted.{test-failed}
 use Rattle.records.specs.declared.Record.{Record}
 use Rattle.records.specs.Records.{maxRecords, current, rowOf, isFitStep, recordAnswer}

@@ -10,13 +10,13 @@ use lib.ListN.{length, getD, take, drop, set, replicate, length-append}
 use lib.Seq.{drop-cons, append-snoc, set-append-seam, take-append-seam}
 use borrow.Author.Tests.{le-leb, lt-leb, eq-eqb, ne-eqb}
 use Rattle.calls.specs.Book.{answer}
-use Rattle.calls.specs.Refusals.{no-record}
+use Rattle.common.specs.Refusals.{no-record}
 use Rattle.records.specs.declared.Record.{Record}
 use Rattle.records.specs.declared.Records.{Records}
 use Rattle.records.specs.Records.{noRecord, maxRecords}
-use Rattle.records.specs.Held.{recordsIn, noRecords, withRecord}
+use Rattle.records.specs.code.Held.{recordsIn, noRecords, withRecord}
 use Rattle.records.specs.Releases.{releaseAnswer, released}
-use Rattle.records.specs.Listed.{listed}
+use Rattle.records.specs.code.Listed.{listed}
 use Rattle.records.proofs.Searches.{from-place, none-left}
 
 -- a release, test by test

@@ -1,6 +1,5 @@
 pub mod Records
-pub mod Held
 pub mod Register
 pub mod Releases
-pub mod Listed
+pub mod code
 pub mod values

@@ -10,7 +10,7 @@ use Rattle.terms.specs.Fields.{heldPath}
 use Rattle.records.specs.declared.Record.{Record}
 use Rattle.calls.specs.Book.{Step, Answer, answer}
 use Rattle.calls.specs.StepCall.{stepNumbered}
-use Rattle.calls.specs.Refusals.{not-next, bad-record, full-or-in-use}
+use Rattle.common.specs.Refusals.{not-next, bad-record, full-or-in-use}
 
 -- a record of document 02: a series, an edition from 1, a path row and a step
 abbrev pub recorded : (series edition row step : ℕ) → Record

@@ -12,7 +12,7 @@ use Rattle.terms.specs.Fields.{heldPath}
 use Rattle.terms.specs.Terms.{pathAt}
 use Rattle.records.specs.declared.Record.{Record}
 use Rattle.calls.specs.Book.{noPoint, Book, emptyBook, answer}
-use Rattle.calls.specs.Refusals.{full-or-in-use}
+use Rattle.common.specs.Refusals.{full-or-in-use}
 use Rattle.calls.specs.PointCall.{pointNames, placeOf}
 use Rattle.calls.specs.Runs.{Machine}
 use Rattle.calls.specs.Calls.{Call, term, step, text, point, return, plainBook}

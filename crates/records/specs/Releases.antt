@@ -7,7 +7,7 @@ use lib.Dec.{leb, eqb}
 use lib.ListN.{length, getD, set, replicate}
 use Rattle.records.specs.declared.Record.{Record}
 use Rattle.calls.specs.Book.{Answer, answer}
-use Rattle.calls.specs.Refusals.{no-record}
+use Rattle.common.specs.Refusals.{no-record}
 use Rattle.calls.specs.Runs.{Machine, Seen, shown, final}
 use Rattle.calls.specs.Above.{Both, both, Above, Layer, above}
 use Rattle.records.specs.Records.{noRecord, maxRecords, current}

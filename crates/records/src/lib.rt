@@ -7,9 +7,10 @@ ghost use lib.ListN.{length, set};
 ghost use Rattle.terms.specs.Row.{tableOf};
 ghost use Rattle.calls.specs.code.Tables.{stepsOf};
 ghost use Rattle.records.specs.Records.{current, rowOf, isFitStep, recordAnswer, allKept, noRecord, maxRecords};
-ghost use Rattle.records.specs.Held.{recordAnswerOf, sizeOf, recordsIn, noRecords, withRecord, RecordMade};
+ghost use Rattle.records.specs.code.Held.{recordAnswerOf, sizeOf, recordsIn, noRecords, withRecord};
 ghost use Rattle.records.specs.Releases.{released};
-ghost use Rattle.records.specs.Listed.{releaseAnswerOf, flagged, noReleases, allReleases, listed, ReleaseMade};
+ghost use Rattle.records.specs.code.Listed.{releaseAnswerOf, flagged, noReleases, listed};
+ghost use Rattle.records.specs.code.Promises.{RecordMade, allReleases, ReleaseMade};
 
 pub const MAX_RECORDS: usize = 256;
 
@@ -301,7 +302,7 @@ impl ReleaseAnswer {
     {
         match self {
             ReleaseAnswer::Released => 0,
-            ReleaseAnswer::NoRecord(_) => calls::NO_RECORD,
+            ReleaseAnswer::NoRecord(_) => common::refusal::NO_RECORD,
         }
     }
 
@@ -321,9 +322,9 @@ impl RecordAnswer {
     {
         match self {
             RecordAnswer::Recorded => 0,
-            RecordAnswer::NotNext(_) => calls::NOT_NEXT,
-            RecordAnswer::BadRecord(_) => calls::BAD_RECORD,
-            RecordAnswer::RegisterFull => calls::FULL_OR_IN_USE,
+            RecordAnswer::NotNext(_) => common::refusal::NOT_NEXT,
+            RecordAnswer::BadRecord(_) => common::refusal::BAD_RECORD,
+            RecordAnswer::RegisterFull => common::refusal::FULL_OR_IN_USE,
         }
     }
 

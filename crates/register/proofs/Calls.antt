@@ -1,7 +1,7 @@
 -- The register's calls, from the session's. Assumes nothing.
 use Prim.Native.Nat.{ℕ, _+_, _<_}
 use mathlib.Core.Path.{_≡_, refl, sym, ap, _∙_}
-use mathlib.Core.Bool.{Bool, true, false, cond, _&&_, false≢true}
+use mathlib.Core.Bool.{Bool, true, false, cond}
 use mathlib.Core.List.{List}
 use native.Mathlib.Omega.{arith}
 use lib.Dec.{leb}
@@ -14,17 +14,18 @@ use Rattle.records.specs.declared.ReleasesMade.{ReleasesMade}
 use Rattle.records.specs.declared.Releases.{Releases}
 use Rattle.register.specs.declared.Register.{Register}
 use Rattle.calls.specs.Book.{Answer, answer, accepted}
-use Rattle.calls.specs.Refusals.{bad-point, full-or-in-use}
+use Rattle.common.specs.Refusals.{bad-point, full-or-in-use}
 use Rattle.calls.specs.PointCall.{pointNames, placeOf, returnAnswer}
 use Rattle.calls.specs.Calls.{Call, return}
 use Rattle.calls.specs.Runs.{Made}
 use Rattle.calls.specs.Above.{Both, both, passed, own, above}
 use Rattle.calls.proofs.Above.{passed-on, passed-refused, passed-barred, along-made}
 use Rattle.records.specs.Records.{recordAnswer}
-use Rattle.records.specs.Held.{recordAnswerOf, recordsIn, withRecord, RecordMade}
+use Rattle.records.specs.code.Held.{recordAnswerOf, recordsIn, withRecord}
 use Rattle.records.specs.Register.{dropsInUse, RegisterCall}
 use Rattle.records.specs.Releases.{releaseAnswer, withRelease, IsReleased}
-use Rattle.records.specs.Listed.{releaseAnswerOf, flagged, ReleaseMade}
+use Rattle.records.specs.code.Listed.{releaseAnswerOf, flagged}
+use Rattle.records.specs.code.Promises.{RecordMade, ReleaseMade}
 use Rattle.records.proofs.Released.{of-a-record}
 use Rattle.records.proofs.Crew.{release-again}
 use Rattle.session.specs.View.{view}

@@ -19,11 +19,11 @@ use Rattle.calls.proofs.Runs.{Simulates, run-map, run-follows}
 use Rattle.calls.proofs.Above.{Agrees, above-simulates, along-simulates, reached-below}
 use Rattle.calls.proofs.Reached.{BookLaws, reachable-laws}
 use Rattle.records.specs.Records.{noRecord, maxRecords, current, recordAnswer}
-use Rattle.records.specs.Held.{sizeOf, recordsIn, noRecords, withRecord}
+use Rattle.records.specs.code.Held.{sizeOf, recordsIn, noRecords, withRecord}
 use Rattle.records.specs.Register.{plainRecords, plainRegister, emptyRegister, EditionsContained}
 use Rattle.records.specs.Releases.{noneReleased, released, crewCurrent, plainReleases, plainOffice, emptyOffice}
 use Rattle.records.specs.Releases.{OfficeCall, OfficeSeen, officeAfter, IsReleased, StillReleased}
-use Rattle.records.specs.Listed.{noReleases}
+use Rattle.records.specs.code.Listed.{noReleases}
 use Rattle.records.proofs.Crew.{crew-contained, releases-stay}
 use Rattle.records.proofs.Judged.{record-accepted}
 use Rattle.records.proofs.Editions.{editions-contained}

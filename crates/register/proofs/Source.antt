@@ -16,14 +16,13 @@ use Rattle.session.specs.declared.write.WriteAnswer.{WriteAnswer}
 use Rattle.records.specs.declared.Record.{Record}
 use Rattle.records.specs.declared.RecordAnswer.the-variants as RecordCases
 use Rattle.records.specs.declared.Records.{Records}
-use Rattle.records.specs.declared.ReleaseAnswer.{ReleaseAnswer}
 use Rattle.records.specs.declared.ReleaseAnswer.the-variants as ReleaseCases
 use Rattle.register.specs.declared.Register.{Register}
 use Rattle.register.specs.declared.ReadResult.{ReadResult}
 use Rattle.register.specs.declared.ReturnAnswer.the-variants as ReturnCases
 use Rattle.calls.specs.Book as book
 use Rattle.calls.specs.Book.{Step, Answer, answer, accepted}
-use Rattle.calls.specs.Refusals.{full-or-in-use, no-record}
+use Rattle.common.specs.Refusals.{full-or-in-use, no-record}
 use Rattle.calls.specs.PointCall.{pointNames, placeOf, returnAnswer}
 use Rattle.calls.specs.Promises.{rowYielded, rowStepAnswer}
 use Rattle.calls.specs.Runs.{next, Run}
@@ -34,10 +33,10 @@ use Rattle.calls.specs.code.Points.{pointAnswerOf}
 use Rattle.calls.proofs.Runs.{made, run-exists}
 use Rattle.calls.proofs.Cases.{term-case, step-case, point-case}
 use Rattle.records.specs.Records.{recorded, maxRecords, current, rowOf, isFitStep, recordAnswer}
-use Rattle.records.specs.Held.{recordAnswerOf, recordsIn, noRecords}
+use Rattle.records.specs.code.Held.{recordAnswerOf, recordsIn, noRecords}
 use Rattle.records.specs.Register.{dropsInUse}
 use Rattle.records.specs.Releases.{releaseAnswer, crewListing, crewCurrent, OfficeCall, OfficeSeen}
-use Rattle.records.specs.Listed.{releaseAnswerOf, listed, noReleases}
+use Rattle.records.specs.code.Listed.{releaseAnswerOf, listed, noReleases}
 use Rattle.session.specs.View.{view}
 use Rattle.session.specs.Promises.{SelectMet, textAnswerOf}
 use Rattle.session.specs.ReplaceDemand.{ReplaceMet}

@@ -13,15 +13,15 @@ use Rattle.register.specs.declared.ReadResult.{ReadResult}
 use Rattle.register.specs.declared.ReturnAnswer.{ReturnAnswer}
 use Rattle.register.specs.declared.ReturnAnswer.the-variants as ReturnCases
 use Rattle.calls.specs.Book.{Answer, answer}
-use Rattle.calls.specs.Refusals.{bad-point, full-or-in-use, no-record}
+use Rattle.common.specs.Refusals.{bad-point, full-or-in-use, no-record}
 use Rattle.calls.specs.Runs.{Machine, Made}
 use Rattle.calls.specs.Calls.{Call}
 use Rattle.calls.specs.Above.{Both, both, Layer, above, along}
 use Rattle.records.specs.Records.{recordAnswer}
-use Rattle.records.specs.Held.{recordsIn, noRecords, withRecord}
+use Rattle.records.specs.code.Held.{recordsIn, noRecords, withRecord}
 use Rattle.records.specs.Register.{dropsInUse, RegisterCall}
 use Rattle.records.specs.Releases.{releaseAnswer, withRelease, released, OfficeCall, OfficeHoldings}
-use Rattle.records.specs.Listed.{flagged, noReleases}
+use Rattle.records.specs.code.Listed.{flagged, noReleases}
 use Rattle.session.specs.View.{view, freshSession}
 use Rattle.session.specs.Promises.{session}
 use Rattle.session.specs.ReadCall.{ReadMet}

@@ -24,13 +24,13 @@ ghost use Rattle.calls.specs.Above.{Above};
 ghost use Rattle.calls.specs.code.Answers.{termAnswerOf, stepAnswerOf};
 ghost use Rattle.calls.specs.code.Points.{pointAnswerOf};
 ghost use Rattle.records.specs.Records.{recorded, current};
-ghost use Rattle.records.specs.Held.{recordAnswerOf, recordsIn};
+ghost use Rattle.records.specs.code.Held.{recordAnswerOf, recordsIn};
 ghost use Rattle.session.specs.Promises.{SelectMet, textAnswerOf};
 ghost use Rattle.session.specs.ReplaceDemand.{ReplaceMet};
 ghost use Rattle.session.specs.OrderDemand.{OrderMet, BundleOrderMet};
 ghost use Rattle.session.specs.WriteCall.{WriteMet};
 ghost use Rattle.records.specs.Releases.{crewListing, crewCurrent};
-ghost use Rattle.records.specs.Listed.{releaseAnswerOf, listed};
+ghost use Rattle.records.specs.code.Listed.{releaseAnswerOf, listed};
 ghost use Rattle.register.specs.Promises.{returnAnswerOf, freshRegister, releasedIn, RegisterMet};
 ghost use Rattle.register.specs.Promises.{RegisterReadMet};
 
@@ -356,8 +356,8 @@ impl ReturnAnswer {
     {
         match self {
             ReturnAnswer::Accepted => 0,
-            ReturnAnswer::BadPoint(_) => calls::BAD_POINT,
-            ReturnAnswer::InUse => calls::FULL_OR_IN_USE,
+            ReturnAnswer::BadPoint(_) => common::refusal::BAD_POINT,
+            ReturnAnswer::InUse => common::refusal::FULL_OR_IN_USE,
         }
     }
 

@@ -15,7 +15,7 @@ use Rattle.common.specs.Bounded.{firstBelow, allBelow}
 use Rattle.common.proofs.Search.{first-not-yet, first-found, none-iff}
 use Rattle.common.proofs.Reflect.{true-iff, all-yes, yes-all}
 use Rattle.calls.specs.Book.{Book, Answer, answer}
-use Rattle.calls.specs.Refusals.{bad-lists, not-covered}
+use Rattle.common.specs.Refusals.{bad-lists, not-covered}
 use Rattle.calls.proofs.StepJudged.{neither}
 use Rattle.replacing.specs.declared.ReplaceAnswer.{ReplaceAnswer}
 use Rattle.replacing.specs.declared.ReplaceAnswer.the-variants as ReplaceCases

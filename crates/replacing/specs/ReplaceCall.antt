@@ -7,7 +7,7 @@ use lib.Dec.{ltb, eqb}
 use lib.ListN.{length}
 use Rattle.common.specs.Bounded.{firstBelow}
 use Rattle.calls.specs.Book.{Book, Answer, answer}
-use Rattle.calls.specs.Refusals.{bad-lists, not-covered}
+use Rattle.common.specs.Refusals.{bad-lists, not-covered}
 use Rattle.replacing.specs.declared.ReplaceAnswer.{ReplaceAnswer}
 use Rattle.replacing.specs.declared.ReplaceAnswer.the-variants as ReplaceCases
 use Rattle.replacing.specs.Covered.{isReplacedAt}

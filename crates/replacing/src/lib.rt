@@ -144,8 +144,8 @@ impl ReplaceAnswer {
     {
         match self {
             ReplaceAnswer::Covered => 0,
-            ReplaceAnswer::BadLists => calls::BAD_LISTS,
-            ReplaceAnswer::NotCovered(_) => calls::NOT_COVERED,
+            ReplaceAnswer::BadLists => common::refusal::BAD_LISTS,
+            ReplaceAnswer::NotCovered(_) => common::refusal::NOT_COVERED,
         }
     }
 

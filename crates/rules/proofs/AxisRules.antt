@@ -1,5 +1,5 @@
 -- The rules that name axes or tests are sound on every well-formed document. Assumes nothing.
-use Prim.Native.Nat.{_≤_, _<_}
+use Prim.Native.Nat.{_<_}
 use mathlib.Core.Path.{_≡_, refl, sym, _∙_, subst}
 use mathlib.Core.List.{[], _∷_}
 use mathlib.Core.Logic.{inl, inr, ⊎-elim}

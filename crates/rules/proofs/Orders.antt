@@ -16,7 +16,7 @@ use Rattle.common.specs.NodeTests.{name-test, star-test, node-test, instruction
 use Rattle.xpath.specs.Axis.{principal, passes}
 use Rattle.common.proofs.Reflect.{facts}
 use Rattle.xpath.proofs.Tree.{parent-is}
-use Rattle.xpath.proofs.Facts.{OnAxis, NoAttribute}
+use Rattle.xpath.proofs.Facts.{OnAxis}
 use Rattle.xpath.proofs.Order.{following-sibling-follows}
 use Rattle.xpath.proofs.Targets.{has-target}
 use Rattle.common.specs.Lists.{Every}

@@ -11,12 +11,13 @@ use borrow.Author.Tests.{le-leb}
 use Rattle.lines.specs.Line.{lines}
 use Rattle.lines.specs.code.NumbersRead.{firstParts, maxCount, noCounted}
 use Rattle.lines.proofs.Parts.{first-mapped, PartsMet}
-use Rattle.script.specs.declared.Word.{Word}
-use Rattle.script.specs.declared.Shape.{Shape}
-use Rattle.script.specs.declared.Shape.the-variants.{Counted, Listed}
+use Rattle.script_words.specs.declared.Word.{Word}
+use Rattle.script_words.specs.declared.Shape.{Shape}
+use Rattle.script_words.specs.declared.Shape.the-variants.{Counted, Listed}
 use Rattle.script.specs.declared.Values.{Values}
 use Rattle.script.specs.declared.CallLine.{CallLine}
-use Rattle.script.specs.Command.{Command, command, maxNumbers, shapeOf, allNumbers, atMost, numbersIn}
+use Rattle.script.specs.Command.{Command, command, allNumbers, atMost, numbersIn}
+use Rattle.script_words.specs.Words.{maxNumbers, shapeOf}
 use Rattle.script.specs.Command.{named, wordCommand}
 use Rattle.script.specs.code.CommandRead.{noNumbers, sizeOnly, valuesOf, listedOf, plainLine, noCall}
 use Rattle.script.specs.code.CommandRead.{callLine, CallMet}

@@ -12,11 +12,12 @@ use Rattle.lines.specs.Line.{newline, space}
 use Rattle.lines.specs.Number.{maxNumber}
 use Rattle.lines.specs.code.NumbersRead.{NumberMet}
 use Rattle.lines.proofs.Parts.{PartsMet}
-use Rattle.script.specs.declared.Word.{Word}
-use Rattle.script.specs.declared.Shape.the-variants.{Listed}
+use Rattle.script_words.specs.declared.Word.{Word}
+use Rattle.script_words.specs.declared.Shape.the-variants.{Listed}
 use Rattle.script.specs.declared.Values.{Values}
 use Rattle.script.specs.declared.CallLine.{CallLine}
-use Rattle.script.specs.Command.{maxNumbers, shapeOf, allNumbers, atMost, wordCommand}
+use Rattle.script.specs.Command.{allNumbers, atMost, wordCommand}
+use Rattle.script_words.specs.Words.{maxNumbers, shapeOf}
 use Rattle.script.specs.code.CommandRead.{noNumbers, sizeOnly, noCall, CallMet}
 use Rattle.script.proofs.Numbers.{SoFar, one-more-number, last-of-all, no-number-more, numbers-full}
 use Rattle.script.proofs.Calls.{no-list, list-call}

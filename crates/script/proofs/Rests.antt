@@ -1,9 +1,9 @@
 -- A word and the rest of its line. Assumes nothing.
-use Prim.Native.Nat.{ℕ, suc, _+_, _≤_, _<_}
+use Prim.Native.Nat.{ℕ, _+_, _≤_, _<_}
 use mathlib.Core.Path.{_≡_, refl, sym, ap, _∙_}
-use mathlib.Core.Bool.{Bool, true, false, cond, false≢true}
+use mathlib.Core.Bool.{true, false, false≢true}
 use mathlib.Core.List.{List, [], _∷_}
-use mathlib.Core.Option.{none, some}
+use mathlib.Core.Option.{none}
 use native.Mathlib.Omega.{arith}
 use native.Mathlib.Numerals.{add-one}
 use lib.Dec.{eqb}
@@ -13,11 +13,12 @@ use borrow.Author.Tests.{eq-eqb, ne-eqb}
 use Rattle.lines.specs.Line.{newline, Line, inFirstLine, lines}
 use Rattle.lines.specs.code.NumbersRead.{firstParts}
 use Rattle.lines.proofs.Cutting.{no-lines}
-use Rattle.script.specs.declared.Word.{Word}
-use Rattle.script.specs.declared.Shape.the-variants.{Rest}
+use Rattle.script_words.specs.declared.Word.{Word}
+use Rattle.script_words.specs.declared.Shape.the-variants.{Rest}
 use Rattle.script.specs.declared.CallLine.{CallLine}
 use Rattle.script.specs.declared.Values.{Values}
-use Rattle.script.specs.Command.{shapeOf, numbersIn, wordCommand}
+use Rattle.script.specs.Command.{numbersIn, wordCommand}
+use Rattle.script_words.specs.Words.{shapeOf}
 use Rattle.script.specs.code.CommandRead.{sizeOnly, plainLine, noCall, CallMet}
 use Rattle.script.proofs.Calls.{if-not-read, if-read}
 

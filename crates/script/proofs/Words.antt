@@ -1,7 +1,7 @@
 -- The first part of a line says which call it is. Assumes nothing.
 use Prim.Native.Nat.{ℕ, zero, suc, _+_}
 use mathlib.Core.Path.{_≡_, refl, sym, ap, _∙_}
-use mathlib.Core.Bool.{Bool, true, false, cond, _&&_, false≢true}
+use mathlib.Core.Bool.{Bool, true, false, false≢true}
 use mathlib.Core.List.{List, [], _∷_, _++_, append-assoc}
 use mathlib.Core.Option.{Option, none, some, Option·elim}
 use native.Mathlib.Omega.{arith}
@@ -16,11 +16,12 @@ use Rattle.lines.proofs.Start.{starts}
 use Rattle.lines.proofs.SameBytes.{same-bytes}
 use Rattle.lines.proofs.Parts.{FirstPart, no-line, only-part, part-before, first-part, before-newline, before-space}
 use Rattle.lines.proofs.Parts.{next-behind, first-mapped}
-use Rattle.script.specs.declared.Word.{Word}
-use Rattle.script.specs.declared.Shape.{Shape}
-use Rattle.script.specs.declared.Shape.the-variants.{Counted, Listed, Selection, Room, Rest}
+use Rattle.script_words.specs.declared.Word.{Word}
+use Rattle.script_words.specs.declared.Shape.{Shape}
+use Rattle.script_words.specs.declared.Shape.the-variants.{Counted, Listed, Selection, Room, Rest}
 use Rattle.script.specs.declared.CallLine.{CallLine}
-use Rattle.script.specs.Command.{command, shapeOf, atMost, numbersIn, named, wordCommand, wordFor, commandBy}
+use Rattle.script.specs.Command.{command, atMost, numbersIn, named, wordCommand, wordFor, commandBy}
+use Rattle.script_words.specs.Words.{shapeOf}
 use Rattle.script.specs.code.CommandRead.{noNumbers, sizeOnly, valuesOf, listedOf, plainLine, noCall, callLine}
 use Rattle.script.specs.code.CommandRead.{standsAlone, CallMet}
 use Rattle.script.proofs.Calls.{is-no-call, is-call}

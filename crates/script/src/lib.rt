@@ -1,15 +1,20 @@
 // A line of a script as a call on a session: a word, and numbers after it, one space before each.
-use calls::STEP_WIDTH;
-use terms::ROW_WIDTH;
+use script_words::MAX_NUMBERS;
+use script_words::Shape;
+use script_words::WORD_COUNT;
+use script_words::Word;
+use script_words::entry_at;
 ghost use mathlib.Core.Path.{_≡_};
 ghost use Prim.Native.Nat.{_+_, _≤_, _<_, min};
-ghost use lib.ListN.{length, getD, take, drop};
+ghost use lib.ListN.{length, take, drop};
+ghost use Rattle.script_words.specs.Words.{maxNumbers, shapeOf};
 ghost use Rattle.lines.specs.Line.{lines};
 ghost use Rattle.lines.specs.code.NumbersRead.{maxCount};
-ghost use Rattle.script.specs.Command.{maxNumbers, words, shapeOf, wordCommand, commandOf};
+ghost use Rattle.script.specs.Command.{wordCommand, commandOf};
 ghost use Rattle.script.specs.Rest.{restOf, newlineForSpace, namesOf, firstBytes};
 ghost use Rattle.script.specs.code.CommandRead.{noNumbers, sizeOnly, plainLine, noCall, CallMet};
-ghost use Rattle.script.specs.code.CommandRead.{standsAlone, Fits, noEntry, EntryMet};
+ghost use Rattle.script.specs.code.CommandRead.{standsAlone};
+ghost use Rattle.script_words.specs.code.Entries.{Fits};
 
 const MAX_LIMIT: u32 = 4294967295;
 
@@ -18,90 +23,6 @@ pub const MAX_MARKS: usize = 1024;
 
 // The length of the longest buffer of a write.
 pub const MAX_ROOM: usize = common::MAX_BYTES;
-
-// The numbers of the longest document, three a node: one node more than a select takes.
-pub const MAX_NUMBERS: usize = 3 * (xpath::MAX_NODES + 1);
-
-// The most numbers of a line of old rows, of new rows, or of steps: more than a replace takes.
-pub const MAX_LISTED: usize = 100;
-
-pub enum Word {
-    Term,
-    Step,
-    Select,
-    Document,
-    Fresh,
-    Old,
-    New,
-    Replace,
-    Write,
-    Point,
-    Return,
-    Other,
-    Order,
-    BundleOrder,
-    Names,
-    Text,
-    Record,
-    Current,
-    Release,
-    Records,
-    Released,
-    CrewCurrent,
-}
-
-// What stands after a word: so many numbers of 16 bits, a list of up to so many, the numbers of a select, the length
-// of a buffer, or any bytes.
-pub enum Shape {
-    Counted(usize),
-    Listed(usize),
-    Selection,
-    Room,
-    Rest,
-}
-
-// A word's bytes and spaces after them, how many bytes it has, which word it is, and what stands after it.
-pub struct Entry(pub [u8; WORD_WIDTH], pub usize, pub Word, pub Shape);
-
-// One byte more than the longest word has.
-const WORD_WIDTH: usize = 13;
-
-const WORD_COUNT: usize = 22;
-
-const WORDS: [Entry; WORD_COUNT] = [
-    Entry(*b"term         ", 4, Word::Term, Shape::Counted(ROW_WIDTH)),
-    Entry(*b"step         ", 4, Word::Step, Shape::Counted(STEP_WIDTH)),
-    Entry(*b"select       ", 6, Word::Select, Shape::Selection),
-    Entry(
-        *b"document     ",
-        8,
-        Word::Document,
-        Shape::Listed(MAX_NUMBERS),
-    ),
-    Entry(*b"fresh        ", 5, Word::Fresh, Shape::Counted(0)),
-    Entry(*b"old          ", 3, Word::Old, Shape::Listed(MAX_LISTED)),
-    Entry(*b"new          ", 3, Word::New, Shape::Listed(MAX_LISTED)),
-    Entry(
-        *b"replace      ",
-        7,
-        Word::Replace,
-        Shape::Listed(MAX_LISTED),
-    ),
-    Entry(*b"write        ", 5, Word::Write, Shape::Room),
-    Entry(*b"point        ", 5, Word::Point, Shape::Counted(1)),
-    Entry(*b"return       ", 6, Word::Return, Shape::Counted(1)),
-    Entry(*b"other        ", 5, Word::Other, Shape::Counted(0)),
-    Entry(*b"order        ", 5, Word::Order, Shape::Counted(2)),
-    Entry(*b"bundle-order ", 12, Word::BundleOrder, Shape::Counted(0)),
-    Entry(*b"names        ", 5, Word::Names, Shape::Rest),
-    Entry(*b"text         ", 4, Word::Text, Shape::Rest),
-    Entry(*b"record       ", 6, Word::Record, Shape::Counted(4)),
-    Entry(*b"current      ", 7, Word::Current, Shape::Counted(1)),
-    Entry(*b"release      ", 7, Word::Release, Shape::Counted(1)),
-    Entry(*b"records      ", 7, Word::Records, Shape::Counted(0)),
-    Entry(*b"released     ", 8, Word::Released, Shape::Counted(0)),
-    Entry(*b"crew-current ", 12, Word::CrewCurrent, Shape::Counted(1)),
-];
 
 // The numbers after a word, by its shape: `a` to `e` are those that are counted, in their order; `size` says how many
 // are listed; a select has its row in `a`, its context node in `b`, its limit, and in `size` the length of the marks
@@ -301,14 +222,6 @@ fn stands_alone(shape: Shape) -> bool
         Shape::Room => false,
         Shape::Rest => true,
     }
-}
-
-fn entry_at(i: usize) -> Entry
-    requires { ⌜ i < length words ⌝ }
-    ensures { λ r. ⌜ EntryMet (getD words i noEntry) r ⌝ }
-{
-    let words = WORDS;
-    words[i]
 }
 
 // The call of the line at `at`.

@@ -1,14 +1,11 @@
 -- Laws of marks: the loops that set them, and the copy into a buffer. Assumes nothing.
-use Prim.Native.Nat.{ℕ, zero, suc, _+_, _≤_, _<_}
-use mathlib.Core.Path.{_≡_, refl, sym, ap, _∙_}
-use mathlib.Core.Bool.{Bool, true, false, cond, _&&_, _||_, or-false}
+use Prim.Native.Nat.{ℕ, zero, suc, _+_, _<_}
+use mathlib.Core.Path.{_≡_, refl, _∙_}
+use mathlib.Core.Bool.{Bool, true, false, cond, _&&_, or-false}
 use mathlib.Core.List.{List}
-use mathlib.Core.Logic.{_≢_}
 use native.Mathlib.Omega.{arith}
 use native.Mathlib.Numerals.{add-one}
-use lib.ListN.{length, getD, set, replicate, length-replicate, length-set}
-use lib.Seq.{getD-set-same, getD-set-other}
-use borrow.Author.Count.{below-more}
+use lib.ListN.{length, getD, set, replicate, length-replicate}
 use Rattle.common.specs.Bounded.{anyBelow}
 use Rattle.xpath.specs.Document.{maxNodes}
 use Rattle.selection.specs.Marks.{written}

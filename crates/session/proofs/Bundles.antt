@@ -8,7 +8,7 @@ use native.Mathlib.Omega.{arith}
 use lib.ListN.{length}
 use Rattle.terms.specs.Row.{Row}
 use Rattle.common.specs.Limits.{maxBytes}
-use Rattle.common.specs.Lists.{Every, joined}
+use Rattle.common.specs.Lists.{Every}
 use Rattle.lines.specs.Ascii.{ascii}
 use Rattle.lines.specs.Line.{newline, Line, line, inFirstPart, lines, parts, sameBytes, isLine, firstIs}
 use Rattle.lines.specs.Number.{isDigit, isDecimal, appendDigits, numbersUpTo, numbersOf}
@@ -22,7 +22,9 @@ use Rattle.calls.specs.Book.{Step, book, answer}
 use Rattle.calls.specs.Runs.{seen, done, then}
 use Rattle.calls.specs.Calls.{Call, step, CallSeen, bookAfter}
 use Rattle.calls.specs.code.Tables.{rowWidth}
-use Rattle.session.specs.View.{view, freshSession, rowNumbers, stepNumbers}
+use Rattle.session.specs.View.{view, freshSession}
+use Rattle.terms.specs.Row.{rowNumbers}
+use Rattle.calls.specs.Book.{stepNumbers}
 use Rattle.bundles.specs.Bundle.{rowNames, stepNames, rowText, rowsText, stepsText, bundleText}
 use Rattle.calls.specs.Promises.{rowStepAnswer}
 use Rattle.session.specs.Reading.{Reading, stepsRead, rowsRead, linesRead, reading}

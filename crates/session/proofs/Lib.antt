@@ -9,7 +9,6 @@ pub mod Demand3
 pub mod SetsReplaced
 pub mod Restored
 pub mod ArchivesOrdered
-pub mod RowsKept
 pub mod ReadByRows
 pub mod LinesRead
 pub mod LineCalls

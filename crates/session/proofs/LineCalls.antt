@@ -21,12 +21,13 @@ use Rattle.calls.specs.declared.TermAnswer.{TermAnswer}
 use Rattle.calls.specs.declared.StepAnswer.{StepAnswer}
 use Rattle.calls.specs.Book.{maxSteps, book, answer}
 use Rattle.calls.specs.code.Tables.{rowWidth, stepWidth, firstRows, firstSteps}
-use Rattle.session.specs.View.{view, stepNumbers, freshSession}
+use Rattle.session.specs.View.{view, freshSession}
+use Rattle.calls.specs.Book.{stepNumbers}
 use Rattle.calls.specs.code.Answers.{termAnswerOf, stepAnswerOf}
 use Rattle.calls.specs.Promises.{rowStepAnswer}
-use Rattle.session.specs.code.Parts.{TermPlaced}
+use Rattle.term_calls.specs.code.Placed.{TermPlaced}
 use Rattle.bundles.specs.Bundle.{rowNames, stepNames, rowOfNumbers, stepOfNumbers}
-use Rattle.calls.specs.Refusals.{wrong-form}
+use Rattle.common.specs.Refusals.{wrong-form}
 use Rattle.session.specs.Reading.{refusedAt, stepsRead, rowsRead}
 use Rattle.session.specs.code.Parts.{holding}
 use Rattle.calls.proofs.Tables.{rows-held, steps-held}

@@ -17,7 +17,7 @@ use Rattle.calls.specs.Calls.{term, step}
 use Rattle.calls.specs.Promises.{rowStepAnswer}
 use Rattle.session.specs.Promises.{Met}
 use Rattle.bundles.specs.Bundle.{stepNames, rowOfNumbers, stepOfNumbers, rowOfLine, stepOfLine}
-use Rattle.calls.specs.Refusals.{wrong-form}
+use Rattle.common.specs.Refusals.{wrong-form}
 use Rattle.session.specs.Reading.{refusedAt, stepsRead, rowsRead}
 use Rattle.calls.proofs.Accepted.{if-accepted, if-refused}
 

@@ -17,7 +17,7 @@ use Rattle.session.specs.View.{view, freshSession, withRow, withStep}
 use Rattle.calls.specs.Promises.{rowStepAnswer}
 use Rattle.session.specs.Promises.{sessionAnswer, sessionWith, session}
 use Rattle.bundles.specs.Bundle.{rowNames, stepNames, rowOfLine, stepOfLine}
-use Rattle.calls.specs.Refusals.{wrong-form}
+use Rattle.common.specs.Refusals.{wrong-form}
 use Rattle.session.specs.Reading.{Reading, refusedAt, stepsRead, rowsRead, linesRead, reading}
 use Rattle.calls.proofs.Runs.{accepted-made}
 use Rattle.calls.proofs.ByTerms.{row-answer-by-terms}

@@ -22,16 +22,14 @@ use Rattle.session.specs.View.{view, freshSession, withRow, withStep}
 use Rattle.calls.specs.Promises.{rowStepAnswer}
 use Rattle.session.specs.Promises.{CallRelation, SelectRelation, session, Met, CallsMade, SelectMet}
 use Rattle.bundles.specs.Bundle.{rowNames, stepNames, rowOfLine, stepOfLine}
-use Rattle.calls.specs.Refusals.{wrong-form}
+use Rattle.common.specs.Refusals.{wrong-form}
 use Rattle.session.specs.Reading.{Reading, refusedAt, stepsRead, rowsRead, linesRead}
 use Rattle.session.specs.ReadCall.{readAnswerOf, ReadMet}
 use Rattle.session.specs.ReadDemand.{IsAccepted, callsOf, IsBundle, ReadAccepted}
 use Rattle.calls.proofs.Runs.{accepted-made, run-map}
 use Rattle.session.proofs.ReadByRows.{reading-by-rows}
 use Rattle.session.proofs.Demand3.{CallsKept, SelectsKept, demanded}
-use Rattle.session.proofs.Simulation.{fresh-kept}
 use Rattle.session.proofs.StepsAdded.{calls-held}
-use Rattle.session.proofs.Views.{fresh-view}
 
 -- the line is the bytes and a newline
 pub is-line : (ys : List ℕ) (l : Line) → isLine ys l ≡ true → l ≡ line ys true

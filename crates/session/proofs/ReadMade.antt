@@ -16,7 +16,7 @@ use Rattle.calls.specs.Book.{answer, accepted}
 use Rattle.session.specs.View.{freshSession}
 use Rattle.bundles.specs.Bundle.{rowNames}
 use Rattle.calls.specs.Promises.{rowStepAnswer}
-use Rattle.calls.specs.Refusals.{wrong-form}
+use Rattle.common.specs.Refusals.{wrong-form}
 use Rattle.session.specs.Reading.{refusedAt, stepsRead, rowsRead, linesRead, reading}
 use Rattle.session.specs.ReadCall.{readAnswerOf, isHeld, readingOf, ReadMet}
 use Rattle.session.specs.code.Parts.{holding}

@@ -13,7 +13,7 @@ use Rattle.calls.specs.Calls.{Call, term, step, text, point, return, CallSeen}
 use Rattle.calls.specs.Calls.{bookAnswer, bookWith, bookAfter, plainBook}
 use Rattle.calls.specs.PointLaws.{KeepsPoints}
 use Rattle.session.specs.View.{view, freshSession, withPoint}
-use Rattle.session.specs.Promises.{CallRelation, sessionAnswer, Met, CallsMade}
+use Rattle.session.specs.Promises.{CallRelation, Met, CallsMade}
 use Rattle.session.specs.SessionLaws.{sessionOf, withoutPoints, SetsNoPoint}
 use Rattle.session.specs.SessionLaws.{WholeSession, NoPointLeft, SessionRestored}
 use Rattle.calls.proofs.Accepted.{if-accepted, by-accepted}

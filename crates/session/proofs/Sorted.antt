@@ -1,5 +1,5 @@
 -- The rows and then the steps of a book that calls lead to are accepted from the empty book. Assumes nothing.
-use Prim.Native.Nat.{ℕ, _+_, _≤_, _<_}
+use Prim.Native.Nat.{_+_, _≤_, _<_}
 use mathlib.Core.Path.{_≡_, refl, sym, ap, subst, _∙_}
 use mathlib.Core.List.{List, [], _∷_, _++_, map, append-assoc, append-nil}
 use native.Mathlib.Omega.{arith}
@@ -18,7 +18,7 @@ use Rattle.calls.specs.TextLaws.{newRows}
 use Rattle.calls.specs.PointCall.{pointNames, placeOf}
 use Rattle.calls.specs.TermCall.{termAnswer}
 use Rattle.calls.specs.StepCall.{isYielded, stepAnswerBy, stepAnswer}
-use Rattle.calls.specs.Runs.{next, final, Reached, first, after}
+use Rattle.calls.specs.Runs.{next, final, first, after}
 use Rattle.calls.specs.Calls.{Call, term, step, text, point, return, bookAnswer, bookWith, plainBook, bookAfter}
 use Rattle.calls.specs.Calls.{Reachable}
 use Rattle.bundles.specs.Bundle.{rowText, stepText}

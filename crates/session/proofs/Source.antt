@@ -30,7 +30,7 @@ use Rattle.session.specs.declared.read.ReadAnswer.{ReadAnswer}
 use Rattle.session.specs.declared.read.ReadAnswer.the-variants as ReadCases
 use Rattle.session.specs.declared.write.WriteAnswer.{WriteAnswer}
 use Rattle.session.specs.declared.write.WriteAnswer.the-variants as WriteCases
-use Rattle.calls.specs.Refusals.{short-buffer}
+use Rattle.common.specs.Refusals.{short-buffer}
 use Rattle.session.specs.Reading.{reading}
 use Rattle.session.specs.ReadCall.{readAnswerOf, isHeld, ReadMet}
 use Rattle.session.specs.WriteCall.{sessionText, writeAnswer, writeBuffer, writeAnswerOf, WriteMet}

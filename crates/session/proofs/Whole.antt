@@ -9,8 +9,7 @@ use lib.ListN.{take-append-drop, List·getD-map}
 use lib.Seq.{sets, sets-eq, take-at, drop-append-add, drop-append-seam, length-take-le}
 use Rattle.common.specs.Lists.{Every, joined}
 use Rattle.common.proofs.Entries.{every-there}
-use Rattle.terms.specs.Row.{Row, tableOf, maxRows}
-use Rattle.text.specs.Readers.{tableWith}
+use Rattle.terms.specs.Row.{Row, tableOf, maxRows, tableWith}
 use Rattle.session.specs.declared.session.Session.{Session}
 use Rattle.calls.specs.declared.points.PointCounts.{PointCounts}
 use Rattle.calls.specs.Book as books
@@ -22,7 +21,9 @@ use Rattle.calls.specs.Promises.{rowYielded, rowStepAnswer}
 use Rattle.calls.specs.code.Tables.{rowWidth, stepWidth, stepsOf, firstRows, firstSteps}
 use Rattle.calls.specs.code.Points.{pointWidth, counts, noCounts, countsOf, countsNames, pointNamed, firstPoints}
 use Rattle.calls.specs.code.Points.{cleared}
-use Rattle.session.specs.View.{pointsIn, pointOf, view, freshSession, rowNumbers, stepNumbers}
+use Rattle.session.specs.View.{pointsIn, pointOf, view, freshSession}
+use Rattle.terms.specs.Row.{rowNumbers}
+use Rattle.calls.specs.Book.{stepNumbers}
 use Rattle.session.specs.View.{withRow, withRows, withStep, withPoint, atPoint}
 use Rattle.session.specs.Promises.{sessionWith}
 use Rattle.session.specs.SessionLaws.{filled, pointNumbers, sessionOf}

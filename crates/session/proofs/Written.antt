@@ -15,11 +15,11 @@ use Rattle.lines.specs.Line.{newline, lines}
 use Rattle.session.specs.declared.session.Session.{Session}
 use Rattle.session.specs.declared.write.WriteAnswer.{WriteAnswer}
 use Rattle.session.specs.declared.write.WriteAnswer.the-variants as WriteCases
-use Rattle.calls.specs.Book.{Step, maxSteps, Book, book, answer}
-use Rattle.calls.specs.Refusals.{short-buffer}
+use Rattle.calls.specs.Book.{Step, maxSteps, Book, answer}
+use Rattle.common.specs.Refusals.{short-buffer}
 use Rattle.calls.specs.Calls.{CallSeen}
 use Rattle.calls.specs.code.Tables.{rowWidth, stepWidth}
-use Rattle.bundles.specs.Bundle.{rowNames, stepNames, rowsText, stepsText, bundleText}
+use Rattle.bundles.specs.Bundle.{rowNames, stepNames, bundleText}
 use Rattle.bundles.specs.code.TextPut.{heldText, TextWritten}
 use Rattle.bundles.proofs.Lengths.{bundle-short}
 use Rattle.bundles.proofs.Tables.{tables-text}
@@ -28,10 +28,8 @@ use Rattle.session.specs.View.{rowsHeld, stepsHeld, view, freshSession}
 use Rattle.session.specs.Promises.{CallsMade}
 use Rattle.session.specs.WriteCall.{sessionText, writeAnswerOf, WriteMet}
 use Rattle.session.specs.ReadDemand.{IsAccepted, callsOf, IsBundle}
-use Rattle.session.proofs.Simulation.{fresh-kept}
 use Rattle.session.proofs.Sorted.{AllSorted}
 use Rattle.session.proofs.StepsAdded.{calls-held}
-use Rattle.session.proofs.Views.{fresh-view}
 
 module _ (s : Session) (buffer : List ℕ) (w : WriteAnswer) (left : List ℕ) (m : WriteMet s buffer w left) where
   -- an accepted write leaves the text at the start

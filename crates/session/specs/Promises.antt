@@ -4,7 +4,7 @@ use mathlib.Core.Path.{_≡_}
 use mathlib.Core.List.{List}
 use Rattle.session.specs.declared.session.Session.{Session}
 use Rattle.calls.specs.declared.SelectAnswer.{SelectAnswer}
-use Rattle.calls.specs.Book.{Answer, answer, accepted}
+use Rattle.calls.specs.Book.{Answer, answer}
 use Rattle.calls.specs.TextCall.{textReply}
 use Rattle.calls.specs.Runs.{Machine, Made, Run}
 use Rattle.calls.specs.Calls.{Call, term, step, text, point, return, CallSeen, bookAnswer, rowAnswer, Reachable}

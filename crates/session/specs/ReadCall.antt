@@ -3,7 +3,6 @@ use Prim.Native.Nat.{ℕ}
 use mathlib.Core.Path.{_≡_}
 use mathlib.Core.Bool.{Bool, true, false}
 use mathlib.Core.List.{List}
-use Rattle.session.specs.declared.session.Session.{Session}
 use Rattle.session.specs.declared.read.ReadAnswer.{ReadAnswer}
 use Rattle.session.specs.declared.read.ReadAnswer.the-variants as ReadCases
 use Rattle.session.specs.declared.read.ReadResult.{ReadResult}

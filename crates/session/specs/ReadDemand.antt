@@ -16,7 +16,9 @@ use Rattle.session.specs.declared.write.WriteAnswer.{WriteAnswer}
 use Rattle.calls.specs.Book.{Step, answer}
 use Rattle.calls.specs.Calls.{Call, term, step, text, point, return, CallSeen}
 use Rattle.calls.specs.Runs.{Run}
-use Rattle.session.specs.View.{view, freshSession, rowNumbers, stepNumbers}
+use Rattle.session.specs.View.{view, freshSession}
+use Rattle.terms.specs.Row.{rowNumbers}
+use Rattle.calls.specs.Book.{stepNumbers}
 use Rattle.session.specs.Promises.{CallRelation, SelectRelation}
 use Rattle.bundles.specs.Bundle.{rowNames, stepNames, rowOfLine, stepOfLine, bundleText}
 use Rattle.session.specs.ReadCall.{readAnswerOf}

@@ -7,7 +7,7 @@ use lib.ListN.{length}
 use Rattle.lines.specs.Line.{Line, lines, isLine}
 use Rattle.session.specs.declared.session.Session.{Session}
 use Rattle.calls.specs.Book.{Step, Book, Answer, answer, accepted}
-use Rattle.calls.specs.Refusals.{wrong-form}
+use Rattle.common.specs.Refusals.{wrong-form}
 use Rattle.calls.specs.TermCall.{termAnswer}
 use Rattle.calls.specs.StepCall.{stepAnswer}
 use Rattle.session.specs.View.{view, freshSession, withRow, withStep}

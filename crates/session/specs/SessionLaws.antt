@@ -13,7 +13,9 @@ use Rattle.calls.specs.Calls.{Call, term, step, text, point, return, CallSeen, 
 use Rattle.calls.specs.PointLaws.{KeepsPoints}
 use Rattle.calls.specs.code.Tables.{rowWidth, stepWidth}
 use Rattle.calls.specs.code.Points.{pointWidth}
-use Rattle.session.specs.View.{view, noPoints, rowNumbers, stepNumbers}
+use Rattle.session.specs.View.{view, noPoints}
+use Rattle.terms.specs.Row.{rowNumbers}
+use Rattle.calls.specs.Book.{stepNumbers}
 use Rattle.session.specs.Promises.{CallRelation}
 
 -- a table of that size with these numbers: zeros after them

@@ -1,18 +1,16 @@
 -- A session as a book. Assumes nothing.
 use Prim.Native.Nat.{ℕ, _+_, _*_}
-use mathlib.Core.List.{List, [], _∷_, map}
+use mathlib.Core.List.{List, map}
 use lib.ListN.{length, replicate}
 use lib.Seq.{sets}
-use Rattle.terms.specs.Row.{Row, maxRows}
-use Rattle.text.specs.Readers.{tableWith}
+use Rattle.terms.specs.Row.{Row, maxRows, rowNumbers, tableWith}
 use Rattle.session.specs.declared.session.Session.{Session}
 use Rattle.calls.specs.declared.points.PointCounts.{PointCounts}
-use Rattle.calls.specs.Book.{Step, maxSteps, Point, point, maxPoints, Book, pointedBook}
+use Rattle.calls.specs.Book.{Step, maxSteps, stepNumbers, Point, point, maxPoints, Book, pointedBook}
 use Rattle.calls.specs.PointCall.{placeOf}
 use Rattle.calls.specs.code.Tables.{rowWidth, stepWidth, rowsCounted, stepsCounted, firstRows, firstSteps}
-pub use Rattle.terms.specs.Row.{rowNumbers}
-pub use Rattle.bundles.specs.Bundle.{stepNumbers}
-use Rattle.calls.specs.code.Points.{pointWidth, counts, pointsCounted, countsNames, pointNamed, firstPoints, cleared}
+use Rattle.calls.specs.code.Points.{pointWidth, counts, pointsCounted, countsNames, countsNumbers, pointNamed}
+use Rattle.calls.specs.code.Points.{firstPoints, cleared}
 
 -- how many rows, steps and points are held
 abbrev pub rowsHeld : Session → ℕ
@@ -52,10 +50,6 @@ freshSession =
       points = noPoints;
       «point_count» = 0;
     }
-
--- the numbers of a point, in order
-abbrev pub countsNumbers : PointCounts → List ℕ
-countsNumbers c = c .name ∷ c .rows ∷ c .steps ∷ []
 
 -- the session with a row, or a step, after those held
 unfoldable pub withRow : Session → Row → Session

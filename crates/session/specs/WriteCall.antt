@@ -9,7 +9,7 @@ use Rattle.session.specs.declared.session.Session.{Session}
 use Rattle.session.specs.declared.write.WriteAnswer.{WriteAnswer}
 use Rattle.session.specs.declared.write.WriteAnswer.the-variants as WriteCases
 use Rattle.calls.specs.Book.{Answer, answer}
-use Rattle.calls.specs.Refusals.{short-buffer}
+use Rattle.common.specs.Refusals.{short-buffer}
 use Rattle.bundles.specs.Bundle.{bundleText}
 use Rattle.session.specs.View.{view}
 

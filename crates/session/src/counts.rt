@@ -21,7 +21,7 @@ impl Session {
         ensures { λ r. ⌜ r ≡ usesOf rule (view self .steps) ⌝ }
     {
         let steps = calls::first_steps(&self.steps, self.step_count);
-        calls::rule_uses(steps, rule)
+        step_calls::rule_uses(steps, rule)
     }
 
     // The rows of the last step; zeros where there is none.

@@ -3,29 +3,23 @@ use crate::session::POINT_NUMBERS;
 use crate::session::Session;
 use crate::session::no_rows;
 use crate::session::no_steps;
-use crate::session::put_step;
 use bundles::ROW_NAMES;
 use bundles::ROW_NAMES_LENGTH;
 use bundles::STEP_NAMES;
 use bundles::STEP_NAMES_LENGTH;
-use calls::Step;
-use calls::TermAnswer;
-use calls::WRONG_FORM;
-use terms::Row;
+use common::refusal::WRONG_FORM;
 ghost use mathlib.Core.Path.{_≡_};
 ghost use Prim.Native.Nat.{_*_, _≤_, _<_};
 ghost use lib.ListN.{length, drop};
 ghost use Rattle.terms.specs.Row.{maxRows};
-ghost use Rattle.terms.specs.code.RowTypes.{rowOf};
-ghost use Rattle.terms.specs.code.Kept.{Kept};
 ghost use Rattle.lines.specs.Line.{lines, firstIs};
 ghost use Rattle.calls.specs.Book.{maxSteps, accepted};
-ghost use Rattle.calls.specs.code.Tables.{rowWidth, stepWidth, firstRows};
+ghost use Rattle.calls.specs.code.Tables.{rowWidth, stepWidth};
 ghost use Rattle.session.specs.View.{freshSession};
 ghost use Rattle.bundles.specs.Bundle.{rowNames, stepNames};
 ghost use Rattle.session.specs.Reading.{refusedAt};
 ghost use Rattle.session.specs.ReadCall.{readAnswerOf, isHeld, readingOf, ReadMet};
-ghost use Rattle.session.specs.code.Parts.{TermKept, RowsReadMet, StepsReadMet};
+ghost use Rattle.session.specs.code.Parts.{RowsReadMet, StepsReadMet};
 
 // The answer of a read call: how many steps are held, or the number of the refusal and the refused line.
 pub enum ReadAnswer {
@@ -65,29 +59,6 @@ fn is_step_names(bytes: &[u8], at: usize) -> bool
     lines::is_line(bytes, at, &STEP_NAMES)
 }
 
-// A term call on the first n rows, by what is kept of them: the answer; where the row is held, it is put after them
-// and kept.
-fn term_kept(
-    rows: &mut [u16],
-    table: &mut [u16],
-    filter: &mut [u8],
-    n: usize,
-    row: Row,
-) -> TermAnswer
-    requires { ⌜ (n ≤ maxRows) × (length (now rows) ≡ rowWidth * maxRows)
-        × Kept (firstRows n (now rows)) (now table) (now filter) ⌝ }
-    ensures { λ r. ⌜ TermKept (now (rows .entry)) n (rowOf row) (now (rows .exit)) (now (table .exit))
-        (now (filter .exit)) r ⌝ }
-{
-    let judged = calls::judge_kept(rows, n, table, filter, row);
-    if judged.number() == 0 {
-        let held = calls::first_rows(rows, n);
-        terms::keep(held, table, filter, row);
-        terms::put_row(rows, n, row);
-    }
-    judged
-}
-
 // Makes the term calls of a bundle's lines from line 2 on, which starts at `start`, up to the second names line.
 fn read_rows(bytes: &[u8], start: usize, rows: &mut [u16]) -> RowsEnd
     requires { ⌜ (2 ≤ start) × (start ≤ length (now bytes)) × (length (now rows) ≡ rowWidth * maxRows) ⌝ }
@@ -114,13 +85,8 @@ fn read_rows(bytes: &[u8], start: usize, rows: &mut [u16]) -> RowsEnd
             };
         }
         let numbers = text.numbers;
-        let row = Row {
-            kind: numbers[0],
-            a: numbers[1],
-            b: numbers[2],
-            c: numbers[3],
-        };
-        let number = term_kept(rows, &mut table, &mut filter, n, row).number();
+        let row = bundles::row_of_numbers(numbers);
+        let number = term_calls::term_kept(rows, &mut table, &mut filter, n, row).number();
         if number != 0 {
             return RowsEnd::Refused { number, line };
         }
@@ -158,18 +124,12 @@ fn read_steps(
             return StepsEnd::Refused { number, line };
         }
         let numbers = text.numbers;
-        let step = Step {
-            rule: numbers[0],
-            left: numbers[1],
-            right: numbers[2],
-            first: numbers[3],
-            second: numbers[4],
-        };
-        let number = calls::judge_noted(rows, n, steps, m, &table, step, &mut noted).number();
+        let step = bundles::step_of_numbers(numbers);
+        let number = step_calls::judge_noted(rows, n, steps, m, &table, step, &mut noted).number();
         if number != 0 {
             return StepsEnd::Refused { number, line };
         }
-        put_step(steps, m, step);
+        step_calls::put_step(steps, m, step);
         m += 1;
         line += 1;
         at = text.next;

@@ -6,7 +6,8 @@ use records::Records;
 use records::RecordsMade;
 ghost use mathlib.Core.Path.{_≡_};
 ghost use Rattle.calls.specs.Calls.{Call};
-ghost use Rattle.records.specs.Held.{recordsIn, RecordMade};
+ghost use Rattle.records.specs.code.Held.{recordsIn};
+ghost use Rattle.records.specs.code.Promises.{RecordMade};
 ghost use Rattle.records.specs.Register.{dropsInUse};
 ghost use Rattle.session.specs.View.{view};
 
@@ -24,7 +25,7 @@ impl Session {
     pub fn drops_in_use(self, records: Records, name: u16) -> bool
         ensures { λ r. ⌜ r ≡ dropsInUse (view self) (recordsIn records) (Call.return name) ⌝ }
     {
-        let point = calls::point_named(&self.points, self.point_count, name);
+        let point = point_calls::point_named(&self.points, self.point_count, name);
         let rows = calls::first_rows(&self.rows, common::wide(point.rows));
         let row_count = terms::row_count(rows);
         let steps = calls::first_steps(&self.steps, common::wide(point.steps));

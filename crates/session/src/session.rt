@@ -15,11 +15,12 @@ ghost use Rattle.terms.specs.code.RowTypes.{rowOf};
 ghost use Rattle.calls.specs.Book.{step, maxSteps, maxPoints};
 ghost use Rattle.calls.specs.Calls.{Call};
 ghost use Rattle.calls.specs.code.Tables.{rowWidth, stepWidth};
+ghost use Rattle.calls.specs.Book.{stepNumbers};
 ghost use Rattle.calls.specs.code.Answers.{stepOf, termAnswerOf, stepAnswerOf};
-ghost use Rattle.calls.specs.code.Points.{pointAnswerOf, pointWidth, cleared};
-ghost use Rattle.session.specs.View.{freshSession, rowNumbers, stepNumbers, countsNumbers};
+ghost use Rattle.calls.specs.code.Points.{pointAnswerOf, pointWidth, countsNumbers, cleared};
+ghost use Rattle.session.specs.View.{freshSession};
 ghost use Rattle.session.specs.Promises.{Met, SelectMet, textAnswerOf};
-ghost use Rattle.session.specs.code.Parts.{TermPlaced};
+ghost use Rattle.term_calls.specs.code.Placed.{TermPlaced};
 
 // The numbers of a session's tables.
 pub(crate) const ROW_NUMBERS: usize = terms::ROW_WIDTH * terms::MAX_ROWS;
@@ -66,77 +67,49 @@ pub struct PointResult {
     pub session: Session,
 }
 
-// A term call on the first n rows: the answer, and the row put after them where it is held.
-fn term_in_place(rows: &mut [u16], n: usize, row: Row) -> TermAnswer
+// A term call on the first n rows of a session's table: the answer, and the row put after them where it is held.
+fn term_in_place(rows: &mut [u16; ROW_NUMBERS], n: usize, row: Row) -> TermAnswer
     requires { ⌜ (n ≤ maxRows) × (length (now rows) ≡ rowWidth * maxRows) ⌝ }
     ensures { λ r. ⌜ TermPlaced (now (rows .entry)) n (rowOf row) (now (rows .exit)) r ⌝ }
 {
-    let judged = calls::judge_term(rows, n, row);
-    if judged.number() == 0 {
-        terms::put_row(rows, n, row);
-    }
-    judged
+    term_calls::term_in_place(rows, n, row)
 }
 
-// The same on a session's table.
-fn term_in_table(rows: &mut [u16; ROW_NUMBERS], n: usize, row: Row) -> TermAnswer
-    requires { ⌜ (n ≤ maxRows) × (length (now rows) ≡ rowWidth * maxRows) ⌝ }
-    ensures { λ r. ⌜ TermPlaced (now (rows .entry)) n (rowOf row) (now (rows .exit)) r ⌝ }
-{
-    term_in_place(rows, n, row)
-}
-
-// Step m, counted from 0, becomes `step`.
-pub(crate) fn put_step(steps: &mut [u16], m: usize, step: Step)
+// Step m of a session's table, counted from 0, becomes `step`.
+fn put_step(steps: &mut [u16; STEP_NUMBERS], m: usize, step: Step)
     requires { ⌜ (m < maxSteps) × (length (now steps) ≡ stepWidth * maxSteps) ⌝ }
     ensures { λ r. ⌜ now (steps .exit) ≡ sets (now (steps .entry)) (stepWidth * m) (stepNumbers (stepOf step)) ⌝ }
 {
-    let at = calls::STEP_WIDTH * m;
-    steps[at] = step.rule;
-    steps[at + 1] = step.left;
-    steps[at + 2] = step.right;
-    steps[at + 3] = step.first;
-    steps[at + 4] = step.second;
+    step_calls::put_step(steps, m, step)
 }
 
-// The same in a session's table.
-fn put_in_table(steps: &mut [u16; STEP_NUMBERS], m: usize, step: Step)
-    requires { ⌜ (m < maxSteps) × (length (now steps) ≡ stepWidth * maxSteps) ⌝ }
-    ensures { λ r. ⌜ now (steps .exit) ≡ sets (now (steps .entry)) (stepWidth * m) (stepNumbers (stepOf step)) ⌝ }
-{
-    put_step(steps, m, step)
-}
-
-// Point k, counted from 0, becomes `point`.
+// Point k of a session's table, counted from 0, becomes `point`.
 fn put_point(points: &mut [u16; POINT_NUMBERS], k: usize, point: PointCounts)
     requires { ⌜ (k < maxPoints) × (length (now points) ≡ pointWidth * maxPoints) ⌝ }
     ensures { λ r. ⌜ now (points .exit) ≡ sets (now (points .entry)) (pointWidth * k) (countsNumbers point) ⌝ }
 {
-    let at = calls::POINT_WIDTH * k;
-    points[at] = point.name;
-    points[at + 1] = point.rows;
-    points[at + 2] = point.steps;
+    point_calls::put_point(points, k, point)
 }
 
 // The numbers of a session's rows from place `from` on become 0.
 fn clear_rows(rows: &mut [u16; ROW_NUMBERS], from: usize)
     ensures { λ r. ⌜ now (rows .exit) ≡ cleared from (now (rows .entry)) ⌝ }
 {
-    calls::clear(rows, from)
+    point_calls::clear(rows, from)
 }
 
 // The same of its steps.
 fn clear_steps(steps: &mut [u16; STEP_NUMBERS], from: usize)
     ensures { λ r. ⌜ now (steps .exit) ≡ cleared from (now (steps .entry)) ⌝ }
 {
-    calls::clear(steps, from)
+    point_calls::clear(steps, from)
 }
 
 // The same of its points.
 fn clear_points(points: &mut [u16; POINT_NUMBERS], from: usize)
     ensures { λ r. ⌜ now (points .exit) ≡ cleared from (now (points .entry)) ⌝ }
 {
-    calls::clear(points, from)
+    point_calls::clear(points, from)
 }
 
 pub(crate) fn no_rows() -> [u16; ROW_NUMBERS]
@@ -180,7 +153,7 @@ impl Session {
     {
         let n = calls::clamp(self.row_count, Session::ROWS);
         let row = Row { kind, a, b, c };
-        let answer = term_in_table(&mut self.rows, n, row);
+        let answer = term_in_place(&mut self.rows, n, row);
         if answer.number() == 0 {
             self.row_count = n + 1;
         }
@@ -203,7 +176,7 @@ impl Session {
             second,
         };
         let table = matching::rule_table();
-        let judged = calls::judge_step(
+        let judged = step_calls::judge_step(
             &self.rows,
             self.row_count,
             &self.steps,
@@ -212,7 +185,7 @@ impl Session {
             step,
         );
         if judged.number() == 0 {
-            put_in_table(&mut self.steps, m, step);
+            put_step(&mut self.steps, m, step);
             self.step_count = m + 1;
         }
         StepResult {
@@ -228,7 +201,7 @@ impl Session {
         let n = calls::clamp(self.row_count, Session::ROWS);
         let m = calls::clamp(self.step_count, Session::STEPS);
         let k = calls::clamp(self.point_count, Session::POINTS);
-        let told = calls::judge_point(&self.points, self.point_count, name);
+        let told = point_calls::judge_point(&self.points, self.point_count, name);
         if told.number() == 0 {
             let rows = n as u16;
             let steps = m as u16;
@@ -246,10 +219,10 @@ impl Session {
     pub fn return_to(mut self, name: u16) -> PointResult
         ensures { λ r. ⌜ Met self (Call.return name) (pointAnswerOf (r .answer)) (r .session) ⌝ }
     {
-        let found = calls::judge_return(&self.points, self.point_count, name);
+        let found = point_calls::judge_return(&self.points, self.point_count, name);
         if found.number() == 0 {
-            let place = calls::point_place(&self.points, self.point_count, name);
-            let point = calls::point_named(&self.points, self.point_count, name);
+            let place = point_calls::point_place(&self.points, self.point_count, name);
+            let point = point_calls::point_named(&self.points, self.point_count, name);
             let n = common::wide(point.rows);
             let m = common::wide(point.steps);
             clear_rows(&mut self.rows, terms::ROW_WIDTH * n);
@@ -298,6 +271,6 @@ impl Session {
             (now (marks .exit)) ⌝ }
     {
         let rows = calls::first_rows(&self.rows, self.row_count);
-        calls::select_on(rows, row, document, context, limit, marks)
+        select_calls::select_on(rows, row, document, context, limit, marks)
     }
 }

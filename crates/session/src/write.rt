@@ -51,7 +51,7 @@ impl WriteAnswer {
     {
         match self {
             WriteAnswer::Written(_) => 0,
-            WriteAnswer::ShortBuffer(_) => calls::SHORT_BUFFER,
+            WriteAnswer::ShortBuffer(_) => common::refusal::SHORT_BUFFER,
         }
     }
 

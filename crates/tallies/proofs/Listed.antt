@@ -10,7 +10,7 @@ use Rattle.common.specs.Bounded.{firstBelow}
 use Rattle.common.proofs.Search.{first-not-yet, first-found}
 use Rattle.lines.specs.Line.{lines}
 use Rattle.calls.specs.Book.{answer}
-use Rattle.calls.specs.Refusals.{bad-name}
+use Rattle.common.specs.Refusals.{bad-name}
 use Rattle.tallies.specs.NameList.{isBadName, listAnswer}
 
 -- none of the first k lines is refused

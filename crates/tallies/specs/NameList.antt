@@ -8,7 +8,7 @@ use lib.ListN.{length, getD}
 use Rattle.common.specs.Bounded.{firstBelow}
 use Rattle.lines.specs.Line.{lines}
 use Rattle.calls.specs.Book.{Answer, answer}
-use Rattle.calls.specs.Refusals.{bad-name}
+use Rattle.common.specs.Refusals.{bad-name}
 use Rattle.tallies.specs.declared.ListAnswer.{ListAnswer}
 use Rattle.tallies.specs.declared.ListAnswer.the-variants as ListCases
 

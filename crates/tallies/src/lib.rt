@@ -70,7 +70,7 @@ impl ListAnswer {
     {
         match self {
             ListAnswer::Taken => 0,
-            ListAnswer::BadName(_) => calls::BAD_NAME,
+            ListAnswer::BadName(_) => common::refusal::BAD_NAME,
         }
     }
 

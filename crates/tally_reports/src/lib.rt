@@ -44,34 +44,34 @@ fn open_all(list: &[u8]) -> Files {
 }
 
 // How many bytes came of a file, and whether a read failed.
-struct Reading {
+struct FileRead {
     failed: bool,
     length: usize,
 }
 
 // Reads the file until the bytes are full, the file ends or a read fails. A read below 0 has failed, 0 is the end.
-fn read_file(file: i32, bytes: &mut [u8]) -> Reading
+fn read_file(file: i32, bytes: &mut [u8]) -> FileRead
     ensures { λ r. ⌜ Counts (r .length) (now (bytes .exit)) ⌝ }
 {
     let mut length = 0;
     while length < bytes.len() {
         let got = libc::read(file, &mut bytes[length..]);
         if got < 0 {
-            return Reading {
+            return FileRead {
                 failed: true,
                 length,
             };
         }
         let more = io::count(got, &bytes[length..]);
         if more == 0 {
-            return Reading {
+            return FileRead {
                 failed: false,
                 length,
             };
         }
         length += more;
     }
-    Reading {
+    FileRead {
         failed: false,
         length,
     }

@@ -1,9 +1,11 @@
 -- Rows `kind a b c`, and tables of them. Assumes nothing.
-use Prim.Native.Nat.{ℕ, _+_}
+use Prim.Native.Nat.{ℕ, _+_, _*_}
 use mathlib.Core.Bool.{Bool, cond, _&&_}
 use mathlib.Core.List.{List, [], _∷_, _++_}
 use lib.Dec.{eqb}
-use lib.ListN.{getD}
+use lib.ListN.{getD, drop}
+use lib.Seq.{sets}
+use Rattle.common.specs.Lists.{joined as numbersOf}
 use Rattle.common.specs.RowKinds.{void-row}
 
 pub record Row : Type 0 where
@@ -36,6 +38,14 @@ tableOf (k ∷ []) = []
 tableOf (k ∷ x ∷ []) = []
 tableOf (k ∷ x ∷ y ∷ []) = []
 tableOf (k ∷ x ∷ y ∷ z ∷ xs) = row k x y z ∷ tableOf xs
+
+-- the numbers of rows, in order
+abbrev pub rowsNumbers : List Row → List ℕ
+rowsNumbers rs = numbersOf rowNumbers rs
+
+-- the table xs, of which the first n rows are held, with those of the rows rs that come after them
+unfoldable pub tableWith : List ℕ → ℕ → List Row → List ℕ
+tableWith xs n rs = sets xs (rowWidth * n) (rowsNumbers (drop n rs))
 
 -- the most rows that calls put into a table
 abbrev pub maxRows : ℕ

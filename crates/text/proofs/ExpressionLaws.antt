@@ -11,14 +11,14 @@ use Rattle.grammar.specs.Bytes.{Bytes}
 use Rattle.grammar.specs.Words.{numberOf}
 use Rattle.grammar.specs.Grammar.{Unary, operand, conj, Or, alone, disj, spellAnd, spellOr}
 use Rattle.grammar.specs.Denotes.{unaryOf, andOf, orOf, andNames, orNames, putQual, nestQual}
-use Rattle.grammar.specs.Reader.{need, inside, Open, first, begin, Left, nothing, either, Pend, plain, both}
-use Rattle.grammar.specs.Reader.{leftOf, andTo, orTo, wrap, roomOf, enter, run, unaryByte}
+use Rattle.grammar.specs.code.Reader.{need, inside, Open, first, begin, Left, nothing, either, Pend, plain, both}
+use Rattle.grammar.specs.code.Reader.{leftOf, andTo, orTo, wrap, roomOf, enter, run, unaryByte}
 use Rattle.readings.specs.declared.Reading.{Reading}
 use Rattle.words.specs.code.Scan.{byteAt}
 use Rattle.heads.specs.code.Head.{proceed}
 use Rattle.readings.specs.code.Build.{capped, movedTo, failedAt, PutMet}
 use Rattle.readings.specs.code.Passing.{WordMet, afterAnd, afterOr}
-use Rattle.text.specs.Readers.{MadeQual, Ready, Reached, UnaryMet, AndRead, AndFails, AndMet, OrFails, OrMet}
+use Rattle.text.specs.code.Readers.{MadeQual, Ready, Reached, UnaryMet, AndRead, AndFails, AndMet, OrFails, OrMet}
 use Rattle.readings.proofs.Built.{refuse, unlisted-append, made-from, made-join}
 
 -- an operator name changes only the place

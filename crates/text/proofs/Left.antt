@@ -1,14 +1,14 @@
 -- A table by the rows that it holds and what stands past them. Assumes nothing.
 use Prim.Native.Nat.{ℕ, zero, suc, _+_, _*_, _≤_}
 use mathlib.Core.Path.{_≡_, refl, sym, ap, ap₂, _∙_}
-use mathlib.Core.List.{List, [], _∷_, _++_, append-assoc}
+use mathlib.Core.List.{List, [], _∷_, _++_}
 use native.Mathlib.Omega.{arith}
 use lib.ListN.{length, take, drop, length-append, take-append-drop}
 use lib.Seq.{sets, sets-eq, length-take-le, drop-at}
 use Rattle.common.specs.Lists.{joined as numbersOf}
-use Rattle.terms.specs.Row.{Row, tableOf}
+use Rattle.terms.specs.Row.{Row, tableOf, rowsNumbers, tableWith}
 use Rattle.readings.specs.code.Build.{rowWidth, rowNumbers, Sized, Beyond}
-use Rattle.text.specs.Readers.{rowsNumbers, tableWith, heldRows}
+use Rattle.text.specs.Promises.{heldRows}
 use Rattle.readings.proofs.Built.{table-count}
 
 -- whole rows are their numbers

@@ -12,7 +12,7 @@ use Rattle.readings.specs.declared.Reading.{Reading}
 use Rattle.words.specs.code.Scan.{byteAt}
 use Rattle.readings.specs.code.Build.{movedTo, Sized}
 use Rattle.readings.specs.code.Passing.{CloseMet, SlashPut}
-use Rattle.text.specs.Readers.{Ready, Reached, PredicateMet}
+use Rattle.text.specs.code.Readers.{Ready, Reached, PredicateMet}
 use Rattle.heads.proofs.Headed.{byte-there}
 use Rattle.readings.proofs.Built.{refuse}
 

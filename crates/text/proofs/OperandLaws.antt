@@ -10,16 +10,18 @@ use lib.Dec.{eqb}
 use lib.ListN.{length, drop, length-append, length-drop, drop-of-length-le}
 use lib.Seq.{drop-cons}
 use Rattle.terms.specs.Row.{row}
-use Rattle.grammar.specs.Bytes.{Bytes, isSpace, isStart, same, notWord, trueWord, falseWord}
+use Rattle.lines.specs.Ascii.{ascii}
+use Rattle.lines.specs.Line.{sameBytes}
+use Rattle.grammar.specs.Bytes.{Bytes, isSpace, isStart, notWord, trueWord, falseWord}
 use Rattle.grammar.specs.Words.{numberOf, find, next, types, isSome, isType}
 use Rattle.grammar.specs.Grammar.{implied, called, test, Union, Unary, paths, group, negation, constant, Or}
 use Rattle.grammar.specs.Grammar.{spellUnary, spellBool}
 use Rattle.grammar.specs.Denotes.{unaryOf, unionOf, orOf, constantOf, unaryNames, unlisted, put}
 use Rattle.grammar.specs.Denotes.{putPath, putQual, nestPath, nestQual}
-use Rattle.grammar.specs.Reader.{State, need, after, constOpen, closed, inside, Open, bracket, negate, grouped}
-use Rattle.grammar.specs.Reader.{first, begin, Pend, step, finish, follow, run, outcome, bad, room}
-use Rattle.grammar.specs.Reader.{roomOf, enter, shut, needByte, leadByte, groupByte, afterByte, parenByte}
-use Rattle.grammar.specs.Reader.{callByte, unionByte, unaryByte}
+use Rattle.grammar.specs.code.Reader.{State, need, after, constOpen, closed, inside, Open, bracket, negate, grouped}
+use Rattle.grammar.specs.code.Reader.{first, begin, Pend, step, finish, follow, run, outcome, bad, room}
+use Rattle.grammar.specs.code.Reader.{roomOf, enter, shut, needByte, leadByte, groupByte, afterByte, parenByte}
+use Rattle.grammar.specs.code.Reader.{callByte, unionByte, unaryByte}
 use Rattle.grammar.proofs.Basics.{eq-byte}
 use Rattle.readings.specs.declared.Reading.{Reading}
 use Rattle.heads.specs.declared.Opens.{Opens}
@@ -28,7 +30,7 @@ use Rattle.words.specs.code.Scan.{byteAt, Passed}
 use Rattle.heads.specs.code.Head.{NoCall, CallAt, OperandMet, proceed}
 use Rattle.readings.specs.code.Build.{capped, movedTo, failedAt, Sized, Made, PutMet, Grown, someOf}
 use Rattle.readings.specs.code.Passing.{ConstPut, NegatePut}
-use Rattle.text.specs.Readers.{afterUnion, unionAtTop, MadeQual, NoOperand, UnionMet, UnaryMet}
+use Rattle.text.specs.code.Readers.{afterUnion, unionAtTop, MadeQual, NoOperand, UnionMet, UnaryMet}
 use Rattle.words.proofs.Scanned.{past, head-drop}
 use Rattle.heads.proofs.Ran.{on-here, on-pass, on-stop, over, need-over, closed-over}
 use Rattle.heads.proofs.Headed.{differs, byte-there, passed-length, on-fail, same-split}
@@ -201,18 +203,18 @@ module _ (s list : Bytes) (left : ℕ) (xs : List ℕ) (x : Reading) (to : ℕ) 
 
 -- these words are no node types
 not-type : isType notWord ≡ false
-unfolding isSome find next types same
+unfolding isSome find next types sameBytes ascii
 not-type = refl
 
 bool-type : (k : Bool) → isType (spellBool k) ≡ false
-unfolding isSome find next types same spellBool
+unfolding isSome find next types sameBytes spellBool ascii
 bool-type true = refl
 bool-type false = refl
 
 -- `true ( )` and `false ( )`: what their `(` opens, their row and their term
 const-call : (o : Open) (p : Pend) (w v : Bytes) (k : Bool)
     → callByte (inside o p) first begin implied w (spellBool k) v ≡ some (constOpen o p k w v [])
-unfolding callByte same spellBool
+unfolding callByte sameBytes spellBool ascii
 const-call o p w v true = refl
 const-call o p w v false = refl
 
@@ -231,7 +233,7 @@ module _ (s list : Bytes) (left : ℕ) (xs : List ℕ) (x : Reading) (to : ℕ) 
   -- `not (`
   module _ (a : CallAt s to paren notWord) where
     pub not-full : left ≡ 0 → Sized xs (x .count) → UnaryMet s list left xs x xs (failedAt (movedTo x to) paren)
-    unfolding callByte same
+    unfolding callByte sameBytes ascii
     not-full h z =
         let i = paren-there s list left xs x to q paren notWord a not-type in
         record {
@@ -243,7 +245,7 @@ module _ (s list : Bytes) (left : ℕ) (xs : List ℕ) (x : Reading) (to : ℕ) 
     module _ (h : 0 < left) where
       not-opens : (o : Open) (p : Pend) → roomOf o ≡ left → run (drop (x .at) s) (need (inside o p) first begin [])
           ≡ run (drop (paren + 1) s) (enter (negate o p (q .bytes) (a .spaces)))
-      unfolding callByte same
+      unfolding callByte sameBytes ascii
       not-opens o p i =
           call-opens s list left xs x to q paren notWord a not-type o p (enter (negate o p (q .bytes) (a .spaces)))
           (rw (has-room (roomOf o) left i h) refl)
@@ -252,7 +254,7 @@ module _ (s list : Bytes) (left : ℕ) (xs : List ℕ) (x : Reading) (to : ℕ) 
       pub unary-not : (ys : List ℕ) (y : Reading) (zs : List ℕ) (z : Reading)
           → Enclosed s list (left - 1) 41 xs (movedTo x (paren + 1)) ys y
           → PutMet (row 8 (y .row) 0 0) (capped (suc (y .nesting))) ys y zs z → UnaryMet s list left xs x zs z
-      unfolding roomOf shut step unaryOf unaryNames spellUnary putQual nestQual
+      unfolding roomOf shut step unaryOf unaryNames spellUnary putQual nestQual ascii
       unary-not ys y zs z m p =
           let there = spaces-there s list left xs x to q in
           record {
@@ -263,7 +265,7 @@ module _ (s list : Bytes) (left : ℕ) (xs : List ℕ) (x : Reading) (to : ℕ) 
             };
             read = λ e. let t = m .read (sym (p .text .ok) ∙ e) in
                 let u = negation (q .bytes) (a .spaces) (t .tree) (t .inner) in
-                let at : x .at + length (q .bytes ++ (110 ∷ 111 ∷ 116 ∷ (a .spaces ++ (40 ∷ [])))) ≡ paren + 1 =
+                let at : x .at + length (q .bytes ++ (notWord ++ (a .spaces ++ (40 ∷ [])))) ≡ paren + 1 =
                 simp length-append (omega (arith, there, a .size)) in
                 record {
                   tree = u;

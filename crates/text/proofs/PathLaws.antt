@@ -17,11 +17,11 @@ use Rattle.grammar.specs.Grammar.{Step, Rel, one, slash, slashes, Path, root, r
 use Rattle.grammar.specs.Grammar.{union, Unary, paths, spellStep, spellRel, spellPath, spellUnion}
 use Rattle.grammar.specs.Denotes.{Named, everyBelow, stepOf, relOf, relAfter, pathOf, unionOf, stepNames}
 use Rattle.grammar.specs.Denotes.{relNames, pathNames, unionNames, unlisted, putPath, nestPath}
-use Rattle.grammar.specs.Reader.{need, root1, slash1, after, Ctx, top, inside, Open, bracket, negate}
-use Rattle.grammar.specs.Reader.{grouped, Pend, Alt, first, more, Lead, start, after1, after2, begin, Prefix}
-use Rattle.grammar.specs.Reader.{bare, atRoot, atAny, prefixOf, join, withPrefix, pathTo, joinAlt, step, follow}
-use Rattle.grammar.specs.Reader.{finish, run, room, shut, needByte, leadByte, leadEnd, groupByte}
-use Rattle.grammar.specs.Reader.{afterByte, pathByte, unionByte, unaryByte, atTop}
+use Rattle.grammar.specs.code.Reader.{need, root1, slash1, after, Ctx, top, inside, Open, bracket, negate}
+use Rattle.grammar.specs.code.Reader.{grouped, Pend, Alt, first, more, Lead, start, after1, after2, begin, Prefix}
+use Rattle.grammar.specs.code.Reader.{bare, atRoot, atAny, prefixOf, join, withPrefix, pathTo, joinAlt, step, follow}
+use Rattle.grammar.specs.code.Reader.{finish, run, room, shut, needByte, leadByte, leadEnd, groupByte}
+use Rattle.grammar.specs.code.Reader.{afterByte, pathByte, unionByte, unaryByte, atTop}
 use Rattle.grammar.proofs.Basics.{eq-byte}
 use Rattle.readings.specs.declared.Reading.{Reading}
 use Rattle.readings.specs.declared.Start.{Start}
@@ -29,8 +29,8 @@ use Rattle.words.specs.code.Scan.{byteAt, Passed, beginsStep}
 use Rattle.heads.specs.code.Head.{callable, Due}
 use Rattle.readings.specs.code.Build.{capped, movedTo, failedAt, PutMet, Grown, belowOf, onlyInStep}
 use Rattle.readings.specs.code.Passing.{FirstPut, SlashPut, BeginPut, startOf, rootStart}
-use Rattle.text.specs.Readers.{afterPath, afterUnion, unionAtTop, MadePath, Ready, Reached, StepMet, NoOperand}
-use Rattle.text.specs.Readers.{PathFails, PathMet, UnionFails, UnionMet}
+use Rattle.text.specs.code.Readers.{afterPath, afterUnion, unionAtTop, MadePath, Ready, Reached, StepMet}
+use Rattle.text.specs.code.Readers.{NoOperand, PathFails, PathMet, UnionFails, UnionMet}
 use Rattle.words.proofs.Scanned.{head-drop}
 use Rattle.heads.proofs.Ran.{on-pass, need-over}
 use Rattle.heads.proofs.Headed.{differs, byte-there, passed-length, on-fail}

@@ -14,8 +14,8 @@ use Rattle.grammar.specs.Bytes.{Bytes, isSpace}
 use Rattle.grammar.specs.Words.{numberOf}
 use Rattle.grammar.specs.Grammar.{Step, filter, Or, takesPredicate, spellStep, spellOr}
 use Rattle.grammar.specs.Denotes.{stepOf, orOf, stepNames, orNames, putPath, putQual, nestPath}
-use Rattle.grammar.specs.Reader.{State, after, Ctx, Open, bracket, Alt, Lead, step, follow, run, bad}
-use Rattle.grammar.specs.Reader.{room, roomOf, enter, shut, afterByte, parenByte, colonByte}
+use Rattle.grammar.specs.code.Reader.{State, after, Ctx, Open, bracket, Alt, Lead, step, follow, run, bad}
+use Rattle.grammar.specs.code.Reader.{room, roomOf, enter, shut, afterByte, parenByte, colonByte}
 use Rattle.grammar.proofs.Basics.{is-true, eq-byte, or-out}
 use Rattle.readings.specs.declared.Reading.{Reading}
 use Rattle.heads.specs.declared.Head.{Head}
@@ -23,7 +23,7 @@ use Rattle.words.specs.code.Scan.{byteAt, Passed}
 use Rattle.heads.specs.code.Head.{callable, NoCall, Due, HeadMet, proceed}
 use Rattle.readings.specs.code.Build.{capped, movedTo, failedAt, PutMet, HeadPut, onlyInStep}
 use Rattle.readings.specs.code.Passing.{CloseMet}
-use Rattle.text.specs.Readers.{MadeQual, Ready, Reached, PredicateMet, StepRead, StepFails, StepMet, OrMet}
+use Rattle.text.specs.code.Readers.{MadeQual, Ready, Reached, PredicateMet, StepRead, StepFails, StepMet, OrMet}
 use Rattle.words.proofs.Scanned.{there}
 use Rattle.heads.proofs.Ran.{on-pass, over}
 use Rattle.heads.proofs.Headed.{differs, byte-there, passed-length, on-fail}

@@ -9,13 +9,13 @@ use lib.Dec.{leb, leb→le, le→leb}
 use lib.ListN.{length, drop, length-drop, drop-of-length-le}
 use lib.Seq.{drop-cons}
 use Rattle.xpath.specs.Term as term
-use Rattle.terms.specs.Row.{Row, maxRows}
+use Rattle.terms.specs.Row.{Row, maxRows, tableWith}
 use Rattle.grammar.specs.Bytes.{Bytes}
 use Rattle.grammar.specs.Words.{numberOf}
 use Rattle.grammar.specs.Denotes.{unlisted, unionNames, unionOf, putPath, nestPath}
-use Rattle.grammar.specs.Reader.{top, initial, unionByte, follow, room, run, outcome, good, bad}
+use Rattle.grammar.specs.code.Reader.{top, initial, unionByte, follow, room, run, outcome, good, bad}
 use Rattle.grammar.specs.Answer.{Reply, reply, Answers}
-use Rattle.grammar.specs.ReaderAnswer.{termAnswer, namesAnswer, readAnswer, answer}
+use Rattle.grammar.specs.code.ReaderAnswer.{termAnswer, namesAnswer, readAnswer, answer}
 use Rattle.grammar.proofs.Basics.{so, is-true}
 use Rattle.grammar.proofs.Answered.{given}
 use Rattle.grammar.proofs.Longer.{answer-longer, refused-stays}
@@ -23,8 +23,8 @@ use Rattle.readings.specs.declared.Reading.{Reading}
 use Rattle.text.specs.declared.TextEnd.{TextEnd}
 use Rattle.heads.specs.code.Head.{callable}
 use Rattle.readings.specs.code.Build.{Sized, Holds, missingOf, firstOf, nothingRead}
-use Rattle.text.specs.Readers.{tableWith, afterUnion, unionAtTop, refusalOf, heldRows, UnionRead, UnionMet}
-use Rattle.text.specs.Readers.{TextMet, TextRead}
+use Rattle.text.specs.Promises.{heldRows, TextRead}
+use Rattle.text.specs.code.Readers.{afterUnion, unionAtTop, refusalOf, UnionRead, UnionMet, TextMet}
 use Rattle.common.specs.Lists.{joined as numbersOf}
 use Rattle.readings.proofs.Built.{refuse, table-count}
 use Rattle.text.proofs.Left.{left-table}

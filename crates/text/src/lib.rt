@@ -12,12 +12,13 @@ ghost use mathlib.Core.Bool.{true, false};
 ghost use Prim.Native.Nat.{min, _≤_};
 ghost use lib.ListN.{length};
 ghost use Rattle.terms.specs.Row.{maxRows};
-ghost use Rattle.grammar.specs.Bytes.{isSpace};
+ghost use Rattle.grammar.specs.Bytes.{isSpace, open-bracket};
 ghost use Rattle.words.specs.code.Scan.{byteAt};
 ghost use Rattle.words.specs.code.Index.{maxLength, Indexed};
 ghost use Rattle.readings.specs.code.Build.{Sized};
-ghost use Rattle.text.specs.Readers.{Ready, PredicateMet, StepMet, PathMet, UnionMet, UnaryMet, AndMet, OrMet};
-ghost use Rattle.text.specs.Readers.{TextMet, TextRead, refusalOf};
+ghost use Rattle.text.specs.code.Readers.{Ready, PredicateMet, StepMet, PathMet, UnionMet, UnaryMet, AndMet};
+ghost use Rattle.text.specs.code.Readers.{OrMet, TextMet, refusalOf};
+ghost use Rattle.text.specs.Promises.{TextRead};
 
 // How deep predicates, groups and negations may nest.
 const MAX_LEVELS: usize = 32;
@@ -58,7 +59,7 @@ fn read_predicate(
     left: usize,
 ) -> Reading
     requires { ⌜ Ready (now s) (now rows) from ⌝ }
-    requires { ⌜ byteAt (now s) (from .at) ≡ 91 ⌝ }
+    requires { ⌜ byteAt (now s) (from .at) ≡ open-bracket ⌝ }
     requires { ⌜ Indexed (now names) (now index) ⌝ }
     ensures { λ q. ⌜ PredicateMet (now (s .entry)) (now (names .entry))
         left (now (rows .entry)) from (now (rows .exit)) q ⌝ }

@@ -22,7 +22,7 @@ use Rattle.register.proofs.Source as register
 use Rattle.exports.proofs.Takes as exports-takes
 use Rattle.exports.proofs.Source as exports
 use Rattle.theorems.proofs.Theorems.{SessionTheorems, RegisterTheorems, HostTheorems}
-use Rattle.theorems.proofs.Theorems.{ProgramTheorems, Theorems}
+use Rattle.theorems.proofs.Theorems.{Theorems}
 
 session-theorems : SessionTheorems
 session-theorems =

@@ -22,8 +22,8 @@ use Rattle.ordering.specs.BundleOrder.{stepsOrder}
 use Rattle.ordering.specs.OrderLaws.{TotalOrder, SortedMatch}
 use Rattle.ordering.specs.TermOrder.{termOrder}
 use Rattle.ordering.specs.declared.OrderAnswer.{OrderAnswer}
-use Rattle.records.specs.Held.{recordsIn}
-use Rattle.records.specs.Listed.{listed}
+use Rattle.records.specs.code.Held.{recordsIn}
+use Rattle.records.specs.code.Listed.{listed}
 use Rattle.records.specs.Records.{current}
 use Rattle.records.specs.Releases.{crewListing, crewCurrent, OfficeCall, OfficeSeen, ShowsReleased}
 use Rattle.records.specs.declared.Record.{Record}

@@ -5,7 +5,7 @@ use register::Records;
 use register::Register;
 use script::CallLine;
 use script::Values;
-use script::Word;
+use script_words::Word;
 ghost use mathlib.Core.Path.{_≡_};
 ghost use lib.ListN.{length};
 ghost use Rattle.lines.specs.Line.{lines};
@@ -31,7 +31,7 @@ pub enum Style {
 
 // The numbers of a line: the first `count`.
 struct NumberList {
-    numbers: [u16; script::MAX_NUMBERS],
+    numbers: [u16; script_words::MAX_NUMBERS],
     count: usize,
 }
 
@@ -352,12 +352,12 @@ fn is_taken(word: Word, style: Style) -> bool
     }
 }
 
-fn list_of(numbers: [u16; script::MAX_NUMBERS], count: usize) -> NumberList {
+fn list_of(numbers: [u16; script_words::MAX_NUMBERS], count: usize) -> NumberList {
     NumberList { numbers, count }
 }
 
 fn none_lent(input: &[u8]) -> Lent {
-    let none = list_of([0; script::MAX_NUMBERS], 0);
+    let none = list_of([0; script_words::MAX_NUMBERS], 0);
     Lent {
         document: none,
         old: none,
@@ -483,12 +483,12 @@ fn run_input(style: Style) {
     let mut input = [0u8; common::MAX_BYTES + 1];
     let length = io::read_full(0, &mut input);
     if common::MAX_BYTES < length {
-        print(style, calls::WRONG_FORM, 0);
+        print(style, common::refusal::WRONG_FORM, 0);
         return;
     }
     let line = run(&input[..length], style);
     if line != 0 {
-        print(style, calls::WRONG_FORM, line as u64);
+        print(style, common::refusal::WRONG_FORM, line as u64);
     }
 }
 

@@ -1,20 +1,21 @@
 -- The index of the lent list: how it is made, and the search in it. Assumes nothing.
 use Prim.Native.Nat.{ℕ, zero, suc, _+_, _*_, _<_, _≤_}
 use mathlib.Core.Path.{_≡_, refl, sym, ap, _∙_, subst}
-use mathlib.Core.Bool.{Bool, true, false, cond}
+use mathlib.Core.Bool.{Bool, true, false}
 use mathlib.Core.Logic.{_⊎_, inl, inr}
 use mathlib.Core.List.{List, [], _∷_}
 use native.Mathlib.Omega.{arith}
-use lib.Dec.{eqb, leb}
+use lib.Dec.{eqb}
 use lib.ListN.{length, getD, set, take, drop, length-set, drop-of-length-le}
 use lib.Seq.{drop-cons, drop-drop, getD-take, getD-set-same, getD-set-other, length-take-le}
 use Rattle.common.proofs.Reflect.{le-or-lt}
-use Rattle.lines.specs.Line.{Line, lines}
-use Rattle.grammar.specs.Bytes.{Bytes, isWord, same}
+use Rattle.lines.specs.Line.{Line, lines, sameBytes}
+use Rattle.grammar.specs.Bytes.{Bytes, isWord}
 use Rattle.grammar.specs.Words.{find, next, bytesOf, numberOf}
-use Rattle.grammar.proofs.Basics.{never, same-eq}
+use Rattle.lines.proofs.SameBytes.{same-bytes}
+use Rattle.grammar.proofs.Basics.{never}
 use Rattle.words.specs.code.Scan.{byteAt}
-use Rattle.words.specs.code.Names.{firstLineIs, numberedFrom, LinesPassed}
+use Rattle.words.specs.code.Names.{firstLineIs, numberedFrom}
 use Rattle.words.specs.code.Index.{signedBy, signatureOf, lineOf, ended, LineMet, LineAt, IndexOf, Indexed}
 use Rattle.words.specs.code.Index.{IndexSearched}
 use Rattle.words.proofs.Named.{first-bytes, first-line}
@@ -207,8 +208,8 @@ module _ (list : Bytes) (xs : List ℕ) (n : Bytes) (x : Indexed list xs) where
         go : (b : Bool) → firstLineIs n (lines t) ≡ b → firstLineIs n (lines t) ≡ false
         go false q = q
         go true q =
-            let s = same-eq n (lineOf t)
-            (sym (first-line n (lines t) w ∙ ap (λ (u : Bytes). same n u) (first-bytes t)) ∙ q) in
+            let s = same-bytes n (lineOf t)
+            (sym (first-line n (lines t) w ∙ ap (λ (u : Bytes). sameBytes n u) (first-bytes t)) ∙ q) in
             absurd (h (x .index .signatures k inside ∙ ap (signatureOf 0) (sym s) ∙ sym e))
 
 -- search_index

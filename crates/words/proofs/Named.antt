@@ -2,14 +2,14 @@
 use Prim.Native.Nat.{ℕ, suc, _+_, _-_, _<_, _≤_}
 use mathlib.Core.Path.{_≡_, refl, sym, ap, _∙_}
 use mathlib.Core.Bool.{Bool, true, false, cond, _&&_}
-use mathlib.Core.List.{List, [], _∷_, _++_}
+use mathlib.Core.List.{List, [], _∷_}
 use native.Mathlib.Omega.{arith}
 use lib.Dec.{eqb}
 use lib.ListN.{length, drop, drop-of-length-le}
 use lib.Seq.{drop-cons, drop-drop}
-use Rattle.lines.specs.Line.{Line, line, lines, inFirstLine}
+use Rattle.lines.specs.Line.{Line, line, lines, inFirstLine, sameBytes}
 use Rattle.lines.specs.code.NumbersRead.{startsWith}
-use Rattle.grammar.specs.Bytes.{Bytes, isStart, isName, every, isWord, same}
+use Rattle.grammar.specs.Bytes.{Bytes, isStart, isName, every, isWord}
 use Rattle.grammar.proofs.Basics.{never, and-out, eq-byte, start-name}
 use Rattle.words.specs.code.Scan.{byteAt}
 use Rattle.words.specs.code.Names.{pickFrom, firstLineIs}
@@ -24,8 +24,8 @@ eqb-sym x y = go (eqb x y) (eqb y x) refl refl
     go false false e f = e ∙ sym f
 
 -- words of different lengths
-pub same-apart : (t u : Bytes) → (length t ≡ length u → ⊥) → false ≡ same t u
-unfolding same
+pub same-apart : (t u : Bytes) → (length t ≡ length u → ⊥) → false ≡ sameBytes t u
+unfolding sameBytes
 same-apart [] [] h = absurd (h refl)
 same-apart [] (c ∷ u) h = refl
 same-apart (b ∷ t) [] h = refl
@@ -35,8 +35,8 @@ same-apart (b ∷ t) (c ∷ u) h = rw (← same-apart t u (λ e. h (ap suc e))) 
     and-no true = refl
     and-no false = refl
 
-pub same-starts : (t u : Bytes) → length t ≡ length u → startsWith u t ≡ same t u
-unfolding same startsWith
+pub same-starts : (t u : Bytes) → length t ≡ length u → startsWith u t ≡ sameBytes t u
+unfolding sameBytes startsWith
 same-starts [] [] h = refl
 same-starts [] (c ∷ u) h = absurd (omega (arith, h))
 same-starts (b ∷ t) [] h = absurd (omega (arith, h))
@@ -62,8 +62,8 @@ first-bytes (x ∷ t) = go (eqb x 10) refl (first-bytes t)
     go true e k = rw e refl
     go false e k = rw e (over (lines t) k)
 
-pub first-line : (n : Bytes) (ls : List Line) → isWord n ≡ true → firstLineIs n ls ≡ same n (firstBytes ls)
-unfolding firstLineIs firstBytes isWord same
+pub first-line : (n : Bytes) (ls : List Line) → isWord n ≡ true → firstLineIs n ls ≡ sameBytes n (firstBytes ls)
+unfolding firstLineIs firstBytes isWord sameBytes
 first-line [] ls h = absurd (never h)
 first-line (b ∷ n) [] h = refl
 first-line (b ∷ n) (l ∷ ls) h = refl
@@ -76,12 +76,13 @@ name-newline b h = go (eqb 10 b) refl
     go true e = absurd (never (rw (← eq-byte 10 b e) at h))
     go false e = e
 
-line-same : (n t : Bytes) → every isName n ≡ true → same n (lineOf t) ≡ (startsWith n t && ended (drop (length n) t))
-unfolding same lineOf startsWith ended every
+line-same : (n t : Bytes) → every isName n ≡ true
+    → sameBytes n (lineOf t) ≡ (startsWith n t && ended (drop (length n) t))
+unfolding sameBytes lineOf startsWith ended every
 line-same [] [] h = refl
 line-same [] (x ∷ t) h = go (eqb x 10) refl
   where
-    go : (b : Bool) → eqb x 10 ≡ b → same [] (cond (eqb x 10) [] (x ∷ lineOf t)) ≡ eqb x 10
+    go : (b : Bool) → eqb x 10 ≡ b → sameBytes [] (cond (eqb x 10) [] (x ∷ lineOf t)) ≡ eqb x 10
     go true e = rw e refl
     go false e = rw e refl
 line-same (c ∷ n) [] h = refl
@@ -93,9 +94,9 @@ line-same (c ∷ n) (x ∷ t) h =
     both true p q = refl
     both false p q = refl
 
-    go : (b : Bool) → eqb x 10 ≡ b → isName c ≡ true → same n (lineOf t)
+    go : (b : Bool) → eqb x 10 ≡ b → isName c ≡ true → sameBytes n (lineOf t)
         ≡ (startsWith n t && ended (drop (length n) t))
-        → same (c ∷ n) (cond (eqb x 10) [] (x ∷ lineOf t))
+        → sameBytes (c ∷ n) (cond (eqb x 10) [] (x ∷ lineOf t))
         ≡ ((eqb x c && startsWith n t) && ended (drop (length n) t))
     go true e i k = rw (e, eq-byte x 10 e, name-newline c i) refl
     go false e i k = rw (e, k, eqb-sym c x) (both (eqb x c) (startsWith n t) (ended (drop (length n) t)))
@@ -109,7 +110,7 @@ word-names (b ∷ n) h = let u = and-out (isStart b) (every isName n) h in rw (s
 module _ (n list : Bytes) (at : ℕ) (h : isWord n ≡ true) where
   pub line-is : firstLineIs n (lines (drop at list))
       ≡ (startsWith n (drop at list) && ended (drop (length n) (drop at list)))
-  line-is = first-line n (lines (drop at list)) h ∙ ap (same n) (first-bytes (drop at list))
+  line-is = first-line n (lines (drop at list)) h ∙ ap (sameBytes n) (first-bytes (drop at list))
       ∙ line-same n (drop at list) (word-names n h)
 
   pub line-other : startsWith n (drop at list) ≡ false → false ≡ firstLineIs n (lines (drop at list))
@@ -133,7 +134,7 @@ module _ (n list : Bytes) (at : ℕ) (h : isWord n ≡ true) where
 
 -- axis_of, type_of
 pub pick-step : (other i : ℕ) (m : Bytes) (ms : List Bytes) (n : Bytes) (r rest : ℕ) (b : Bool) → r ≡ cond b i rest
-    → b ≡ same n m → rest ≡ pickFrom other (suc i) ms n → r ≡ pickFrom other i (m ∷ ms) n
+    → b ≡ sameBytes n m → rest ≡ pickFrom other (suc i) ms n → r ≡ pickFrom other i (m ∷ ms) n
 unfolding pickFrom
 pick-step other i m ms n r rest b e f g = e ∙ rw (f, g) refl
 

@@ -3,17 +3,12 @@ use common::and;
 use common::or;
 ghost use mathlib.Core.Path.{_≡_};
 ghost use Prim.Native.Nat.{_≤_};
-ghost use lib.ListN.{length};
 ghost use Rattle.grammar.specs.Bytes.{isSpace, isStart, isName};
 ghost use Rattle.words.specs.code.Scan.{byteAt, Passed};
 
 pub const TAB: u8 = 9;
 
-pub const NEWLINE: u8 = 10;
-
 pub const RETURN: u8 = 13;
-
-pub const SPACE: u8 = 32;
 
 pub const DOUBLE_QUOTE: u8 = 34;
 
@@ -35,6 +30,10 @@ pub const COLON: u8 = 58;
 
 pub const AT: u8 = 64;
 
+const CAPITAL_A: u8 = 65;
+
+const CAPITAL_Z: u8 = 90;
+
 pub const OPEN_BRACKET: u8 = 91;
 
 pub const CLOSE_BRACKET: u8 = 93;
@@ -51,6 +50,8 @@ pub const LETTER_O: u8 = 111;
 
 pub const LETTER_R: u8 = 114;
 
+const LETTER_Z: u8 = 122;
+
 pub const BAR: u8 = 124;
 
 // The byte at a place, 0 past the end.
@@ -63,7 +64,10 @@ pub fn byte_at(s: &[u8], at: usize) -> u8
 pub fn is_space(b: u8) -> bool
     ensures { λ r. ⌜ r ≡ isSpace b ⌝ }
 {
-    or(b == SPACE, or(b == TAB, or(b == NEWLINE, b == RETURN)))
+    or(
+        b == lines::SPACE,
+        or(b == TAB, or(b == lines::NEWLINE, b == RETURN)),
+    )
 }
 
 // A letter or `_`: what a name begins with.
@@ -71,8 +75,8 @@ pub fn is_start(b: u8) -> bool
     ensures { λ r. ⌜ r ≡ isStart b ⌝ }
 {
     or(
-        and(97 <= b, b <= 122),
-        or(and(65 <= b, b <= 90), b == UNDERSCORE),
+        and(LETTER_A <= b, b <= LETTER_Z),
+        or(and(CAPITAL_A <= b, b <= CAPITAL_Z), b == UNDERSCORE),
     )
 }
 
@@ -82,7 +86,10 @@ pub fn is_name(b: u8) -> bool
 {
     or(
         is_start(b),
-        or(and(48 <= b, b <= 57), or(b == HYPHEN, b == DOT)),
+        or(
+            and(lines::DIGIT_0 <= b, b <= lines::DIGIT_9),
+            or(b == HYPHEN, b == DOT),
+        ),
     )
 }
 

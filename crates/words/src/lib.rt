@@ -8,7 +8,10 @@ use common::node_test;
 use lines::starts_with;
 ghost use mathlib.Core.Path.{_≡_};
 ghost use mathlib.Core.Bool.{cond};
-ghost use Rattle.grammar.specs.Bytes.{same};
+ghost use Prim.Native.Nat.{_+_};
+ghost use Rattle.common.specs.Axes.{maxAxis};
+ghost use Rattle.common.specs.NodeTests.{node-test};
+ghost use Rattle.lines.specs.Line.{sameBytes};
 ghost use Rattle.grammar.specs.Words.{axes, types};
 ghost use Rattle.words.specs.code.Names.{pickFrom};
 
@@ -20,7 +23,7 @@ pub const NO_TYPE: u16 = 0;
 
 // The same bytes.
 pub fn same(word: &[u8], other: &[u8]) -> bool
-    ensures { λ r. ⌜ r ≡ same (now (word .entry)) (now (other .entry)) ⌝ }
+    ensures { λ r. ⌜ r ≡ sameBytes (now (word .entry)) (now (other .entry)) ⌝ }
 {
     if word.len() != other.len() {
         return false;
@@ -36,7 +39,7 @@ fn pick(test: bool, x: u16, y: u16) -> u16
 
 // The number of an axis name.
 pub fn axis_of(word: &[u8]) -> u16
-    ensures { λ r. ⌜ r ≡ pickFrom 12 0 axes (now (word .entry)) ⌝ }
+    ensures { λ r. ⌜ r ≡ pickFrom (maxAxis + 1) 0 axes (now (word .entry)) ⌝ }
 {
     let from11 = pick(same(word, b"attribute"), axis::ATTRIBUTE, NO_AXIS);
     let from10 = pick(same(word, b"preceding"), axis::PRECEDING, from11);
@@ -70,7 +73,7 @@ pub fn axis_of(word: &[u8]) -> u16
 
 // The test of a node type.
 pub fn type_of(word: &[u8]) -> u16
-    ensures { λ r. ⌜ r ≡ pickFrom 0 2 types (now (word .entry)) ⌝ }
+    ensures { λ r. ⌜ r ≡ pickFrom 0 node-test types (now (word .entry)) ⌝ }
 {
     let from5 = pick(
         same(word, b"processing-instruction"),

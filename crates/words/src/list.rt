@@ -20,8 +20,6 @@ ghost use Rattle.words.specs.code.Index.{signatureOf, Indexed, IndexSear
 // How many bytes are looked at together: few enough for a u8 to count them.
 const BLOCK: usize = 128;
 
-const MAX_NAMES: usize = 65535;
-
 // How many newlines a block has, and whether a line that begins after one of them may be the name.
 struct Block {
     ends: u8,
@@ -156,7 +154,7 @@ fn has_block(names: &[u8], at: usize, word: &[u8]) -> bool
 fn number_after(n: usize) -> u16
     ensures { λ r. ⌜ r ≡ cond (leb (n + 1) maxNumber) (n + 1) 0 ⌝ }
 {
-    if n < MAX_NAMES {
+    if n < common::MAX_NUMBER {
         return (n + 1) as u16;
     }
     0

@@ -4,14 +4,8 @@ use borrow.Author.Needs.{needs}
 use Rattle.bench_select.proofs.bench_bundle_order.Statement.{statement}
 use Rattle.bench_select.proofs.bench_bundle_order.Tie as tie
 
-bundle-order-on-requires : tie.Need-bundle-order-on-requires
-bundle-order-on-requires c κs = search needs
-
-value-requires : tie.Need-value-requires
-value-requires c κs = search needs
-
 returns : tie.Need-returns
 returns c = c .value .ensures ∙ ap (λ a. a .value) (c .before .bundle-order-on .ensures)
 
 pub bench-bundle-order-spec : {M : Type 1} → statement M
-bench-bundle-order-spec = tie.close (tie.spec bundle-order-on-requires value-requires returns)
+bench-bundle-order-spec = tie.close (tie.spec (search needs) (search needs) returns)

@@ -4,14 +4,8 @@ use borrow.Author.Needs.{needs}
 use Rattle.bench_select.proofs.bench_order.Statement.{statement}
 use Rattle.bench_select.proofs.bench_order.Tie as tie
 
-order-on-requires : tie.Need-order-on-requires
-order-on-requires c κs = search needs
-
-value-requires : tie.Need-value-requires
-value-requires c κs = search needs
-
 returns : tie.Need-returns
 returns c = c .value .ensures ∙ ap (λ a. a .value) (c .before .order-on .ensures)
 
 pub bench-order-spec : {M : Type 1} → statement M
-bench-order-spec = tie.close (tie.spec order-on-requires value-requires returns)
+bench-order-spec = tie.close (tie.spec (search needs) (search needs) returns)

@@ -6,12 +6,9 @@ use Rattle.calls.proofs.TextLaws.{answers-as-defined}
 use Rattle.bench_select.proofs.bench_text.Statement.{statement}
 use Rattle.bench_select.proofs.bench_text.Tie as tie
 
-read-text-requires : tie.Need-read-text-requires
-read-text-requires c κs = search needs
-
 returns : tie.Need-returns
 unfolding tableOf
 returns c = ap (λ q. q .number) (answers-as-defined _ _ _ _ _ _ .0 (c .read-text .ensures .answers))
 
 pub bench-text-spec : {M : Type 1} → statement M
-bench-text-spec = tie.close (tie.spec read-text-requires returns)
+bench-text-spec = tie.close (tie.spec (search needs) returns)

@@ -10,9 +10,6 @@ use Rattle.bundles.proofs.Tables.{tables-length}
 use Rattle.bundles.proofs.put_bundle.Statement.{statement}
 use Rattle.bundles.proofs.put_bundle.Tie as tie
 
-slice-aggregate-put-names : tie.Need-slice-aggregate-put-names
-slice-aggregate-put-names c = search needs
-
 put-names-requires : tie.Need-put-names-requires
 put-names-requires c κs =
     let at-start = c .before .before .before .before .before in
@@ -34,9 +31,6 @@ put-lines-requires c κs =
         put-keeps names,
       ),
     )
-
-slice-aggregate-put-names-2 : tie.Need-slice-aggregate-put-names-2
-slice-aggregate-put-names-2 c = search needs
 
 put-names-requires-2 : tie.Need-put-names-requires-2
 put-names-requires-2 c κs =
@@ -106,10 +100,10 @@ pub put-bundle-spec : {M : Type 1} → statement M
 put-bundle-spec =
     tie.close
     (tie.spec
-    slice-aggregate-put-names
+    (search needs)
     put-names-requires
     put-lines-requires
-    slice-aggregate-put-names-2
+    (search needs)
     put-names-requires-2
     put-lines-requires-2
     same-length

@@ -1,18 +1,12 @@
 -- `write_tables` meets its contract. Assumes nothing.
-use mathlib.Core.Path.{ap₂, _∙_}
+use mathlib.Core.Path.{ap₂}
 use native.Mathlib.Omega.{arith}
 use borrow.Author.Needs.{needs}
 use Rattle.bundles.specs.code.TextPut.{tablesText}
-use Rattle.bundles.proofs.Putting.{put-as, put-keeps, written-not, written-all}
+use Rattle.bundles.proofs.Putting.{put-keeps, written-not, written-all}
 use Rattle.bundles.proofs.Tables.{few-row-numbers, few-step-numbers}
 use Rattle.bundles.proofs.write_tables.Statement.{statement}
 use Rattle.bundles.proofs.write_tables.Tie as tie
-
-first-rows-requires : tie.Need-first-rows-requires
-first-rows-requires c κs = search needs
-
-first-steps-requires : tie.Need-first-steps-requires
-first-steps-requires c κs = search needs
 
 bundle-length-requires : tie.Need-bundle-length-requires
 bundle-length-requires c κs =
@@ -24,9 +18,6 @@ returns c =
     let b = c .before in
     let text = ap₂ tablesText (b .before .before .first-rows .ensures) (b .before .first-steps .ensures) in
     written-not text (b .bundle-length .ensures) (omega (arith, c .if1 .taken))
-
-sub-if2 : tie.Need-sub-if2
-sub-if2 c = search needs
 
 returns-2 : tie.Need-returns-2
 returns-2 c =
@@ -61,11 +52,11 @@ pub write-tables-spec : {M : Type 1} → statement M
 write-tables-spec =
     tie.close
     (tie.spec
-    first-rows-requires
-    first-steps-requires
+    (search needs)
+    (search needs)
     bundle-length-requires
     returns
-    sub-if2
+    (search needs)
     returns-2
     put-bundle-requires
     same-length

@@ -1,6 +1,6 @@
 -- The text of rows and steps, by computation. Assumes nothing.
-use mathlib.Core.Path.{_≡_, refl}
-use mathlib.Core.List.{List, [], _∷_, _++_}
+use mathlib.Core.Path.{refl}
+use mathlib.Core.List.{[], _∷_}
 use Rattle.common.specs.values.Expected.{_is_, AllRight}
 use Rattle.terms.specs.Row.{row}
 use Rattle.lines.specs.Ascii.{ascii}

@@ -4,17 +4,8 @@ use borrow.Author.Needs.{needs}
 use Rattle.calls.proofs.first_rows.Statement.{statement}
 use Rattle.calls.proofs.first_rows.Tie as tie
 
-clamp-requires : tie.Need-clamp-requires
-clamp-requires c κs = search needs
-
-mul-front : tie.Need-mul-front
-mul-front c = search needs
-
-front-requires : tie.Need-front-requires
-front-requires c κs = search needs
-
 returns : tie.Need-returns
 returns c = c .front .ensures ∙ rw (c .before .clamp .ensures)
 
 pub first-rows-spec : {M : Type 1} → statement M
-first-rows-spec = tie.close (tie.spec clamp-requires mul-front front-requires returns)
+first-rows-spec = tie.close (tie.spec (search needs) (search needs) (search needs) returns)

@@ -7,9 +7,6 @@ use Rattle.calls.proofs.Tables.{take-clamped}
 use Rattle.calls.proofs.front.Statement.{statement}
 use Rattle.calls.proofs.front.Tie as tie
 
-clamp-requires : tie.Need-clamp-requires
-clamp-requires c κs = search needs
-
 slice-aggregate-result : tie.Need-slice-aggregate-result
 slice-aggregate-result c =
     sym (length-take-le (c .before .clamp .result) (c .before .before .before .args .numbers .now) (omega arith))
@@ -18,4 +15,4 @@ returns : tie.Need-returns
 returns c = take-clamped _ _ (c .before .before .before .args .numbers .now) (c .before .clamp .ensures)
 
 pub front-spec : {M : Type 1} → statement M
-front-spec = tie.close (tie.spec clamp-requires slice-aggregate-result returns)
+front-spec = tie.close (tie.spec (search needs) slice-aggregate-result returns)

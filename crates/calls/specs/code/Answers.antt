@@ -9,9 +9,9 @@ use Rattle.calls.specs.declared.SelectAnswer.{SelectAnswer}
 use Rattle.calls.specs.declared.SelectAnswer.the-variants as SelectCases
 use Rattle.calls.specs.declared.step.Step.{Step as CodeStep}
 use Rattle.calls.specs.Book.{Step, step, Answer, answer}
-use Rattle.calls.specs.Refusals.{bad-kind, bad-field, too-deep, no-rule, bad-side, bad-premise, not-yielded}
-use Rattle.calls.specs.Refusals.{bad-document}
-use Rattle.calls.specs.Refusals.{bad-argument, terms-full, already-held, steps-full, short-marks, limit-passed}
+use Rattle.common.specs.Refusals.{bad-kind, bad-field, too-deep, no-rule, bad-side, bad-premise, not-yielded}
+use Rattle.common.specs.Refusals.{bad-document}
+use Rattle.common.specs.Refusals.{bad-argument, terms-full, already-held, steps-full, short-marks, limit-passed}
 
 abbrev pub stepOf : CodeStep → Step
 stepOf p = step (p .rule) (p .left) (p .right) (p .first) (p .second)

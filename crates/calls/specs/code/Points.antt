@@ -6,7 +6,7 @@ use Rattle.calls.specs.declared.points.PointCounts.{PointCounts}
 use Rattle.calls.specs.declared.points.PointAnswer.{PointAnswer}
 use Rattle.calls.specs.declared.points.PointAnswer.the-variants as PointCases
 use Rattle.calls.specs.Book.{maxPoints, Answer, answer}
-use Rattle.calls.specs.Refusals.{bad-point, points-full}
+use Rattle.common.specs.Refusals.{bad-point, points-full}
 use Rattle.calls.specs.PointCall.{placeOf}
 
 abbrev pub pointAnswerOf : PointAnswer → Answer
@@ -30,6 +30,10 @@ countsOf [] = []
 countsOf (n ∷ []) = []
 countsOf (n ∷ r ∷ []) = []
 countsOf (n ∷ r ∷ p ∷ xs) = counts n r p ∷ countsOf xs
+
+-- the numbers of a point, in order
+abbrev pub countsNumbers : PointCounts → List ℕ
+countsNumbers c = c .name ∷ c .rows ∷ c .steps ∷ []
 
 abbrev pub countsNames : List PointCounts → List ℕ
 countsNames cs = map (λ c. c .name) cs

@@ -5,26 +5,26 @@ use mathlib.Core.Path.{_≡_, refl}
 use mathlib.Core.List.{List, [], _∷_, map}
 use lib.ListN.{length}
 use Rattle.lines.specs.Ascii.{ascii}
-use Rattle.lines.specs.Line.{inFirstLine, lines}
+use Rattle.lines.specs.Line.{inFirstLine, lines, sameBytes}
 use Rattle.terms.specs.Row.{row, entriesFrom, sameRow, find}
 use Rattle.terms.specs.Fields.{fieldsOf, isPath, isQualifier, heldPath, heldQualifier, fieldOk, badPlace}
 use Rattle.terms.specs.Nesting.{operandNesting, nestingBy, nestings, nesting}
-use Rattle.grammar.specs.Bytes.{isSpace, isStart, isName, isQuote, same}
+use Rattle.grammar.specs.Bytes.{isSpace, isStart, isName, isQuote}
 use Rattle.grammar.specs.Words as words
 use Rattle.grammar.specs.Words.{next, axes, types, isSome, instructionWord, orZero, bytesOf, numbered}
 use Rattle.grammar.specs.Words.{numberOf}
 use Rattle.grammar.specs.Grammar.{spellAxis, spellTest, spellBool, spellStep, spellRel, spellPath, spellUnion}
 use Rattle.grammar.specs.Grammar.{spellUnary, spellAnd, spellOr, takesPredicate}
-use Rattle.grammar.specs.Reader.{initial, run, outcome, follow, step, finish, needByte, afterByte, pathByte}
-use Rattle.grammar.specs.Reader.{unionByte, unaryByte, shut, groupByte, leadByte, callByte, parenByte}
-use Rattle.grammar.specs.Reader.{colonByte, keywordByte, leadEnd, atTop, room, roomOf, prefixOf, join}
-use Rattle.grammar.specs.Reader.{withPrefix, joinAlt, wrap, leftOf, andTo}
+use Rattle.grammar.specs.code.Reader.{run, outcome, follow, step, finish, needByte, afterByte, pathByte}
+use Rattle.grammar.specs.code.Reader.{unionByte, unaryByte, shut, groupByte, leadByte, callByte, parenByte}
+use Rattle.grammar.specs.code.Reader.{colonByte, keywordByte, leadEnd, atTop, room, roomOf, prefixOf, join}
+use Rattle.grammar.specs.code.Reader.{withPrefix, joinAlt, wrap, leftOf, andTo}
 use Rattle.grammar.specs.Denotes.{unlisted, testNames, stepNames, relNames, pathNames, unionNames, unaryNames}
 use Rattle.grammar.specs.Denotes.{andNames, orNames, axisOf, constantOf, testOf, stepOf, relOf, relAfter}
 use Rattle.grammar.specs.Denotes.{pathOf, unionOf, unaryOf, andOf, orOf, put, putPath, putQual, nestPath}
 use Rattle.grammar.specs.Denotes.{nestQual}
-use Rattle.grammar.specs.ReaderAnswer as grammar
-use Rattle.grammar.specs.ReaderAnswer.{namesAnswer, readAnswer}
+use Rattle.grammar.specs.code.ReaderAnswer as grammar
+use Rattle.grammar.specs.code.ReaderAnswer.{namesAnswer, readAnswer}
 use Rattle.grammar.proofs.Answered.{answered}
 use Rattle.calls.specs.Book.{emptyBook}
 use Rattle.calls.specs.TermCall.{termAnswer}
@@ -67,8 +67,8 @@ unfolding told shown pointAnswer returnAnswer placeOf textAnswer textReply answe
     heldPath heldQualifier isPath isQualifier nesting nestings entriesFrom nestingBy operandNesting ascii lines
     inFirstLine sameRow find run outcome follow step finish needByte afterByte pathByte unionByte unaryByte shut
     groupByte leadByte callByte parenByte colonByte keywordByte leadEnd atTop room roomOf prefixOf join withPrefix
-    joinAlt wrap
-    leftOf andTo isSpace isStart isName isQuote same words.find next axes types isSome instructionWord orZero bytesOf
+    joinAlt wrap leftOf andTo isSpace isStart isName isQuote sameBytes words.find next axes types isSome
+    instructionWord orZero bytesOf
     numbered numberOf spellAxis spellTest spellBool spellStep spellRel spellPath spellUnion spellUnary spellAnd
     spellOr takesPredicate unlisted testNames stepNames relNames pathNames unionNames unaryNames andNames orNames
     axisOf constantOf testOf stepOf relOf relAfter pathOf unionOf unaryOf andOf orOf put putPath putQual nestPath

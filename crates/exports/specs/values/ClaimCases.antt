@@ -11,7 +11,7 @@ use Rattle.common.specs.values.Expected.{_is_, AllRight}
 use Rattle.lines.specs.Ascii.{ascii}
 use Rattle.lines.specs.Line.{inFirstLine, lines, inFirstPart, parts, sameBytes, isLine}
 use Rattle.lines.specs.Number.{isDigit, areDigits, isDecimal, appendDigits, numbersUpTo, numbersOf}
-use Rattle.terms.specs.Row.{tableOf, entriesFrom, sameRow, find}
+use Rattle.terms.specs.Row.{tableOf, entriesFrom, sameRow, find, tableWith}
 use Rattle.terms.specs.Fields.{fieldsOf, isPath, isQualifier, heldPath, heldQualifier, fieldOk, badPlace}
 use Rattle.terms.specs.Nesting.{operandNesting, nestingBy, nestings, nesting}
 use Rattle.terms.specs.Terms.{asPath, asQualifier, termBy, terms, termAt}
@@ -20,22 +20,22 @@ use Rattle.rules.specs.Claim.{says}
 use Rattle.rules.specs.Yields.{formsIn, formsOf, firstCount, premiseCount}
 use Rattle.rules.specs.code.RuleFits.{ruleFits}
 use Rattle.rules.specs.Decision.{yields-dec}
-use Rattle.grammar.specs.Bytes.{isSpace, isStart, isName, isQuote, same}
+use Rattle.grammar.specs.Bytes.{isSpace, isStart, isName, isQuote}
 use Rattle.grammar.specs.Words as words
 use Rattle.grammar.specs.Words.{next, axes, types, isSome, instructionWord, orZero, bytesOf, numbered}
 use Rattle.grammar.specs.Words.{numberOf}
 use Rattle.grammar.specs.Grammar.{spellAxis, spellTest, spellBool, spellStep, spellRel, spellPath, spellUnion}
 use Rattle.grammar.specs.Grammar.{spellUnary, spellAnd, spellOr, takesPredicate}
-use Rattle.grammar.specs.Reader.{run, outcome, follow, step, finish, needByte, afterByte, pathByte}
-use Rattle.grammar.specs.Reader.{unionByte, unaryByte, shut, groupByte, leadByte, callByte, parenByte}
-use Rattle.grammar.specs.Reader.{colonByte, keywordByte, leadEnd, atTop, room, roomOf, prefixOf, join}
-use Rattle.grammar.specs.Reader.{withPrefix, joinAlt, wrap, leftOf, andTo}
+use Rattle.grammar.specs.code.Reader.{run, outcome, follow, step, finish, needByte, afterByte, pathByte}
+use Rattle.grammar.specs.code.Reader.{unionByte, unaryByte, shut, groupByte, leadByte, callByte, parenByte}
+use Rattle.grammar.specs.code.Reader.{colonByte, keywordByte, leadEnd, atTop, room, roomOf, prefixOf, join}
+use Rattle.grammar.specs.code.Reader.{withPrefix, joinAlt, wrap, leftOf, andTo}
 use Rattle.grammar.specs.Denotes.{unlisted, testNames, stepNames, relNames, pathNames, unionNames, unaryNames}
 use Rattle.grammar.specs.Denotes.{andNames, orNames, axisOf, constantOf, testOf, stepOf, relOf, relAfter}
 use Rattle.grammar.specs.Denotes.{pathOf, unionOf, unaryOf, andOf, orOf, put, putPath, putQual, nestPath}
 use Rattle.grammar.specs.Denotes.{nestQual}
-use Rattle.grammar.specs.ReaderAnswer as grammar
-use Rattle.grammar.specs.ReaderAnswer.{namesAnswer, readAnswer}
+use Rattle.grammar.specs.code.ReaderAnswer as grammar
+use Rattle.grammar.specs.code.ReaderAnswer.{namesAnswer, readAnswer}
 use Rattle.grammar.proofs.Answered.{answered}
 use Rattle.calls.specs.TermCall.{termAnswer}
 use Rattle.calls.specs.StepCall.{sameSort, badSide, premiseOk, badPremise, claimOf, premisesOf, stepAnswerBy}
@@ -44,7 +44,6 @@ use Rattle.calls.specs.TextCall.{textReply, textAnswer}
 use Rattle.calls.specs.code.Tables.{stepsOf}
 use Rattle.bundles.specs.Bundle as bundles
 use Rattle.bundles.specs.Bundle.{rowNames, rowOfLine, stepOfLine}
-use Rattle.text.specs.Readers.{tableWith}
 use Rattle.replacing.specs.Covered.{isHeldStep, isIn, isReplaced, stepSaying}
 use Rattle.session.specs.View.{view, freshSession, withRow, withRows, withStep}
 use Rattle.session.specs.Reading.{stepsRead, rowsRead, linesRead, reading}
@@ -97,7 +96,7 @@ claims :
 unfolding told claimAnswer oldClaimed newClaimed saidAnswer stepSaying firstBelow isReplaced isHeldStep isIn anyOf
     withRows tableWith joined textAnswer textReply answered run outcome follow step finish needByte afterByte pathByte
     unionByte unaryByte shut groupByte leadByte callByte parenByte colonByte keywordByte leadEnd atTop room roomOf
-    prefixOf join withPrefix joinAlt wrap leftOf andTo isSpace isStart isName isQuote same words.find next axes types
+    prefixOf join withPrefix joinAlt wrap leftOf andTo isSpace isStart isName isQuote words.find next axes types
     isSome instructionWord orZero bytesOf numbered numberOf spellAxis spellTest spellBool spellStep spellRel spellPath
     spellUnion spellUnary spellAnd spellOr takesPredicate unlisted testNames stepNames relNames pathNames unionNames
     unaryNames andNames orNames axisOf constantOf testOf stepOf relOf relAfter pathOf unionOf unaryOf andOf orOf put

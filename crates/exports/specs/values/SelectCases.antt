@@ -14,31 +14,30 @@ use Rattle.xpath.specs.Axis.{onAxis, passes}
 use Rattle.xpath.specs.Meaning.{selects}
 use Rattle.xpath.specs.Visits.{visits}
 use Rattle.lines.specs.Ascii.{ascii}
-use Rattle.lines.specs.Line.{inFirstLine, lines}
-use Rattle.terms.specs.Row.{tableOf, entriesFrom, sameRow, find}
+use Rattle.lines.specs.Line.{inFirstLine, lines, sameBytes}
+use Rattle.terms.specs.Row.{tableOf, entriesFrom, sameRow, find, tableWith}
 use Rattle.terms.specs.Fields.{isPath, heldPath}
 use Rattle.terms.specs.Terms.{asPath, termBy, terms, termAt}
 use Rattle.selection.specs.Marks.{written}
-use Rattle.grammar.specs.Bytes.{isSpace, isStart, isName, isQuote, same}
+use Rattle.grammar.specs.Bytes.{isSpace, isStart, isName, isQuote}
 use Rattle.grammar.specs.Words as words
 use Rattle.grammar.specs.Words.{next, axes, types, isSome, instructionWord, orZero, bytesOf, numbered}
 use Rattle.grammar.specs.Words.{numberOf}
 use Rattle.grammar.specs.Grammar.{spellAxis, spellTest, spellBool, spellStep, spellRel, spellPath, spellUnion}
 use Rattle.grammar.specs.Grammar.{spellUnary, spellAnd, spellOr, takesPredicate}
-use Rattle.grammar.specs.Reader.{run, outcome, follow, step, finish, needByte, afterByte, pathByte}
-use Rattle.grammar.specs.Reader.{unionByte, unaryByte, shut, groupByte, leadByte, callByte, parenByte}
-use Rattle.grammar.specs.Reader.{colonByte, keywordByte, leadEnd, atTop, room, roomOf, prefixOf, join}
-use Rattle.grammar.specs.Reader.{withPrefix, joinAlt, wrap, leftOf, andTo}
+use Rattle.grammar.specs.code.Reader.{run, outcome, follow, step, finish, needByte, afterByte, pathByte}
+use Rattle.grammar.specs.code.Reader.{unionByte, unaryByte, shut, groupByte, leadByte, callByte, parenByte}
+use Rattle.grammar.specs.code.Reader.{colonByte, keywordByte, leadEnd, atTop, room, roomOf, prefixOf, join}
+use Rattle.grammar.specs.code.Reader.{withPrefix, joinAlt, wrap, leftOf, andTo}
 use Rattle.grammar.specs.Denotes.{unlisted, testNames, stepNames, relNames, pathNames, unionNames, unaryNames}
 use Rattle.grammar.specs.Denotes.{andNames, orNames, axisOf, constantOf, testOf, stepOf, relOf, relAfter}
 use Rattle.grammar.specs.Denotes.{pathOf, unionOf, unaryOf, andOf, orOf, put, putPath, putQual, nestPath}
 use Rattle.grammar.specs.Denotes.{nestQual}
-use Rattle.grammar.specs.ReaderAnswer as grammar
-use Rattle.grammar.specs.ReaderAnswer.{namesAnswer}
+use Rattle.grammar.specs.code.ReaderAnswer as grammar
+use Rattle.grammar.specs.code.ReaderAnswer.{namesAnswer}
 use Rattle.grammar.proofs.Answered.{answered}
 use Rattle.calls.specs.SelectCall.{selectAnswer, selectBuffer}
 use Rattle.calls.specs.TextCall.{textReply, textAnswer}
-use Rattle.text.specs.Readers.{tableWith}
 use Rattle.session.specs.View.{view, freshSession, withRows}
 use Rattle.exports.specs.TextSelect as text-select
 use Rattle.exports.specs.TextSelect.{readRows, textSelectAnswer, textSelectBuffer}
@@ -74,8 +73,8 @@ unfolding
     textSelectAnswer textSelectBuffer text-select.readAnswer readRows withRows tableWith joined textAnswer textReply
     answered run outcome follow step finish needByte afterByte pathByte unionByte unaryByte shut groupByte leadByte
     callByte parenByte colonByte keywordByte leadEnd atTop room roomOf prefixOf join withPrefix joinAlt wrap leftOf
-    andTo isSpace isStart isName isQuote same words.find next axes types isSome instructionWord orZero bytesOf numbered
-    numberOf spellAxis spellTest spellBool spellStep spellRel spellPath spellUnion spellUnary spellAnd spellOr
+    andTo isSpace isStart isName isQuote sameBytes words.find next axes types isSome instructionWord orZero bytesOf
+    numbered numberOf spellAxis spellTest spellBool spellStep spellRel spellPath spellUnion spellUnary spellAnd spellOr
     takesPredicate unlisted testNames stepNames relNames pathNames unionNames unaryNames andNames orNames axisOf
     constantOf testOf stepOf relOf relAfter pathOf unionOf unaryOf andOf orOf put putPath putQual nestPath nestQual
     grammar.termAnswer namesAnswer grammar.readAnswer grammar.answer ascii lines inFirstLine view tableOf freshSession

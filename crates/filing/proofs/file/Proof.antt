@@ -4,23 +4,8 @@ use Rattle.filing.proofs.CallLaws.{file-refused, file-written}
 use Rattle.filing.proofs.file.Statement.{statement}
 use Rattle.filing.proofs.file.Tie as tie
 
-make-lines-requires : tie.Need-make-lines-requires
-make-lines-requires c κs = search needs
-
 returns : tie.Need-returns
 returns c = file-refused _ _ _ (c .before .make-lines .ensures) (c .if1 .taken)
-
-write-requires : tie.Need-write-requires
-write-requires c κs = search needs
-
-number-requires : tie.Need-number-requires
-number-requires c κs = search needs
-
-value-requires : tie.Need-value-requires
-value-requires c κs = search needs
-
-same-length : tie.Need-same-length
-same-length c = search needs
 
 returns-2 : tie.Need-returns-2
 returns-2 c =
@@ -33,10 +18,10 @@ pub file-spec : {M : Type 1} → statement M
 file-spec =
     tie.close
     (tie.spec
-    make-lines-requires
+    (search needs)
     returns
-    write-requires
-    number-requires
-    value-requires
-    same-length
+    (search needs)
+    (search needs)
+    (search needs)
+    (search needs)
     returns-2)

@@ -4,12 +4,6 @@ use Rattle.filing.proofs.CallLaws.{lent, not-lent}
 use Rattle.filing.proofs.lend_names.Statement.{statement}
 use Rattle.filing.proofs.lend_names.Tie as tie
 
-rest-at-requires : tie.Need-rest-at-requires
-rest-at-requires c κs = search needs
-
-not-taken-requires : tie.Need-not-taken-requires
-not-taken-requires c κs = search needs
-
 returns : tie.Need-returns
 returns c =
     let a = c .before .before .before .before .args in
@@ -25,7 +19,7 @@ pub lend-names-spec : {M : Type 1} → statement M
 lend-names-spec =
     tie.close
     (tie.spec
-    rest-at-requires
-    not-taken-requires
+    (search needs)
+    (search needs)
     returns
     returns-2)

@@ -5,9 +5,6 @@ use Rattle.filing.proofs.LineLaws.{line-not-read, line-read}
 use Rattle.filing.proofs.make_line.Statement.{statement}
 use Rattle.filing.proofs.make_line.Tie as tie
 
-call-at-requires : tie.Need-call-at-requires
-call-at-requires c κs = search needs
-
 returns : tie.Need-returns
 returns c =
     let at-read = c .before .before in
@@ -19,9 +16,6 @@ returns c =
 make-word-requires : tie.Need-make-word-requires
 make-word-requires c κs =
     let at-read = c .before .before .before in at-read .before .before .pre .1
-
-names-after-requires : tie.Need-names-after-requires
-names-after-requires c κs = search needs
 
 returns-2 : tie.Need-returns-2
 returns-2 c =
@@ -37,4 +31,4 @@ returns-2 c =
 pub make-line-spec : {M : Type 1} → statement M
 make-line-spec =
     tie.close
-    (tie.spec call-at-requires returns make-word-requires names-after-requires returns-2)
+    (tie.spec (search needs) returns make-word-requires (search needs) returns-2)

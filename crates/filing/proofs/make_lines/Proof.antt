@@ -1,6 +1,6 @@
 -- `make_lines` meets its contract: what is filed is what the lines from `at` on file. Assumes nothing.
 use Prim.Native.Nat.{_+_, _-_, _≤_}
-use mathlib.Core.Path.{_≡_, refl, sym, ap, _∙_}
+use mathlib.Core.Path.{_≡_, sym, ap, _∙_}
 use native.Mathlib.Omega.{arith}
 use lib.ListN.{length}
 use borrow.Author.Needs.{needs}
@@ -20,9 +20,6 @@ Inv-loop script s₀ names₀ at₀ line₀ s names at line =
 abbrev μ-loop : tie.MeasureT-loop
 μ-loop script s₀ names₀ at₀ line₀ s names at line = length script - at
 
-new-requires : tie.Need-new-requires Inv-loop μ-loop
-new-requires c κs = search needs
-
 loop-holds : tie.Need-loop-holds Inv-loop μ-loop
 loop-holds c =
     let script = c .before .before .args .script .now in
@@ -34,9 +31,6 @@ add-line c = omega (arith, c .before .loop .inv .0, c .before .loop .inv .1)
 
 make-line-requires : tie.Need-make-line-requires Inv-loop μ-loop
 make-line-requires c κs = (c .loop-test .taken, c .before .loop .inv .2)
-
-new-requires-2 : tie.Need-new-requires-2 Inv-loop μ-loop
-new-requires-2 c κs = search needs
 
 returns : tie.Need-returns Inv-loop μ-loop
 returns c =
@@ -75,11 +69,11 @@ make-lines-spec =
     (tie.spec
     Inv-loop
     μ-loop
-    new-requires
+    (search needs)
     loop-holds
     add-line
     make-line-requires
-    new-requires-2
+    (search needs)
     returns
     loop-less
     loop-again

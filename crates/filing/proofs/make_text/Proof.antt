@@ -7,18 +7,6 @@ use Rattle.filing.proofs.CallLaws.{text-done}
 use Rattle.filing.proofs.make_text.Statement.{statement}
 use Rattle.filing.proofs.make_text.Tie as tie
 
-no-bytes-requires : tie.Need-no-bytes-requires
-no-bytes-requires c κs = search needs
-
-rest-at-requires : tie.Need-rest-at-requires
-rest-at-requires c κs = search needs
-
-slice-aggregate-put-names : tie.Need-slice-aggregate-put-names
-slice-aggregate-put-names c = search needs
-
-put-names-requires : tie.Need-put-names-requires
-put-names-requires c κs = search needs
-
 array-share-prefix-list : tie.Need-array-share-prefix-list
 array-share-prefix-list c =
     let put = c .before .put-names .ensures in omega (arith, put .0, put .2)
@@ -27,15 +15,6 @@ slice-aggregate-text : tie.Need-slice-aggregate-text
 slice-aggregate-text c =
     let put = c .before .before .put-names .ensures in
     sym (length-take-le (c .before .before .put-names .result) _ (omega (arith, put .0, put .2)))
-
-rest-at-requires-2 : tie.Need-rest-at-requires-2
-rest-at-requires-2 c κs = search needs
-
-text-requires : tie.Need-text-requires
-text-requires c κs = search needs
-
-call-made-requires : tie.Need-call-made-requires
-call-made-requires c κs = search needs
 
 returns : tie.Need-returns
 returns c =
@@ -53,13 +32,13 @@ pub make-text-spec : {M : Type 1} → statement M
 make-text-spec =
     tie.close
     (tie.spec
-    no-bytes-requires
-    rest-at-requires
-    slice-aggregate-put-names
-    put-names-requires
+    (search needs)
+    (search needs)
+    (search needs)
+    (λ c κs. search needs)
     array-share-prefix-list
     slice-aggregate-text
-    rest-at-requires-2
-    text-requires
-    call-made-requires
+    (search needs)
+    (search needs)
+    (search needs)
     returns)

@@ -3,137 +3,8 @@ use borrow.Author.Needs.{needs}
 use Rattle.filing.proofs.make_word.Statement.{statement}
 use Rattle.filing.proofs.make_word.Tie as tie
 
-enum-told : tie.Need-enum-told
-enum-told c = search needs
-
-make-term-requires : tie.Need-make-term-requires
-make-term-requires c κs = search needs
-
-enum-told-2 : tie.Need-enum-told-2
-enum-told-2 c = search needs
-
-make-step-requires : tie.Need-make-step-requires
-make-step-requires c κs = search needs
-
-enum-told-3 : tie.Need-enum-told-3
-enum-told-3 c = search needs
-
-not-taken-requires : tie.Need-not-taken-requires
-not-taken-requires c κs = search needs
-
-enum-told-4 : tie.Need-enum-told-4
-enum-told-4 c = search needs
-
-not-taken-requires-2 : tie.Need-not-taken-requires-2
-not-taken-requires-2 c κs = search needs
-
-enum-told-5 : tie.Need-enum-told-5
-enum-told-5 c = search needs
-
-not-taken-requires-3 : tie.Need-not-taken-requires-3
-not-taken-requires-3 c κs = search needs
-
-enum-told-6 : tie.Need-enum-told-6
-enum-told-6 c = search needs
-
-not-taken-requires-4 : tie.Need-not-taken-requires-4
-not-taken-requires-4 c κs = search needs
-
-enum-told-7 : tie.Need-enum-told-7
-enum-told-7 c = search needs
-
-not-taken-requires-5 : tie.Need-not-taken-requires-5
-not-taken-requires-5 c κs = search needs
-
-enum-told-8 : tie.Need-enum-told-8
-enum-told-8 c = search needs
-
-not-taken-requires-6 : tie.Need-not-taken-requires-6
-not-taken-requires-6 c κs = search needs
-
-enum-told-9 : tie.Need-enum-told-9
-enum-told-9 c = search needs
-
-not-taken-requires-7 : tie.Need-not-taken-requires-7
-not-taken-requires-7 c κs = search needs
-
-enum-told-10 : tie.Need-enum-told-10
-enum-told-10 c = search needs
-
-make-point-requires : tie.Need-make-point-requires
-make-point-requires c κs = search needs
-
-enum-told-11 : tie.Need-enum-told-11
-enum-told-11 c = search needs
-
-make-return-requires : tie.Need-make-return-requires
-make-return-requires c κs = search needs
-
-enum-told-12 : tie.Need-enum-told-12
-enum-told-12 c = search needs
-
-not-taken-requires-8 : tie.Need-not-taken-requires-8
-not-taken-requires-8 c κs = search needs
-
-enum-told-13 : tie.Need-enum-told-13
-enum-told-13 c = search needs
-
-not-taken-requires-9 : tie.Need-not-taken-requires-9
-not-taken-requires-9 c κs = search needs
-
-enum-told-14 : tie.Need-enum-told-14
-enum-told-14 c = search needs
-
-not-taken-requires-10 : tie.Need-not-taken-requires-10
-not-taken-requires-10 c κs = search needs
-
-enum-told-15 : tie.Need-enum-told-15
-enum-told-15 c = search needs
-
-lend-names-requires : tie.Need-lend-names-requires
-lend-names-requires c κs = search needs
-
-enum-told-16 : tie.Need-enum-told-16
-enum-told-16 c = search needs
-
 make-text-requires : tie.Need-make-text-requires
 make-text-requires c κs = c .before .before .before .pre
-
-enum-told-17 : tie.Need-enum-told-17
-enum-told-17 c = search needs
-
-not-taken-requires-11 : tie.Need-not-taken-requires-11
-not-taken-requires-11 c κs = search needs
-
-enum-told-18 : tie.Need-enum-told-18
-enum-told-18 c = search needs
-
-not-taken-requires-12 : tie.Need-not-taken-requires-12
-not-taken-requires-12 c κs = search needs
-
-enum-told-19 : tie.Need-enum-told-19
-enum-told-19 c = search needs
-
-not-taken-requires-13 : tie.Need-not-taken-requires-13
-not-taken-requires-13 c κs = search needs
-
-enum-told-20 : tie.Need-enum-told-20
-enum-told-20 c = search needs
-
-not-taken-requires-14 : tie.Need-not-taken-requires-14
-not-taken-requires-14 c κs = search needs
-
-enum-told-21 : tie.Need-enum-told-21
-enum-told-21 c = search needs
-
-not-taken-requires-15 : tie.Need-not-taken-requires-15
-not-taken-requires-15 c κs = search needs
-
-enum-told-22 : tie.Need-enum-told-22
-enum-told-22 c = search needs
-
-not-taken-requires-16 : tie.Need-not-taken-requires-16
-not-taken-requires-16 c κs = search needs
 
 returns : tie.Need-returns
 returns c = rw (c .before .enum-told .given .1) (c .make-term .ensures)
@@ -205,50 +76,50 @@ pub make-word-spec : {M : Type 1} → statement M
 make-word-spec =
     tie.close
     (tie.spec
-    enum-told
-    make-term-requires
-    enum-told-2
-    make-step-requires
-    enum-told-3
-    not-taken-requires
-    enum-told-4
-    not-taken-requires-2
-    enum-told-5
-    not-taken-requires-3
-    enum-told-6
-    not-taken-requires-4
-    enum-told-7
-    not-taken-requires-5
-    enum-told-8
-    not-taken-requires-6
-    enum-told-9
-    not-taken-requires-7
-    enum-told-10
-    make-point-requires
-    enum-told-11
-    make-return-requires
-    enum-told-12
-    not-taken-requires-8
-    enum-told-13
-    not-taken-requires-9
-    enum-told-14
-    not-taken-requires-10
-    enum-told-15
-    lend-names-requires
-    enum-told-16
+    (search needs)
+    (search needs)
+    (search needs)
+    (search needs)
+    (search needs)
+    (search needs)
+    (search needs)
+    (search needs)
+    (search needs)
+    (search needs)
+    (search needs)
+    (search needs)
+    (search needs)
+    (search needs)
+    (search needs)
+    (search needs)
+    (search needs)
+    (search needs)
+    (search needs)
+    (search needs)
+    (search needs)
+    (search needs)
+    (search needs)
+    (search needs)
+    (search needs)
+    (search needs)
+    (search needs)
+    (search needs)
+    (search needs)
+    (search needs)
+    (search needs)
     make-text-requires
-    enum-told-17
-    not-taken-requires-11
-    enum-told-18
-    not-taken-requires-12
-    enum-told-19
-    not-taken-requires-13
-    enum-told-20
-    not-taken-requires-14
-    enum-told-21
-    not-taken-requires-15
-    enum-told-22
-    not-taken-requires-16
+    (search needs)
+    (search needs)
+    (search needs)
+    (search needs)
+    (search needs)
+    (search needs)
+    (search needs)
+    (search needs)
+    (search needs)
+    (search needs)
+    (search needs)
+    (search needs)
     returns
     returns-2
     returns-3

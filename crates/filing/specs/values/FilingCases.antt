@@ -5,33 +5,32 @@ use mathlib.Core.Bool.{true}
 use mathlib.Core.List.{List, [], _∷_, _++_}
 use mathlib.Core.Option.{some, Option·elim}
 use mathlib.Core.Path.{refl}
-use lib.ListN.{length, replicate}
+use lib.ListN.{replicate}
 use Rattle.common.specs.Lists.{joined}
 use Rattle.common.specs.values.Expected.{_is_, AllRight}
 use Rattle.terms.specs.Fields.{fieldsOf, isPath, isQualifier, heldPath, heldQualifier, fieldOk, badPlace}
 use Rattle.terms.specs.Nesting.{operandNesting, nestingBy, nestings, nesting}
-use Rattle.terms.specs.Row.{row, tableOf, entriesFrom, sameRow, find}
+use Rattle.terms.specs.Row.{row, tableOf, entriesFrom, sameRow, find, tableWith}
 use Rattle.terms.specs.Terms.{asPath, asQualifier, termBy, terms, termAt}
 use Rattle.lines.specs.Ascii.{ascii}
 use Rattle.lines.specs.Line.{line, inFirstLine, lines, inFirstPart, parts, sameBytes}
 use Rattle.lines.specs.Number.{isDigit, areDigits, isDecimal, appendDigits, numbersUpTo}
 use Rattle.lines.specs.Written.{digitsOf, decimal, lineText}
 use Rattle.grammar.proofs.Answered.{answered}
-use Rattle.grammar.specs.Bytes.{isSpace, isStart, isName, isQuote, same}
+use Rattle.grammar.specs.Bytes.{isSpace, isStart, isName, isQuote}
 use Rattle.grammar.specs.Denotes.{orNames, axisOf, constantOf, testOf, stepOf, relOf, relAfter, nestQual}
 use Rattle.grammar.specs.Denotes.{pathOf, unionOf, unaryOf, andOf, orOf, put, putPath, putQual, nestPath, unlisted}
 use Rattle.grammar.specs.Denotes.{testNames, stepNames, relNames, pathNames, unionNames, unaryNames, andNames}
 use Rattle.grammar.specs.Grammar.{spellStep, spellRel, spellPath, spellUnion}
 use Rattle.grammar.specs.Grammar.{spellUnary, spellAnd, spellOr, takesPredicate, spellAxis, spellTest, spellBool}
-use Rattle.grammar.specs.Reader.{afterByte, pathByte, unionByte, unaryByte, shut, groupByte, leadByte, callByte}
-use Rattle.grammar.specs.Reader.{colonByte, keywordByte, leadEnd, atTop, room, roomOf, prefixOf, join, withPrefix}
-use Rattle.grammar.specs.Reader.{joinAlt, wrap, leftOf, andTo, run, outcome, follow, step, finish, needByte}
-use Rattle.grammar.specs.Reader.{parenByte}
-use Rattle.grammar.specs.ReaderAnswer as grammar
-use Rattle.grammar.specs.ReaderAnswer.{namesAnswer, readAnswer}
+use Rattle.grammar.specs.code.Reader.{afterByte, pathByte, unionByte, unaryByte, shut, groupByte, leadByte, callByte}
+use Rattle.grammar.specs.code.Reader.{colonByte, keywordByte, leadEnd, atTop, room, roomOf, prefixOf, join, withPrefix}
+use Rattle.grammar.specs.code.Reader.{joinAlt, wrap, leftOf, andTo, run, outcome, follow, step, finish, needByte}
+use Rattle.grammar.specs.code.Reader.{parenByte}
+use Rattle.grammar.specs.code.ReaderAnswer as grammar
+use Rattle.grammar.specs.code.ReaderAnswer.{namesAnswer, readAnswer}
 use Rattle.grammar.specs.Words as words
 use Rattle.grammar.specs.Words.{numberOf, next, axes, types, isSome, instructionWord, orZero, bytesOf, numbered}
-use Rattle.text.specs.Readers.{tableWith}
 use Rattle.calls.specs.Book as book
 use Rattle.calls.specs.Calls.{Call}
 use Rattle.calls.specs.PointCall.{placeOf, pointAnswer, returnAnswer}
@@ -42,8 +41,9 @@ use Rattle.calls.specs.code.Tables.{stepsOf}
 use Rattle.bundles.specs.Bundle as bundles
 use Rattle.bundles.specs.Bundle.{rowNames, rowsText, stepsText, bundleText}
 use Rattle.session.specs.View.{view, freshSession, withRow, withRows, withPoint, atPoint}
-use Rattle.script.specs.Command as commands
-use Rattle.script.specs.Command.{shapeOf, atMost, named, wordFor, commandBy}
+use Rattle.script_words.specs.Words as script
+use Rattle.script.specs.Command.{atMost, named, wordFor, commandBy}
+use Rattle.script_words.specs.Words.{shapeOf}
 use Rattle.script.specs.Rest.{restOf, namesOf}
 use Rattle.filing.specs.Filing.{lends, makes, lending, lineAction, linesFiled, filed, fileAnswer, fileBuffer}
 
@@ -87,7 +87,7 @@ answers :
     ∷ [])
 unfolding withRows tableWith joined textAnswer textReply answered run outcome follow step finish needByte afterByte
     pathByte unionByte unaryByte shut groupByte leadByte callByte parenByte colonByte keywordByte leadEnd atTop room
-    roomOf prefixOf join withPrefix joinAlt wrap leftOf andTo isSpace isStart isName isQuote same words.find next
+    roomOf prefixOf join withPrefix joinAlt wrap leftOf andTo isSpace isStart isName isQuote words.find next
     axes types isSome instructionWord orZero bytesOf numbered numberOf spellAxis spellTest spellBool spellStep
     spellRel spellPath spellUnion spellUnary spellAnd spellOr takesPredicate unlisted testNames stepNames relNames
     pathNames unionNames unaryNames andNames orNames axisOf constantOf testOf stepOf relOf relAfter pathOf unionOf
@@ -96,7 +96,7 @@ unfolding withRows tableWith joined textAnswer textReply answered run outcome fo
     isDecimal areDigits isDigit appendDigits Option·elim view tableOf stepsOf freshSession withRow termAnswer
     badPlace fieldsOf fieldOk heldPath heldQualifier isPath isQualifier nesting nestings entriesFrom nestingBy
     operandNesting find sameRow termAt terms termBy asPath asQualifier fileAnswer fileBuffer filed linesFiled
-    lineAction lending restOf namesOf commands.words shapeOf wordFor commandBy named atMost rowsText stepsText
+    lineAction lending restOf namesOf script.words shapeOf wordFor commandBy named atMost rowsText stepsText
     bundleText lineText decimal digitsOf withPoint atPoint placeOf
     pointAnswer returnAnswer countsOf
 answers = refl
@@ -112,7 +112,7 @@ bytes :
     ∷ [])
 unfolding withRows tableWith joined textAnswer textReply answered run outcome follow step finish needByte afterByte
     pathByte unionByte unaryByte shut groupByte leadByte callByte parenByte colonByte keywordByte leadEnd atTop room
-    roomOf prefixOf join withPrefix joinAlt wrap leftOf andTo isSpace isStart isName isQuote same words.find next
+    roomOf prefixOf join withPrefix joinAlt wrap leftOf andTo isSpace isStart isName isQuote words.find next
     axes types isSome instructionWord orZero bytesOf numbered numberOf spellAxis spellTest spellBool spellStep
     spellRel spellPath spellUnion spellUnary spellAnd spellOr takesPredicate unlisted testNames stepNames relNames
     pathNames unionNames unaryNames andNames orNames axisOf constantOf testOf stepOf relOf relAfter pathOf unionOf
@@ -121,7 +121,7 @@ unfolding withRows tableWith joined textAnswer textReply answered run outcome fo
     isDecimal areDigits isDigit appendDigits Option·elim view tableOf stepsOf freshSession withRow termAnswer
     badPlace fieldsOf fieldOk heldPath heldQualifier isPath isQualifier nesting nestings entriesFrom nestingBy
     operandNesting find sameRow termAt terms termBy asPath asQualifier fileAnswer fileBuffer filed linesFiled
-    lineAction lending restOf namesOf commands.words shapeOf wordFor commandBy named atMost rowsText stepsText
+    lineAction lending restOf namesOf script.words shapeOf wordFor commandBy named atMost rowsText stepsText
     bundleText lineText decimal digitsOf withPoint atPoint placeOf
     pointAnswer returnAnswer countsOf
 bytes = refl
@@ -133,6 +133,6 @@ actions :
     ∷ lineAction [] (line (ascii "step 3 0 2 1 4") true) is some (makes (Call.step (book.step 3 0 2 1 4)))
     ∷ lineAction [] (line (ascii "names  a b ") true) is some (lends (10 ∷ 97 ∷ 10 ∷ 98 ∷ 10 ∷ []))
     ∷ [])
-unfolding lineAction lending restOf namesOf commands.words shapeOf wordFor commandBy named atMost numbersUpTo parts
+unfolding lineAction lending restOf namesOf script.words shapeOf wordFor commandBy named atMost numbersUpTo parts
     inFirstPart sameBytes Option·elim isDecimal areDigits isDigit appendDigits ascii
 actions = refl

@@ -1,36 +1,36 @@
 -- Answers to texts, by computation: number, value and the rows held afterwards. Assumes nothing.
 use Prim.Native.Nat.{ℕ, zero, suc}
 use Prim.Native.String.{String}
-use mathlib.Core.Path.{_≡_, refl}
+use mathlib.Core.Path.{refl}
 use mathlib.Core.List.{List, [], _∷_, _++_}
 use mathlib.Core.Option.{none, some}
 use lib.ListN.{length, replicate}
 use Rattle.common.specs.values.Expected.{Case, _is_, AllRight}
 use Rattle.lines.specs.Ascii.{ascii}
-use Rattle.lines.specs.Line.{inFirstLine, lines}
+use Rattle.lines.specs.Line.{inFirstLine, lines, sameBytes}
 use Rattle.terms.specs.Row.{Row, row, sameRow, find}
-use Rattle.grammar.specs.Bytes.{Bytes, isSpace, isStart, isName, isQuote, same}
+use Rattle.grammar.specs.Bytes.{Bytes, isSpace, isStart, isName, isQuote}
 use Rattle.grammar.specs.Words as words
 use Rattle.grammar.specs.Words.{next, axes, types, isSome, instructionWord, orZero, bytesOf, numbered, numberOf}
 use Rattle.grammar.specs.Grammar.{takesPredicate, spellAxis, spellTest, spellBool, spellStep, spellRel}
 use Rattle.grammar.specs.Grammar.{spellPath, spellUnion, spellUnary, spellAnd, spellOr}
-use Rattle.grammar.specs.Reader.{run, outcome, follow, step, finish, needByte, afterByte, pathByte, unionByte}
-use Rattle.grammar.specs.Reader.{unaryByte, shut, groupByte, leadByte, callByte, parenByte, colonByte}
-use Rattle.grammar.specs.Reader.{keywordByte, leadEnd, atTop, room, roomOf, prefixOf, join, withPrefix, joinAlt}
-use Rattle.grammar.specs.Reader.{wrap, leftOf, andTo}
+use Rattle.grammar.specs.code.Reader.{run, outcome, follow, step, finish, needByte, afterByte, pathByte}
+use Rattle.grammar.specs.code.Reader.{unionByte, unaryByte, shut, groupByte, leadByte, callByte, parenByte}
+use Rattle.grammar.specs.code.Reader.{colonByte, keywordByte, leadEnd, atTop, room, roomOf, prefixOf, join}
+use Rattle.grammar.specs.code.Reader.{withPrefix, joinAlt, wrap, leftOf, andTo}
 use Rattle.grammar.specs.Denotes.{unlisted, testNames, stepNames, relNames, pathNames, unionNames, unaryNames}
 use Rattle.grammar.specs.Denotes.{andNames, orNames, axisOf, constantOf, testOf, stepOf, relOf, relAfter}
 use Rattle.grammar.specs.Denotes.{pathOf, unionOf, unaryOf, andOf, orOf, put, putPath, putQual, nestPath}
 use Rattle.grammar.specs.Denotes.{nestQual}
 use Rattle.grammar.specs.Answer.{Reply, reply}
-use Rattle.grammar.specs.ReaderAnswer.{termAnswer, namesAnswer, readAnswer, answer}
+use Rattle.grammar.specs.code.ReaderAnswer.{termAnswer, namesAnswer, readAnswer, answer}
 
 -- the answer; to unfold it is to unfold all that it computes with
 unfoldable told : Bytes → Bytes → List Row → Reply
 unfolding
     ascii lines inFirstLine sameRow find run outcome follow step finish needByte afterByte pathByte unionByte unaryByte
     shut groupByte leadByte callByte parenByte colonByte keywordByte leadEnd atTop room roomOf prefixOf join withPrefix
-    joinAlt wrap leftOf andTo isSpace isStart isName isQuote same words.find next axes types isSome instructionWord
+    joinAlt wrap leftOf andTo isSpace isStart isName isQuote sameBytes words.find next axes types isSome instructionWord
     orZero bytesOf numbered numberOf takesPredicate spellAxis spellTest spellBool spellStep spellRel spellPath
     spellUnion spellUnary spellAnd spellOr unlisted testNames stepNames relNames pathNames unionNames unaryNames
     andNames orNames axisOf constantOf testOf stepOf relOf relAfter pathOf unionOf unaryOf andOf orOf put putPath

@@ -8,13 +8,28 @@ use mathlib.Core.Option.{Option, none, some}
 use lib.ListN.{length}
 use Rattle.common.specs.values.Expected.{Case, _is_, AllRight}
 use Rattle.lines.specs.Ascii.{ascii}
-use Rattle.grammar.specs.Bytes.{Bytes, isSpace, isStart, isName, isQuote, same}
+use Rattle.lines.specs.Line.{sameBytes}
+use Rattle.grammar.specs.Bytes.{Bytes, isSpace, isStart, isName, isQuote}
+use Rattle.grammar.specs.Bytes.{quote-byte, open-byte, close-byte, star-byte, hyphen-byte, dot-byte, slash-byte}
+use Rattle.grammar.specs.Bytes.{colon-byte, at-byte, capital-a, capital-z, open-bracket, close-bracket, bar-byte}
+use Rattle.grammar.specs.Bytes.{underscore-byte, letter-a, letter-d, letter-n, letter-o, letter-r, letter-z}
 use Rattle.grammar.specs.Words.{find, next, axes, types, isSome, instructionWord}
 use Rattle.grammar.specs.Grammar.{takesPredicate}
-use Rattle.grammar.specs.Reader.{Outcome, good, bad, run, initial, outcome, follow, step, finish, needByte}
-use Rattle.grammar.specs.Reader.{afterByte, pathByte, unionByte, unaryByte, shut, groupByte, leadByte, callByte}
-use Rattle.grammar.specs.Reader.{parenByte, colonByte, keywordByte, leadEnd, atTop, room, roomOf, prefixOf, join}
-use Rattle.grammar.specs.Reader.{withPrefix, joinAlt, wrap, leftOf, andTo}
+use Rattle.grammar.specs.code.Reader.{Outcome, good, bad, run, initial, outcome, follow, step, finish, needByte}
+use Rattle.grammar.specs.code.Reader.{afterByte, pathByte, unionByte, unaryByte, shut, groupByte, leadByte}
+use Rattle.grammar.specs.code.Reader.{callByte, parenByte, colonByte, keywordByte, leadEnd, atTop, room, roomOf}
+use Rattle.grammar.specs.code.Reader.{prefixOf, join, withPrefix, joinAlt, wrap, leftOf, andTo}
+
+abbrev bytes : Bytes
+bytes =
+    quote-byte ∷ open-byte ∷ close-byte ∷ star-byte ∷ hyphen-byte ∷ dot-byte ∷ slash-byte ∷ colon-byte ∷ at-byte
+    ∷ capital-a ∷ capital-z ∷ open-bracket ∷ close-bracket ∷ underscore-byte ∷ letter-a ∷ letter-d ∷ letter-n ∷ letter-o
+    ∷ letter-r ∷ letter-z ∷ bar-byte
+    ∷ []
+
+are-named : AllRight (bytes is ascii "'()*-./:@AZ[]_adnorz|" ∷ [])
+unfolding ascii
+are-named = refl
 
 unfoldable place : Outcome → ℕ → Option ℕ
 place (good x) n = none
@@ -25,7 +40,7 @@ unfoldable refusedAt : Bytes → Option ℕ
 unfolding
     run outcome follow step finish needByte afterByte pathByte unionByte unaryByte shut groupByte leadByte callByte
     parenByte colonByte keywordByte leadEnd atTop room roomOf prefixOf join withPrefix joinAlt wrap leftOf andTo isSpace
-    isStart isName isQuote same find next axes types isSome instructionWord takesPredicate place
+    isStart isName isQuote sameBytes find next axes types isSome instructionWord takesPredicate place
 refusedAt t = place (run t initial) (length t)
 
 abbrev Texts : List String → Type 0

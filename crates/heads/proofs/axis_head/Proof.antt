@@ -1,9 +1,6 @@
-use mathlib.Core.Path.{_≡_, refl, sym, ap, _∙_}
-use mathlib.Core.Bool.{true, false}
+use mathlib.Core.Path.{refl, sym, _∙_}
 use native.Mathlib.Omega.{arith}
-use Prim.Native.Nat.{_+_, _-_, _<_, _≤_}
-use lib.ListN.{length, drop}
-use borrow.Author.Tests.{not-true, not-false}
+use Prim.Native.Nat.{_+_, _-_}
 use Rattle.heads.proofs.Headed.{axis-no, axis-one, axis-two, axis-none, axis-some, byte-there}
 use borrow.Author.Needs.{needs}
 use Rattle.heads.proofs.axis_head.Statement.{statement}
@@ -33,14 +30,6 @@ part-axis-of-end c = omega (
   c .before .before .before .pre .0 .names .from,
 )
 
--- src/head.rt:203:9
-axis-of-requires : tie.Need-axis-of-requires
-axis-of-requires c κs = search needs
-
--- src/head.rt:205:9
-no-head-requires : tie.Need-no-head-requires
-no-head-requires c κs = search needs
-
 -- src/head.rt:205:9
 returns : tie.Need-returns
 returns c =
@@ -57,14 +46,6 @@ add-second c =
     let to-args = c .before .before .before .before in
     let start = to-args .before .before in
     omega (arith, byte-there (start .args .s .now) (start .args .colon) 58 refl (start .pre .1 .0))
-
--- src/head.rt:208:8
-byte-at-requires : tie.Need-byte-at-requires
-byte-at-requires c κs = search needs
-
--- src/head.rt:209:9
-no-head-requires-2 : tie.Need-no-head-requires-2
-no-head-requires-2 c κs = search needs
 
 -- src/head.rt:209:9
 returns-2 : tie.Need-returns-2
@@ -129,12 +110,12 @@ axis-head-spec =
     sub-axis-of
     part-axis-of-start
     part-axis-of-end
-    axis-of-requires
-    no-head-requires
+    (search needs)
+    (search needs)
     returns
     add-second
-    byte-at-requires
-    no-head-requires-2
+    (search needs)
+    (search needs)
     returns-2
     add-skip
     skip-requires

@@ -1,9 +1,6 @@
-use mathlib.Core.Path.{_≡_, refl, sym, ap, _∙_}
-use mathlib.Core.Bool.{true, false}
+use mathlib.Core.Path.{refl, sym, _∙_}
 use native.Mathlib.Omega.{arith}
-use Prim.Native.Nat.{_+_, _-_, _<_, _≤_}
-use lib.ListN.{length, drop}
-use borrow.Author.Tests.{not-true, not-false}
+use Prim.Native.Nat.{_+_, _-_}
 use Rattle.heads.proofs.Headed.{dot-two, dot-one, byte-there}
 use borrow.Author.Needs.{needs}
 use Rattle.heads.proofs.dot_head.Statement.{statement}
@@ -17,10 +14,6 @@ use Rattle.heads.proofs.plain_head.Reads as plain-head-reads
 -- src/head.rt:118:16
 add-next : tie.Need-add-next
 add-next c = omega (arith, byte-there (c .before .args .s .now) (c .before .args .at) 46 refl (c .before .pre))
-
--- src/head.rt:119:8
-byte-at-requires : tie.Need-byte-at-requires
-byte-at-requires c κs = search needs
 
 -- src/head.rt:120:35
 add-skip : tie.Need-add-skip
@@ -37,10 +30,6 @@ skip-requires c κs = omega (
   byte-there (c .before .before .before .args .s .now) (c .before .before .before .args .at + 1) 46 refl
       (sym (c .before .byte-at .ensures) ∙ c .if1 .taken),
 )
-
--- src/head.rt:120:9
-plain-head-requires : tie.Need-plain-head-requires
-plain-head-requires c κs = search needs
 
 -- src/head.rt:120:9
 returns : tie.Need-returns
@@ -61,10 +50,6 @@ skip-requires-2 c κs =
           (c .before .before .before .pre),
     )
 
--- src/head.rt:122:5
-plain-head-requires-2 : tie.Need-plain-head-requires-2
-plain-head-requires-2 c κs = search needs
-
 -- src/head.rt:114:1
 returns-2 : tie.Need-returns-2
 returns-2 c =
@@ -80,11 +65,11 @@ dot-head-spec =
     tie.close
     (tie.spec
     add-next
-    byte-at-requires
+    (search needs)
     add-skip
     skip-requires
-    plain-head-requires
+    (search needs)
     returns
     skip-requires-2
-    plain-head-requires-2
+    (search needs)
     returns-2)

@@ -1,9 +1,4 @@
-use mathlib.Core.Path.{_≡_, refl, sym, ap, _∙_}
-use mathlib.Core.Bool.{true, false}
-use native.Mathlib.Omega.{arith}
-use Prim.Native.Nat.{_+_, _-_, _<_, _≤_}
-use lib.ListN.{length, drop}
-use borrow.Author.Tests.{not-true, not-false}
+use Prim.Native.Nat.{_-_}
 use Rattle.grammar.specs.Bytes.{isQuote}
 use borrow.Author.Needs.{needs}
 use Rattle.heads.proofs.is_quote.Statement.{statement}
@@ -12,14 +7,10 @@ use Rattle.heads.proofs.is_quote.Reads as reads
 use Rattle.heads.proofs.is_quote.Lts as lts
 use Rattle.common.proofs.or.Reads as or-reads
 
--- src/head.rt:110:5
-or-requires : tie.Need-or-requires
-or-requires c κs = search needs
-
 -- src/head.rt:107:1
 returns : tie.Need-returns
 unfolding isQuote
 returns c = cc
 
 pub is-quote-spec : {M : Type 1} → statement M
-is-quote-spec = tie.close (tie.spec or-requires returns)
+is-quote-spec = tie.close (tie.spec (search needs) returns)

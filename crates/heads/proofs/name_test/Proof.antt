@@ -1,9 +1,6 @@
-use mathlib.Core.Path.{_≡_, refl, sym, ap, _∙_}
-use mathlib.Core.Bool.{true, false}
+use mathlib.Core.Path.{refl, sym, _∙_}
 use native.Mathlib.Omega.{arith}
-use Prim.Native.Nat.{_+_, _-_, _<_, _≤_}
-use lib.ListN.{length, drop}
-use borrow.Author.Tests.{not-true, not-false}
+use Prim.Native.Nat.{_-_}
 use Rattle.heads.proofs.Headed.{name-plain, name-call, name-type, type-none, type-some, byte-there}
 use Rattle.heads.proofs.Ran.{part-is}
 use borrow.Author.Needs.{needs}
@@ -15,10 +12,6 @@ use Rattle.words.proofs.bytes.byte_at.Reads as byte-at-reads
 use Rattle.heads.proofs.named_head.Reads as named-head-reads
 use Rattle.heads.proofs.type_head.Reads as type-head-reads
 use Rattle.words.proofs.type_of.Reads as type-of-reads
-
--- src/head.rt:170:8
-byte-at-requires : tie.Need-byte-at-requires
-byte-at-requires c κs = search needs
 
 -- src/head.rt:171:9
 named-head-requires : tie.Need-named-head-requires
@@ -68,10 +61,6 @@ part-type-of-end c =
       start .pre .0 .spaces .fits,
       start .pre .0 .names .from,
     )
-
--- src/head.rt:173:9
-type-of-requires : tie.Need-type-of-requires
-type-of-requires c κs = search needs
 
 -- src/head.rt:175:9
 named-head-requires-2 : tie.Need-named-head-requires-2
@@ -141,13 +130,13 @@ pub name-test-spec : {M : Type 1} → statement M
 name-test-spec =
     tie.close
     (tie.spec
-    byte-at-requires
+    (search needs)
     named-head-requires
     returns
     sub-type-of
     part-type-of-start
     part-type-of-end
-    type-of-requires
+    (search needs)
     named-head-requires-2
     returns-2
     add-type-head

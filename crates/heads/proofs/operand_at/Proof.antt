@@ -1,8 +1,7 @@
-use mathlib.Core.Path.{_≡_, refl, sym, ap, _∙_}
+use mathlib.Core.Path.{sym, _∙_}
 use mathlib.Core.Bool.{true, false}
 use native.Mathlib.Omega.{arith}
-use Prim.Native.Nat.{_+_, _-_, _<_, _≤_}
-use lib.ListN.{length, drop}
+use Prim.Native.Nat.{_-_}
 use borrow.Author.Tests.{not-true, not-false}
 use Rattle.heads.proofs.Headed.{operand-group, operand-other, operand-named, operand-opened, start-there}
 use borrow.Author.Needs.{needs}
@@ -16,18 +15,10 @@ use Rattle.words.proofs.bytes.name_end.Reads as name-end-reads
 use Rattle.words.proofs.bytes.skip.Reads as skip-reads
 use Rattle.heads.proofs.opened_by.Reads as opened-by-reads
 
--- src/head.rt:269:9
-byte-at-requires : tie.Need-byte-at-requires
-byte-at-requires c κs = search needs
-
 -- src/head.rt:271:9
 returns : tie.Need-returns
 returns c = operand-group (c .before .before .before .args .s .now) (c .before .before .before .args .at)
     (sym (c .before .byte-at .ensures) ∙ c .if1 .taken)
-
--- src/head.rt:276:9
-is-start-requires : tie.Need-is-start-requires
-is-start-requires c κs = search needs
 
 -- src/head.rt:277:9
 returns-2 : tie.Need-returns-2
@@ -67,10 +58,6 @@ name-end-requires c κs =
 skip-requires : tie.Need-skip-requires
 skip-requires c κs = c .name-end .ensures .fits
 
--- src/head.rt:284:8
-byte-at-requires-2 : tie.Need-byte-at-requires-2
-byte-at-requires-2 c κs = search needs
-
 -- src/head.rt:285:9
 returns-3 : tie.Need-returns-3
 returns-3 c =
@@ -104,10 +91,6 @@ part-opened-by-end c =
       c .before .before .before .name-end .ensures .fits,
     )
 
--- src/head.rt:291:16
-opened-by-requires : tie.Need-opened-by-requires
-opened-by-requires c κs = search needs
-
 -- src/head.rt:265:1
 returns-4 : tie.Need-returns-4
 returns-4 c =
@@ -132,17 +115,17 @@ pub operand-at-spec : {M : Type 1} → statement M
 operand-at-spec =
     tie.close
     (tie.spec
-    byte-at-requires
+    (search needs)
     returns
-    is-start-requires
+    (search needs)
     returns-2
     add-name-end
     name-end-requires
     skip-requires
-    byte-at-requires-2
+    (search needs)
     returns-3
     sub-opened-by
     part-opened-by-start
     part-opened-by-end
-    opened-by-requires
+    (search needs)
     returns-4)

@@ -1,8 +1,7 @@
-use mathlib.Core.Path.{_≡_, refl, sym, ap, _∙_}
+use mathlib.Core.Path.{refl, sym, _∙_}
 use mathlib.Core.Bool.{true, false}
 use native.Mathlib.Omega.{arith}
-use Prim.Native.Nat.{_+_, _-_, _<_, _≤_}
-use lib.ListN.{length, drop}
+use Prim.Native.Nat.{_-_}
 use borrow.Author.Tests.{not-true, not-false}
 use Rattle.heads.proofs.Headed.{head-dot, head-at, head-test, byte-there, start-there}
 use borrow.Author.Needs.{needs}
@@ -18,10 +17,6 @@ use Rattle.heads.proofs.axis_head.Reads as axis-head-reads
 use Rattle.heads.proofs.dot_head.Reads as dot-head-reads
 use Rattle.heads.proofs.name_test.Reads as name-test-reads
 use Rattle.heads.proofs.test_head.Reads as test-head-reads
-
--- src/head.rt:220:9
-byte-at-requires : tie.Need-byte-at-requires
-byte-at-requires c κs = search needs
 
 -- src/head.rt:222:9
 dot-head-requires : tie.Need-dot-head-requires
@@ -72,10 +67,6 @@ returns-2 c =
     (sym (c .before .before .before .before .byte-at .ensures) ∙ c .before .before .if2 .taken)
     (c .before .skip .ensures) (c .test-head .ensures)
 
--- src/head.rt:227:9
-is-start-requires : tie.Need-is-start-requires
-is-start-requires c κs = search needs
-
 -- src/head.rt:228:9
 test-head-requires-2 : tie.Need-test-head-requires-2
 test-head-requires-2 c κs =
@@ -123,10 +114,6 @@ name-end-requires c κs =
 -- src/head.rt:231:9
 skip-requires-2 : tie.Need-skip-requires-2
 skip-requires-2 c κs = c .name-end .ensures .fits
-
--- src/head.rt:232:8
-byte-at-requires-2 : tie.Need-byte-at-requires-2
-byte-at-requires-2 c κs = search needs
 
 -- src/head.rt:233:9
 axis-head-requires : tie.Need-axis-head-requires
@@ -182,20 +169,20 @@ pub read-head-spec : {M : Type 1} → statement M
 read-head-spec =
     tie.close
     (tie.spec
-    byte-at-requires
+    (search needs)
     dot-head-requires
     returns
     add-skip
     skip-requires
     test-head-requires
     returns-2
-    is-start-requires
+    (search needs)
     test-head-requires-2
     returns-3
     add-name-end
     name-end-requires
     skip-requires-2
-    byte-at-requires-2
+    (search needs)
     axis-head-requires
     returns-4
     name-test-requires

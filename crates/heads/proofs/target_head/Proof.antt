@@ -1,12 +1,11 @@
-use mathlib.Core.Path.{_≡_, refl, sym, ap, _∙_}
+use mathlib.Core.Path.{refl, sym, _∙_}
 use mathlib.Core.Bool.{true, false}
 use native.Mathlib.Omega.{arith}
-use Prim.Native.Nat.{_+_, _-_, _<_, _≤_}
-use lib.ListN.{length, drop}
+use Prim.Native.Nat.{_+_, _-_}
 use borrow.Author.Tests.{not-true, not-false}
 use Rattle.heads.proofs.Headed.{target-none, target-open, target-unclosed, target-read, byte-there, start-there}
-use Rattle.heads.proofs.Headed.{quote-there, end-there}
-use Rattle.heads.proofs.Ran.{name-there, part-is}
+use Rattle.heads.proofs.Headed.{quote-there}
+use Rattle.heads.proofs.Ran.{part-is}
 use borrow.Author.Needs.{needs}
 use Rattle.heads.proofs.target_head.Statement.{statement}
 use Rattle.heads.proofs.target_head.Tie as tie
@@ -19,10 +18,6 @@ use Rattle.words.proofs.bytes.skip.Reads as skip-reads
 use Rattle.heads.proofs.named_head.Reads as named-head-reads
 use Rattle.heads.proofs.no_head.Reads as no-head-reads
 
--- src/head.rt:130:9
-byte-at-requires : tie.Need-byte-at-requires
-byte-at-requires c κs = search needs
-
 -- src/head.rt:131:16
 add-from : tie.Need-add-from
 add-from c = omega (
@@ -30,18 +25,6 @@ add-from c = omega (
   quote-there (c .before .before .before .before .args .s .now) (c .before .before .before .before .args .at)
       (c .before .before .before .before .pre .0),
 )
-
--- src/head.rt:132:18
-byte-at-requires-2 : tie.Need-byte-at-requires-2
-byte-at-requires-2 c κs = search needs
-
--- src/head.rt:132:9
-is-start-requires : tie.Need-is-start-requires
-is-start-requires c κs = search needs
-
--- src/head.rt:133:9
-no-head-requires : tie.Need-no-head-requires
-no-head-requires c κs = search needs
 
 -- src/head.rt:133:9
 returns : tie.Need-returns
@@ -76,14 +59,6 @@ name-end-requires c κs =
           (rw (c .before .before .byte-at2 .ensures) at
           (sym (c .before .is-start .ensures) ∙ not-false _ (c .if1 .left))),
     )
-
--- src/head.rt:136:8
-byte-at-requires-3 : tie.Need-byte-at-requires-3
-byte-at-requires-3 c κs = search needs
-
--- src/head.rt:137:9
-no-head-requires-2 : tie.Need-no-head-requires-2
-no-head-requires-2 c κs = search needs
 
 -- src/head.rt:137:9
 returns-2 : tie.Need-returns-2
@@ -124,14 +99,6 @@ skip-requires c κs =
       quote-there (start .args .s .now) (c .before .before .name-end .result)
           (rw (sym (c .before .byte-at3 .ensures) ∙ c .if2 .left ∙ at-byte-at .byte-at .ensures) (start .pre .0)),
     )
-
--- src/head.rt:140:8
-byte-at-requires-4 : tie.Need-byte-at-requires-4
-byte-at-requires-4 c κs = search needs
-
--- src/head.rt:141:9
-no-head-requires-3 : tie.Need-no-head-requires-3
-no-head-requires-3 c κs = search needs
 
 -- src/head.rt:141:9
 returns-3 : tie.Need-returns-3
@@ -225,21 +192,21 @@ pub target-head-spec : {M : Type 1} → statement M
 target-head-spec =
     tie.close
     (tie.spec
-    byte-at-requires
+    (search needs)
     add-from
-    byte-at-requires-2
-    is-start-requires
-    no-head-requires
+    (search needs)
+    (search needs)
+    (search needs)
     returns
     add-name-end
     name-end-requires
-    byte-at-requires-3
-    no-head-requires-2
+    (search needs)
+    (search needs)
     returns-2
     add-skip
     skip-requires
-    byte-at-requires-4
-    no-head-requires-3
+    (search needs)
+    (search needs)
     returns-3
     add-skip-2
     skip-requires-2

@@ -1,8 +1,7 @@
-use mathlib.Core.Path.{_≡_, refl, sym, ap, _∙_}
+use mathlib.Core.Path.{refl, sym, _∙_}
 use mathlib.Core.Bool.{true, false}
 use native.Mathlib.Omega.{arith}
-use Prim.Native.Nat.{_+_, _-_, _<_, _≤_}
-use lib.ListN.{length, drop}
+use Prim.Native.Nat.{_-_}
 use borrow.Author.Tests.{not-true, not-false}
 use Rattle.heads.proofs.Headed.{test-star, test-none, test-name, byte-there, start-there}
 use borrow.Author.Needs.{needs}
@@ -17,10 +16,6 @@ use Rattle.words.proofs.bytes.skip.Reads as skip-reads
 use Rattle.heads.proofs.name_test.Reads as name-test-reads
 use Rattle.heads.proofs.no_head.Reads as no-head-reads
 use Rattle.heads.proofs.plain_head.Reads as plain-head-reads
-
--- src/head.rt:185:9
-byte-at-requires : tie.Need-byte-at-requires
-byte-at-requires c κs = search needs
 
 -- src/head.rt:187:35
 add-skip : tie.Need-add-skip
@@ -43,10 +38,6 @@ skip-requires c κs =
     )
 
 -- src/head.rt:187:9
-plain-head-requires : tie.Need-plain-head-requires
-plain-head-requires c κs = search needs
-
--- src/head.rt:187:9
 returns : tie.Need-returns
 returns c =
     let to-args = c .before .before .before .before in
@@ -55,14 +46,6 @@ returns c =
     (test-star (start .args .s .now) (start .args .names .now) (start .args .at) (start .args .axis) _
     (sym (c .before .before .before .byte-at .ensures) ∙ c .before .before .if1 .taken)
     (c .before .skip .ensures))
-
--- src/head.rt:189:9
-is-start-requires : tie.Need-is-start-requires
-is-start-requires c κs = search needs
-
--- src/head.rt:190:9
-no-head-requires : tie.Need-no-head-requires
-no-head-requires c κs = search needs
 
 -- src/head.rt:190:9
 returns-2 : tie.Need-returns-2
@@ -133,13 +116,13 @@ pub test-head-spec : {M : Type 1} → statement M
 test-head-spec =
     tie.close
     (tie.spec
-    byte-at-requires
+    (search needs)
     add-skip
     skip-requires
-    plain-head-requires
+    (search needs)
     returns
-    is-start-requires
-    no-head-requires
+    (search needs)
+    (search needs)
     returns-2
     add-name-end
     name-end-requires

@@ -1,8 +1,7 @@
-use mathlib.Core.Path.{_≡_, refl, sym, ap, _∙_}
+use mathlib.Core.Path.{refl, sym, _∙_}
 use mathlib.Core.Bool.{true, false}
 use native.Mathlib.Omega.{arith}
-use Prim.Native.Nat.{_+_, _-_, _<_, _≤_}
-use lib.ListN.{length, drop}
+use Prim.Native.Nat.{_-_}
 use borrow.Author.Tests.{not-true, not-false}
 use Rattle.heads.proofs.Headed.{type-close, type-plain, type-unquoted, type-target, byte-there}
 use borrow.Author.Needs.{needs}
@@ -16,14 +15,6 @@ use Rattle.heads.proofs.is_quote.Reads as is-quote-reads
 use Rattle.heads.proofs.no_head.Reads as no-head-reads
 use Rattle.heads.proofs.plain_head.Reads as plain-head-reads
 use Rattle.heads.proofs.target_head.Reads as target-head-reads
-
--- src/head.rt:151:9
-skip-requires : tie.Need-skip-requires
-skip-requires c κs = search needs
-
--- src/head.rt:152:9
-byte-at-requires : tie.Need-byte-at-requires
-byte-at-requires c κs = search needs
 
 -- src/head.rt:154:35
 add-skip : tie.Need-add-skip
@@ -48,10 +39,6 @@ skip-requires-2 c κs =
     )
 
 -- src/head.rt:154:9
-plain-head-requires : tie.Need-plain-head-requires
-plain-head-requires c κs = search needs
-
--- src/head.rt:154:9
 returns : tie.Need-returns
 returns c =
     let to-args = c .before .before .before .before in
@@ -63,10 +50,6 @@ returns c =
     (c .before .skip2 .ensures))
 
 -- src/head.rt:157:9
-no-head-requires : tie.Need-no-head-requires
-no-head-requires c κs = search needs
-
--- src/head.rt:157:9
 returns-2 : tie.Need-returns-2
 returns-2 c =
     let to-args = c .before .before .before .before in
@@ -76,14 +59,6 @@ returns-2 c =
     (start .args .test) _ (c .before .before .before .before .skip .ensures)
     (λ e. c .before .before .if1 .left (c .before .before .before .byte-at .ensures ∙ e))
     (c .before .if2 .taken))
-
--- src/head.rt:159:9
-is-quote-requires : tie.Need-is-quote-requires
-is-quote-requires c κs = search needs
-
--- src/head.rt:160:9
-no-head-requires-2 : tie.Need-no-head-requires-2
-no-head-requires-2 c κs = search needs
 
 -- src/head.rt:160:9
 returns-3 : tie.Need-returns-3
@@ -127,16 +102,16 @@ pub type-head-spec : {M : Type 1} → statement M
 type-head-spec =
     tie.close
     (tie.spec
-    skip-requires
-    byte-at-requires
+    (λ c κs. search needs)
+    (search needs)
     add-skip
     skip-requires-2
-    plain-head-requires
+    (search needs)
     returns
-    no-head-requires
+    (search needs)
     returns-2
-    is-quote-requires
-    no-head-requires-2
+    (search needs)
+    (search needs)
     returns-3
     target-head-requires
     returns-4)

@@ -1,22 +1,24 @@
 -- What the functions that read the head of a step promise, as a run of the grammar's reader. Assumes nothing.
-use Prim.Native.Nat.{ℕ, suc, _+_, _-_, _<_, _≤_}
+use Prim.Native.Nat.{ℕ, suc, _+_, _-_, _≤_}
 use mathlib.Core.Path.{_≡_}
-use mathlib.Core.Bool.{Bool, true, false, not, cond, _||_, _&&_}
-use mathlib.Core.List.{List, [], _∷_, _++_}
-use mathlib.Core.Option.{Option, none, some}
+use mathlib.Core.Bool.{Bool, true, false, not, cond, _||_}
+use mathlib.Core.List.{[], _∷_, _++_}
+use mathlib.Core.Option.{none, some}
 use lib.Dec.{eqb}
 use lib.ListN.{length, drop, take}
 use Rattle.common.specs.NodeTests.{target-test}
 use Rattle.xpath.specs.Term as term
-use Rattle.grammar.specs.Bytes.{Bytes, isSpace, isStart, isName, isQuote, isWord, same, notWord, trueWord}
+use Rattle.lines.specs.Line.{sameBytes}
+use Rattle.grammar.specs.Bytes.{Bytes, isSpace, isStart, isName, isWord, notWord, trueWord}
 use Rattle.grammar.specs.Bytes.{falseWord}
-use Rattle.grammar.specs.Words.{isType, typeCode, axisCode, isAxis, instructionWord, numberOf}
-use Rattle.grammar.specs.Grammar.{Axis, implied, attribute, axis, Test, any, called, kind, target, Step, dot}
-use Rattle.grammar.specs.Grammar.{dots, test, Spaces, spellTest, spellStep, takesPredicate}
+use Rattle.grammar.specs.Bytes.{open-byte, star-byte, colon-byte}
+use Rattle.grammar.specs.Words.{isType, typeCode, numberOf}
+use Rattle.grammar.specs.Grammar.{Axis, implied, attribute, axis, Test, any, called, target, Step}
+use Rattle.grammar.specs.Grammar.{test, Spaces, spellTest, spellStep, takesPredicate}
 use Rattle.grammar.specs.Denotes.{stepOf, testOf, stepNames, testNames, unlisted}
-use Rattle.grammar.specs.Reader.{State, Next, need, name, testing, typeOpen, quote, after, Ctx, top, inside}
-use Rattle.grammar.specs.Reader.{Alt, first, more, Lead, start, bare, atRoot, atAny, after1, after2, step}
-use Rattle.grammar.specs.Reader.{follow, Outcome, finish, run, bad, parenByte, colonByte, leadByte, leadEnd}
+use Rattle.grammar.specs.code.Reader.{State, Next, need, name, typeOpen, quote, after, Ctx, top, inside}
+use Rattle.grammar.specs.code.Reader.{Alt, first, more, Lead, start, bare, atRoot, atAny, after1, after2, step}
+use Rattle.grammar.specs.code.Reader.{follow, Outcome, finish, run, bad, parenByte, colonByte, leadByte, leadEnd}
 use Rattle.heads.specs.declared.Head.{Head}
 use Rattle.heads.specs.declared.Opens.{Opens}
 use Rattle.heads.specs.declared.Opens.the-variants as Opening
@@ -76,24 +78,25 @@ isImplied (axis w n v) = false
 
 -- `not`, `true`, `false`
 unfoldable pub opensCall : Bytes → Bool
-opensCall n = same n notWord || (same n trueWord || same n falseWord)
+opensCall n = sameBytes n notWord || (sameBytes n trueWord || sameBytes n falseWord)
 
 abbrev pub openedBy : Bytes → Opens
-openedBy n = cond (same n notWord) Opening.Not
-    (cond (same n trueWord) Opening.True (cond (same n falseWord) Opening.False Opening.Paths))
+openedBy n = cond (sameBytes n notWord) Opening.Not
+    (cond (sameBytes n trueWord) Opening.True (cond (sameBytes n falseWord) Opening.False Opening.Paths))
 
 -- no call begins at a place
 abbrev pub NoCall : Bytes → ℕ → Type 0
-NoCall s at = (n v t : Bytes) → isWord n ≡ true → Spaces v → drop at s ≡ n ++ (v ++ (40 ∷ t)) → opensCall n ≡ false
+NoCall s at = (n v t : Bytes) → isWord n ≡ true → Spaces v → drop at s ≡ n ++ (v ++ (open-byte ∷ t))
+    → opensCall n ≡ false
 
 -- the state begins a test with the axis a and whitespace w, at the byte b
 pub record Begins (st : State) (c : Ctx) (g : Alt) (l : Lead) (a : Axis) (w : Bytes) (b : ℕ) : Type 0 where
   pub named : isStart b ≡ true → step st b ≡ some (name c g l a w (b ∷ []))
-  pub star : b ≡ 42 → step st b ≡ some (after c g l (test a (any w)) [])
+  pub star : b ≡ star-byte → step st b ≡ some (after c g l (test a (any w)) [])
 
 -- and no other byte can follow
 abbrev pub Stuck : State → ℕ → Type 0
-Stuck st b = isStart b ≡ false → eqb b 42 ≡ false → (step st b ≡ none) × (finish st ≡ none)
+Stuck st b = isStart b ≡ false → eqb b star-byte ≡ false → (step st b ≡ none) × (finish st ≡ none)
 
 -- what is promised of a test that was read, with whitespace after it; its name's place is known from where the
 -- whitespace w before it ends
@@ -103,10 +106,10 @@ pub record TestTold (s list : Bytes) (at : ℕ) (noColon : Type 0) (tree : Bytes
   pub names : (w : Bytes) (i : ℕ) → i + length w ≡ at → unlisted (numberOf list) (testNames i (tree w))
       ≡ cond (h .listed) none (some (h .place))
   pub paren : (c : Ctx) (g : Alt) (l : Lead) (a : Axis) (w : Bytes)
-      → (isImplied a ≡ true → callable c g l ≡ true → NoCall s at) → byteAt s (h .at) ≡ 40
+      → (isImplied a ≡ true → callable c g l ≡ true → NoCall s at) → byteAt s (h .at) ≡ open-byte
       → parenByte c g l (test a (tree w)) spaces ≡ none
   pub colon : (c : Ctx) (g : Alt) (l : Lead) (a : Axis) (w : Bytes) → (isImplied a ≡ true → noColon)
-      → byteAt s (h .at) ≡ 58 → colonByte c g l (test a (tree w)) spaces ≡ none
+      → byteAt s (h .at) ≡ colon-byte → colonByte c g l (test a (tree w)) spaces ≡ none
   pub takes : h .filters ≡ true
   pub size : (w : Bytes) → at + length (spellTest (tree w) ++ spaces) ≡ length w + h .at
   pub stops : isSpace (byteAt s (h .at)) ≡ false
@@ -132,12 +135,13 @@ pub record TypeRead (s list : Bytes) (at : ℕ) (n v : Bytes) (h : Head) : Type 
   pub runs : (c : Ctx) (g : Alt) (l : Lead) (a : Axis) (w : Bytes) → run (drop at s) (typeOpen c g l a w n v [])
       ≡ run (drop (h .at) s) (after c g l (test a (tree w)) spaces)
   pub term : (k : ℕ) (w : Bytes) → testOf (numberOf list) k (tree w) ≡ term.AxisStep k (h .test) (h .name)
-  pub names : (w : Bytes) (i : ℕ) → i + length (w ++ (n ++ (v ++ (40 ∷ [])))) ≡ at
+  pub names : (w : Bytes) (i : ℕ) → i + length (w ++ (n ++ (v ++ (open-byte ∷ [])))) ≡ at
       → unlisted (numberOf list) (testNames i (tree w)) ≡ cond (h .listed) none (some (h .place))
   pub paren : (c : Ctx) (g : Alt) (l : Lead) (a : Axis) (w : Bytes) → parenByte c g l (test a (tree w)) spaces ≡ none
   pub colon : (c : Ctx) (g : Alt) (l : Lead) (a : Axis) (w : Bytes) → colonByte c g l (test a (tree w)) spaces ≡ none
   pub takes : h .filters ≡ true
-  pub size : (w : Bytes) → at + length (spellTest (tree w) ++ spaces) ≡ length (w ++ (n ++ (v ++ (40 ∷ [])))) + h .at
+  pub size : (w : Bytes) → at + length (spellTest (tree w) ++ spaces)
+      ≡ length (w ++ (n ++ (v ++ (open-byte ∷ [])))) + h .at
   pub stops : isSpace (byteAt s (h .at)) ≡ false
 
 pub record TypeMet (s list : Bytes) (at ax t : ℕ) (h : Head) : Type 0 where
@@ -186,9 +190,9 @@ pub record HeadRead (s list : Bytes) (at : ℕ) (h : Head) : Type 0 where
   pub names : (w : Bytes) (i : ℕ) → i + length w ≡ at → unlisted (numberOf list) (stepNames (tree w) i)
       ≡ cond (h .listed) none (some (h .place))
   pub paren : (c : Ctx) (g : Alt) (l : Lead) (w : Bytes) → (callable c g l ≡ true → NoCall s at) → byteAt s (h .at)
-      ≡ 40 → parenByte c g l (tree w) spaces ≡ none
-  pub colon : (c : Ctx) (g : Alt) (l : Lead) (w : Bytes) → byteAt s (h .at) ≡ 58 → colonByte c g l (tree w) spaces
-      ≡ none
+      ≡ open-byte → parenByte c g l (tree w) spaces ≡ none
+  pub colon : (c : Ctx) (g : Alt) (l : Lead) (w : Bytes) → byteAt s (h .at) ≡ colon-byte
+      → colonByte c g l (tree w) spaces ≡ none
   pub takes : (w : Bytes) → takesPredicate (tree w) ≡ h .filters
   pub size : (w : Bytes) → at + length (spellStep (tree w) ++ spaces) ≡ length w + h .at
   pub stops : isSpace (byteAt s (h .at)) ≡ false
@@ -211,13 +215,13 @@ pub record CallAt (s : Bytes) (at paren : ℕ) (word : Bytes) : Type 0 where
   pub all : Spaces spaces
   pub runs : (c : Ctx) (g : Alt) (l : Lead) (w : Bytes) → run (drop at s) (need c g l w)
       ≡ run (drop paren s) (after c g l (test implied (called w word)) spaces)
-  pub byte : byteAt s paren ≡ 40
+  pub byte : byteAt s paren ≡ open-byte
   pub size : at + length word + length spaces ≡ paren
 
 -- how an operand begins at a place without whitespace
 abbrev pub OperandMet : Bytes → (at : ℕ) → Opens → (paren : ℕ) → Type 0
-OperandMet s at Opening.Paths paren = NoCall s at × (byteAt s at ≡ 40 → ⊥)
-OperandMet s at Opening.Group paren = (byteAt s at ≡ 40) × (paren ≡ at)
+OperandMet s at Opening.Paths paren = NoCall s at × (byteAt s at ≡ open-byte → ⊥)
+OperandMet s at Opening.Group paren = (byteAt s at ≡ open-byte) × (paren ≡ at)
 OperandMet s at Opening.Not paren = CallAt s at paren notWord
 OperandMet s at Opening.True paren = CallAt s at paren trueWord
 OperandMet s at Opening.False paren = CallAt s at paren falseWord

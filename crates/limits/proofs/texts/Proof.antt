@@ -3,7 +3,7 @@ use Prim.Native.Nat.{_+_, _≤_, _-_}
 use native.Mathlib.Omega.{arith}
 use mathlib.Core.Path.{_≡_}
 use lib.ListN.{length, length-set}
-use Rattle.script.specs.Command.{maxNumbers}
+use Rattle.script_words.specs.Words.{maxNumbers}
 use Rattle.limits.proofs.texts.Statement.{statement}
 use Rattle.limits.proofs.texts.Tie as tie
 

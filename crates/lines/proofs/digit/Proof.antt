@@ -8,11 +8,5 @@ use Rattle.lines.proofs.digit.Tie as tie
 sub-result : tie.Need-sub-result
 sub-result c = omega (arith, digit-range (c .args .b) (c .pre) .0)
 
-cast-result : tie.Need-cast-result
-cast-result c = search needs
-
-returns : tie.Need-returns
-returns c = search needs
-
 pub digit-spec : {M : Type 1} → statement M
-digit-spec = tie.close (tie.spec sub-result cast-result returns)
+digit-spec = tie.close (tie.spec sub-result (search needs) (search needs))

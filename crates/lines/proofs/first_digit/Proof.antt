@@ -10,18 +10,12 @@ use Rattle.lines.proofs.first_digit.Tie as tie
 returns : tie.Need-returns
 returns c = first-ends _ _ _ (c .if1 .taken)
 
-is-digit-requires : tie.Need-is-digit-requires
-is-digit-requires c κs = search needs
-
 returns-2 : tie.Need-returns-2
 returns-2 c = first-no-digit _ _ _ (c .before .before .if1 .left) (sym (c .before .is-digit .ensures)
     ∙ not-true _ (c .if2 .taken))
 
 digit-requires : tie.Need-digit-requires
 digit-requires c κs = sym (c .before .is-digit .ensures) ∙ not-false _ (c .if2 .left)
-
-up-to-requires : tie.Need-up-to-requires
-up-to-requires c κs = search needs
 
 returns-3 : tie.Need-returns-3
 returns-3 c =
@@ -34,4 +28,4 @@ returns-3 c =
 pub first-digit-spec : {M : Type 1} → statement M
 first-digit-spec =
     tie.close
-    (tie.spec returns is-digit-requires returns-2 digit-requires up-to-requires returns-3)
+    (tie.spec returns (search needs) returns-2 digit-requires (search needs) returns-3)

@@ -11,26 +11,14 @@ returns : tie.Need-returns
 returns c = let a = c .before .before .before .args in
     sym (no-line-there (a .line .now) (a .bytes .now) (a .at) (omega arith))
 
-sub-if2 : tie.Need-sub-if2
-sub-if2 c = search needs
-
 returns-2 : tie.Need-returns-2
 returns-2 c = let a = c .before .before .before .before .args in
     sym (no-line-there (a .line .now) (a .bytes .now) (a .at) (omega arith))
-
-starts-with-requires : tie.Need-starts-with-requires
-starts-with-requires c κs = search needs
 
 returns-3 : tie.Need-returns-3
 returns-3 c = let a = c .before .before .before .before .before .before .args in
     sym (line-there (a .line .now) (a .bytes .now) (a .at) (omega arith)
     ∙ rw (sym (c .before .starts-with .ensures) ∙ not-true _ (c .if3 .taken)))
-
-add-result : tie.Need-add-result
-add-result c = search needs
-
-shared-slice-read-result : tie.Need-shared-slice-read-result
-shared-slice-read-result c = search needs
 
 returns-4 : tie.Need-returns-4
 returns-4 c = let a = c .before .before .before .before .before .before .before .args in
@@ -42,10 +30,10 @@ is-line-spec =
     tie.close
     (tie.spec
     returns
-    sub-if2
+    (search needs)
     returns-2
-    starts-with-requires
+    (search needs)
     returns-3
-    add-result
-    shared-slice-read-result
+    (search needs)
+    (search needs)
     returns-4)

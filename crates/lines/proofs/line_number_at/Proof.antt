@@ -4,9 +4,6 @@ use borrow.Author.Needs.{needs}
 use Rattle.lines.proofs.line_number_at.Statement.{statement}
 use Rattle.lines.proofs.line_number_at.Tie as tie
 
-number-at-requires : tie.Need-number-at-requires
-number-at-requires c κs = search needs
-
 cast-t5 : tie.Need-cast-t5
 cast-t5 c = omega (arith, c .before .number-at .ensures .fits)
 
@@ -14,4 +11,4 @@ returns : tie.Need-returns
 returns c = c .before .number-at .ensures
 
 pub line-number-at-spec : {M : Type 1} → statement M
-line-number-at-spec = tie.close (tie.spec number-at-requires cast-t5 returns)
+line-number-at-spec = tie.close (tie.spec (λ c κs. search needs) cast-t5 returns)

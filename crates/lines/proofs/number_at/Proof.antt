@@ -19,26 +19,8 @@ Inv-loop bytes at end most first value₀ i₀ value i =
 abbrev μ-loop : tie.MeasureT-loop
 μ-loop bytes at end most first value₀ i₀ value i = length bytes - i
 
-no-number-requires : tie.Need-no-number-requires Inv-loop μ-loop
-no-number-requires c κs = search needs
-
 returns : tie.Need-returns Inv-loop μ-loop
 returns c = no-number-met _ _ _ _ _ _ _ (c .no-number .ensures) (nothing-there _ _ _ _ (c .before .if1 .taken))
-
-shared-slice-read-first-digit : tie.Need-shared-slice-read-first-digit Inv-loop μ-loop
-shared-slice-read-first-digit c = search needs
-
-first-digit-requires : tie.Need-first-digit-requires Inv-loop μ-loop
-first-digit-requires c κs = search needs
-
-enum-known-first : tie.Need-enum-known-first Inv-loop μ-loop
-enum-known-first c = search needs
-
-enum-told : tie.Need-enum-told Inv-loop μ-loop
-enum-told c = search needs
-
-no-number-requires-2 : tie.Need-no-number-requires-2 Inv-loop μ-loop
-no-number-requires-2 c κs = search needs
 
 returns-2 : tie.Need-returns-2 Inv-loop μ-loop
 returns-2 c =
@@ -77,18 +59,6 @@ returns-3 c =
     (end-there (a .most) (a .end) (a .bytes .now) (a .at) (l .i) (l .value) (c .before .before .loop-test .taken)
     (l .inv .3) (c .if2 .taken)) (omega arith) (omega arith)
 
-one-more-requires : tie.Need-one-more-requires Inv-loop μ-loop
-one-more-requires c κs = search needs
-
-enum-known-more : tie.Need-enum-known-more Inv-loop μ-loop
-enum-known-more c = search needs
-
-enum-told-2 : tie.Need-enum-told-2 Inv-loop μ-loop
-enum-told-2 c = search needs
-
-no-number-requires-3 : tie.Need-no-number-requires-3 Inv-loop μ-loop
-no-number-requires-3 c κs = search needs
-
 returns-4 : tie.Need-returns-4 Inv-loop μ-loop
 returns-4 c =
     let more = c .before .before .before in
@@ -124,9 +94,6 @@ loop-again c =
           (tested .loop-test .taken) (l .inv .3) (more .before .if2 .left) _ told,
     )
 
-no-number-requires-4 : tie.Need-no-number-requires-4 Inv-loop μ-loop
-no-number-requires-4 c κs = search needs
-
 returns-5 : tie.Need-returns-5 Inv-loop μ-loop
 returns-5 c = no-number-met _ _ _ _ _ _ _ (c .no-number4 .ensures) (c .before .before .loop .inv .3
     ∙ scan-past _ _ _ _ _ (c .before .loop-test .left))
@@ -137,26 +104,26 @@ number-at-spec =
     (tie.spec
     Inv-loop
     μ-loop
-    no-number-requires
+    (search needs)
     returns
-    shared-slice-read-first-digit
-    first-digit-requires
-    enum-known-first
-    enum-told
-    no-number-requires-2
+    (search needs)
+    (search needs)
+    (search needs)
+    (search needs)
+    (search needs)
     returns-2
     add-i
     loop-holds
     shared-slice-read-b
     add-t19
     returns-3
-    one-more-requires
-    enum-known-more
-    enum-told-2
-    no-number-requires-3
+    (search needs)
+    (search needs)
+    (search needs)
+    (search needs)
     returns-4
     add-i-2
     loop-less
     loop-again
-    no-number-requires-4
+    (search needs)
     returns-5)

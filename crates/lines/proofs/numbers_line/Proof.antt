@@ -22,16 +22,10 @@ Inv-loop bytes at count numbers₀ from₀ i₀ numbers from i =
 abbrev μ-loop : tie.MeasureT-loop
 μ-loop bytes at count numbers₀ from₀ i₀ numbers from i = count - i
 
-no-line-requires : tie.Need-no-line-requires Inv-loop μ-loop
-no-line-requires c κs = search needs
-
 returns : tie.Need-returns Inv-loop μ-loop
 returns c = let a = c .before .before .before .args in
     no-line-met _ _ _ _ (c .no-line .ensures)
     (rw (c .before .if1 .taken) (no-numbers-met (lines (drop (a .at) (a .bytes .now)))))
-
-no-line-requires-2 : tie.Need-no-line-requires-2 Inv-loop μ-loop
-no-line-requires-2 c κs = search needs
 
 returns-2 : tie.Need-returns-2 Inv-loop μ-loop
 returns-2 c = no-line-met _ _ _ _ (c .no-line2 .ensures) (rw (lt-leb _ _ (c .before .if2 .taken)))
@@ -42,9 +36,6 @@ loop-holds c = let a = c .before .before .before .args in
 
 sub-loop : tie.Need-sub-loop Inv-loop μ-loop
 sub-loop c = omega arith
-
-line-number-at-requires : tie.Need-line-number-at-requires Inv-loop μ-loop
-line-number-at-requires c κs = search needs
 
 mul-numbers : tie.Need-mul-numbers Inv-loop μ-loop
 mul-numbers c = omega arith
@@ -68,12 +59,6 @@ loop-again c = let a = c .before .before .before .before .before .before .args i
           (omega arith) (l .inv .3) _ _ _
           (a .count - (l .i + 1)) (omega arith) (omega arith) (c .line-number-at .ensures),
     )
-
-line-number-at-requires-2 : tie.Need-line-number-at-requires-2 Inv-loop μ-loop
-line-number-at-requires-2 c κs = search needs
-
-no-line-requires-3 : tie.Need-no-line-requires-3 Inv-loop μ-loop
-no-line-requires-3 c κs = search needs
 
 returns-3 : tie.Need-returns-3 Inv-loop μ-loop
 returns-3 c = let b = c .before .before .before .before .before in
@@ -106,20 +91,20 @@ numbers-line-spec =
     (tie.spec
     Inv-loop
     μ-loop
-    no-line-requires
+    (search needs)
     returns
-    no-line-requires-2
+    (search needs)
     returns-2
     loop-holds
     sub-loop
-    line-number-at-requires
+    (search needs)
     mul-numbers
     array-write-numbers
     add-i
     loop-less
     loop-again
-    line-number-at-requires-2
-    no-line-requires-3
+    (search needs)
+    (search needs)
     returns-3
     mul-numbers-2
     array-write-numbers-2

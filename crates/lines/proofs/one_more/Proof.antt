@@ -11,23 +11,11 @@ use Rattle.lines.proofs.one_more.Tie as tie
 returns : tie.Need-returns
 returns c = behind-zero _ _ _ (c .if1 .taken)
 
-is-digit-requires : tie.Need-is-digit-requires
-is-digit-requires c κs = search needs
-
 returns-2 : tie.Need-returns-2
 returns-2 c = behind-no-digit _ _ _ (sym (c .before .is-digit .ensures) ∙ not-true _ (c .if2 .taken))
 
-mul-up-to : tie.Need-mul-up-to
-mul-up-to c = search needs
-
 digit-requires : tie.Need-digit-requires
 digit-requires c κs = sym (c .before .is-digit .ensures) ∙ not-false _ (c .if2 .left)
-
-add-up-to : tie.Need-add-up-to
-add-up-to c = search needs
-
-up-to-requires : tie.Need-up-to-requires
-up-to-requires c κs = search needs
 
 returns-3 : tie.Need-returns-3
 returns-3 c =
@@ -42,10 +30,10 @@ one-more-spec =
     tie.close
     (tie.spec
     returns
-    is-digit-requires
+    (search needs)
     returns-2
-    mul-up-to
+    (search needs)
     digit-requires
-    add-up-to
-    up-to-requires
+    (search needs)
+    (search needs)
     returns-3)

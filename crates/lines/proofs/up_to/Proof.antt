@@ -9,12 +9,9 @@ returns : tie.Need-returns
 unfolding upTo
 returns c = rw (lt-leb _ _ (c .if1 .taken))
 
-cast-t5 : tie.Need-cast-t5
-cast-t5 c = search needs
-
 returns-2 : tie.Need-returns-2
 unfolding upTo
 returns-2 c = rw (le-leb _ _ (c .if1 .left))
 
 pub up-to-spec : {M : Type 1} → statement M
-up-to-spec = tie.close (tie.spec returns cast-t5 returns-2)
+up-to-spec = tie.close (tie.spec returns (search needs) returns-2)

@@ -1,5 +1,5 @@
 -- `marking::mark_ancestors` meets its contract: the climb goes from each ancestor to the next. Assumes nothing.
-use Prim.Native.Nat.{_-_, _≤_}
+use Prim.Native.Nat.{_-_}
 use mathlib.Core.Path.{sym, _∙_}
 use native.Mathlib.Omega.{arith}
 use lib.ListN.{length}

@@ -1,5 +1,5 @@
 -- `marking::mark_children` meets its contract: the end of a child's subtree is the next child. Assumes nothing.
-use Prim.Native.Nat.{ℕ, _-_, _≤_, _<_}
+use Prim.Native.Nat.{ℕ, _-_, _<_}
 use mathlib.Core.Path.{_≡_, refl, sym, _∙_}
 use mathlib.Core.Bool.{Bool}
 use mathlib.Core.List.{List}

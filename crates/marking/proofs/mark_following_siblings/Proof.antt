@@ -1,5 +1,5 @@
 -- `marking::mark_following_siblings` meets its contract. Assumes nothing.
-use mathlib.Core.Path.{_≡_, sym, _∙_}
+use mathlib.Core.Path.{sym, _∙_}
 use native.Mathlib.Omega.{arith}
 use Rattle.xpath.specs.Document.{documentOf}
 use Rattle.xpath.specs.Axis.{passes}
@@ -10,12 +10,6 @@ use borrow.Author.Needs.{needs}
 use Rattle.marking.proofs.mark_following_siblings.Statement.{statement}
 use Rattle.marking.proofs.mark_following_siblings.Tie as tie
 
-is-attribute-requires : tie.Need-is-attribute-requires
-is-attribute-requires c κs = search needs
-
-or-requires : tie.Need-or-requires
-or-requires c κs = search needs
-
 returns : tie.Need-returns
 returns c =
     let at-shared-slice-known2 = c .before .before .before .before in
@@ -25,18 +19,6 @@ returns c =
     no-following-sibling (documentOf (a .d .now)) (a .ends .now) (g .prepared)
     (passes 7 (a .test) (a .name) (documentOf (a .d .now))) (a .x) (g .row)
     (sym (c .before .or .ensures ∙ rw (c .before .before .is-attribute .ensures)) ∙ c .if1 .taken)
-
-parent-at-requires : tie.Need-parent-at-requires
-parent-at-requires c κs = search needs
-
-mul-wide : tie.Need-mul-wide
-mul-wide c = search needs
-
-shared-slice-read-wide : tie.Need-shared-slice-read-wide
-shared-slice-read-wide c = search needs
-
-wide-requires : tie.Need-wide-requires
-wide-requires c κs = search needs
 
 mul-wide-2 : tie.Need-mul-wide-2
 mul-wide-2 c =
@@ -66,9 +48,6 @@ shared-slice-read-wide-2 c =
     let s = parent-smaller _ (g .prepared .formed) (a .x) (g .row) (m .0) in
     omega (arith, c .before .before .before .parent-at .ensures, g .prepared .ends .room, g .row)
 
-wide-requires-2 : tie.Need-wide-requires-2
-wide-requires-2 c κs = search needs
-
 mark-children-requires : tie.Need-mark-children-requires
 mark-children-requires c κs =
     let at-shared-slice-known3 = c .before .before .before .before in
@@ -91,9 +70,6 @@ mark-children-requires c κs =
             (g .row) (m .0) (at-parent-at .parent-at .ensures)),
       ),
     )
-
-same-length : tie.Need-same-length
-same-length c = search needs
 
 returns-2 : tie.Need-returns-2
 returns-2 c =
@@ -118,16 +94,16 @@ pub mark-following-siblings-spec : {M : Type 1} → statement M
 mark-following-siblings-spec =
     tie.close
     (tie.spec
-    is-attribute-requires
-    or-requires
+    (search needs)
+    (search needs)
     returns
-    parent-at-requires
-    mul-wide
-    shared-slice-read-wide
-    wide-requires
+    (search needs)
+    (search needs)
+    (search needs)
+    (search needs)
     mul-wide-2
     shared-slice-read-wide-2
-    wide-requires-2
+    (search needs)
     mark-children-requires
-    same-length
+    (search needs)
     returns-2)

@@ -7,15 +7,6 @@ use borrow.Author.Needs.{needs}
 use Rattle.marking.proofs.mark_node.Statement.{statement}
 use Rattle.marking.proofs.mark_node.Tie as tie
 
-passes-test-requires : tie.Need-passes-test-requires
-passes-test-requires c κs = search needs
-
-slice-write-out : tie.Need-slice-write-out
-slice-write-out c = search needs
-
-same-length : tie.Need-same-length
-same-length c = search needs
-
 returns : tie.Need-returns
 returns c =
     let a = c .before .before .before .before .args in
@@ -30,4 +21,4 @@ returns-2 c =
 
 pub mark-node-spec : {M : Type 1} → statement M
 mark-node-spec =
-    tie.close (tie.spec passes-test-requires slice-write-out same-length returns returns-2)
+    tie.close (tie.spec (search needs) (search needs) (search needs) returns returns-2)

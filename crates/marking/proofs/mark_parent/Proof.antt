@@ -16,9 +16,6 @@ returns c =
     root-parent (documentOf (a .d .now)) (a .ends .now) (g .prepared)
     (passes 2 (a .test) (a .name) (documentOf (a .d .now))) (a .x) (g .row) (c .if1 .taken)
 
-parent-at-requires : tie.Need-parent-at-requires
-parent-at-requires c κs = search needs
-
 mark-node-requires : tie.Need-mark-node-requires
 mark-node-requires c κs =
     let at-shared-slice-known2 = c .before .before .before .before in
@@ -27,9 +24,6 @@ mark-node-requires c κs =
     let g = start .pre in
     let s = parent-smaller _ (g .prepared .formed) (a .x) (g .row) (pos-of-ne-zero (c .before .before .if1 .left)) in
     omega (arith, c .before .parent-at .ensures, g .prepared .few, g .row, g .room)
-
-same-length : tie.Need-same-length
-same-length c = search needs
 
 returns-2 : tie.Need-returns-2
 returns-2 c =
@@ -44,4 +38,4 @@ returns-2 c =
 
 pub mark-parent-spec : {M : Type 1} → statement M
 mark-parent-spec =
-    tie.close (tie.spec returns parent-at-requires mark-node-requires same-length returns-2)
+    tie.close (tie.spec returns (search needs) mark-node-requires (search needs) returns-2)

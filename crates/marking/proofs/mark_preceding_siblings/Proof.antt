@@ -1,5 +1,5 @@
 -- `marking::mark_preceding_siblings` meets its contract. Assumes nothing.
-use mathlib.Core.Path.{_≡_, refl, sym, _∙_}
+use mathlib.Core.Path.{refl, sym, _∙_}
 use native.Mathlib.Omega.{arith}
 use Rattle.xpath.specs.Document.{documentOf}
 use Rattle.xpath.specs.Axis.{passes}
@@ -10,12 +10,6 @@ use borrow.Author.Needs.{needs}
 use Rattle.marking.proofs.mark_preceding_siblings.Statement.{statement}
 use Rattle.marking.proofs.mark_preceding_siblings.Tie as tie
 
-is-attribute-requires : tie.Need-is-attribute-requires
-is-attribute-requires c κs = search needs
-
-or-requires : tie.Need-or-requires
-or-requires c κs = search needs
-
 returns : tie.Need-returns
 returns c =
     let at-shared-slice-known2 = c .before .before .before .before in
@@ -25,9 +19,6 @@ returns c =
     no-preceding-sibling (documentOf (a .d .now)) (a .ends .now) (g .prepared)
     (passes 8 (a .test) (a .name) (documentOf (a .d .now))) (a .x) (g .row)
     (sym (c .before .or .ensures ∙ rw (c .before .before .is-attribute .ensures)) ∙ c .if1 .taken)
-
-parent-at-requires : tie.Need-parent-at-requires
-parent-at-requires c κs = search needs
 
 add-mark-children : tie.Need-add-mark-children
 add-mark-children c =
@@ -60,9 +51,6 @@ mark-children-requires c κs =
       ),
     )
 
-same-length : tie.Need-same-length
-same-length c = search needs
-
 returns-2 : tie.Need-returns-2
 returns-2 c =
     let at-parent-at = c .before .before .before .before in
@@ -83,11 +71,11 @@ pub mark-preceding-siblings-spec : {M : Type 1} → statement M
 mark-preceding-siblings-spec =
     tie.close
     (tie.spec
-    is-attribute-requires
-    or-requires
+    (search needs)
+    (search needs)
     returns
-    parent-at-requires
+    (search needs)
     add-mark-children
     mark-children-requires
-    same-length
+    (search needs)
     returns-2)

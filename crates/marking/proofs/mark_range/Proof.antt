@@ -1,7 +1,6 @@
 -- `marking::mark_range` meets its contract. Assumes nothing.
-use Prim.Native.Nat.{_+_, _-_, _≤_, _<_}
-use mathlib.Core.Path.{_≡_, sym, _∙_}
-use mathlib.Core.Bool.{_&&_}
+use Prim.Native.Nat.{_+_, _-_, _≤_}
+use mathlib.Core.Path.{sym, _∙_}
 use mathlib.Core.Logic.{⊎-elim}
 use native.Mathlib.Omega.{arith}
 use borrow.Author.Needs.{needs}
@@ -26,15 +25,6 @@ loop-holds c = (omega arith, omega arith, up-start _ _)
 is-candidate-requires : tie.Need-is-candidate-requires Inv-loop μ-loop
 is-candidate-requires c κs = tt
 
-slice-write-out : tie.Need-slice-write-out Inv-loop μ-loop
-slice-write-out c = search needs
-
-add-y : tie.Need-add-y Inv-loop μ-loop
-add-y c = search needs
-
-loop-less : tie.Need-loop-less Inv-loop μ-loop
-loop-less c = search needs
-
 loop-again : tie.Need-loop-again Inv-loop μ-loop
 loop-again c =
     let at-slice-known = c .before .before .before .before in
@@ -53,9 +43,6 @@ loop-again c =
           (c .if1 .came),
     )
 
-same-length : tie.Need-same-length Inv-loop μ-loop
-same-length c = search needs
-
 returns : tie.Need-returns Inv-loop μ-loop
 returns c =
     let a = c .before .before .before .before .args in
@@ -71,9 +58,9 @@ mark-range-spec =
     μ-loop
     loop-holds
     is-candidate-requires
-    slice-write-out
-    add-y
-    loop-less
+    (search needs)
+    (search needs)
+    (λ c. search needs)
     loop-again
-    same-length
+    (search needs)
     returns)

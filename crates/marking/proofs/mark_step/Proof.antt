@@ -1,5 +1,5 @@
 -- `marking::mark_step` meets its contract, axis by axis. Assumes nothing.
-use mathlib.Core.Path.{_≡_, refl, _∙_}
+use mathlib.Core.Path.{refl}
 use native.Mathlib.Omega.{arith}
 use Rattle.common.proofs.Cases.{past-arms}
 use Rattle.xpath.specs.Document.{documentOf}
@@ -11,24 +11,6 @@ use Rattle.marking.proofs.Steps.{preceding-marked, attribute-marked, no
 use borrow.Author.Needs.{needs}
 use Rattle.marking.proofs.mark_step.Statement.{statement}
 use Rattle.marking.proofs.mark_step.Tie as tie
-
-mul-wide : tie.Need-mul-wide
-mul-wide c = search needs
-
-shared-slice-read-wide : tie.Need-shared-slice-read-wide
-shared-slice-read-wide c = search needs
-
-wide-requires : tie.Need-wide-requires
-wide-requires c κs = search needs
-
-node-count-requires : tie.Need-node-count-requires
-node-count-requires c κs = search needs
-
-mark-node-requires : tie.Need-mark-node-requires
-mark-node-requires c κs = search needs
-
-add-mark-children : tie.Need-add-mark-children
-add-mark-children c = search needs
 
 mark-children-requires : tie.Need-mark-children-requires
 mark-children-requires c κs =
@@ -46,12 +28,6 @@ mark-children-requires c κs =
       ),
     )
 
-mark-parent-requires : tie.Need-mark-parent-requires
-mark-parent-requires c κs = search needs
-
-add-mark-range : tie.Need-add-mark-range
-add-mark-range c = search needs
-
 mark-range-requires : tie.Need-mark-range-requires
 mark-range-requires c κs =
     let at-match = c .before in
@@ -64,15 +40,6 @@ mark-range-requires c κs =
       omega (arith, e .after, e .within, at-wide .wide .ensures),
       omega (arith, e .within, at-wide .wide .ensures, g .prepared .few, g .room),
     )
-
-mark-ancestors-requires : tie.Need-mark-ancestors-requires
-mark-ancestors-requires c κs = search needs
-
-mark-node-requires-2 : tie.Need-mark-node-requires-2
-mark-node-requires-2 c κs = search needs
-
-add-mark-range-2 : tie.Need-add-mark-range-2
-add-mark-range-2 c = search needs
 
 mark-range-requires-2 : tie.Need-mark-range-requires-2
 mark-range-requires-2 c κs =
@@ -89,18 +56,6 @@ mark-range-requires-2 c κs =
       omega (arith, e .within, at-wide .wide .ensures, g .prepared .few, g .room, size),
     )
 
-mark-node-requires-3 : tie.Need-mark-node-requires-3
-mark-node-requires-3 c κs = search needs
-
-mark-ancestors-requires-2 : tie.Need-mark-ancestors-requires-2
-mark-ancestors-requires-2 c κs = search needs
-
-mark-following-siblings-requires : tie.Need-mark-following-siblings-requires
-mark-following-siblings-requires c κs = search needs
-
-mark-preceding-siblings-requires : tie.Need-mark-preceding-siblings-requires
-mark-preceding-siblings-requires c κs = search needs
-
 mark-range-requires-3 : tie.Need-mark-range-requires-3
 mark-range-requires-3 c κs =
     let at-match = c .before in
@@ -114,12 +69,6 @@ mark-range-requires-3 c κs =
       omega (arith, e .after, e .within, at-wide .wide .ensures, n),
       omega (arith, e .within, at-wide .wide .ensures, g .prepared .few, g .room, n),
     )
-
-mark-preceding-requires : tie.Need-mark-preceding-requires
-mark-preceding-requires c κs = search needs
-
-add-mark-children-2 : tie.Need-add-mark-children-2
-add-mark-children-2 c = search needs
 
 mark-children-requires-2 : tie.Need-mark-children-requires-2
 mark-children-requires-2 c κs =
@@ -137,9 +86,6 @@ mark-children-requires-2 c κs =
       ),
     )
 
-same-length : tie.Need-same-length
-same-length c = search needs
-
 returns : tie.Need-returns
 returns c =
     let at-match = c .before .before .before .before in
@@ -151,9 +97,6 @@ returns c =
     rw (at-match .match .keys1) (self-marked (documentOf (a .d .now)) (a .ends .now) (g .prepared)
     (passes 0 (a .test) (a .name) (documentOf (a .d .now))) (a .x) (g .row)
     (c .before .before .mark-node .ensures))
-
-same-length-2 : tie.Need-same-length-2
-same-length-2 c = search needs
 
 returns-2 : tie.Need-returns-2
 returns-2 c =
@@ -167,16 +110,10 @@ returns-2 c =
     (passes 1 (a .test) (a .name) (documentOf (a .d .now))) (a .x) (g .row) _ refl
     (rw (at-wide .wide .ensures) at (c .before .before .mark-children .ensures)))
 
-same-length-3 : tie.Need-same-length-3
-same-length-3 c = search needs
-
 returns-3 : tie.Need-returns-3
 returns-3 c =
     let at-match = c .before .before .before .before in
     rw (at-match .match .keys3) (c .before .before .mark-parent .ensures)
-
-same-length-4 : tie.Need-same-length-4
-same-length-4 c = search needs
 
 returns-4 : tie.Need-returns-4
 returns-4 c =
@@ -190,9 +127,6 @@ returns-4 c =
     (passes 3 (a .test) (a .name) (documentOf (a .d .now))) (a .x) (g .row) _ refl
     (rw (at-wide .wide .ensures) at (c .before .before .mark-range .ensures)))
 
-same-length-5 : tie.Need-same-length-5
-same-length-5 c = search needs
-
 returns-5 : tie.Need-returns-5
 returns-5 c =
     let at-match = c .before .before .before .before in
@@ -204,9 +138,6 @@ returns-5 c =
     rw (at-match .match .keys5) (ancestor-marked (documentOf (a .d .now)) (a .ends .now) (g .prepared)
     (passes 4 (a .test) (a .name) (documentOf (a .d .now))) (a .x) (g .row)
     (c .before .before .mark-ancestors .ensures))
-
-same-length-6 : tie.Need-same-length-6
-same-length-6 c = search needs
 
 returns-6 : tie.Need-returns-6
 returns-6 c =
@@ -223,9 +154,6 @@ returns-6 c =
     (a .name) (a .x) (g .row) _ refl (marked-self .mark-node2 .ensures)
     (rw (at-wide .wide .ensures) at (walked .mark-range2 .ensures)))
 
-same-length-7 : tie.Need-same-length-7
-same-length-7 c = search needs
-
 returns-7 : tie.Need-returns-7
 returns-7 c =
     let walked = c .before .before in
@@ -239,24 +167,15 @@ returns-7 c =
     rw (at-match .match .keys7) (ancestor-or-self-passed (documentOf (a .d .now)) (a .ends .now) (g .prepared) (a .test)
     (a .name) (a .x) (g .row) (marked-self .mark-node3 .ensures) (walked .mark-ancestors2 .ensures))
 
-same-length-8 : tie.Need-same-length-8
-same-length-8 c = search needs
-
 returns-8 : tie.Need-returns-8
 returns-8 c =
     let at-match = c .before .before .before .before in
     rw (at-match .match .keys8) (c .before .before .mark-following-siblings .ensures)
 
-same-length-9 : tie.Need-same-length-9
-same-length-9 c = search needs
-
 returns-9 : tie.Need-returns-9
 returns-9 c =
     let at-match = c .before .before .before .before in
     rw (at-match .match .keys9) (c .before .before .mark-preceding-siblings .ensures)
-
-same-length-10 : tie.Need-same-length-10
-same-length-10 c = search needs
 
 returns-10 : tie.Need-returns-10
 returns-10 c =
@@ -270,9 +189,6 @@ returns-10 c =
     (passes 9 (a .test) (a .name) (documentOf (a .d .now))) (a .x) (g .row) _ (at-match .before .node-count .ensures)
     (rw (at-wide .wide .ensures) at (c .before .before .mark-range3 .ensures)))
 
-same-length-11 : tie.Need-same-length-11
-same-length-11 c = search needs
-
 returns-11 : tie.Need-returns-11
 returns-11 c =
     let at-match = c .before .before .before .before in
@@ -284,9 +200,6 @@ returns-11 c =
     rw (at-match .match .keys11) (preceding-marked (documentOf (a .d .now)) (a .ends .now) (g .prepared)
     (passes 10 (a .test) (a .name) (documentOf (a .d .now))) (a .x) (g .row)
     (c .before .before .mark-preceding .ensures))
-
-same-length-12 : tie.Need-same-length-12
-same-length-12 c = search needs
 
 returns-12 : tie.Need-returns-12
 returns-12 c =
@@ -315,50 +228,50 @@ pub mark-step-spec : {M : Type 1} → statement M
 mark-step-spec =
     tie.close
     (tie.spec
-    mul-wide
-    shared-slice-read-wide
-    wide-requires
-    node-count-requires
-    mark-node-requires
-    add-mark-children
+    (search needs)
+    (search needs)
+    (search needs)
+    (search needs)
+    (λ c κs. search needs)
+    (search needs)
     mark-children-requires
-    mark-parent-requires
-    add-mark-range
+    (λ c κs. search needs)
+    (search needs)
     mark-range-requires
-    mark-ancestors-requires
-    mark-node-requires-2
-    add-mark-range-2
+    (λ c κs. search needs)
+    (λ c κs. search needs)
+    (search needs)
     mark-range-requires-2
-    mark-node-requires-3
-    mark-ancestors-requires-2
-    mark-following-siblings-requires
-    mark-preceding-siblings-requires
+    (λ c κs. search needs)
+    (λ c κs. search needs)
+    (λ c κs. search needs)
+    (λ c κs. search needs)
     mark-range-requires-3
-    mark-preceding-requires
-    add-mark-children-2
+    (λ c κs. search needs)
+    (search needs)
     mark-children-requires-2
-    same-length
+    (search needs)
     returns
-    same-length-2
+    (search needs)
     returns-2
-    same-length-3
+    (search needs)
     returns-3
-    same-length-4
+    (search needs)
     returns-4
-    same-length-5
+    (search needs)
     returns-5
-    same-length-6
+    (search needs)
     returns-6
-    same-length-7
+    (search needs)
     returns-7
-    same-length-8
+    (search needs)
     returns-8
-    same-length-9
+    (search needs)
     returns-9
-    same-length-10
+    (search needs)
     returns-10
-    same-length-11
+    (search needs)
     returns-11
-    same-length-12
+    (search needs)
     returns-12
     returns-13)

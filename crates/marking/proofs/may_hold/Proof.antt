@@ -7,12 +7,6 @@ use borrow.Author.Needs.{needs}
 use Rattle.marking.proofs.may_hold.Statement.{statement}
 use Rattle.marking.proofs.may_hold.Tie as tie
 
-is-attribute-requires : tie.Need-is-attribute-requires
-is-attribute-requires c κs = search needs
-
-is-attribute-requires-2 : tie.Need-is-attribute-requires-2
-is-attribute-requires-2 c κs = search needs
-
 returns : tie.Need-returns
 unfolding mayHold
 returns c = rw (eq-eqb _ 11 (c .before .if1 .taken)) (c .is-attribute .ensures)
@@ -22,4 +16,4 @@ unfolding mayHold
 returns-2 c = rw (ne-eqb _ 11 (c .before .if1 .left)) (ap not (c .is-attribute2 .ensures))
 
 pub may-hold-spec : {M : Type 1} → statement M
-may-hold-spec = tie.close (tie.spec is-attribute-requires is-attribute-requires-2 returns returns-2)
+may-hold-spec = tie.close (tie.spec (search needs) (search needs) returns returns-2)

@@ -6,13 +6,10 @@ use Rattle.matching.proofs.Decoded.{premises-known}
 use Rattle.matching.proofs.premise_count.Statement.{statement}
 use Rattle.matching.proofs.premise_count.Tie as tie
 
-rule-at-requires : tie.Need-rule-at-requires
-rule-at-requires c κs = search needs
-
 returns : tie.Need-returns
 returns c =
     let n = c .before .before .args .rule in
     λ e. ap (λ (w : Entry). w .third) (c .rule-at .ensures) ∙ ap (λ t. ruleAt t n .third) e ∙ premises-known n
 
 pub premise-count-spec : {M : Type 1} → statement M
-premise-count-spec = tie.close (tie.spec rule-at-requires returns)
+premise-count-spec = tie.close (tie.spec (search needs) returns)

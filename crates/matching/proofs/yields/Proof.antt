@@ -1,7 +1,5 @@
 -- The way back, or the forms from the rule's first one on, which are the rule's. Assumes nothing.
-use mathlib.Core.Path.{_≡_, sym, _∙_, ap, ap₂}
-use mathlib.Core.Bool.{Bool}
-use mathlib.Core.List.{List, [], _∷_}
+use mathlib.Core.List.{[], _∷_}
 use borrow.Author.Needs.{needs}
 use Rattle.terms.specs.Row.{tableOf}
 use Rattle.matching.specs.code.RowYields.{sides}
@@ -10,17 +8,8 @@ use Rattle.matching.proofs.FormSearch.{rule-way, way-back-way, other-ru
 use Rattle.matching.proofs.yields.Statement.{statement}
 use Rattle.matching.proofs.yields.Tie as tie
 
-rule-at-requires : tie.Need-rule-at-requires
-rule-at-requires c κs = search needs
-
-some-form-yields-requires : tie.Need-some-form-yields-requires
-some-form-yields-requires c κs = search needs
-
 is-with-back-requires : tie.Need-is-with-back-requires
 is-with-back-requires c κs = let at-entry = c .before .before .before .before in at-entry .before .pre
-
-same-length : tie.Need-same-length
-same-length c = search needs
 
 returns : tie.Need-returns
 returns c =
@@ -49,4 +38,4 @@ returns-2 c =
 pub yields-spec : {M : Type 1} → statement M
 yields-spec =
     tie.close
-    (tie.spec is-with-back-requires same-length returns rule-at-requires some-form-yields-requires returns-2)
+    (tie.spec is-with-back-requires (search needs) returns (search needs) (search needs) returns-2)

@@ -19,9 +19,6 @@ abbrev μ-loop : tie.MeasureT-loop
 loop-holds : tie.Need-loop-holds Inv-loop μ-loop
 loop-holds c = (omega arith, record { rest = refl; inside = omega arith })
 
-next-line-requires : tie.Need-next-line-requires Inv-loop μ-loop
-next-line-requires c κs = search needs
-
 add-i : tie.Need-add-i Inv-loop μ-loop
 add-i c = omega arith
 
@@ -51,7 +48,7 @@ line-start-spec =
     Inv-loop
     μ-loop
     loop-holds
-    next-line-requires
+    (search needs)
     add-i
     loop-less
     loop-again

@@ -4,14 +4,8 @@ use Rattle.names.proofs.Walk.{name-met}
 use Rattle.names.proofs.name_at.Statement.{statement}
 use Rattle.names.proofs.name_at.Tie as tie
 
-line-start-requires : tie.Need-line-start-requires
-line-start-requires c κs = search needs
-
-line-end-requires : tie.Need-line-end-requires
-line-end-requires c κs = search needs
-
 returns : tie.Need-returns
 returns c = name-met _ _ _ (c .line-end .ensures) _ (c .before .line-start .ensures)
 
 pub name-at-spec : {M : Type 1} → statement M
-name-at-spec = tie.close (tie.spec line-start-requires line-end-requires returns)
+name-at-spec = tie.close (tie.spec (search needs) (λ c κs. search needs) returns)

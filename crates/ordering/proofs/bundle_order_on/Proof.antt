@@ -26,9 +26,6 @@ Inv-loop left left-steps right right-steps noted₀ n m both k₀ noted k =
 abbrev μ-loop : tie.MeasureT-loop
 μ-loop left left-steps right right-steps noted₀ n m both k₀ noted k = both - k
 
-clamp-requires : tie.Need-clamp-requires Inv-loop μ-loop
-clamp-requires c κs = search needs
-
 loop-holds : tie.Need-loop-holds Inv-loop μ-loop
 loop-holds c =
     let c₄ = c .before .before .before .before in
@@ -38,15 +35,6 @@ loop-holds c =
     let ps = stepsOf (a .left-steps .now) in
     let qs = stepsOf (a .right-steps .now) in
     (omega arith, none-noted rs ss 1024, refl, length-replicate {A = ℕ} 1024 0)
-
-step-at-requires : tie.Need-step-at-requires Inv-loop μ-loop
-step-at-requires c κs = search needs
-
-step-at-requires-2 : tie.Need-step-at-requires-2 Inv-loop μ-loop
-step-at-requires-2 c κs = search needs
-
-slice-aggregate-order-steps : tie.Need-slice-aggregate-order-steps Inv-loop μ-loop
-slice-aggregate-order-steps c = search needs
 
 order-steps-requires : tie.Need-order-steps-requires Inv-loop μ-loop
 order-steps-requires c κs =
@@ -106,9 +94,6 @@ loop-again c =
       search needs,
     )
 
-order-numbers-requires : tie.Need-order-numbers-requires Inv-loop μ-loop
-order-numbers-requires c κs = search needs
-
 returns-2 : tie.Need-returns-2 Inv-loop μ-loop
 unfolding bundleOrderAnswer bundleOrder termSteps
 returns-2 c =
@@ -135,15 +120,15 @@ bundle-order-on-spec =
     (tie.spec
     Inv-loop
     μ-loop
-    clamp-requires
+    (search needs)
     loop-holds
-    step-at-requires
-    step-at-requires-2
-    slice-aggregate-order-steps
+    (search needs)
+    (search needs)
+    (λ c. search needs)
     order-steps-requires
     returns
     add-k
     loop-less
     loop-again
-    order-numbers-requires
+    (search needs)
     returns-2)

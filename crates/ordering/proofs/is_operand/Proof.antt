@@ -10,33 +10,6 @@ use borrow.Author.Needs.{needs}
 use Rattle.ordering.proofs.is_operand.Statement.{statement}
 use Rattle.ordering.proofs.is_operand.Tie as tie
 
-wide-requires : tie.Need-wide-requires
-wide-requires c κs = search needs
-
-row-at-requires : tie.Need-row-at-requires
-row-at-requires c κs = search needs
-
-and-requires : tie.Need-and-requires
-and-requires c κs = search needs
-
-enum-told : tie.Need-enum-told
-enum-told c = search needs
-
-enum-told-2 : tie.Need-enum-told-2
-enum-told-2 c = search needs
-
-enum-told-3 : tie.Need-enum-told-3
-enum-told-3 c = search needs
-
-and-requires-2 : tie.Need-and-requires-2
-and-requires-2 c κs = search needs
-
-enum-told-4 : tie.Need-enum-told-4
-enum-told-4 c = search needs
-
-and-requires-3 : tie.Need-and-requires-3
-and-requires-3 c κs = search needs
-
 returns : tie.Need-returns
 unfolding isOperand
 returns c = rw (c .enum-told .given .1)
@@ -68,15 +41,15 @@ pub is-operand-spec : {M : Type 1} → statement M
 is-operand-spec =
     tie.close
     (tie.spec
-    wide-requires
-    row-at-requires
-    and-requires
-    enum-told
-    enum-told-2
-    enum-told-3
-    and-requires-2
-    enum-told-4
-    and-requires-3
+    (search needs)
+    (search needs)
+    (search needs)
+    (search needs)
+    (search needs)
+    (search needs)
+    (search needs)
+    (search needs)
+    (search needs)
     returns
     returns-2
     returns-3

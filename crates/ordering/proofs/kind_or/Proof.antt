@@ -6,15 +6,6 @@ use borrow.Author.Needs.{needs}
 use Rattle.ordering.proofs.kind_or.Statement.{statement}
 use Rattle.ordering.proofs.kind_or.Tie as tie
 
-is-operand-requires : tie.Need-is-operand-requires
-is-operand-requires c κs = search needs
-
-wide-requires : tie.Need-wide-requires
-wide-requires c κs = search needs
-
-row-at-requires : tie.Need-row-at-requires
-row-at-requires c κs = search needs
-
 returns : tie.Need-returns
 returns c =
     let a = c .before .before .before .before .before .args in
@@ -26,4 +17,4 @@ returns-2 c = rw (sym (c .before .is-operand .ensures) ∙ c .if1 .left)
 
 pub kind-or-spec : {M : Type 1} → statement M
 kind-or-spec =
-    tie.close (tie.spec is-operand-requires wide-requires row-at-requires returns returns-2)
+    tie.close (tie.spec (search needs) (search needs) (search needs) returns returns-2)

@@ -4,24 +4,6 @@ use borrow.Author.Needs.{needs}
 use Rattle.ordering.proofs.number_of.Statement.{statement}
 use Rattle.ordering.proofs.number_of.Tie as tie
 
-enum-told : tie.Need-enum-told
-enum-told c = search needs
-
-enum-told-2 : tie.Need-enum-told-2
-enum-told-2 c = search needs
-
-enum-told-3 : tie.Need-enum-told-3
-enum-told-3 c = search needs
-
-kind-or-requires : tie.Need-kind-or-requires
-kind-or-requires c κs = search needs
-
-enum-told-4 : tie.Need-enum-told-4
-enum-told-4 c = search needs
-
-kind-or-requires-2 : tie.Need-kind-or-requires-2
-kind-or-requires-2 c κs = search needs
-
 returns : tie.Need-returns
 unfolding numberAs
 returns c = rw (c .enum-told .given .1)
@@ -46,12 +28,12 @@ pub number-of-spec : {M : Type 1} → statement M
 number-of-spec =
     tie.close
     (tie.spec
-    enum-told
-    enum-told-2
-    enum-told-3
-    kind-or-requires
-    enum-told-4
-    kind-or-requires-2
+    (search needs)
+    (search needs)
+    (search needs)
+    (search needs)
+    (search needs)
+    (search needs)
     returns
     returns-2
     returns-3

@@ -12,12 +12,6 @@ use Rattle.ordering.proofs.Compared.{none-noted}
 use Rattle.ordering.proofs.order_on.Statement.{statement}
 use Rattle.ordering.proofs.order_on.Tie as tie
 
-row-count-requires : tie.Need-row-count-requires
-row-count-requires c κs = search needs
-
-wide-requires : tie.Need-wide-requires
-wide-requires c κs = search needs
-
 returns : tie.Need-returns
 unfolding orderAnswer
 returns c =
@@ -27,12 +21,6 @@ returns c =
     let f = c .before .wide .ensures in
     let l = c .if1 .taken in
     rw (le-leb (length (tableOf (a .left .now))) (a .i) (omega arith))
-
-row-count-requires-2 : tie.Need-row-count-requires-2
-row-count-requires-2 c κs = search needs
-
-wide-requires-2 : tie.Need-wide-requires-2
-wide-requires-2 c κs = search needs
 
 returns-2 : tie.Need-returns-2
 unfolding orderAnswer
@@ -50,9 +38,6 @@ returns-2 c =
       lt-leb (length (tableOf (a .left .now))) (a .i) (omega arith),
       le-leb (length (tableOf (a .right .now))) (a .j) (omega arith),
     )
-
-slice-aggregate-order-rows : tie.Need-slice-aggregate-order-rows
-slice-aggregate-order-rows c = search needs
 
 order-rows-requires : tie.Need-order-rows-requires
 order-rows-requires c κs = none-noted _ _ 1024
@@ -79,12 +64,12 @@ pub order-on-spec : {M : Type 1} → statement M
 order-on-spec =
     tie.close
     (tie.spec
-    row-count-requires
-    wide-requires
+    (search needs)
+    (search needs)
     returns
-    row-count-requires-2
-    wide-requires-2
+    (search needs)
+    (search needs)
     returns-2
-    slice-aggregate-order-rows
+    (search needs)
     order-rows-requires
     returns-3)

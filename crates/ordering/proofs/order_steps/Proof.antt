@@ -9,15 +9,6 @@ use Rattle.ordering.proofs.Steps as ways
 use Rattle.ordering.proofs.order_steps.Statement.{statement}
 use Rattle.ordering.proofs.order_steps.Tie as tie
 
-wide-requires : tie.Need-wide-requires
-wide-requires c κs = search needs
-
-wide-requires-2 : tie.Need-wide-requires-2
-wide-requires-2 c κs = search needs
-
-order-numbers-requires : tie.Need-order-numbers-requires
-order-numbers-requires c κs = search needs
-
 returns : tie.Need-returns
 returns c =
     let c₄ = c .before .before .before .before in
@@ -39,9 +30,6 @@ order-rows-requires c κs =
     let c₄ = c .before .before .before .before in
     let c₈ = c₄ .before .before .before .before in
     c₈ .pre
-
-same-length : tie.Need-same-length
-same-length c = search needs
 
 returns-2 : tie.Need-returns-2
 returns-2 c =
@@ -65,9 +53,6 @@ order-rows-requires-2 : tie.Need-order-rows-requires-2
 order-rows-requires-2 c κs =
     let c₄ = c .before .before .before .before in
     c₄ .order-rows .ensures .noted
-
-same-length-2 : tie.Need-same-length-2
-same-length-2 c = search needs
 
 returns-3 : tie.Need-returns-3
 returns-3 c =
@@ -93,13 +78,13 @@ pub order-steps-spec : {M : Type 1} → statement M
 order-steps-spec =
     tie.close
     (tie.spec
-    wide-requires
-    wide-requires-2
-    order-numbers-requires
+    (search needs)
+    (search needs)
+    (search needs)
     returns
     order-rows-requires
-    same-length
+    (search needs)
     returns-2
     order-rows-requires-2
-    same-length-2
+    (search needs)
     returns-3)

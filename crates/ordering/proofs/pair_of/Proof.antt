@@ -9,36 +9,6 @@ use borrow.Author.Needs.{needs}
 use Rattle.ordering.proofs.pair_of.Statement.{statement}
 use Rattle.ordering.proofs.pair_of.Tie as tie
 
-wide-requires : tie.Need-wide-requires
-wide-requires c κs = search needs
-
-row-at-requires : tie.Need-row-at-requires
-row-at-requires c κs = search needs
-
-wide-requires-2 : tie.Need-wide-requires-2
-wide-requires-2 c κs = search needs
-
-row-at-requires-2 : tie.Need-row-at-requires-2
-row-at-requires-2 c κs = search needs
-
-term-kind-requires : tie.Need-term-kind-requires
-term-kind-requires c κs = search needs
-
-term-kind-requires-2 : tie.Need-term-kind-requires-2
-term-kind-requires-2 c κs = search needs
-
-wide-requires-3 : tie.Need-wide-requires-3
-wide-requires-3 c κs = search needs
-
-wide-requires-4 : tie.Need-wide-requires-4
-wide-requires-4 c κs = search needs
-
-order-numbers-requires : tie.Need-order-numbers-requires
-order-numbers-requires c κs = search needs
-
-sorts-of-requires : tie.Need-sorts-of-requires
-sorts-of-requires c κs = search needs
-
 returns : tie.Need-returns
 returns c =
     let at-kinds = c .before .before .before .before in
@@ -59,14 +29,14 @@ pub pair-of-spec : {M : Type 1} → statement M
 pair-of-spec =
     tie.close
     (tie.spec
-    wide-requires
-    row-at-requires
-    wide-requires-2
-    row-at-requires-2
-    term-kind-requires
-    term-kind-requires-2
-    wide-requires-3
-    wide-requires-4
-    order-numbers-requires
-    sorts-of-requires
+    (search needs)
+    (search needs)
+    (search needs)
+    (search needs)
+    (search needs)
+    (search needs)
+    (search needs)
+    (search needs)
+    (search needs)
+    (search needs)
     returns)

@@ -1,9 +1,6 @@
-use mathlib.Core.Path.{_≡_, refl, sym, ap, _∙_}
-use mathlib.Core.Bool.{true, false}
+use mathlib.Core.Path.{refl, sym, _∙_}
 use native.Mathlib.Omega.{arith}
-use Prim.Native.Nat.{_+_, _-_, _<_, _≤_}
-use lib.ListN.{length, drop}
-use borrow.Author.Tests.{not-true, not-false}
+use Prim.Native.Nat.{_+_, _-_}
 use Rattle.readings.proofs.Worded.{begin-bare, begin-root, begin-any}
 use Rattle.heads.proofs.Headed.{byte-there}
 use borrow.Author.Needs.{needs}
@@ -18,18 +15,6 @@ use Rattle.readings.proofs.put_leaf.Reads as put-leaf-reads
 use Rattle.words.proofs.bytes.byte_at.Reads as byte-at-reads
 use Rattle.words.proofs.bytes.skip.Reads as skip-reads
 
--- src/build.rt:357:9
-skip-requires : tie.Need-skip-requires
-skip-requires c κs = search needs
-
--- src/build.rt:358:8
-byte-at-requires : tie.Need-byte-at-requires
-byte-at-requires c κs = search needs
-
--- src/build.rt:360:19
-moved-requires : tie.Need-moved-requires
-moved-requires c κs = search needs
-
 -- src/build.rt:359:9
 returns : tie.Need-returns
 returns c =
@@ -38,10 +23,6 @@ returns c =
     rw (c .moved .ensures)
     (begin-bare (start .args .s .now) _ (start .args .from) _ (c .before .before .before .skip .ensures)
     (λ e. c .before .if1 .taken (c .before .before .byte-at .ensures ∙ e)))
-
--- src/build.rt:365:31
-moved-requires-2 : tie.Need-moved-requires-2
-moved-requires-2 c κs = search needs
 
 -- src/build.rt:365:9
 put-leaf-requires : tie.Need-put-leaf-requires
@@ -64,10 +45,6 @@ add-next c =
           (sym (at-byte-at .byte-at .ensures) ∙ at-if1 .if1 .left),
     )
 
--- src/build.rt:367:8
-byte-at-requires-2 : tie.Need-byte-at-requires-2
-byte-at-requires-2 c κs = search needs
-
 -- src/build.rt:368:42
 skip-requires-2 : tie.Need-skip-requires-2
 skip-requires-2 c κs =
@@ -81,18 +58,6 @@ skip-requires-2 c κs =
       byte-there (start .args .s .now) (at-skip .skip .result) 47 refl
           (sym (at-byte-at .byte-at .ensures) ∙ at-if1 .if1 .left),
     )
-
--- src/build.rt:368:30
-moved-requires-3 : tie.Need-moved-requires-3
-moved-requires-3 c κs = search needs
-
--- src/build.rt:368:9
-begin-root-requires : tie.Need-begin-root-requires
-begin-root-requires c κs = search needs
-
--- src/build.rt:368:9
-same-length : tie.Need-same-length
-same-length c = search needs
 
 -- src/build.rt:368:9
 returns-2 : tie.Need-returns-2
@@ -139,18 +104,6 @@ skip-requires-3 c κs =
           (sym (c .before .byte-at2 .ensures) ∙ c .if2 .left),
     )
 
--- src/build.rt:371:9
-every-below-requires : tie.Need-every-below-requires
-every-below-requires c κs = search needs
-
--- src/build.rt:373:15
-moved-requires-4 : tie.Need-moved-requires-4
-moved-requires-4 c κs = search needs
-
--- src/build.rt:352:1
-same-length-2 : tie.Need-same-length-2
-same-length-2 c = search needs
-
 -- src/build.rt:352:1
 returns-3 : tie.Need-returns-3
 returns-3 c =
@@ -176,22 +129,22 @@ pub begin-path-spec : {M : Type 1} → statement M
 begin-path-spec =
     tie.close
     (tie.spec
-    skip-requires
-    byte-at-requires
-    moved-requires
+    (λ c κs. search needs)
+    (search needs)
+    (search needs)
     returns
-    moved-requires-2
+    (search needs)
     put-leaf-requires
     add-next
-    byte-at-requires-2
+    (search needs)
     skip-requires-2
-    moved-requires-3
-    begin-root-requires
-    same-length
+    (search needs)
+    (search needs)
+    (search needs)
     returns-2
     add-skip
     skip-requires-3
-    every-below-requires
-    moved-requires-4
-    same-length-2
+    (λ c κs. search needs)
+    (search needs)
+    (search needs)
     returns-3)

@@ -1,9 +1,5 @@
-use mathlib.Core.Path.{_≡_, refl, sym, ap, _∙_}
-use mathlib.Core.Bool.{true, false}
-use native.Mathlib.Omega.{arith}
-use Prim.Native.Nat.{_+_, _-_, _<_, _≤_}
-use lib.ListN.{length, drop}
-use borrow.Author.Tests.{not-true, not-false}
+use mathlib.Core.Path.{sym, _∙_}
+use Prim.Native.Nat.{_-_}
 use Rattle.readings.proofs.Worded.{root-step, root-slash, root-alone}
 use borrow.Author.Needs.{needs}
 use Rattle.readings.proofs.begin_root.Statement.{statement}
@@ -14,23 +10,11 @@ use Rattle.readings.proofs.fail.Reads as fail-reads
 use Rattle.words.proofs.bytes.byte_at.Reads as byte-at-reads
 use Rattle.heads.proofs.begins_step.Reads as begins-step-reads
 
--- src/build.rt:329:9
-byte-at-requires : tie.Need-byte-at-requires
-byte-at-requires c κs = search needs
-
--- src/build.rt:330:8
-begins-step-requires : tie.Need-begins-step-requires
-begins-step-requires c κs = search needs
-
 -- src/build.rt:331:9
 returns : tie.Need-returns
 returns c = root-step (c .before .before .before .before .args .s .now)
     (c .before .before .before .before .args .root)
     (rw (c .before .before .byte-at .ensures) at (sym (c .before .begins-step .ensures) ∙ c .if1 .taken))
-
--- src/build.rt:339:19
-fail-requires : tie.Need-fail-requires
-fail-requires c κs = search needs
 
 -- src/build.rt:338:9
 returns-2 : tie.Need-returns-2
@@ -56,4 +40,4 @@ returns-3 c =
 pub begin-root-spec : {M : Type 1} → statement M
 begin-root-spec =
     tie.close
-    (tie.spec byte-at-requires begins-step-requires returns fail-requires returns-2 returns-3)
+    (tie.spec (search needs) (search needs) returns (search needs) returns-2 returns-3)

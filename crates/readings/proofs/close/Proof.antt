@@ -1,8 +1,7 @@
-use mathlib.Core.Path.{_≡_, refl, sym, ap, _∙_}
+use mathlib.Core.Path.{sym, _∙_}
 use mathlib.Core.Bool.{true, false}
 use native.Mathlib.Omega.{arith}
-use Prim.Native.Nat.{_+_, _-_, _<_, _≤_}
-use lib.ListN.{length, drop}
+use Prim.Native.Nat.{_-_}
 use borrow.Author.Tests.{not-true, not-false}
 use Rattle.readings.proofs.Worded.{close-kept, close-wrong, close-right}
 use Rattle.heads.proofs.Headed.{byte-there}
@@ -20,14 +19,6 @@ use Rattle.words.proofs.bytes.skip.Reads as skip-reads
 returns : tie.Need-returns
 returns c = close-kept (c .before .before .before .args .s .now) (c .before .before .before .args .r)
     (c .before .before .before .args .b) (not-true _ (c .if1 .taken))
-
--- src/build.rt:283:8
-byte-at-requires : tie.Need-byte-at-requires
-byte-at-requires c κs = search needs
-
--- src/build.rt:284:9
-fail-requires : tie.Need-fail-requires
-fail-requires c κs = search needs
 
 -- src/build.rt:284:9
 returns-2 : tie.Need-returns-2
@@ -61,10 +52,6 @@ skip-requires c κs =
           (sym (c .before .byte-at .ensures) ∙ c .if2 .left),
     )
 
--- src/build.rt:286:5
-moved-requires : tie.Need-moved-requires
-moved-requires c κs = search needs
-
 -- src/build.rt:275:1
 returns-3 : tie.Need-returns-3
 returns-3 c =
@@ -81,10 +68,10 @@ close-spec =
     tie.close
     (tie.spec
     returns
-    byte-at-requires
-    fail-requires
+    (search needs)
+    (search needs)
     returns-2
     add-skip
     skip-requires
-    moved-requires
+    (search needs)
     returns-3)

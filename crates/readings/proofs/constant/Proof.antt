@@ -1,10 +1,5 @@
-use mathlib.Core.Path.{_≡_, refl, sym, ap, _∙_}
-use mathlib.Core.Bool.{true, false}
 use native.Mathlib.Omega.{arith}
-use Prim.Native.Nat.{_+_, _-_, _<_, _≤_}
-use lib.ListN.{length, drop}
-use borrow.Author.Tests.{not-true, not-false}
-use Rattle.readings.specs.code.Build.{movedTo}
+use Prim.Native.Nat.{_-_}
 use borrow.Author.Needs.{needs}
 use Rattle.readings.proofs.constant.Statement.{statement}
 use Rattle.readings.proofs.constant.Tie as tie
@@ -14,18 +9,6 @@ use Rattle.readings.proofs.close.Reads as close-reads
 use Rattle.readings.proofs.moved.Reads as moved-reads
 use Rattle.readings.proofs.put_leaf.Reads as put-leaf-reads
 use Rattle.words.proofs.bytes.skip.Reads as skip-reads
-
--- src/build.rt:409:30
-skip-requires : tie.Need-skip-requires
-skip-requires c κs = search needs
-
--- src/build.rt:409:9
-moved-requires : tie.Need-moved-requires
-moved-requires c κs = search needs
-
--- src/build.rt:410:9
-close-requires : tie.Need-close-requires
-close-requires c κs = search needs
 
 -- src/build.rt:411:5
 put-leaf-requires : tie.Need-put-leaf-requires
@@ -40,10 +23,6 @@ put-leaf-requires c κs =
         rw (c .before .before .moved .ensures) at (c .before .close .ensures .count),
       );
     }
-
--- src/build.rt:404:1
-same-length : tie.Need-same-length
-same-length c = search needs
 
 -- src/build.rt:404:1
 returns : tie.Need-returns
@@ -64,4 +43,4 @@ returns c =
 pub constant-spec : {M : Type 1} → statement M
 constant-spec =
     tie.close
-    (tie.spec skip-requires moved-requires close-requires put-leaf-requires same-length returns)
+    (tie.spec (λ c κs. search needs) (search needs) (λ c κs. search needs) put-leaf-requires (search needs) returns)

@@ -1,9 +1,4 @@
-use mathlib.Core.Path.{_≡_, refl, sym, ap, _∙_}
-use mathlib.Core.Bool.{true, false}
-use native.Mathlib.Omega.{arith}
-use Prim.Native.Nat.{_+_, _-_, _<_, _≤_}
-use lib.ListN.{length, drop}
-use borrow.Author.Tests.{not-true, not-false}
+use Prim.Native.Nat.{_-_}
 use Rattle.readings.proofs.Worded.{first-joins, first-stays}
 use borrow.Author.Needs.{needs}
 use Rattle.readings.proofs.first_step.Statement.{statement}
@@ -11,14 +6,6 @@ use Rattle.readings.proofs.first_step.Tie as tie
 use Rattle.readings.proofs.first_step.Reads as reads
 use Rattle.readings.proofs.first_step.Lts as lts
 use Rattle.readings.proofs.join.Reads as join-reads
-
--- src/build.rt:378:9
-join-requires : tie.Need-join-requires
-join-requires c κs = search needs
-
--- src/build.rt:378:9
-same-length : tie.Need-same-length
-same-length c = search needs
 
 -- src/build.rt:378:9
 returns : tie.Need-returns
@@ -34,4 +21,4 @@ returns-2 c = first-stays (c .before .before .args .lead) (c .before .before .ar
     (c .before .before .args .rooted) (c .if1 .left) (c .before .before .pre)
 
 pub first-step-spec : {M : Type 1} → statement M
-first-step-spec = tie.close (tie.spec join-requires same-length returns returns-2)
+first-step-spec = tie.close (tie.spec (λ c κs. search needs) (search needs) returns returns-2)

@@ -1,43 +1,11 @@
-use mathlib.Core.Path.{_≡_, refl, sym, ap, _∙_}
-use mathlib.Core.Bool.{true, false}
-use native.Mathlib.Omega.{arith}
-use Prim.Native.Nat.{_+_, _-_, _<_, _≤_}
-use lib.ListN.{length, drop}
-use borrow.Author.Tests.{not-true, not-false}
+use mathlib.Core.Path.{refl}
+use Prim.Native.Nat.{_-_}
 use borrow.Author.Needs.{needs}
 use Rattle.readings.proofs.negate_if.Statement.{statement}
 use Rattle.readings.proofs.negate_if.Tie as tie
 use Rattle.readings.proofs.negate_if.Reads as reads
 use Rattle.readings.proofs.negate_if.Lts as lts
 use Rattle.readings.proofs.put_over.Reads as put-over-reads
-
--- src/build.rt:398:32
-enum-told : tie.Need-enum-told
-enum-told c = search needs
-
--- src/build.rt:398:23
-put-over-requires : tie.Need-put-over-requires
-put-over-requires c κs = search needs
-
--- src/build.rt:399:25
-enum-told-2 : tie.Need-enum-told-2
-enum-told-2 c = search needs
-
--- src/build.rt:400:25
-enum-told-3 : tie.Need-enum-told-3
-enum-told-3 c = search needs
-
--- src/build.rt:401:24
-enum-told-4 : tie.Need-enum-told-4
-enum-told-4 c = search needs
-
--- src/build.rt:402:25
-enum-told-5 : tie.Need-enum-told-5
-enum-told-5 c = search needs
-
--- src/build.rt:393:1
-same-length : tie.Need-same-length
-same-length c = search needs
 
 -- src/build.rt:393:1
 returns : tie.Need-returns
@@ -63,13 +31,13 @@ pub negate-if-spec : {M : Type 1} → statement M
 negate-if-spec =
     tie.close
     (tie.spec
-    enum-told
-    put-over-requires
-    enum-told-2
-    enum-told-3
-    enum-told-4
-    enum-told-5
-    same-length
+    (search needs)
+    (λ c κs. search needs)
+    (search needs)
+    (search needs)
+    (search needs)
+    (search needs)
+    (search needs)
     returns
     returns-2
     returns-3

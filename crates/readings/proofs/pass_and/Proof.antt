@@ -1,9 +1,6 @@
-use mathlib.Core.Path.{_≡_, refl, sym, ap, _∙_}
-use mathlib.Core.Bool.{true, false}
+use mathlib.Core.Path.{refl, sym, _∙_}
 use native.Mathlib.Omega.{arith}
-use Prim.Native.Nat.{_+_, _-_, _<_, _≤_}
-use lib.ListN.{length, drop}
-use borrow.Author.Tests.{not-true, not-false}
+use Prim.Native.Nat.{_+_, _-_}
 use Rattle.readings.proofs.Worded.{and-second, and-third, and-touch, and-read}
 use Rattle.heads.proofs.Headed.{byte-there}
 use borrow.Author.Needs.{needs}
@@ -23,14 +20,6 @@ add-second c = omega (
   byte-there (c .before .before .args .s .now) (c .before .before .args .r .at) 97 refl (c .before .before .pre .1),
 )
 
--- src/build.rt:400:8
-byte-at-requires : tie.Need-byte-at-requires
-byte-at-requires c κs = search needs
-
--- src/build.rt:401:9
-fail-requires : tie.Need-fail-requires
-fail-requires c κs = search needs
-
 -- src/build.rt:401:9
 returns : tie.Need-returns
 returns c =
@@ -48,14 +37,6 @@ add-third c = omega (
       (c .before .before .before .before .args .r .at + 1) 110 refl
       (sym (c .before .byte-at .ensures) ∙ c .if1 .left),
 )
-
--- src/build.rt:404:8
-byte-at-requires-2 : tie.Need-byte-at-requires-2
-byte-at-requires-2 c κs = search needs
-
--- src/build.rt:405:9
-fail-requires-2 : tie.Need-fail-requires-2
-fail-requires-2 c κs = search needs
 
 -- src/build.rt:405:9
 returns-2 : tie.Need-returns-2
@@ -78,18 +59,6 @@ add-next c =
           (sym (c .before .byte-at2 .ensures) ∙ c .if2 .left),
     )
 
--- src/build.rt:408:16
-byte-at-requires-3 : tie.Need-byte-at-requires-3
-byte-at-requires-3 c κs = search needs
-
--- src/build.rt:408:8
-is-name-requires : tie.Need-is-name-requires
-is-name-requires c κs = search needs
-
--- src/build.rt:409:9
-fail-requires-3 : tie.Need-fail-requires-3
-fail-requires-3 c κs = search needs
-
 -- src/build.rt:409:9
 returns-3 : tie.Need-returns-3
 returns-3 c =
@@ -104,10 +73,6 @@ returns-3 c =
     (sym (at-byte-at2 .byte-at2 .ensures) ∙ c .before .before .before .before .if2 .left)
     (rw (c .before .before .before .byte-at3 .ensures) at
     (sym (c .before .before .is-name .ensures) ∙ c .before .if3 .taken)))
-
--- src/build.rt:411:5
-moved-requires : tie.Need-moved-requires
-moved-requires c κs = search needs
 
 -- src/build.rt:395:1
 returns-4 : tie.Need-returns-4
@@ -129,17 +94,17 @@ pass-and-spec =
     tie.close
     (tie.spec
     add-second
-    byte-at-requires
-    fail-requires
+    (search needs)
+    (search needs)
     returns
     add-third
-    byte-at-requires-2
-    fail-requires-2
+    (search needs)
+    (search needs)
     returns-2
     add-next
-    byte-at-requires-3
-    is-name-requires
-    fail-requires-3
+    (search needs)
+    (search needs)
+    (search needs)
     returns-3
-    moved-requires
+    (search needs)
     returns-4)

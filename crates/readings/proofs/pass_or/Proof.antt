@@ -1,9 +1,6 @@
-use mathlib.Core.Path.{_≡_, refl, sym, ap, _∙_}
-use mathlib.Core.Bool.{true, false}
+use mathlib.Core.Path.{refl, sym, _∙_}
 use native.Mathlib.Omega.{arith}
-use Prim.Native.Nat.{_+_, _-_, _<_, _≤_}
-use lib.ListN.{length, drop}
-use borrow.Author.Tests.{not-true, not-false}
+use Prim.Native.Nat.{_+_, _-_}
 use Rattle.readings.proofs.Worded.{or-second, or-touch, or-read}
 use Rattle.heads.proofs.Headed.{byte-there}
 use borrow.Author.Needs.{needs}
@@ -24,14 +21,6 @@ add-second c = omega (
       (c .before .before .pre .1),
 )
 
--- src/build.rt:420:8
-byte-at-requires : tie.Need-byte-at-requires
-byte-at-requires c κs = search needs
-
--- src/build.rt:421:9
-fail-requires : tie.Need-fail-requires
-fail-requires c κs = search needs
-
 -- src/build.rt:421:9
 returns : tie.Need-returns
 returns c =
@@ -50,18 +39,6 @@ add-next c = omega (
       (sym (c .before .byte-at .ensures) ∙ c .if1 .left),
 )
 
--- src/build.rt:424:16
-byte-at-requires-2 : tie.Need-byte-at-requires-2
-byte-at-requires-2 c κs = search needs
-
--- src/build.rt:424:8
-is-name-requires : tie.Need-is-name-requires
-is-name-requires c κs = search needs
-
--- src/build.rt:425:9
-fail-requires-2 : tie.Need-fail-requires-2
-fail-requires-2 c κs = search needs
-
 -- src/build.rt:425:9
 returns-2 : tie.Need-returns-2
 returns-2 c =
@@ -73,10 +50,6 @@ returns-2 c =
     (sym (at-byte-at .byte-at .ensures) ∙ c .before .before .before .before .if1 .left)
     (rw (c .before .before .before .byte-at2 .ensures) at
     (sym (c .before .before .is-name .ensures) ∙ c .before .if2 .taken)))
-
--- src/build.rt:427:5
-moved-requires : tie.Need-moved-requires
-moved-requires c κs = search needs
 
 -- src/build.rt:415:1
 returns-3 : tie.Need-returns-3
@@ -95,13 +68,13 @@ pass-or-spec =
     tie.close
     (tie.spec
     add-second
-    byte-at-requires
-    fail-requires
+    (search needs)
+    (search needs)
     returns
     add-next
-    byte-at-requires-2
-    is-name-requires
-    fail-requires-2
+    (search needs)
+    (search needs)
+    (search needs)
     returns-2
-    moved-requires
+    (search needs)
     returns-3)

@@ -1,9 +1,6 @@
-use mathlib.Core.Path.{_≡_, refl, sym, ap, _∙_}
-use mathlib.Core.Bool.{true, false}
+use mathlib.Core.Path.{refl, sym, _∙_}
 use native.Mathlib.Omega.{arith}
-use Prim.Native.Nat.{_+_, _-_, _<_, _≤_}
-use lib.ListN.{length, drop}
-use borrow.Author.Tests.{not-true, not-false}
+use Prim.Native.Nat.{_+_, _-_}
 use Rattle.readings.proofs.Worded.{slash-two, slash-one}
 use Rattle.heads.proofs.Headed.{byte-there}
 use borrow.Author.Needs.{needs}
@@ -23,14 +20,6 @@ add-next c = omega (
   byte-there (c .before .before .before .args .s .now) (c .before .before .before .args .path .at) 47 refl
       (c .before .before .before .pre .0),
 )
-
--- src/build.rt:317:8
-byte-at-requires : tie.Need-byte-at-requires
-byte-at-requires c κs = search needs
-
--- src/build.rt:318:13
-every-below-requires : tie.Need-every-below-requires
-every-below-requires c κs = search needs
 
 -- src/build.rt:319:37
 add-skip : tie.Need-add-skip
@@ -57,14 +46,6 @@ skip-requires c κs =
     )
 
 -- src/build.rt:319:9
-moved-requires : tie.Need-moved-requires
-moved-requires c κs = search needs
-
--- src/build.rt:319:9
-same-length : tie.Need-same-length
-same-length c = search needs
-
--- src/build.rt:319:9
 returns : tie.Need-returns
 returns c =
     let to-if1 = c .before .before .before .before in
@@ -84,10 +65,6 @@ skip-requires-2 c κs =
     let start = to-args .before in
     omega (arith, byte-there (start .args .s .now) (start .args .path .at) 47 refl (start .pre .0))
 
--- src/build.rt:321:5
-moved-requires-2 : tie.Need-moved-requires-2
-moved-requires-2 c κs = search needs
-
 -- src/build.rt:312:1
 returns-2 : tie.Need-returns-2
 returns-2 c =
@@ -103,13 +80,13 @@ pass-slash-spec =
     tie.close
     (tie.spec
     add-next
-    byte-at-requires
-    every-below-requires
+    (search needs)
+    (λ c κs. search needs)
     add-skip
     skip-requires
-    moved-requires
-    same-length
+    (search needs)
+    (search needs)
     returns
     skip-requires-2
-    moved-requires-2
+    (search needs)
     returns-2)

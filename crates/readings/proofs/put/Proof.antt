@@ -1,8 +1,8 @@
-use mathlib.Core.Path.{_≡_, refl, sym, ap, _∙_}
+use mathlib.Core.Path.{sym}
 use mathlib.Core.Bool.{true, false}
 use native.Mathlib.Omega.{arith}
-use Prim.Native.Nat.{_+_, _-_, _<_, _≤_}
-use lib.ListN.{length, drop}
+use Prim.Native.Nat.{_-_}
+use lib.ListN.{length}
 use borrow.Author.Tests.{not-true, not-false}
 use lib.Seq.{length-take-le}
 use Prim.Native.Nat.{_*_}
@@ -19,24 +19,12 @@ use Rattle.readings.proofs.no_row.Reads as no-row-reads
 use Rattle.terms.proofs.put_row.Reads as put-row-reads
 
 -- src/build.rt:153:9
-no-row-requires : tie.Need-no-row-requires
-no-row-requires c κs = search needs
-
--- src/build.rt:153:9
 returns : tie.Need-returns
 returns c = rw (c .no-row .ensures)
     (put-none (rowOf (c .before .before .before .before .args .row))
     (c .before .before .before .before .args .nesting) (c .before .before .before .before .args .rows .now)
     (c .before .before .before .before .args .r) (c .before .before .before .before .pre)
     (not-true _ (c .before .if1 .taken)))
-
--- src/build.rt:156:15
-mul-end : tie.Need-mul-end
-mul-end c = search needs
-
--- src/build.rt:157:33
-slice-reshare-prefix-find-row : tie.Need-slice-reshare-prefix-find-row
-slice-reshare-prefix-find-row c = search needs
 
 -- src/build.rt:157:33
 slice-aggregate-find-row : tie.Need-slice-aggregate-find-row
@@ -49,18 +37,6 @@ slice-aggregate-find-row c =
       c .before .before .before .before .pre .bound,
     )))
 
--- src/build.rt:157:9
-find-row-requires : tie.Need-find-row-requires
-find-row-requires c κs = search needs
-
--- src/build.rt:159:9
-at-row-requires : tie.Need-at-row-requires
-at-row-requires c κs = search needs
-
--- src/build.rt:159:9
-same-length : tie.Need-same-length
-same-length c = search needs
-
 -- src/build.rt:159:9
 returns-2 : tie.Need-returns-2
 returns-2 c =
@@ -72,14 +48,6 @@ returns-2 c =
     (c .before .before .find-row .ensures) (c .before .if2 .taken))
 
 -- src/build.rt:162:9
-no-row-requires-2 : tie.Need-no-row-requires-2
-no-row-requires-2 c κs = search needs
-
--- src/build.rt:162:9
-same-length-2 : tie.Need-same-length-2
-same-length-2 c = search needs
-
--- src/build.rt:162:9
 returns-3 : tie.Need-returns-3
 returns-3 c =
     let to-if1 = c .before .before .before .before in
@@ -89,22 +57,6 @@ returns-3 c =
     (put-full (rowOf (start .args .row)) (start .args .nesting) (start .args .rows .now) (start .args .r)
     (start .pre) (not-false _ (at-if1 .if1 .left)) _ (c .before .before .before .find-row .ensures)
     (omega arith) (c .before .if3 .taken))
-
--- src/build.rt:164:5
-put-row-requires : tie.Need-put-row-requires
-put-row-requires c κs = search needs
-
--- src/build.rt:165:22
-add-at-row : tie.Need-add-at-row
-add-at-row c = search needs
-
--- src/build.rt:165:5
-at-row-requires-2 : tie.Need-at-row-requires-2
-at-row-requires-2 c κs = search needs
-
--- src/build.rt:148:1
-same-length-3 : tie.Need-same-length-3
-same-length-3 c = search needs
 
 -- src/build.rt:148:1
 returns-4 : tie.Need-returns-4
@@ -122,20 +74,20 @@ pub put-spec : {M : Type 1} → statement M
 put-spec =
     tie.close
     (tie.spec
-    no-row-requires
+    (search needs)
     returns
-    mul-end
-    slice-reshare-prefix-find-row
+    (search needs)
+    (search needs)
     slice-aggregate-find-row
-    find-row-requires
-    at-row-requires
-    same-length
+    (search needs)
+    (λ c κs. search needs)
+    (search needs)
     returns-2
-    no-row-requires-2
-    same-length-2
+    (search needs)
+    (search needs)
     returns-3
-    put-row-requires
-    add-at-row
-    at-row-requires-2
-    same-length-3
+    (λ c κs. search needs)
+    (search needs)
+    (λ c κs. search needs)
+    (search needs)
     returns-4)

@@ -1,12 +1,7 @@
-use mathlib.Core.Path.{_≡_, refl, sym, ap, _∙_}
 use mathlib.Core.Bool.{true, false}
-use native.Mathlib.Omega.{arith}
-use Prim.Native.Nat.{_+_, _-_, _<_, _≤_}
-use lib.ListN.{length, drop}
+use Prim.Native.Nat.{_-_}
 use borrow.Author.Tests.{not-true, not-false}
 use Rattle.readings.proofs.Built.{head-none, head-listed, head-unlisted}
-use Rattle.readings.specs.code.Build.{movedTo, PutMet}
-use mathlib.Core.Path.{subst}
 use Rattle.terms.specs.Row.{row}
 use borrow.Author.Needs.{needs}
 use Rattle.readings.proofs.put_head.Statement.{statement}
@@ -19,19 +14,11 @@ use Rattle.readings.proofs.put.Reads as put-reads
 use Rattle.readings.proofs.unlisted.Reads as unlisted-reads
 
 -- src/build.rt:248:9
-fail-requires : tie.Need-fail-requires
-fail-requires c κs = search needs
-
--- src/build.rt:248:9
 returns : tie.Need-returns
 returns c = rw (c .fail .ensures)
     (head-none (c .before .before .before .before .args .rows .now) (c .before .before .before .before .args .from)
     (c .before .before .before .before .args .head) (c .before .before .before .before .pre)
     (not-true _ (c .before .if1 .taken)))
-
--- src/build.rt:256:26
-moved-requires : tie.Need-moved-requires
-moved-requires c κs = search needs
 
 -- src/build.rt:256:9
 put-requires : tie.Need-put-requires
@@ -39,10 +26,6 @@ put-requires c κs =
     let to-pre = c .before .before .before .before in
     let start = to-pre .before in
     rw (c .moved .ensures) (start .pre)
-
--- src/build.rt:258:9
-same-length : tie.Need-same-length
-same-length c = search needs
 
 -- src/build.rt:258:9
 returns-2 : tie.Need-returns-2
@@ -53,14 +36,6 @@ returns-2 c =
     head-listed (start .args .rows .now) (start .args .from) (start .args .head) _ _ (not-false _ (at-if1 .if1 .left))
     (rw (c .before .before .before .before .moved .ensures) at (c .before .before .before .put .ensures))
     (c .if2 .taken)
-
--- src/build.rt:260:5
-unlisted-requires : tie.Need-unlisted-requires
-unlisted-requires c κs = search needs
-
--- src/build.rt:243:1
-same-length-2 : tie.Need-same-length-2
-same-length-2 c = search needs
 
 -- src/build.rt:243:1
 returns-3 : tie.Need-returns-3
@@ -79,12 +54,12 @@ pub put-head-spec : {M : Type 1} → statement M
 put-head-spec =
     tie.close
     (tie.spec
-    fail-requires
+    (search needs)
     returns
-    moved-requires
+    (search needs)
     put-requires
-    same-length
+    (search needs)
     returns-2
-    unlisted-requires
-    same-length-2
+    (search needs)
+    (search needs)
     returns-3)

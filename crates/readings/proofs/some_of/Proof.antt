@@ -1,9 +1,4 @@
-use mathlib.Core.Path.{_≡_, refl, sym, ap, _∙_}
-use mathlib.Core.Bool.{true, false}
-use native.Mathlib.Omega.{arith}
-use Prim.Native.Nat.{_+_, _-_, _<_, _≤_}
-use lib.ListN.{length, drop}
-use borrow.Author.Tests.{not-true, not-false}
+use Prim.Native.Nat.{_-_}
 use Rattle.readings.proofs.Built.{some-grown}
 use borrow.Author.Needs.{needs}
 use Rattle.readings.proofs.some_of.Statement.{statement}
@@ -13,22 +8,6 @@ use Rattle.readings.proofs.some_of.Lts as lts
 use Rattle.readings.proofs.join.Reads as join-reads
 use Rattle.readings.proofs.put_leaf.Reads as put-leaf-reads
 use Rattle.readings.proofs.put_over.Reads as put-over-reads
-
--- src/build.rt:371:9
-put-leaf-requires : tie.Need-put-leaf-requires
-put-leaf-requires c κs = search needs
-
--- src/build.rt:372:9
-join-requires : tie.Need-join-requires
-join-requires c κs = search needs
-
--- src/build.rt:373:5
-put-over-requires : tie.Need-put-over-requires
-put-over-requires c κs = search needs
-
--- src/build.rt:367:1
-same-length : tie.Need-same-length
-same-length c = search needs
 
 -- src/build.rt:367:1
 returns : tie.Need-returns
@@ -41,4 +20,4 @@ returns c =
 
 pub some-of-spec : {M : Type 1} → statement M
 some-of-spec =
-    tie.close (tie.spec put-leaf-requires join-requires put-over-requires same-length returns)
+    tie.close (tie.spec (λ c κs. search needs) (λ c κs. search needs) (λ c κs. search needs) (search needs) returns)

@@ -1,8 +1,6 @@
-use mathlib.Core.Path.{_≡_, refl, sym, ap, _∙_}
+use mathlib.Core.Path.{refl, sym, _∙_}
 use mathlib.Core.Bool.{true, false}
-use native.Mathlib.Omega.{arith}
-use Prim.Native.Nat.{_+_, _-_, _<_, _≤_}
-use lib.ListN.{length, drop}
+use Prim.Native.Nat.{_-_}
 use borrow.Author.Tests.{not-true, not-false}
 use Rattle.readings.specs.code.Build.{onlyInStep}
 use borrow.Author.Needs.{needs}
@@ -17,22 +15,6 @@ use Rattle.common.proofs.or.Reads as or-reads
 -- src/build.rt:261:9
 returns : tie.Need-returns
 returns c = sym (rw (not-true (c .before .before .before .args .r .ok) (c .if1 .taken)) refl)
-
--- src/build.rt:264:9
-byte-at-requires : tie.Need-byte-at-requires
-byte-at-requires c κs = search needs
-
--- src/build.rt:267:9
-or-requires : tie.Need-or-requires
-or-requires c κs = search needs
-
--- src/build.rt:265:8
-or-requires-2 : tie.Need-or-requires-2
-or-requires-2 c κs = search needs
-
--- src/build.rt:269:9
-fail-requires : tie.Need-fail-requires
-fail-requires c κs = search needs
 
 -- src/build.rt:269:9
 returns-2 : tie.Need-returns-2
@@ -63,4 +45,4 @@ returns-3 c =
 pub step-end-spec : {M : Type 1} → statement M
 step-end-spec =
     tie.close
-    (tie.spec returns byte-at-requires or-requires or-requires-2 fail-requires returns-2 returns-3)
+    (tie.spec returns (search needs) (search needs) (search needs) (search needs) returns-2 returns-3)

@@ -1,8 +1,6 @@
-use mathlib.Core.Path.{_≡_, refl, sym, ap, _∙_}
+use mathlib.Core.Path.{refl, sym}
 use mathlib.Core.Bool.{true, false}
-use native.Mathlib.Omega.{arith}
-use Prim.Native.Nat.{_+_, _-_, _<_, _≤_}
-use lib.ListN.{length, drop}
+use Prim.Native.Nat.{_-_}
 use borrow.Author.Tests.{not-true, not-false}
 use Rattle.readings.specs.code.Build.{unlistedAt}
 use Rattle.readings.proofs.unlisted.Statement.{statement}

@@ -1,11 +1,15 @@
 -- What the functions that put rows promise. Assumes nothing.
-use Prim.Native.Nat.{ℕ, suc, _+_, _*_, _<_, _≤_, min, max}
+use Prim.Native.Nat.{ℕ, suc, _*_, _<_, _≤_, min, max}
 use mathlib.Core.Path.{_≡_}
 use mathlib.Core.Bool.{Bool, true, false, cond, _||_, _&&_}
-use mathlib.Core.List.{List, [], _∷_, _++_}
+use mathlib.Core.List.{List}
 use mathlib.Core.Option.{Option, none, some}
 use lib.Dec.{eqb}
 use lib.ListN.{length, take, drop}
+use Rattle.grammar.specs.Bytes.{open-byte, colon-byte, open-bracket}
+use Rattle.common.specs.RowKinds.{void-row, step-row, composition-row, not-row, inclusion-row}
+use Rattle.common.specs.Axes.{descendant-or-self}
+use Rattle.common.specs.NodeTests.{node-test}
 use Rattle.terms.specs.Row.{Row, row, tableOf, maxRows}
 use Rattle.terms.specs.Nesting.{maxNesting}
 pub use Rattle.terms.specs.Row.{rowWidth, rowNumbers}
@@ -144,14 +148,14 @@ pub record Grown (F : (List Row → Put) → List Row → Put) (N : ℕ → ℕ)
 
 -- p/descendant-or-self::node(), some p, not f
 abbrev pub belowOf : (List Row → Put) → List Row → Put
-belowOf f = joined 4 f (λ rs. put rs (row 2 5 2 0))
+belowOf f = joined composition-row f (λ rs. put rs (row step-row descendant-or-self node-test 0))
 
 abbrev pub someOf : (List Row → Put) → List Row → Put
-someOf f = over 8 (joined 11 f (leaf 0))
+someOf f = over not-row (joined inclusion-row f (leaf void-row))
 
 -- bytes that only a step could take: `(`, `:` and `[`
 unfoldable pub onlyInStep : ℕ → Bool
-onlyInStep b = eqb b 40 || (eqb b 58 || eqb b 91)
+onlyInStep b = eqb b open-byte || (eqb b colon-byte || eqb b open-bracket)
 
 -- the step of a head was put, where there is one
 pub record HeadPut (xs : List ℕ) (x : Reading) (h : Head) (ys : List ℕ) (y : Reading) : Type 0 where
@@ -159,7 +163,7 @@ pub record HeadPut (xs : List ℕ) (x : Reading) (h : Head) (ys : List ℕ) (y :
   pub at : y .at ≡ h .at
   pub ok : y .ok ≡ (x .ok && h .ok)
   pub made : h .ok ≡ true
-      → Made (λ rs. put rs (row 2 (h .axis) (h .test) (h .name))) 1
+      → Made (λ rs. put rs (row step-row (h .axis) (h .test) (h .name))) 1
       (cond (h .listed) none (some (h .place))) xs x ys y
 
 -- a name at a place that is not listed is the first such, unless there was one

@@ -1,10 +1,8 @@
 -- `is_fit_step` meets its contract. Assumes nothing.
-use mathlib.Core.Path.{_≡_, ap, sym, _∙_}
-use lib.ListN.{length}
+use mathlib.Core.Path.{ap, _∙_}
 use borrow.Author.Needs.{needs}
 use borrow.Author.Tests.{eq-eqb, ne-eqb}
 use Rattle.calls.specs.Promises.{sidesOf}
-use Rattle.calls.specs.code.Tables.{stepsOf}
 use Rattle.calls.proofs.Tables.{steps-lent}
 use Rattle.records.specs.Records.{isFitStep}
 use Rattle.records.proofs.is_fit_step.Statement.{statement}
@@ -15,21 +13,6 @@ unfolding isFitStep
 returns c =
     let at-if = c .before in
     rw (eq-eqb _ 1 (at-if .if1 .taken))
-
-sides-of-requires : tie.Need-sides-of-requires
-sides-of-requires c κs = search needs
-
-wide-requires : tie.Need-wide-requires
-wide-requires c κs = search needs
-
-and-requires : tie.Need-and-requires
-and-requires c κs = search needs
-
-and-requires-2 : tie.Need-and-requires-2
-and-requires-2 c κs = search needs
-
-and-requires-3 : tie.Need-and-requires-3
-and-requires-3 c κs = search needs
 
 returns-2 : tie.Need-returns-2
 unfolding isFitStep sidesOf
@@ -54,9 +37,9 @@ is-fit-step-spec =
     tie.close
     (tie.spec
     returns
-    sides-of-requires
-    wide-requires
-    and-requires
-    and-requires-2
-    and-requires-3
+    (search needs)
+    (search needs)
+    (search needs)
+    (search needs)
+    (search needs)
     returns-2)

@@ -1,16 +1,14 @@
 -- Releases, and what the office and a crew see, by computation. Assumes nothing.
 use Prim.Native.Nat.{ℕ, _-_}
 use mathlib.Core.Path.{refl}
-use mathlib.Core.Bool.{cond, not, _&&_}
 use mathlib.Core.List.{List, [], _∷_, _++_}
-use lib.Dec.{leb, ltb, eqb}
-use lib.ListN.{length, set, take, replicate}
+use lib.ListN.{length, take, replicate}
 use Rattle.common.specs.Lists.{allOf}
 use Rattle.common.specs.values.Expected.{_is_, AllRight}
-use Rattle.terms.specs.Row.{Row, row}
+use Rattle.terms.specs.Row.{row}
 use Rattle.terms.specs.Fields.{isPath, heldPath}
 use Rattle.records.specs.declared.Record.{Record}
-use Rattle.calls.specs.Book.{Step, step, Book, book, Answer, answer}
+use Rattle.calls.specs.Book.{Step, step, book, Answer, answer}
 use Rattle.calls.specs.Runs.{final}
 use Rattle.calls.specs.PointCall.{placeOf, pointAnswer, returnAnswer}
 use Rattle.calls.specs.Calls.{point, return}
@@ -18,7 +16,7 @@ use Rattle.calls.specs.Above.{both, passed, own}
 use Rattle.records.specs.Records.{noRecord, recorded, current, rowOf, isFitStep, recordAnswer, allKept}
 use Rattle.records.specs.Releases.{noneReleased, releaseAnswer, withRelease, released, crewListing, crewCurrent}
 use Rattle.records.specs.Releases.{OfficeCall, OfficeHoldings, plainOffice}
-use Rattle.records.specs.Listed.{listed}
+use Rattle.records.specs.code.Listed.{listed}
 use Rattle.records.specs.values.RecordCases.{many}
 
 -- editions 1, 2 and 3 of series 7, and editions 1 and 2 of series 9 among them

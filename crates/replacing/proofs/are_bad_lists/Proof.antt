@@ -5,15 +5,9 @@ use Rattle.replacing.specs.ReplaceCall.{areBadLists}
 use Rattle.replacing.proofs.are_bad_lists.Statement.{statement}
 use Rattle.replacing.proofs.are_bad_lists.Tie as tie
 
-or-requires : tie.Need-or-requires
-or-requires c κs = search needs
-
-or-requires-2 : tie.Need-or-requires-2
-or-requires-2 c κs = search needs
-
 returns : tie.Need-returns
 unfolding areBadLists
 returns c = c .or2 .ensures ∙ rw (c .before .or .ensures)
 
 pub are-bad-lists-spec : {M : Type 1} → statement M
-are-bad-lists-spec = tie.close (tie.spec or-requires or-requires-2 returns)
+are-bad-lists-spec = tie.close (tie.spec (search needs) (search needs) returns)

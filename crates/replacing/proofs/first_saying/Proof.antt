@@ -34,9 +34,6 @@ add-next c = omega arith
 cast-i : tie.Need-cast-i Inv-loop μ-loop
 cast-i c = omega arith
 
-says-requires : tie.Need-says-requires Inv-loop μ-loop
-says-requires c κs = search needs
-
 returns : tie.Need-returns Inv-loop μ-loop
 returns c =
     let at-loop = c .before .before .before in
@@ -69,7 +66,7 @@ first-saying-spec =
     loop-holds
     add-next
     cast-i
-    says-requires
+    (search needs)
     returns
     add-n
     loop-less

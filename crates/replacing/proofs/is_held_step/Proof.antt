@@ -6,16 +6,10 @@ use Rattle.replacing.specs.Covered.{isHeldStep}
 use Rattle.replacing.proofs.is_held_step.Statement.{statement}
 use Rattle.replacing.proofs.is_held_step.Tie as tie
 
-wide-requires : tie.Need-wide-requires
-wide-requires c κs = search needs
-
-and-requires : tie.Need-and-requires
-and-requires c κs = search needs
-
 returns : tie.Need-returns
 unfolding isHeldStep
 returns c =
     c .and .ensures ∙ rw (c .before .wide .ensures, steps-lent (c .before .before .before .args .steps .now))
 
 pub is-held-step-spec : {M : Type 1} → statement M
-is-held-step-spec = tie.close (tie.spec wide-requires and-requires returns)
+is-held-step-spec = tie.close (tie.spec (search needs) (search needs) returns)

@@ -6,27 +6,6 @@ use Rattle.replacing.specs.Covered.{isReplaced}
 use Rattle.replacing.proofs.is_replaced.Statement.{statement}
 use Rattle.replacing.proofs.is_replaced.Tie as tie
 
-sides-of-requires : tie.Need-sides-of-requires
-sides-of-requires c κs = search needs
-
-is-held-step-requires : tie.Need-is-held-step-requires
-is-held-step-requires c κs = search needs
-
-is-held-path-requires : tie.Need-is-held-path-requires
-is-held-path-requires c κs = search needs
-
-and-requires : tie.Need-and-requires
-and-requires c κs = search needs
-
-is-in-requires : tie.Need-is-in-requires
-is-in-requires c κs = search needs
-
-and-requires-2 : tie.Need-and-requires-2
-and-requires-2 c κs = search needs
-
-and-requires-3 : tie.Need-and-requires-3
-and-requires-3 c κs = search needs
-
 returns : tie.Need-returns
 unfolding isReplaced sidesOf
 returns c =
@@ -49,11 +28,11 @@ pub is-replaced-spec : {M : Type 1} → statement M
 is-replaced-spec =
     tie.close
     (tie.spec
-    sides-of-requires
-    is-held-step-requires
-    is-held-path-requires
-    and-requires
-    is-in-requires
-    and-requires-2
-    and-requires-3
+    (search needs)
+    (search needs)
+    (search needs)
+    (search needs)
+    (search needs)
+    (search needs)
+    (search needs)
     returns)

@@ -24,9 +24,6 @@ Inv-loop rows steps old new by k₀ k =
 abbrev μ-loop : tie.MeasureT-loop
 μ-loop rows steps old new by k₀ k = length old - k
 
-are-bad-lists-requires : tie.Need-are-bad-lists-requires Inv-loop μ-loop
-are-bad-lists-requires c κs = search needs
-
 returns : tie.Need-returns Inv-loop μ-loop
 returns c =
     let at-lists = c .before in
@@ -50,9 +47,6 @@ shared-slice-read-i c =
     let at-if = c .before .before .before .before in
     let fit = sym (at-if .before .are-bad-lists .ensures) ∙ at-if .if1 .left in
     omega (arith, as-many _ _ _ fit)
-
-is-replaced-requires : tie.Need-is-replaced-requires Inv-loop μ-loop
-is-replaced-requires c κs = search needs
 
 add-place : tie.Need-add-place Inv-loop μ-loop
 add-place c = omega arith
@@ -106,14 +100,14 @@ replace-on-spec =
     (tie.spec
     Inv-loop
     μ-loop
-    are-bad-lists-requires
+    (search needs)
     returns
     loop-holds
     mul-row
     shared-slice-read-row
     mul-i
     shared-slice-read-i
-    is-replaced-requires
+    (search needs)
     add-place
     cast-t17
     returns-2

@@ -5,12 +5,6 @@ use Rattle.calls.proofs.Tables.{few-steps}
 use Rattle.replacing.proofs.step_saying.Statement.{statement}
 use Rattle.replacing.proofs.step_saying.Tie as tie
 
-first-rows-requires : tie.Need-first-rows-requires
-first-rows-requires c κs = search needs
-
-first-steps-requires : tie.Need-first-steps-requires
-first-steps-requires c κs = search needs
-
 first-saying-requires : tie.Need-first-saying-requires
 first-saying-requires c κs = let a = c .before .before .before .before .args in
     few-steps (a .m) (a .steps .now) _ (c .first-steps .ensures)
@@ -20,4 +14,4 @@ returns c = c .first-saying .ensures ∙ rw (c .before .before .first-rows .ensu
 
 pub step-saying-spec : {M : Type 1} → statement M
 step-saying-spec =
-    tie.close (tie.spec first-rows-requires first-steps-requires first-saying-requires returns)
+    tie.close (tie.spec (search needs) (search needs) first-saying-requires returns)

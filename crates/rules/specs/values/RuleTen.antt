@@ -14,7 +14,7 @@ use Rattle.rules.specs.Form.{b-from-3-to-10}
 use Rattle.rules.specs.Notation.{p, r, a, b, N, M}
 use Rattle.rules.specs.RuleTable.{rules}
 use Rattle.rules.specs.Claim.{Containment}
-use Rattle.rules.specs.Instance.{Test, Letters, axisFor, testFor, pathFor, claimFor, meets}
+use Rattle.rules.specs.Instance.{Test, axisFor, testFor, pathFor, claimFor, meets}
 use Rattle.common.specs.Lists.{allOf}
 use Rattle.rules.specs.Yields.{formsIn, formsOf, Yields}
 use Rattle.rules.specs.code.RuleFits.{fits, someFormFits}

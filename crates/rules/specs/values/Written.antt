@@ -7,8 +7,6 @@ use lib.Dec.{leb, eqb}
 use Rattle.common.specs.Bounded.{listBelow}
 use Rattle.common.specs.Axes.{self, child, parent, descendant, ancestor, descendant-or-self, ancestor-or-self}
 use Rattle.common.specs.Axes.{following-sibling, preceding-sibling, following, preceding, attribute}
-use Rattle.common.specs.NodeTests.{name-test, star-test, node-test, text-test, comment-test, instruction-test}
-use Rattle.common.specs.NodeTests.{target-test}
 use Rattle.xpath.specs.Term.{Path, Void, Root, AxisStep, Union, Composition, Filter}
 use Rattle.xpath.specs.Term.{Qualifier, True, False, Not, And, Or, In}
 use Rattle.rules.specs.Order.{axisPairs, isPair, axisBelow, testBelow}
@@ -18,18 +16,6 @@ use Rattle.rules.specs.RuleTable.{rules}
 use Rattle.rules.specs.Claim.{Claim, Containment, Implication}
 use Rattle.rules.specs.Instance.{Test, Letters, axisFor, testFor, pathFor, claimFor, meets}
 use Rattle.rules.specs.Yields.{formsIn, formsOf}
-
--- the axes and the tests by their numbers
-pub axis-numbers :
-    self ∷ child ∷ parent ∷ descendant ∷ ancestor ∷ descendant-or-self ∷ ancestor-or-self
-    ∷ following-sibling ∷ preceding-sibling ∷ following ∷ preceding ∷ attribute ∷ []
-    ≡ 0 ∷ 1 ∷ 2 ∷ 3 ∷ 4 ∷ 5 ∷ 6 ∷ 7 ∷ 8 ∷ 9 ∷ 10 ∷ 11 ∷ []
-axis-numbers = refl
-
-pub test-numbers :
-    name-test ∷ star-test ∷ node-test ∷ text-test ∷ comment-test ∷ instruction-test ∷ target-test ∷ []
-    ≡ 0 ∷ 1 ∷ 2 ∷ 3 ∷ 4 ∷ 5 ∷ 6 ∷ []
-test-numbers = refl
 
 -- what a form of a rule says for a choice of the letters: its conclusion, its premises in order, its conditions
 pub record Said : Type 0 where

@@ -8,8 +8,10 @@ use borrow.Author.Needs.{needs}
 use borrow.Author.Tests.{not-true, not-false}
 use Rattle.lines.specs.Line.{lines}
 use Rattle.lines.specs.code.NumbersRead.{firstParts}
-use Rattle.script.specs.Command.{words, commandBy, commandOf}
-use Rattle.script.proofs.Table.{shape-right, space-inside, numbers-read, newline-inside}
+use Rattle.script.specs.Command.{commandBy, commandOf}
+use Rattle.script_words.specs.Words.{words}
+use Rattle.script.proofs.Table.{space-inside, numbers-read, newline-inside}
+use Rattle.script_words.proofs.Table.{shape-right}
 use Rattle.script.proofs.Table.{word-read, nothing-read, next-entry, no-entry-left}
 use Rattle.script.proofs.call_at.Statement.{statement}
 use Rattle.script.proofs.call_at.Tie as tie
@@ -38,9 +40,6 @@ array-share-prefix-padded c = let e = c .before .entry-at .ensures in omega (ari
 slice-aggregate-starts-with : tie.Need-slice-aggregate-starts-with Inv-loop μ-loop
 slice-aggregate-starts-with c = let e = c .before .before .entry-at .ensures in
     sym (length-take-le _ _ (omega (arith, e .width, e .inside)))
-
-starts-with-requires : tie.Need-starts-with-requires Inv-loop μ-loop
-starts-with-requires c κs = search needs
 
 add-shaped-call : tie.Need-add-shaped-call Inv-loop μ-loop
 unfolding words
@@ -84,15 +83,6 @@ slice-aggregate-is-line c =
     let e = at-if .before .before .before .before .entry-at .ensures in
     sym (length-take-le _ _ (omega (arith, e .width, e .inside)))
 
-is-line-requires : tie.Need-is-line-requires Inv-loop μ-loop
-is-line-requires c κs = search needs
-
-stands-alone-requires : tie.Need-stands-alone-requires Inv-loop μ-loop
-stands-alone-requires c κs = search needs
-
-no-call-requires : tie.Need-no-call-requires Inv-loop μ-loop
-no-call-requires c κs = search needs
-
 returns-2 : tie.Need-returns-2 Inv-loop μ-loop
 unfolding words
 returns-2 c =
@@ -104,9 +94,6 @@ returns-2 c =
     nothing-read _ _ (l .i) (at-test .loop-test .taken) (l .inv .1) _ (at-entry .entry-at .ensures)
     _ (at-if1 .before .starts-with .ensures) _ (at-if2 .before .is-line .ensures) (at-if2 .if2 .taken)
     _ (c .before .before .stands-alone .ensures) (not-true _ (c .before .if3 .taken)) _ (c .no-call .ensures)
-
-size-only-requires : tie.Need-size-only-requires Inv-loop μ-loop
-size-only-requires c κs = search needs
 
 add-plain-line : tie.Need-add-plain-line Inv-loop μ-loop
 unfolding words
@@ -124,9 +111,6 @@ add-plain-line c =
           _ (at-entry .entry-at .ensures) _ (at-if1 .before .starts-with .ensures)
           _ (at-if2 .before .is-line .ensures) (at-if2 .if2 .taken),
     )
-
-plain-line-requires : tie.Need-plain-line-requires Inv-loop μ-loop
-plain-line-requires c κs = search needs
 
 returns-3 : tie.Need-returns-3 Inv-loop μ-loop
 unfolding words
@@ -163,9 +147,6 @@ loop-again c =
           _ (at-if1 .before .starts-with .ensures) _ (c .before .is-line .ensures) (at-if1 .if1 .left) (c .if2 .left),
     )
 
-no-call-requires-2 : tie.Need-no-call-requires-2 Inv-loop μ-loop
-no-call-requires-2 c κs = search needs
-
 returns-4 : tie.Need-returns-4 Inv-loop μ-loop
 unfolding words
 returns-4 c =
@@ -183,22 +164,22 @@ call-at-spec =
     add-end
     array-share-prefix-padded
     slice-aggregate-starts-with
-    starts-with-requires
+    (search needs)
     add-shaped-call
     shaped-call-requires
     returns
     array-share-prefix-padded-2
     slice-aggregate-is-line
-    is-line-requires
-    stands-alone-requires
-    no-call-requires
+    (search needs)
+    (search needs)
+    (search needs)
     returns-2
-    size-only-requires
+    (search needs)
     add-plain-line
-    plain-line-requires
+    (search needs)
     returns-3
     add-i
     loop-less
     loop-again
-    no-call-requires-2
+    (search needs)
     returns-4)

@@ -4,16 +4,10 @@ use native.Mathlib.Omega.{arith}
 use borrow.Author.Needs.{needs}
 use borrow.Author.Tests.{not-true, not-false}
 use Rattle.lines.proofs.LineRead.{parts-met}
-use Rattle.script.specs.declared.Shape.the-variants.{Counted}
+use Rattle.script_words.specs.declared.Shape.the-variants.{Counted}
 use Rattle.script.proofs.Calls.{if-not-read, if-read, counted-values}
 use Rattle.script.proofs.counted_call.Statement.{statement}
 use Rattle.script.proofs.counted_call.Tie as tie
-
-numbers-line-requires : tie.Need-numbers-line-requires
-numbers-line-requires c κs = search needs
-
-no-call-requires : tie.Need-no-call-requires
-no-call-requires c κs = search needs
 
 returns : tie.Need-returns
 returns c =
@@ -37,9 +31,6 @@ array-read-t20 c = omega (arith, c .before .before .before .numbers-line .ensure
 array-read-t23 : tie.Need-array-read-t23
 array-read-t23 c = omega (arith, c .before .before .before .numbers-line .ensures .size)
 
-plain-line-requires : tie.Need-plain-line-requires
-plain-line-requires c κs = search needs
-
 returns-2 : tie.Need-returns-2
 returns-2 c =
     let read = c .before .before .before .before in
@@ -53,13 +44,13 @@ pub counted-call-spec : {M : Type 1} → statement M
 counted-call-spec =
     tie.close
     (tie.spec
-    numbers-line-requires
-    no-call-requires
+    (search needs)
+    (search needs)
     returns
     array-read-t11
     array-read-t14
     array-read-t17
     array-read-t20
     array-read-t23
-    plain-line-requires
+    (search needs)
     returns-2)

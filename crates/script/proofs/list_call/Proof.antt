@@ -6,7 +6,7 @@ use native.Mathlib.Omega.{arith}
 use lib.ListN.{length, take, drop, length-set}
 use borrow.Author.Needs.{needs}
 use borrow.Author.Tests.{not-true, not-false}
-use Rattle.script.specs.Command.{maxNumbers}
+use Rattle.script_words.specs.Words.{maxNumbers}
 use Rattle.script.specs.code.CommandRead.{noNumbers}
 use Rattle.script.proofs.Numbers.{SoFar, no-number-yet}
 use Rattle.script.proofs.Calls.{no-numbers-size}
@@ -22,21 +22,9 @@ Inv-loop bytes at word most numbers₀ count₀ from₀ numbers count from =
 abbrev μ-loop : tie.MeasureT-loop
 μ-loop bytes at word most numbers₀ count₀ from₀ numbers count from = most - count
 
-no-numbers-requires : tie.Need-no-numbers-requires Inv-loop μ-loop
-no-numbers-requires c κs = search needs
-
 loop-holds : tie.Need-loop-holds Inv-loop μ-loop
 loop-holds c =
     (omega arith, ap length (c .no-numbers .ensures) ∙ no-numbers-size, c .no-numbers .ensures, no-number-yet _ _)
-
-number-at-requires : tie.Need-number-at-requires Inv-loop μ-loop
-number-at-requires c κs = search needs
-
-number-at-requires-2 : tie.Need-number-at-requires-2 Inv-loop μ-loop
-number-at-requires-2 c κs = search needs
-
-no-call-requires : tie.Need-no-call-requires Inv-loop μ-loop
-no-call-requires c κs = search needs
 
 returns : tie.Need-returns Inv-loop μ-loop
 returns c =
@@ -61,9 +49,6 @@ array-write-numbers c = omega arith
 
 add-size-only : tie.Need-add-size-only Inv-loop μ-loop
 add-size-only c = omega arith
-
-size-only-requires : tie.Need-size-only-requires Inv-loop μ-loop
-size-only-requires c κs = search needs
 
 returns-2 : tie.Need-returns-2 Inv-loop μ-loop
 returns-2 c =
@@ -107,9 +92,6 @@ loop-again c =
           _ _ (at-more .number-at .ensures) (not-false _ (c .before .if1 .left)),
     )
 
-no-call-requires-2 : tie.Need-no-call-requires-2 Inv-loop μ-loop
-no-call-requires-2 c κs = search needs
-
 returns-3 : tie.Need-returns-3 Inv-loop μ-loop
 returns-3 c =
     let at-loop = c .before .before in
@@ -124,17 +106,17 @@ list-call-spec =
     (tie.spec
     Inv-loop
     μ-loop
-    no-numbers-requires
+    (search needs)
     loop-holds
-    number-at-requires
-    number-at-requires-2
-    no-call-requires
+    (search needs)
+    (search needs)
+    (search needs)
     returns
     cast-numbers
     mul-numbers
     array-write-numbers
     add-size-only
-    size-only-requires
+    (search needs)
     returns-2
     cast-numbers-2
     mul-numbers-2
@@ -142,5 +124,5 @@ list-call-spec =
     add-count
     loop-less
     loop-again
-    no-call-requires-2
+    (search needs)
     returns-3)

@@ -16,18 +16,12 @@ Inv-loop bytes out₀ size i₀ out i =
 abbrev μ-loop : tie.MeasureT-loop
 μ-loop bytes out₀ size i₀ out i = size - i
 
-clamp-requires : tie.Need-clamp-requires Inv-loop μ-loop
-clamp-requires c κs = search needs
-
 loop-holds : tie.Need-loop-holds Inv-loop μ-loop
 loop-holds c = (refl, refl, omega arith)
 
 shared-slice-read-newline-for-space : tie.Need-shared-slice-read-newline-for-space Inv-loop μ-loop
 shared-slice-read-newline-for-space c =
     let size = c .before .before .before .clamp .ensures in omega (arith, size)
-
-newline-for-space-requires : tie.Need-newline-for-space-requires Inv-loop μ-loop
-newline-for-space-requires c κs = search needs
 
 slice-write-out : tie.Need-slice-write-out Inv-loop μ-loop
 slice-write-out c =
@@ -66,10 +60,10 @@ put-names-spec =
     (tie.spec
     Inv-loop
     μ-loop
-    clamp-requires
+    (search needs)
     loop-holds
     shared-slice-read-newline-for-space
-    newline-for-space-requires
+    (search needs)
     slice-write-out
     add-i
     loop-less

@@ -1,16 +1,12 @@
 -- `rest_at` meets its contract. Assumes nothing.
 use mathlib.Core.Path.{ap, _∙_}
 use native.Mathlib.Omega.{arith}
-use lib.ListN.{length}
 use borrow.Author.Needs.{needs}
 use Rattle.lines.specs.Line.{lines}
 use Rattle.script.specs.Rest.{restOf, firstBytes}
 use Rattle.script.proofs.RestLaws.{from-within, rest-between}
 use Rattle.script.proofs.rest_at.Statement.{statement}
 use Rattle.script.proofs.rest_at.Tie as tie
-
-clamp-requires : tie.Need-clamp-requires
-clamp-requires c κs = search needs
 
 rest-start-requires : tie.Need-rest-start-requires
 rest-start-requires c κs = omega (arith, c .clamp .ensures)
@@ -20,12 +16,6 @@ line-end-requires c κs = c .rest-start .ensures .1
 
 sub-result : tie.Need-sub-result
 sub-result c = omega (arith, c .line-end .ensures .0)
-
-part-result-start : tie.Need-part-result-start
-part-result-start c = search needs
-
-part-result-end : tie.Need-part-result-end
-part-result-end c = search needs
 
 returns : tie.Need-returns
 returns c =
@@ -41,10 +31,10 @@ pub rest-at-spec : {M : Type 1} → statement M
 rest-at-spec =
     tie.close
     (tie.spec
-    clamp-requires
+    (search needs)
     rest-start-requires
     line-end-requires
     sub-result
-    part-result-start
-    part-result-end
+    (search needs)
+    (search needs)
     returns)

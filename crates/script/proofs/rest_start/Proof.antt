@@ -1,9 +1,8 @@
 -- `rest_start` meets its contract: no byte before i is the line's first space or its end. Assumes nothing.
 use Prim.Native.Nat.{_-_, _≤_}
-use mathlib.Core.Path.{_≡_, refl, sym, ap, _∙_}
+use mathlib.Core.Path.{_≡_, refl, sym, _∙_}
 use native.Mathlib.Omega.{arith}
 use lib.ListN.{length}
-use borrow.Author.Needs.{needs}
 use Rattle.script.specs.Rest.{restOf}
 use Rattle.script.proofs.RestLaws.{lineFrom, past-end, at-newline, behind-space, behind-other, nothing-behind}
 use Rattle.script.proofs.rest_start.Statement.{statement}

@@ -1,22 +1,13 @@
 -- `room_call` meets its contract. Assumes nothing.
-use mathlib.Core.Path.{refl, ap}
+use mathlib.Core.Path.{refl}
 use borrow.Author.Needs.{needs}
 use borrow.Author.Tests.{not-true, not-false}
 use Rattle.lines.proofs.LineRead.{last-within}
-use Rattle.script.specs.declared.Shape.the-variants.{Room}
+use Rattle.script_words.specs.declared.Shape.the-variants.{Room}
 use Rattle.script.specs.Command.{maxRoom}
 use Rattle.script.proofs.Calls.{if-not-read, if-read}
 use Rattle.script.proofs.room_call.Statement.{statement}
 use Rattle.script.proofs.room_call.Tie as tie
-
-cast-number-at : tie.Need-cast-number-at
-cast-number-at c = search needs
-
-number-at-requires : tie.Need-number-at-requires
-number-at-requires c κs = search needs
-
-no-call-requires : tie.Need-no-call-requires
-no-call-requires c κs = search needs
 
 returns : tie.Need-returns
 returns c =
@@ -24,15 +15,6 @@ returns c =
     let s = read .before .before in
     let m = last-within maxRoom (s .args .bytes .now) _ _ _ _ (read .number-at .ensures) in
     if-not-read _ Room (s .pre) _ _ _ _ _ m _ (not-true _ (c .before .if1 .taken)) (c .no-call .ensures)
-
-cast-size-only : tie.Need-cast-size-only
-cast-size-only c = search needs
-
-size-only-requires : tie.Need-size-only-requires
-size-only-requires c κs = search needs
-
-plain-line-requires : tie.Need-plain-line-requires
-plain-line-requires c κs = search needs
 
 returns-2 : tie.Need-returns-2
 returns-2 c =
@@ -47,11 +29,11 @@ pub room-call-spec : {M : Type 1} → statement M
 room-call-spec =
     tie.close
     (tie.spec
-    cast-number-at
-    number-at-requires
-    no-call-requires
+    (search needs)
+    (λ c κs. search needs)
+    (search needs)
     returns
-    cast-size-only
-    size-only-requires
-    plain-line-requires
+    (search needs)
+    (search needs)
+    (search needs)
     returns-2)

@@ -6,29 +6,11 @@ use borrow.Author.Needs.{needs}
 use borrow.Author.Tests.{not-true, not-false}
 use Rattle.lines.specs.Number.{maxNumber}
 use Rattle.lines.proofs.LineRead.{last-within, next-within}
-use Rattle.script.specs.declared.Shape.the-variants.{Selection}
+use Rattle.script_words.specs.declared.Shape.the-variants.{Selection}
 use Rattle.script.specs.Command.{maxLimit, maxMarks}
 use Rattle.script.proofs.Calls.{if-not-read, if-read}
 use Rattle.script.proofs.selection_call.Statement.{statement}
 use Rattle.script.proofs.selection_call.Tie as tie
-
-number-at-requires : tie.Need-number-at-requires
-number-at-requires c κs = search needs
-
-number-at-requires-2 : tie.Need-number-at-requires-2
-number-at-requires-2 c κs = search needs
-
-number-at-requires-3 : tie.Need-number-at-requires-3
-number-at-requires-3 c κs = search needs
-
-cast-number-at : tie.Need-cast-number-at
-cast-number-at c = search needs
-
-number-at-requires-4 : tie.Need-number-at-requires-4
-number-at-requires-4 c κs = search needs
-
-no-call-requires : tie.Need-no-call-requires
-no-call-requires c κs = search needs
 
 returns : tie.Need-returns
 returns c =
@@ -50,12 +32,6 @@ cast-t12 : tie.Need-cast-t12
 cast-t12 c = let marks = c .before .before .before .before in
     omega (arith, marks .before .before .number-at2 .ensures .fits)
 
-cast-t13 : tie.Need-cast-t13
-cast-t13 c = search needs
-
-plain-line-requires : tie.Need-plain-line-requires
-plain-line-requires c κs = search needs
-
 returns-2 : tie.Need-returns-2
 returns-2 c =
     let test = c .before .before .before .before in
@@ -73,15 +49,15 @@ pub selection-call-spec : {M : Type 1} → statement M
 selection-call-spec =
     tie.close
     (tie.spec
-    number-at-requires
-    number-at-requires-2
-    number-at-requires-3
-    cast-number-at
-    number-at-requires-4
-    no-call-requires
+    (λ c κs. search needs)
+    (λ c κs. search needs)
+    (λ c κs. search needs)
+    (search needs)
+    (λ c κs. search needs)
+    (search needs)
     returns
     cast-t11
     cast-t12
-    cast-t13
-    plain-line-requires
+    (search needs)
+    (search needs)
     returns-2)

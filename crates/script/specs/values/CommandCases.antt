@@ -10,10 +10,11 @@ use Rattle.lines.specs.Ascii.{ascii}
 use Rattle.lines.specs.Line.{inFirstLine, lines, inFirstPart, parts, sameBytes}
 use Rattle.lines.specs.Number.{isDigit, areDigits, isDecimal, appendDigits, numbersUpTo}
 use Rattle.lines.specs.code.NumbersRead.{firstParts}
-use Rattle.script.specs.declared.Word.the-variants.{Term, Step, Select, Document, Fresh, Old, New, Replace}
-use Rattle.script.specs.declared.Word.the-variants.{Write, Point, Return, Other, Order, BundleOrder, Names, Text}
-use Rattle.script.specs.declared.Word.the-variants.{Record, Current, Release, Records, Released, CrewCurrent}
-use Rattle.script.specs.Command.{Command, command, words, shapeOf, atMost, named, wordFor, commandBy, commandOf}
+use Rattle.script_words.specs.declared.Word.the-variants.{Term, Step, Select, Document, Fresh, Old, New, Replace}
+use Rattle.script_words.specs.declared.Word.the-variants.{Write, Point, Return, Other, Order, BundleOrder, Names, Text}
+use Rattle.script_words.specs.declared.Word.the-variants.{Record, Current, Release, Records, Released, CrewCurrent}
+use Rattle.script.specs.Command.{Command, command, atMost, named, wordFor, commandBy, commandOf}
+use Rattle.script_words.specs.Words.{words, shapeOf}
 
 -- the command of a text's first line
 abbrev first : String → Option Command

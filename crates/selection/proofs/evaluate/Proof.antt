@@ -6,27 +6,12 @@ use borrow.Author.Needs.{needs}
 use Rattle.selection.proofs.evaluate.Statement.{statement}
 use Rattle.selection.proofs.evaluate.Tie as tie
 
-node-count-requires : tie.Need-node-count-requires
-node-count-requires c κs = search needs
-
 returns : tie.Need-returns
 returns c =
     let counted = c .before in
     let lent = counted .before in
     let start = lent .before .before .before .before in
     too-short _ _ _ _ _ (start .pre .prepared .few) (omega arith)
-
-row-count-requires : tie.Need-row-count-requires
-row-count-requires c κs = search needs
-
-empty-marks-requires : tie.Need-empty-marks-requires
-empty-marks-requires c κs = search needs
-
-slice-aggregate-eval-path : tie.Need-slice-aggregate-eval-path
-slice-aggregate-eval-path c = search needs
-
-eval-path-requires : tie.Need-eval-path-requires
-eval-path-requires c κs = search needs
 
 returns-2 : tie.Need-returns-2
 returns-2 c =
@@ -40,15 +25,6 @@ returns-2 c =
     (cleared .empty-marks .ensures)
     (row-found _ _ _ _ _ _ _ _ (cleared .before .row-count .ensures) (e .ensures))
     (not-true (e .result .finished) (c .if2 .taken))
-
-slice-aggregate-copy-out : tie.Need-slice-aggregate-copy-out
-slice-aggregate-copy-out c = search needs
-
-copy-out-requires : tie.Need-copy-out-requires
-copy-out-requires c κs = search needs
-
-same-length : tie.Need-same-length
-same-length c = search needs
 
 returns-3 : tie.Need-returns-3
 returns-3 c =
@@ -71,14 +47,14 @@ pub evaluate-spec : {M : Type 1} → statement M
 evaluate-spec =
     tie.close
     (tie.spec
-    node-count-requires
+    (search needs)
     returns
-    row-count-requires
-    empty-marks-requires
-    slice-aggregate-eval-path
-    eval-path-requires
+    (search needs)
+    (search needs)
+    (search needs)
+    (λ c κs. search needs)
     returns-2
-    slice-aggregate-copy-out
-    copy-out-requires
-    same-length
+    (search needs)
+    (λ c κs. search needs)
+    (search needs)
     returns-3)

@@ -1,13 +1,13 @@
 -- Each clause of what is promised of points, written out once more: without one of them this fails. Assumes nothing.
-use Prim.Native.Nat.{ℕ, _<_}
+use Prim.Native.Nat.{ℕ}
 use mathlib.Core.Path.{_≡_, _∙_}
 use mathlib.Core.List.{List, _∷_}
 use lib.ListN.{length, take}
 use Rattle.common.specs.Lists.{Every}
 use Rattle.calls.specs.Book.{Book, Answer, answer}
-use Rattle.calls.specs.PointCall.{pointNames, placeOf}
+use Rattle.calls.specs.PointCall.{pointNames}
 use Rattle.calls.specs.Runs.{next, final, Run}
-use Rattle.calls.specs.Calls.{Call, term, step, point, return, CallSeen, bookAnswer, bookAfter, plainBook}
+use Rattle.calls.specs.Calls.{Call, step, point, return, CallSeen, bookAnswer, bookAfter, plainBook}
 use Rattle.calls.specs.PointLaws.{KeepsPoints}
 use Rattle.calls.proofs.Returns.{return-restores}
 use Rattle.session.specs.declared.session.Session.{Session}

@@ -19,7 +19,9 @@ use Rattle.calls.specs.Calls.{Call, term, step, CallSeen}
 use Rattle.session.specs.declared.session.Session.{Session}
 use Rattle.session.specs.declared.read.ReadResult.{ReadResult}
 use Rattle.session.specs.declared.write.WriteAnswer.{WriteAnswer}
-use Rattle.session.specs.View.{view, freshSession, rowNumbers, stepNumbers}
+use Rattle.session.specs.View.{view, freshSession}
+use Rattle.terms.specs.Row.{rowNumbers}
+use Rattle.calls.specs.Book.{stepNumbers}
 use Rattle.session.specs.Promises.{CallRelation, SelectRelation}
 use Rattle.bundles.specs.Bundle.{rowNames, stepNames, rowOfLine, stepOfLine, bundleText}
 use Rattle.session.specs.ReadCall.{readAnswerOf}

@@ -12,10 +12,10 @@ use Rattle.calls.specs.declared.points.PointAnswer.{PointAnswer}
 use Rattle.calls.specs.Book.{maxPoints}
 use Rattle.calls.specs.PointCall.{pointNames, placeOf, pointAnswer, returnAnswer}
 use Rattle.calls.specs.code.Tables.{rowWidth, stepWidth}
-use Rattle.calls.specs.code.Points.{pointAnswerOf, pointWidth, counts, countsNames, pointNamed}
+use Rattle.calls.specs.code.Points.{pointAnswerOf, pointWidth, counts, countsNames, countsNumbers, pointNamed}
 use Rattle.calls.specs.code.Points.{firstPointNumbers, cleared}
 use Rattle.calls.specs.Calls.{point, return}
-use Rattle.session.specs.View.{rowsHeld, stepsHeld, pointsHeld, pointsIn, view, countsNumbers, withPoint, atPoint}
+use Rattle.session.specs.View.{rowsHeld, stepsHeld, pointsHeld, pointsIn, view, withPoint, atPoint}
 use Rattle.session.specs.Promises.{Met}
 use Rattle.calls.proofs.Accepted.{if-accepted, if-refused}
 use Rattle.calls.proofs.PointTables.{points-lent, few-points, place-le}

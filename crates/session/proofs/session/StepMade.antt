@@ -7,7 +7,8 @@ use Rattle.session.specs.declared.session.Session.{Session}
 use Rattle.calls.specs.declared.StepAnswer.{StepAnswer}
 use Rattle.calls.specs.Book.{Step, book}
 use Rattle.calls.specs.code.Tables.{stepWidth, firstRows, firstSteps}
-use Rattle.session.specs.View.{stepsHeld, view, stepNumbers, withStep}
+use Rattle.session.specs.View.{stepsHeld, view, withStep}
+use Rattle.calls.specs.Book.{stepNumbers}
 use Rattle.calls.specs.code.Answers.{stepAnswerOf}
 use Rattle.calls.specs.StepCall.{stepAnswerBy}
 use Rattle.calls.specs.Promises.{rowYielded, rowStepAnswer}

@@ -9,11 +9,12 @@ use Rattle.session.specs.declared.session.Session.{Session}
 use Rattle.calls.specs.declared.TermAnswer.{TermAnswer}
 use Rattle.calls.specs.TermCall.{termAnswer}
 use Rattle.calls.specs.code.Tables.{rowWidth}
-use Rattle.session.specs.View.{rowsHeld, view, rowNumbers, withRow}
+use Rattle.session.specs.View.{rowsHeld, view, withRow}
+use Rattle.terms.specs.Row.{rowNumbers}
 use Rattle.calls.specs.code.Answers.{termAnswerOf}
 use Rattle.calls.specs.Calls.{term}
 use Rattle.session.specs.Promises.{Met}
-use Rattle.session.specs.code.Parts.{TermPlaced}
+use Rattle.term_calls.specs.code.Placed.{TermPlaced}
 use Rattle.calls.proofs.Accepted.{if-accepted, if-refused}
 
 module _ (s : Session) (r : Row) (n : ℕ) (count : n ≡ rowsHeld s) (ys : List ℕ) (t : TermAnswer)

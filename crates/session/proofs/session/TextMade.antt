@@ -1,11 +1,11 @@
 -- From the reading of a text on a session's table to a text call on the session. Assumes nothing.
-use Prim.Native.Nat.{ℕ}
-use mathlib.Core.Path.{_≡_, refl, ap, _∙_}
+use mathlib.Core.Path.{_≡_, ap, _∙_}
 use lib.ListN.{length}
+use Rattle.terms.specs.Row.{tableWith}
 use Rattle.grammar.specs.Bytes.{Bytes}
 use Rattle.grammar.specs.Answer.{Reply, reply}
 use Rattle.text.specs.declared.TextResult.{TextResult}
-use Rattle.text.specs.Readers.{tableWith, TextRead}
+use Rattle.text.specs.Promises.{TextRead}
 use Rattle.calls.specs.Book.{answer}
 use Rattle.calls.specs.TextCall.{textReply, textAnswer}
 use Rattle.calls.specs.Calls.{text}

@@ -1,37 +1,18 @@
--- What the functions that term and read are made of promise each other. Assumes nothing.
-use Prim.Native.Nat.{ℕ, _+_, _≤_, _<_, _*_}
+-- What the functions that read is made of promise each other. Assumes nothing.
+use Prim.Native.Nat.{ℕ, _≤_, _<_}
 use mathlib.Core.Path.{_≡_}
-use mathlib.Core.Bool.{cond}
 use mathlib.Core.List.{List}
 use lib.ListN.{length, drop}
-use Rattle.terms.specs.Row.{Row}
-use Rattle.terms.specs.code.Kept.{Kept}
 use Rattle.lines.specs.Line.{lines}
 use Rattle.session.specs.declared.session.Session.{Session}
 use Rattle.session.specs.declared.read.RowsEnd.{RowsEnd}
 use Rattle.session.specs.declared.read.RowsEnd.the-variants as RowsCases
 use Rattle.session.specs.declared.read.StepsEnd.{StepsEnd}
 use Rattle.session.specs.declared.read.StepsEnd.the-variants as StepsCases
-use Rattle.calls.specs.declared.TermAnswer.{TermAnswer}
-use Rattle.calls.specs.Book.{maxSteps, answer, accepted}
-use Rattle.calls.specs.code.Tables.{firstRows, rowWidth}
-use Rattle.calls.specs.code.Answers.{termAnswerOf}
-use Rattle.session.specs.View.{noPoints, freshSession, rowNumbers}
+use Rattle.calls.specs.Book.{maxSteps, answer}
+use Rattle.session.specs.View.{noPoints, freshSession}
 use Rattle.calls.specs.Promises.{rowStepAnswer}
 use Rattle.session.specs.Reading.{Reading, refusedAt, stepsRead, rowsRead}
-use lib.Seq.{sets}
-use Rattle.calls.specs.TermCall.{termAnswer}
-
--- a term call on the first n rows of the numbers xs: the answer, and the numbers ys that it leaves
-pub record TermPlaced (xs : List ℕ) (n : ℕ) (r : Row) (ys : List ℕ) (t : TermAnswer) : Type 0 where
-  pub answer : termAnswerOf t ≡ termAnswer (firstRows n xs) r
-  pub numbers : ys ≡ cond (accepted (termAnswer (firstRows n xs) r)) (sets xs (rowWidth * n) (rowNumbers r)) xs
-
--- a term call of a term line, by what is kept of the first n rows: it is as every term call, and the same is kept of
--- the rows that it leaves
-pub record TermKept (xs : List ℕ) (n : ℕ) (r : Row) (ys table filter : List ℕ) (t : TermAnswer) : Type 0 where
-  pub placed : TermPlaced xs n r ys t
-  pub kept : termAnswerOf t .number ≡ 0 → Kept (firstRows (n + 1) ys) table filter
 
 -- the session of n rows with the numbers xs, and m steps with the numbers ys, without points
 abbrev pub holding : (xs : List ℕ) (n : ℕ) (ys : List ℕ) (m : ℕ) → Session

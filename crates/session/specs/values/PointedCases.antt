@@ -1,9 +1,8 @@
 -- Points of sessions that no calls lead to, and the calls that set none, by computation. Assumes nothing.
 use Prim.Native.Nat.{ℕ}
-use mathlib.Core.Path.{_≡_, refl}
+use mathlib.Core.Path.{refl}
 use mathlib.Core.List.{List, [], _∷_}
 use lib.ListN.{take, replicate}
-use lib.Seq.{sets}
 use Rattle.common.specs.Lists.{Every}
 use Rattle.common.specs.values.Expected.{_is_, AllRight}
 use Rattle.terms.specs.Row.{row, tableOf}

@@ -18,12 +18,9 @@ returns-2 c =
     let none = List·getD-eq-default (a .opened .now) false {n = a .k} (c .if2 .taken) in
     rw (lt-leb maxFiles (a .k) (c .before .if1 .left), none)
 
-shared-slice-read-result : tie.Need-shared-slice-read-result
-shared-slice-read-result c = search needs
-
 returns-3 : tie.Need-returns-3
 unfolding isBadName
 returns-3 c = rw (lt-leb maxFiles (c .before .before .before .args .k) (c .before .before .if1 .left))
 
 pub is-bad-name-spec : {M : Type 1} → statement M
-is-bad-name-spec = tie.close (tie.spec returns returns-2 shared-slice-read-result returns-3)
+is-bad-name-spec = tie.close (tie.spec returns returns-2 (search needs) returns-3)

@@ -16,15 +16,9 @@ Inv-loop list opened count k₀ k = (k ≤ count) × (firstBelow k (isBadName op
 abbrev μ-loop : tie.MeasureT-loop
 μ-loop list opened count k₀ k = count - k
 
-count-requires : tie.Need-count-requires Inv-loop μ-loop
-count-requires c κs = search needs
-
 loop-holds : tie.Need-loop-holds Inv-loop μ-loop
 unfolding firstBelow
 loop-holds c = (omega arith, refl)
-
-is-bad-name-requires : tie.Need-is-bad-name-requires Inv-loop μ-loop
-is-bad-name-requires c κs = search needs
 
 add-t7 : tie.Need-add-t7 Inv-loop μ-loop
 add-t7 c = omega arith
@@ -67,9 +61,9 @@ judge-list-spec =
     (tie.spec
     Inv-loop
     μ-loop
-    count-requires
+    (search needs)
     loop-holds
-    is-bad-name-requires
+    (search needs)
     add-t7
     returns
     add-k

@@ -28,17 +28,11 @@ add-rule c = omega arith
 cast-rule-uses : tie.Need-cast-rule-uses Inv-loop μ-loop
 cast-rule-uses c = omega arith
 
-rule-uses-requires : tie.Need-rule-uses-requires Inv-loop μ-loop
-rule-uses-requires c κs = search needs
-
 mul-before : tie.Need-mul-before Inv-loop μ-loop
 mul-before c = omega arith
 
 array-read-before : tie.Need-array-read-before Inv-loop μ-loop
 array-read-before c = omega (arith, c .before .before .loop .inv .1 .size)
-
-plus-requires : tie.Need-plus-requires Inv-loop μ-loop
-plus-requires c κs = search needs
 
 mul-sums : tie.Need-mul-sums Inv-loop μ-loop
 mul-sums c = omega arith
@@ -74,10 +68,10 @@ plus-uses-spec =
     loop-holds
     add-rule
     cast-rule-uses
-    rule-uses-requires
+    (search needs)
     mul-before
     array-read-before
-    plus-requires
+    (search needs)
     mul-sums
     array-write-sums
     add-i

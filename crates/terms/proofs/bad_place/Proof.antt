@@ -4,18 +4,9 @@ use borrow.Author.Needs.{needs}
 use Rattle.terms.proofs.bad_place.Statement.{statement}
 use Rattle.terms.proofs.bad_place.Tie as tie
 
-fields-of-requires : tie.Need-fields-of-requires
-fields-of-requires c κs = search needs
-
-field-ok-requires : tie.Need-field-ok-requires
-field-ok-requires c κs = search needs
-
 returns : tie.Need-returns
 unfolding badPlace
 returns c = rw (← c .before .before .fields-of .ensures, ← c .before .field-ok .ensures, c .if1 .taken)
-
-field-ok-requires-2 : tie.Need-field-ok-requires-2
-field-ok-requires-2 c κs = search needs
 
 returns-2 : tie.Need-returns-2
 unfolding badPlace
@@ -28,9 +19,6 @@ returns-2 c =
       ← c .before .field-ok2 .ensures,
       c .if2 .taken,
     )
-
-field-ok-requires-3 : tie.Need-field-ok-requires-3
-field-ok-requires-3 c κs = search needs
 
 returns-3 : tie.Need-returns-3
 unfolding badPlace
@@ -66,11 +54,11 @@ pub bad-place-spec : {M : Type 1} → statement M
 bad-place-spec =
     tie.close
     (tie.spec
-    fields-of-requires
-    field-ok-requires
+    (search needs)
+    (search needs)
     returns
-    field-ok-requires-2
+    (search needs)
     returns-2
-    field-ok-requires-3
+    (search needs)
     returns-3
     returns-4)

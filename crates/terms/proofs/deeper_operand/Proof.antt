@@ -5,15 +5,6 @@ use borrow.Author.Needs.{needs}
 use Rattle.terms.proofs.deeper_operand.Statement.{statement}
 use Rattle.terms.proofs.deeper_operand.Tie as tie
 
-fields-of-requires : tie.Need-fields-of-requires
-fields-of-requires c κs = search needs
-
-operand-nesting-requires : tie.Need-operand-nesting-requires
-operand-nesting-requires c κs = search needs
-
-operand-nesting-requires-2 : tie.Need-operand-nesting-requires-2
-operand-nesting-requires-2 c κs = search needs
-
 returns : tie.Need-returns
 unfolding nestingBy
 returns c =
@@ -32,8 +23,8 @@ pub deeper-operand-spec : {M : Type 1} → statement M
 deeper-operand-spec =
     tie.close
     (tie.spec
-    fields-of-requires
-    operand-nesting-requires
-    operand-nesting-requires-2
+    (search needs)
+    (search needs)
+    (search needs)
     returns
     returns-2)

@@ -6,17 +6,8 @@ use borrow.Author.Needs.{needs}
 use Rattle.terms.proofs.entry_at.Statement.{statement}
 use Rattle.terms.proofs.entry_at.Tie as tie
 
-mul-result : tie.Need-mul-result
-mul-result c = search needs
-
-shared-slice-read-result : tie.Need-shared-slice-read-result
-shared-slice-read-result c = search needs
-
-returns : tie.Need-returns
-returns c = search needs
-
 returns-2 : tie.Need-returns-2
 returns-2 c = let a = c .before .args in sym (List·getD-eq-default (a .entries .now) 0 (omega arith))
 
 pub entry-at-spec : {M : Type 1} → statement M
-entry-at-spec = tie.close (tie.spec mul-result shared-slice-read-result returns returns-2)
+entry-at-spec = tie.close (tie.spec (search needs) (search needs) (search needs) returns-2)

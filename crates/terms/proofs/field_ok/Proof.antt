@@ -5,36 +5,9 @@ use borrow.Author.Needs.{needs}
 use Rattle.terms.proofs.field_ok.Statement.{statement}
 use Rattle.terms.proofs.field_ok.Tie as tie
 
-enum-told : tie.Need-enum-told
-enum-told c = search needs
-
-enum-told-2 : tie.Need-enum-told-2
-enum-told-2 c = search needs
-
-enum-told-3 : tie.Need-enum-told-3
-enum-told-3 c = search needs
-
-enum-told-4 : tie.Need-enum-told-4
-enum-told-4 c = search needs
-
-or-requires : tie.Need-or-requires
-or-requires c κs = search needs
-
 returns : tie.Need-returns
 unfolding fieldOk
 returns c = rw (c .before .before .enum-told4 .given .1, sym (c .before .or .ensures) ∙ c .if1 .taken)
-
-enum-told-5 : tie.Need-enum-told-5
-enum-told-5 c = search needs
-
-is-held-path-requires : tie.Need-is-held-path-requires
-is-held-path-requires c κs = search needs
-
-enum-told-6 : tie.Need-enum-told-6
-enum-told-6 c = search needs
-
-is-held-qualifier-requires : tie.Need-is-held-qualifier-requires
-is-held-qualifier-requires c κs = search needs
 
 returns-2 : tie.Need-returns-2
 unfolding fieldOk
@@ -64,16 +37,16 @@ pub field-ok-spec : {M : Type 1} → statement M
 field-ok-spec =
     tie.close
     (tie.spec
-    enum-told
-    enum-told-2
-    enum-told-3
-    enum-told-4
-    or-requires
+    (search needs)
+    (search needs)
+    (search needs)
+    (search needs)
+    (search needs)
     returns
-    enum-told-5
-    is-held-path-requires
-    enum-told-6
-    is-held-qualifier-requires
+    (search needs)
+    (search needs)
+    (search needs)
+    (search needs)
     returns-2
     returns-3
     returns-4

@@ -19,25 +19,13 @@ Inv-loop rows table₀ n i₀ table i =
 abbrev μ-loop : tie.MeasureT-loop
 μ-loop rows table₀ n i₀ table i = n - i
 
-row-count-requires : tie.Need-row-count-requires Inv-loop μ-loop
-row-count-requires c κs = search needs
-
 loop-holds : tie.Need-loop-holds Inv-loop μ-loop
 unfolding nestings entriesFrom
 loop-holds c = (search needs, search needs, refl)
 
-slice-reshare-prefix-deeper-operand : tie.Need-slice-reshare-prefix-deeper-operand Inv-loop μ-loop
-slice-reshare-prefix-deeper-operand c = search needs
-
 slice-aggregate-deeper-operand : tie.Need-slice-aggregate-deeper-operand Inv-loop μ-loop
 slice-aggregate-deeper-operand c =
     sym (length-take-le (c .before .before .loop .i) (c .before .before .loop .table) (omega arith))
-
-row-at-requires : tie.Need-row-at-requires Inv-loop μ-loop
-row-at-requires c κs = search needs
-
-deeper-operand-requires : tie.Need-deeper-operand-requires Inv-loop μ-loop
-deeper-operand-requires c κs = search needs
 
 add-table : tie.Need-add-table Inv-loop μ-loop
 add-table c =
@@ -49,18 +37,6 @@ add-table c =
     (c .deeper-operand .ensures) in
     omega (arith, length-take (t .i) rs, l)
 
-mul-table : tie.Need-mul-table Inv-loop μ-loop
-mul-table c = search needs
-
-slice-write-table : tie.Need-slice-write-table Inv-loop μ-loop
-slice-write-table c = search needs
-
-add-i : tie.Need-add-i Inv-loop μ-loop
-add-i c = search needs
-
-loop-less : tie.Need-loop-less Inv-loop μ-loop
-loop-less c = search needs
-
 loop-again : tie.Need-loop-again Inv-loop μ-loop
 loop-again c =
     let looped = c .before .before .before .before in
@@ -70,9 +46,6 @@ loop-again c =
     nesting-from (take (t .i) rs) (take (t .i) (t .table)) _ _ _ (t .inv .2) (c .before .row-at .ensures)
     (c .deeper-operand .ensures) in
     (search needs, search needs, nestings-put rs (t .table) (t .i) _ (omega arith) (omega arith) (t .inv .2) e)
-
-same-length : tie.Need-same-length Inv-loop μ-loop
-same-length c = search needs
 
 returns : tie.Need-returns Inv-loop μ-loop
 returns c =
@@ -88,17 +61,17 @@ fill-nestings-spec =
     (tie.spec
     Inv-loop
     μ-loop
-    row-count-requires
+    (search needs)
     loop-holds
-    slice-reshare-prefix-deeper-operand
+    (search needs)
     slice-aggregate-deeper-operand
-    row-at-requires
-    deeper-operand-requires
+    (search needs)
+    (search needs)
     add-table
-    mul-table
-    slice-write-table
-    add-i
-    loop-less
+    (search needs)
+    (search needs)
+    (search needs)
+    (λ c. search needs)
     loop-again
-    same-length
+    (search needs)
     returns)

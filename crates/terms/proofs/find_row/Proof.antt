@@ -18,17 +18,8 @@ Inv-loop rows row n i₀ i = (i ≤ n) × (find (tableOf rows) (rowOf row) ≡ i
 abbrev μ-loop : tie.MeasureT-loop
 μ-loop rows row n i₀ i = n - i
 
-row-count-requires : tie.Need-row-count-requires Inv-loop μ-loop
-row-count-requires c κs = search needs
-
 loop-holds : tie.Need-loop-holds Inv-loop μ-loop
 loop-holds c = (search needs, omega arith)
-
-row-at-requires : tie.Need-row-at-requires Inv-loop μ-loop
-row-at-requires c κs = search needs
-
-same-row-requires : tie.Need-same-row-requires Inv-loop μ-loop
-same-row-requires c κs = search needs
 
 returns : tie.Need-returns Inv-loop μ-loop
 returns c =
@@ -39,12 +30,6 @@ returns c =
     let e : sameRow (rowAt rs i) (rowOf (a .row)) ≡ true =
     rw (← c .before .before .row-at .ensures) (sym (c .before .same-row .ensures) ∙ c .if1 .taken) in
     omega (arith, find-hit rs (rowOf (a .row)) i (omega arith) e)
-
-add-i : tie.Need-add-i Inv-loop μ-loop
-add-i c = search needs
-
-loop-less : tie.Need-loop-less Inv-loop μ-loop
-loop-less c = search needs
 
 loop-again : tie.Need-loop-again Inv-loop μ-loop
 loop-again c =
@@ -67,12 +52,12 @@ find-row-spec =
     (tie.spec
     Inv-loop
     μ-loop
-    row-count-requires
+    (search needs)
     loop-holds
-    row-at-requires
-    same-row-requires
+    (search needs)
+    (search needs)
     returns
-    add-i
-    loop-less
+    (search needs)
+    (λ c. search needs)
     loop-again
     returns-2)

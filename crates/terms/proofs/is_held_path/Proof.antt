@@ -5,12 +5,6 @@ use borrow.Author.Needs.{needs}
 use Rattle.terms.proofs.is_held_path.Statement.{statement}
 use Rattle.terms.proofs.is_held_path.Tie as tie
 
-row-count-requires : tie.Need-row-count-requires
-row-count-requires c κs = search needs
-
-row-at-requires : tie.Need-row-at-requires
-row-at-requires c κs = search needs
-
 returns : tie.Need-returns
 unfolding heldPath isPath
 returns c =
@@ -22,4 +16,4 @@ unfolding heldPath
 returns-2 c = rw (← c .before .row-count .ensures, le-ltb _ _ (c .if1 .left))
 
 pub is-held-path-spec : {M : Type 1} → statement M
-is-held-path-spec = tie.close (tie.spec row-count-requires row-at-requires returns returns-2)
+is-held-path-spec = tie.close (tie.spec (search needs) (search needs) returns returns-2)

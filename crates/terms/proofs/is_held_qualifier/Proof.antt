@@ -5,12 +5,6 @@ use borrow.Author.Needs.{needs}
 use Rattle.terms.proofs.is_held_qualifier.Statement.{statement}
 use Rattle.terms.proofs.is_held_qualifier.Tie as tie
 
-row-count-requires : tie.Need-row-count-requires
-row-count-requires c κs = search needs
-
-row-at-requires : tie.Need-row-at-requires
-row-at-requires c κs = search needs
-
 returns : tie.Need-returns
 unfolding heldQualifier isQualifier
 returns c =
@@ -39,4 +33,4 @@ returns-3 c = rw (← c .before .row-count .ensures, le-ltb _ _ (c .if1 .left))
 
 pub is-held-qualifier-spec : {M : Type 1} → statement M
 is-held-qualifier-spec =
-    tie.close (tie.spec row-count-requires row-at-requires returns returns-2 returns-3)
+    tie.close (tie.spec (search needs) (search needs) returns returns-2 returns-3)

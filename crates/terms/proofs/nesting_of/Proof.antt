@@ -8,12 +8,6 @@ use Rattle.terms.specs.Row.{tableOf, maxRows}
 use Rattle.terms.proofs.nesting_of.Statement.{statement}
 use Rattle.terms.proofs.nesting_of.Tie as tie
 
-row-count-requires : tie.Need-row-count-requires
-row-count-requires c κs = search needs
-
-nesting-within-requires : tie.Need-nesting-within-requires
-nesting-within-requires c κs = search needs
-
 returns : tie.Need-returns
 returns c = let table = tableOf (c .before .before .before .args .rows .now) in
     rw (lt-leb (length table) maxRows (omega (arith, c .if1 .taken, c .before .row-count .ensures)))
@@ -24,4 +18,4 @@ returns-2 c = let table = tableOf (c .before .before .before .before .args .rows
     (le-leb (length table) maxRows (omega (arith, c .before .if1 .left, c .before .before .row-count .ensures)))
 
 pub nesting-of-spec : {M : Type 1} → statement M
-nesting-of-spec = tie.close (tie.spec row-count-requires nesting-within-requires returns returns-2)
+nesting-of-spec = tie.close (tie.spec (search needs) (λ c κs. search needs) returns returns-2)

@@ -8,30 +8,12 @@ use borrow.Author.Needs.{needs}
 use Rattle.terms.proofs.note.Statement.{statement}
 use Rattle.terms.proofs.note.Tie as tie
 
-wide-requires : tie.Need-wide-requires
-wide-requires c κs = search needs
-
 returns : tie.Need-returns
 returns c =
     let a = c .before .before .before .args in
     let e = c .before .wide .ensures in
     let l = c .if1 .taken in
     sym (set-out (a .noted .now) (a .i) (suc (a .j)) (omega arith))
-
-wide-requires-2 : tie.Need-wide-requires-2
-wide-requires-2 c κs = search needs
-
-add-noted : tie.Need-add-noted
-add-noted c = search needs
-
-mul-noted : tie.Need-mul-noted
-mul-noted c = search needs
-
-slice-write-noted : tie.Need-slice-write-noted
-slice-write-noted c = search needs
-
-same-length : tie.Need-same-length
-same-length c = search needs
 
 returns-2 : tie.Need-returns-2
 returns-2 c =
@@ -42,11 +24,11 @@ pub note-spec : {M : Type 1} → statement M
 note-spec =
     tie.close
     (tie.spec
-    wide-requires
+    (search needs)
     returns
-    wide-requires-2
-    add-noted
-    mul-noted
-    slice-write-noted
-    same-length
+    (search needs)
+    (search needs)
+    (search needs)
+    (search needs)
+    (search needs)
     returns-2)

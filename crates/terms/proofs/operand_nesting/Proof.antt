@@ -4,30 +4,6 @@ use borrow.Author.Needs.{needs}
 use Rattle.terms.proofs.operand_nesting.Statement.{statement}
 use Rattle.terms.proofs.operand_nesting.Tie as tie
 
-enum-told : tie.Need-enum-told
-enum-told c = search needs
-
-enum-told-2 : tie.Need-enum-told-2
-enum-told-2 c = search needs
-
-enum-told-3 : tie.Need-enum-told-3
-enum-told-3 c = search needs
-
-enum-told-4 : tie.Need-enum-told-4
-enum-told-4 c = search needs
-
-enum-told-5 : tie.Need-enum-told-5
-enum-told-5 c = search needs
-
-entry-at-requires : tie.Need-entry-at-requires
-entry-at-requires c κs = search needs
-
-enum-told-6 : tie.Need-enum-told-6
-enum-told-6 c = search needs
-
-entry-at-requires-2 : tie.Need-entry-at-requires-2
-entry-at-requires-2 c κs = search needs
-
 returns : tie.Need-returns
 unfolding operandNesting
 returns c = rw (c .enum-told .given .1)
@@ -56,14 +32,14 @@ pub operand-nesting-spec : {M : Type 1} → statement M
 operand-nesting-spec =
     tie.close
     (tie.spec
-    enum-told
-    enum-told-2
-    enum-told-3
-    enum-told-4
-    enum-told-5
-    entry-at-requires
-    enum-told-6
-    entry-at-requires-2
+    (search needs)
+    (search needs)
+    (search needs)
+    (search needs)
+    (search needs)
+    (λ c κs. search needs)
+    (search needs)
+    (λ c κs. search needs)
     returns
     returns-2
     returns-3

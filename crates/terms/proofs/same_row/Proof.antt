@@ -5,15 +5,6 @@ use Rattle.terms.specs.Row.{sameRow}
 use Rattle.terms.proofs.same_row.Statement.{statement}
 use Rattle.terms.proofs.same_row.Tie as tie
 
-and-requires : tie.Need-and-requires
-and-requires c κs = search needs
-
-and-requires-2 : tie.Need-and-requires-2
-and-requires-2 c κs = search needs
-
-and-requires-3 : tie.Need-and-requires-3
-and-requires-3 c κs = search needs
-
 returns : tie.Need-returns
 unfolding sameRow
 returns c =
@@ -21,4 +12,4 @@ returns c =
     c .and3 .ensures ∙ rw (at-three .and2 .ensures, at-three .before .before .before .and .ensures)
 
 pub same-row-spec : {M : Type 1} → statement M
-same-row-spec = tie.close (tie.spec and-requires and-requires-2 and-requires-3 returns)
+same-row-spec = tie.close (tie.spec (search needs) (search needs) (search needs) returns)

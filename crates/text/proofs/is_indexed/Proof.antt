@@ -1,6 +1,5 @@
 -- `is_indexed` meets its contract. Assumes nothing.
 use native.Mathlib.Omega.{arith}
-use borrow.Author.Needs.{needs}
 use Rattle.grammar.proofs.Basics.{never}
 use Rattle.text.proofs.is_indexed.Statement.{statement}
 use Rattle.text.proofs.is_indexed.Tie as tie

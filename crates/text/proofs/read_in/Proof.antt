@@ -7,20 +7,11 @@ use Rattle.text.proofs.TextLaws.{text-failed, text-longer, text-unliste
 use Rattle.text.proofs.read_in.Statement.{statement}
 use Rattle.text.proofs.read_in.Tie as tie
 
-nothing-read-requires : tie.Need-nothing-read-requires
-nothing-read-requires c κs = search needs
-
 read-union-requires : tie.Need-read-union-requires
 read-union-requires c κs =
     let to-start = c .before .before .before .before in
     let start = to-start .before .before in
     (rw (c .nothing-read .ensures) record { ok = refl; fits = omega arith; sized = start .pre .0 }, start .pre .1)
-
-refused-requires : tie.Need-refused-requires
-refused-requires c κs = search needs
-
-same-length : tie.Need-same-length
-same-length c = search needs
 
 returns : tie.Need-returns
 returns c =
@@ -33,12 +24,6 @@ returns c =
     rw (c .refused .ensures) (text-failed (a .s .now) (a .names .now) _ (a .count) (start .pre .0) _
     (at-union .read-union .result) union
     (not-true _ (c .before .if1 .taken)))
-
-refused-requires-2 : tie.Need-refused-requires-2
-refused-requires-2 c κs = search needs
-
-same-length-2 : tie.Need-same-length-2
-same-length-2 c = search needs
 
 returns-2 : tie.Need-returns-2
 returns-2 c =
@@ -53,12 +38,6 @@ returns-2 c =
     (not-false _ (c .before .before .if1 .left))
     (omega (arith, c .before .if2 .taken)))
 
-refused-requires-3 : tie.Need-refused-requires-3
-refused-requires-3 c κs = search needs
-
-same-length-3 : tie.Need-same-length-3
-same-length-3 c = search needs
-
 returns-3 : tie.Need-returns-3
 returns-3 c =
     let at-union-1 = c .before .before .before .before in
@@ -72,12 +51,6 @@ returns-3 c =
     (not-false _ (c .before .before .before .before .if1 .left))
     (omega (arith, c .before .before .before .if2 .left))
     (not-true _ (c .before .if3 .taken)))
-
-refused-requires-4 : tie.Need-refused-requires-4
-refused-requires-4 c κs = search needs
-
-same-length-4 : tie.Need-same-length-4
-same-length-4 c = search needs
 
 returns-4 : tie.Need-returns-4
 returns-4 c =
@@ -98,12 +71,6 @@ returns-4 c =
     (omega (arith, at-if2 .if2 .left))
     (not-false _ (c .before .before .before .if3 .left))
     (omega (arith, c .before .if4 .taken)))
-
-refused-requires-5 : tie.Need-refused-requires-5
-refused-requires-5 c κs = search needs
-
-same-length-5 : tie.Need-same-length-5
-same-length-5 c = search needs
 
 returns-5 : tie.Need-returns-5
 returns-5 c =
@@ -127,12 +94,6 @@ returns-5 c =
     (not-false _ (at-if3 .if3 .left))
     (omega (arith, c .before .before .before .if4 .left))
     (not-true _ (c .before .if5 .taken)))
-
-cast-t12 : tie.Need-cast-t12
-cast-t12 c = search needs
-
-same-length-6 : tie.Need-same-length-6
-same-length-6 c = search needs
 
 returns-6 : tie.Need-returns-6
 returns-6 c =
@@ -160,23 +121,23 @@ pub read-in-spec : {M : Type 1} → statement M
 read-in-spec =
     tie.close
     (tie.spec
-    nothing-read-requires
+    (search needs)
     read-union-requires
-    refused-requires
-    same-length
+    (search needs)
+    (search needs)
     returns
-    refused-requires-2
-    same-length-2
+    (search needs)
+    (search needs)
     returns-2
-    refused-requires-3
-    same-length-3
+    (search needs)
+    (search needs)
     returns-3
-    refused-requires-4
-    same-length-4
+    (search needs)
+    (search needs)
     returns-4
-    refused-requires-5
-    same-length-5
+    (search needs)
+    (search needs)
     returns-5
-    cast-t12
-    same-length-6
+    (search needs)
+    (search needs)
     returns-6)

@@ -5,15 +5,6 @@ use Rattle.text.proofs.TextLaws.{read-refused, read-accepted}
 use Rattle.text.proofs.read_text.Statement.{statement}
 use Rattle.text.proofs.read_text.Tie as tie
 
-rows-counted-requires : tie.Need-rows-counted-requires
-rows-counted-requires c κs = search needs
-
-slice-aggregate-read-listed : tie.Need-slice-aggregate-read-listed
-slice-aggregate-read-listed c = search needs
-
-read-listed-requires : tie.Need-read-listed-requires
-read-listed-requires c κs = search needs
-
 returns : tie.Need-returns
 returns c =
     let at-read = c .before .before in
@@ -35,4 +26,4 @@ returns-2 c =
 pub read-text-spec : {M : Type 1} → statement M
 read-text-spec =
     tie.close
-    (tie.spec rows-counted-requires slice-aggregate-read-listed read-listed-requires returns returns-2)
+    (tie.spec (search needs) (search needs) (λ c κs. search needs) returns returns-2)

@@ -11,11 +11,5 @@ slice-aggregate-result c =
     let a = c .before .before .args in
     sym (length-take-le (a .n) (a .bytes .now) (omega arith))
 
-returns : tie.Need-returns
-returns c = search needs
-
-returns-2 : tie.Need-returns-2
-returns-2 c = search needs
-
 pub first-bytes-spec : {M : Type 1} → statement M
-first-bytes-spec = tie.close (tie.spec slice-aggregate-result returns returns-2)
+first-bytes-spec = tie.close (tie.spec slice-aggregate-result (λ c. search needs) (λ c. search needs))

@@ -19,9 +19,6 @@ loop-holds c = omega arith
 shared-slice-read-put : tie.Need-shared-slice-read-put Inv-loop μ-loop
 shared-slice-read-put c = omega arith
 
-put-requires : tie.Need-put-requires Inv-loop μ-loop
-put-requires c κs = search needs
-
 add-i : tie.Need-add-i Inv-loop μ-loop
 add-i c = omega arith
 
@@ -34,9 +31,6 @@ loop-again c = omega arith
 same-length : tie.Need-same-length Inv-loop μ-loop
 same-length c = omega arith
 
-returns : tie.Need-returns Inv-loop μ-loop
-returns c = search needs
-
 pub put-all-spec : {M : Type 1} → statement M
 put-all-spec =
     tie.close
@@ -45,9 +39,9 @@ put-all-spec =
     μ-loop
     loop-holds
     shared-slice-read-put
-    put-requires
+    (search needs)
     add-i
     loop-less
     loop-again
     same-length
-    returns)
+    (λ c. search needs))

@@ -19,9 +19,6 @@ loop-holds c = omega arith
 shared-slice-read-put-node : tie.Need-shared-slice-read-put-node Inv-loop μ-loop
 shared-slice-read-put-node c = omega arith
 
-put-node-requires : tie.Need-put-node-requires Inv-loop μ-loop
-put-node-requires c κs = search needs
-
 add-i : tie.Need-add-i Inv-loop μ-loop
 add-i c = omega arith
 
@@ -34,9 +31,6 @@ loop-again c = omega arith
 same-length : tie.Need-same-length Inv-loop μ-loop
 same-length c = omega arith
 
-returns : tie.Need-returns Inv-loop μ-loop
-returns c = search needs
-
 pub put-marked-spec : {M : Type 1} → statement M
 put-marked-spec =
     tie.close
@@ -45,9 +39,9 @@ put-marked-spec =
     μ-loop
     loop-holds
     shared-slice-read-put-node
-    put-node-requires
+    (search needs)
     add-i
     loop-less
     loop-again
     same-length
-    returns)
+    (λ c. search needs))

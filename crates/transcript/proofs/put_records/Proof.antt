@@ -16,23 +16,11 @@ Inv-loop line₀ used n held end₀ i₀ line end i =
 abbrev μ-loop : tie.MeasureT-loop
 μ-loop line₀ used n held end₀ i₀ line end i = maxRecords - i
 
-size-requires : tie.Need-size-requires Inv-loop μ-loop
-size-requires c κs = search needs
-
 loop-holds : tie.Need-loop-holds Inv-loop μ-loop
 loop-holds c =
     let a = c .before .before .before .args in
     let size : length (a .listing .held) ≡ maxRecords = search (needs, length-mapped) in
     (omega arith, size, omega arith)
-
-mul-here : tie.Need-mul-here Inv-loop μ-loop
-mul-here c = search needs
-
-array-copy-out-here : tie.Need-array-copy-out-here Inv-loop μ-loop
-array-copy-out-here c = search needs
-
-put-record-requires : tie.Need-put-record-requires Inv-loop μ-loop
-put-record-requires c κs = search needs
 
 add-i : tie.Need-add-i Inv-loop μ-loop
 add-i c = omega arith
@@ -48,22 +36,19 @@ loop-again c =
 same-length : tie.Need-same-length Inv-loop μ-loop
 same-length c = omega arith
 
-returns : tie.Need-returns Inv-loop μ-loop
-returns c = search needs
-
 pub put-records-spec : {M : Type 1} → statement M
 put-records-spec =
     tie.close
     (tie.spec
     Inv-loop
     μ-loop
-    size-requires
+    (search needs)
     loop-holds
-    mul-here
-    array-copy-out-here
-    put-record-requires
+    (search needs)
+    (search needs)
+    (search needs)
     add-i
     loop-less
     loop-again
     same-length
-    returns)
+    (λ c. search needs))

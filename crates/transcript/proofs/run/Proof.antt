@@ -19,29 +19,11 @@ Inv-loop input style s₀ other₀ lent₀ at₀ line₀ s other lent at line =
 abbrev μ-loop : tie.MeasureT-loop
 μ-loop input style s₀ other₀ lent₀ at₀ line₀ s other lent at line = length input - at
 
-new-requires : tie.Need-new-requires Inv-loop μ-loop
-new-requires c κs = search needs
-
-new-requires-2 : tie.Need-new-requires-2 Inv-loop μ-loop
-new-requires-2 c κs = search needs
-
-none-lent-requires : tie.Need-none-lent-requires Inv-loop μ-loop
-none-lent-requires c κs = search needs
-
 loop-holds : tie.Need-loop-holds Inv-loop μ-loop
 loop-holds c = (omega arith, omega arith, refl)
 
 add-line : tie.Need-add-line Inv-loop μ-loop
 add-line c = omega arith
-
-call-at-requires : tie.Need-call-at-requires Inv-loop μ-loop
-call-at-requires c κs = search needs
-
-is-taken-requires : tie.Need-is-taken-requires Inv-loop μ-loop
-is-taken-requires c κs = search needs
-
-and-requires : tie.Need-and-requires Inv-loop μ-loop
-and-requires c κs = search needs
 
 returns : tie.Need-returns Inv-loop μ-loop
 returns c =
@@ -53,15 +35,6 @@ returns c =
     line-ends _ _ (a .input .now) (l .at) (at-read .before .loop-test .taken) _ (at-read .call-at .ensures)
     _ (at-taken .is-taken .ensures) _ (c .before .and .ensures) (not-true _ (c .if1 .taken))
     ∙ sym (l .inv .2)
-
-make-requires : tie.Need-make-requires Inv-loop μ-loop
-make-requires c κs = search needs
-
-other-after-requires : tie.Need-other-after-requires Inv-loop μ-loop
-other-after-requires c κs = search needs
-
-lent-after-requires : tie.Need-lent-after-requires Inv-loop μ-loop
-lent-after-requires c κs = search needs
 
 loop-less : tie.Need-loop-less Inv-loop μ-loop
 loop-less c =
@@ -95,18 +68,18 @@ run-spec =
     (tie.spec
     Inv-loop
     μ-loop
-    new-requires
-    new-requires-2
-    none-lent-requires
+    (search needs)
+    (search needs)
+    (search needs)
     loop-holds
     add-line
-    call-at-requires
-    is-taken-requires
-    and-requires
+    (search needs)
+    (search needs)
+    (search needs)
     returns
-    make-requires
-    other-after-requires
-    lent-after-requires
+    (search needs)
+    (search needs)
+    (search needs)
     loop-less
     loop-again
     returns-2)

@@ -8,7 +8,8 @@ use Rattle.common.specs.values.Expected.{_is_, AllRight}
 use Rattle.lines.specs.Ascii.{ascii}
 use Rattle.lines.specs.Line.{inFirstLine, lines, inFirstPart, parts, sameBytes}
 use Rattle.lines.specs.Number.{isDigit, areDigits, isDecimal, appendDigits, numbersUpTo}
-use Rattle.script.specs.Command.{words, shapeOf, atMost, named, wordFor, commandBy}
+use Rattle.script.specs.Command.{atMost, named, wordFor, commandBy}
+use Rattle.script_words.specs.Words.{words, shapeOf}
 use Rattle.transcript.specs.declared.Style.{Style}
 use Rattle.transcript.specs.declared.Style.the-variants.{Answers, Nodes}
 use Rattle.transcript.specs.Transcript.{endingLine}

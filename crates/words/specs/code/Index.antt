@@ -1,5 +1,5 @@
 -- What the functions on the index of the lent list promise. Assumes nothing.
-use Prim.Native.Nat.{ℕ, suc, _+_, _*_, _%_, _<_, _≤_}
+use Prim.Native.Nat.{ℕ, _+_, _*_, _%_, _<_, _≤_}
 use mathlib.Core.Path.{_≡_}
 use mathlib.Core.Bool.{Bool, true, false, cond}
 use mathlib.Core.List.{List, [], _∷_}

@@ -1,25 +1,25 @@
 -- What the functions on words and on the lent list of names promise. Assumes nothing.
-use Prim.Native.Nat.{ℕ, suc, _+_, _<_, _≤_}
+use Prim.Native.Nat.{ℕ, suc, _+_, _≤_}
 use mathlib.Core.Path.{_≡_}
 use mathlib.Core.Bool.{Bool, true, false, cond}
 use mathlib.Core.List.{List, [], _∷_}
 use mathlib.Core.Option.{Option, none, some}
 use lib.Dec.{leb}
 use lib.ListN.{length, drop}
-use Rattle.lines.specs.Line.{Line, lines}
+use Rattle.lines.specs.Line.{Line, lines, sameBytes}
 use Rattle.lines.specs.Number.{maxNumber}
-use Rattle.grammar.specs.Bytes.{Bytes, same}
+use Rattle.grammar.specs.Bytes.{Bytes}
 use Rattle.grammar.specs.Words.{find, next, bytesOf, numberOf}
 
 -- the place of a word in a list, counted from i; `other` if it is not there
 unfoldable pub pickFrom : (other i : ℕ) → List Bytes → Bytes → ℕ
 pickFrom other i [] n = other
-pickFrom other i (m ∷ ms) n = cond (same n m) i (pickFrom other (suc i) ms n)
+pickFrom other i (m ∷ ms) n = cond (sameBytes n m) i (pickFrom other (suc i) ms n)
 
 -- the first line is the word
 unfoldable pub firstLineIs : Bytes → List Line → Bool
 firstLineIs n [] = false
-firstLineIs n (l ∷ ls) = same n (l .bytes)
+firstLineIs n (l ∷ ls) = sameBytes n (l .bytes)
 
 -- how many bytes of the list are looked at together
 abbrev pub blockSize : ℕ

@@ -7,7 +7,7 @@ use Rattle.xpath.specs.Document.{Document, node, rootNode, kindAt, paren
 use Rattle.xpath.specs.Document.{isAncestor, areSiblings, kindAndNameOk, rowOk, wellFormed}
 use Rattle.common.specs.Axes.{self, child, parent, descendant, ancestor, descendant-or-self, ancestor-or-self}
 use Rattle.common.specs.Axes.{following-sibling, preceding-sibling, following, preceding, attribute}
-use Rattle.common.specs.NodeTests.{star-test, node-test, text-test, comment-test, instruction-test}
+use Rattle.common.specs.NodeTests.{star-test, text-test, comment-test, instruction-test}
 use Rattle.xpath.specs.Axis.{onAxis, passes}
 use Rattle.xpath.specs.Term.{AxisStep, Composition}
 use Rattle.xpath.specs.Meaning.{selects, nodes}

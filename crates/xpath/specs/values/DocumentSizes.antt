@@ -2,7 +2,7 @@
 use Prim.Native.Nat.{ℕ, zero, suc, _+_, _≤_, _<_}
 use mathlib.Core.Path.{_≡_, refl, ap}
 use mathlib.Core.Bool.{true, _||_}
-use mathlib.Core.List.{[], _∷_}
+use mathlib.Core.List.{_∷_}
 use native.Mathlib.Omega.{arith}
 use lib.Dec.{T, leb, eqb}
 use lib.ListN.{length, getD}

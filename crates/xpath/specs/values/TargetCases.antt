@@ -8,7 +8,7 @@ use Rattle.common.specs.Bounded.{anyBelow, allBelow, listBelow}
 use Rattle.xpath.specs.Document.{Document, node, rootNode, kindAt, parentAt, nameAt, isChild, climbMeets}
 use Rattle.xpath.specs.Document.{isAncestor, areSiblings, kindAndNameOk, rowOk, wellFormed}
 use Rattle.xpath.specs.Axis.{onAxis, passes}
-use Rattle.xpath.specs.Term.{Path, AxisStep, Composition, Filter, some-of}
+use Rattle.xpath.specs.Term.{AxisStep, Composition, Filter, some-of}
 use Rattle.xpath.specs.Meaning.{selects, nodes}
 use Rattle.xpath.specs.Visits.{visits}
 use Rattle.common.specs.values.Expected.{_is_, AllRight}

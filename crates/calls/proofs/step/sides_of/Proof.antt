@@ -6,29 +6,8 @@ use borrow.Author.Needs.{needs}
 use Rattle.calls.proofs.step.sides_of.Statement.{statement}
 use Rattle.calls.proofs.step.sides_of.Tie as tie
 
-place-of-requires : tie.Need-place-of-requires
-place-of-requires c κs = search needs
-
-step-count-requires : tie.Need-step-count-requires
-step-count-requires c κs = search needs
-
-mul-at : tie.Need-mul-at
-mul-at c = search needs
-
-add-left : tie.Need-add-left
-add-left c = search needs
-
-mul-left : tie.Need-mul-left
-mul-left c = search needs
-
 shared-slice-read-left : tie.Need-shared-slice-read-left
 shared-slice-read-left c = omega (arith, steps-lent (c .before .before .before .before .before .args .steps .now))
-
-add-right : tie.Need-add-right
-add-right c = search needs
-
-mul-right : tie.Need-mul-right
-mul-right c = search needs
 
 shared-slice-read-right : tie.Need-shared-slice-read-right
 shared-slice-read-right c =
@@ -46,14 +25,14 @@ pub sides-of-spec : {M : Type 1} → statement M
 sides-of-spec =
     tie.close
     (tie.spec
-    place-of-requires
-    step-count-requires
-    mul-at
-    add-left
-    mul-left
+    (search needs)
+    (search needs)
+    (search needs)
+    (search needs)
+    (search needs)
     shared-slice-read-left
-    add-right
-    mul-right
+    (search needs)
+    (search needs)
     shared-slice-read-right
     returns
     returns-2)

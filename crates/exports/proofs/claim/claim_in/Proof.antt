@@ -4,23 +4,11 @@ use borrow.Author.Needs.{needs}
 use Rattle.exports.proofs.claim.claim_in.Statement.{statement}
 use Rattle.exports.proofs.claim.claim_in.Tie as tie
 
-read-requires : tie.Need-read-requires
-read-requires c κs = search needs
-
-number-requires : tie.Need-number-requires
-number-requires c κs = search needs
-
-value-requires : tie.Need-value-requires
-value-requires c κs = search needs
-
 returns : tie.Need-returns
 returns c =
     let at-number = c .before .before in
     bundle-refused _ _ (at-number .before .read .ensures) _ (at-number .number .ensures) _ (c .value .ensures) _ _ _
     (c .before .if1 .taken)
-
-claim-texts-requires : tie.Need-claim-texts-requires
-claim-texts-requires c κs = search needs
 
 returns-2 : tie.Need-returns-2
 returns-2 c =
@@ -31,4 +19,4 @@ returns-2 c =
 pub claim-in-spec : {M : Type 1} → statement M
 claim-in-spec =
     tie.close
-    (tie.spec read-requires number-requires value-requires returns claim-texts-requires returns-2)
+    (tie.spec (search needs) (search needs) (search needs) returns (search needs) returns-2)

@@ -5,17 +5,11 @@ use borrow.Author.Needs.{needs}
 use Rattle.exports.proofs.claim.claim_new.Statement.{statement}
 use Rattle.exports.proofs.claim.claim_new.Tie as tie
 
-text-requires : tie.Need-text-requires
-text-requires c κs = search needs
-
 returns : tie.Need-returns
 returns c = new-refused _ _ _ _ _ _ (c .before .text .ensures) _ (c .if1 .taken)
 
 cast-claim-rows : tie.Need-cast-claim-rows
 cast-claim-rows c = omega (arith, row-fits _ _ _ _ _ _ (c .before .text .ensures) (c .if1 .left))
-
-claim-rows-requires : tie.Need-claim-rows-requires
-claim-rows-requires c κs = search needs
 
 returns-2 : tie.Need-returns-2
 returns-2 c =
@@ -23,4 +17,4 @@ returns-2 c =
 
 pub claim-new-spec : {M : Type 1} → statement M
 claim-new-spec =
-    tie.close (tie.spec text-requires returns cast-claim-rows claim-rows-requires returns-2)
+    tie.close (tie.spec (search needs) returns cast-claim-rows (search needs) returns-2)

@@ -4,18 +4,12 @@ use borrow.Author.Needs.{needs}
 use Rattle.exports.proofs.claim.claim_rows.Statement.{statement}
 use Rattle.exports.proofs.claim.claim_rows.Tie as tie
 
-step-saying-requires : tie.Need-step-saying-requires
-step-saying-requires c κs = search needs
-
 returns : tie.Need-returns
 returns c = none-said _ _ _ _ (c .before .step-saying .ensures) (c .if1 .taken)
-
-wide-requires : tie.Need-wide-requires
-wide-requires c κs = search needs
 
 returns-2 : tie.Need-returns-2
 returns-2 c =
     step-said _ _ _ _ _ (c .before .before .step-saying .ensures) (c .before .if1 .left) (c .wide .ensures)
 
 pub claim-rows-spec : {M : Type 1} → statement M
-claim-rows-spec = tie.close (tie.spec step-saying-requires returns wide-requires returns-2)
+claim-rows-spec = tie.close (tie.spec (search needs) returns (search needs) returns-2)

@@ -5,17 +5,11 @@ use borrow.Author.Needs.{needs}
 use Rattle.exports.proofs.claim.claim_texts.Statement.{statement}
 use Rattle.exports.proofs.claim.claim_texts.Tie as tie
 
-text-requires : tie.Need-text-requires
-text-requires c κs = search needs
-
 returns : tie.Need-returns
 returns c = old-refused _ _ _ _ _ _ (c .before .text .ensures) _ (c .if1 .taken)
 
 cast-claim-new : tie.Need-cast-claim-new
 cast-claim-new c = omega (arith, row-fits _ _ _ _ _ _ (c .before .text .ensures) (c .if1 .left))
-
-claim-new-requires : tie.Need-claim-new-requires
-claim-new-requires c κs = search needs
 
 returns-2 : tie.Need-returns-2
 returns-2 c =
@@ -23,4 +17,4 @@ returns-2 c =
 
 pub claim-texts-spec : {M : Type 1} → statement M
 claim-texts-spec =
-    tie.close (tie.spec text-requires returns cast-claim-new claim-new-requires returns-2)
+    tie.close (tie.spec (search needs) returns cast-claim-new (search needs) returns-2)

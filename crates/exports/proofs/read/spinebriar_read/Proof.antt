@@ -4,14 +4,8 @@ use borrow.Author.Needs.{needs}
 use Rattle.exports.proofs.read.spinebriar_read.Statement.{statement}
 use Rattle.exports.proofs.read.spinebriar_read.Tie as tie
 
-read-requires : tie.Need-read-requires
-read-requires c κs = search needs
-
-number-requires : tie.Need-number-requires
-number-requires c κs = search needs
-
 returns : tie.Need-returns
 returns c = c .number .ensures ∙ ap (λ a. a .number) (c .before .read .ensures .answer)
 
 pub spinebriar-read-spec : {M : Type 1} → statement M
-spinebriar-read-spec = tie.close (tie.spec read-requires number-requires returns)
+spinebriar-read-spec = tie.close (tie.spec (search needs) (search needs) returns)

@@ -4,19 +4,10 @@ use borrow.Author.Needs.{needs}
 use Rattle.exports.proofs.read.spinebriar_read_line.Statement.{statement}
 use Rattle.exports.proofs.read.spinebriar_read_line.Tie as tie
 
-read-requires : tie.Need-read-requires
-read-requires c κs = search needs
-
-value-requires : tie.Need-value-requires
-value-requires c κs = search needs
-
-number-requires : tie.Need-number-requires
-number-requires c κs = search needs
-
 returns : tie.Need-returns
 returns c =
     read-told _ _ (c .before .before .read .ensures) _ (c .number .ensures) _ (c .before .value .ensures)
 
 pub spinebriar-read-line-spec : {M : Type 1} → statement M
 spinebriar-read-line-spec =
-    tie.close (tie.spec read-requires value-requires number-requires returns)
+    tie.close (tie.spec (search needs) (search needs) (search needs) returns)

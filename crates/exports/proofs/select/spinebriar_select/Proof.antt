@@ -5,12 +5,6 @@ use borrow.Author.Needs.{needs}
 use Rattle.exports.proofs.select.spinebriar_select.Statement.{statement}
 use Rattle.exports.proofs.select.spinebriar_select.Tie as tie
 
-new-requires : tie.Need-new-requires
-new-requires c κs = search needs
-
-text-requires : tie.Need-text-requires
-text-requires c κs = search needs
-
 returns : tie.Need-returns
 returns c =
     let at-text = c .before in
@@ -18,21 +12,6 @@ returns c =
 
 cast-select : tie.Need-cast-select
 cast-select c = omega (arith, row-fits _ _ _ _ _ _ (c .before .before .text .ensures) (c .before .if1 .left))
-
-select-requires : tie.Need-select-requires
-select-requires c κs = search needs
-
-value-requires : tie.Need-value-requires
-value-requires c κs = search needs
-
-cast-value : tie.Need-cast-value
-cast-value c = search needs
-
-number-requires : tie.Need-number-requires
-number-requires c κs = search needs
-
-same-length : tie.Need-same-length
-same-length c = search needs
 
 returns-2 : tie.Need-returns-2
 returns-2 c =
@@ -46,13 +25,13 @@ pub spinebriar-select-spec : {M : Type 1} → statement M
 spinebriar-select-spec =
     tie.close
     (tie.spec
-    new-requires
-    text-requires
+    (search needs)
+    (search needs)
     returns
     cast-select
-    select-requires
-    value-requires
-    cast-value
-    number-requires
-    same-length
+    (search needs)
+    (search needs)
+    (search needs)
+    (search needs)
+    (search needs)
     returns-2)

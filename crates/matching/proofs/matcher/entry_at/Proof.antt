@@ -6,20 +6,8 @@ use Rattle.matching.specs.code.Unpack.{unpacked}
 use Rattle.matching.proofs.matcher.entry_at.Statement.{statement}
 use Rattle.matching.proofs.matcher.entry_at.Tie as tie
 
-mul-unpacked : tie.Need-mul-unpacked
-mul-unpacked c = search needs
-
-shared-slice-read-unpacked : tie.Need-shared-slice-read-unpacked
-shared-slice-read-unpacked c = search needs
-
-unpacked-requires : tie.Need-unpacked-requires
-unpacked-requires c κs = search needs
-
 returns : tie.Need-returns
 returns c = c .unpacked .ensures
-
-unpacked-requires-2 : tie.Need-unpacked-requires-2
-unpacked-requires-2 c κs = search needs
 
 returns-2 : tie.Need-returns-2
 returns-2 c =
@@ -30,9 +18,9 @@ pub entry-at-spec : {M : Type 1} → statement M
 entry-at-spec =
     tie.close
     (tie.spec
-    mul-unpacked
-    shared-slice-read-unpacked
-    unpacked-requires
+    (search needs)
+    (search needs)
+    (search needs)
     returns
-    unpacked-requires-2
+    (search needs)
     returns-2)

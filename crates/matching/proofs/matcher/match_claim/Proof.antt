@@ -5,18 +5,6 @@ use Rattle.matching.proofs.Matching.{claim-way}
 use Rattle.matching.proofs.matcher.match_claim.Statement.{statement}
 use Rattle.matching.proofs.matcher.match_claim.Tie as tie
 
-match-at-requires : tie.Need-match-at-requires
-match-at-requires c κs = search needs
-
-match-at-requires-2 : tie.Need-match-at-requires-2
-match-at-requires-2 c κs = search needs
-
-same-length : tie.Need-same-length
-same-length c = search needs
-
-same-length-2 : tie.Need-same-length-2
-same-length-2 c = search needs
-
 returns : tie.Need-returns
 returns c =
     let at-right = c .before .before .before .before in
@@ -29,4 +17,6 @@ returns c =
     (at-left .match-at .ensures) (at-right .match-at2 .ensures)
 
 pub match-claim-spec : {M : Type 1} → statement M
-match-claim-spec = tie.close (tie.spec match-at-requires match-at-requires-2 same-length same-length-2 returns)
+match-claim-spec =
+    tie.close
+    (tie.spec (λ c κs. search needs) (λ c κs. search needs) (search needs) (search needs) returns)

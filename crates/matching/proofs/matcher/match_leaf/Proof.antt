@@ -8,9 +8,6 @@ use Rattle.matching.proofs.Matching.{checked, number-way, letter-way}
 use Rattle.matching.proofs.matcher.match_leaf.Statement.{statement}
 use Rattle.matching.proofs.matcher.match_leaf.Tie as tie
 
-and-requires : tie.Need-and-requires
-and-requires c κs = search needs
-
 returns : tie.Need-returns
 returns c =
     let at-if = c .before in
@@ -18,24 +15,6 @@ returns c =
     let m = matched (a .fits) (a .known .now) (a .value .now) in
     λ t depth. checked m (eqb (a .v) (a .x)) (c .and .ensures)
     ∙ number-way t _ (a .x) (a .v) m depth (at-if .if1 .taken)
-
-wide-requires : tie.Need-wide-requires
-wide-requires c κs = search needs
-
-suits-letter-requires : tie.Need-suits-letter-requires
-suits-letter-requires c κs = search needs
-
-and-requires-2 : tie.Need-and-requires-2
-and-requires-2 c κs = search needs
-
-bound-requires : tie.Need-bound-requires
-bound-requires c κs = search needs
-
-same-length : tie.Need-same-length
-same-length c = search needs
-
-same-length-2 : tie.Need-same-length-2
-same-length-2 c = search needs
 
 returns-2 : tie.Need-returns-2
 returns-2 c =
@@ -53,5 +32,5 @@ returns-2 c =
     (at-if .if1 .left) (at-start .pre .0) (at-wide .wide .ensures) (suits .ensures)
 
 pub match-leaf-spec : {M : Type 1} → statement M
-match-leaf-spec = tie.close (tie.spec and-requires returns wide-requires suits-letter-requires and-requires-2
-    bound-requires same-length same-length-2 returns-2)
+match-leaf-spec = tie.close (tie.spec (search needs) returns (search needs) (search needs) (search needs)
+    (λ c κs. search needs) (search needs) (search needs) returns-2)

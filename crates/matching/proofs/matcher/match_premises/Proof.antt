@@ -12,21 +12,6 @@ returns c =
     no-premise (a .table .now) _ (a .at) (a .count) (sidesIn (a .first)) (sidesIn (a .second))
     (matched (a .fits) (a .known .now) (a .value .now)) (c .if1 .taken)
 
-add-entry-at : tie.Need-add-entry-at
-add-entry-at c = search needs
-
-entry-at-requires : tie.Need-entry-at-requires
-entry-at-requires c κs = search needs
-
-match-claim-requires : tie.Need-match-claim-requires
-match-claim-requires c κs = search needs
-
-same-length : tie.Need-same-length
-same-length c = search needs
-
-same-length-2 : tie.Need-same-length-2
-same-length-2 c = search needs
-
 returns-2 : tie.Need-returns-2
 returns-2 c =
     let back = c .before .before .before .before in
@@ -37,15 +22,6 @@ returns-2 c =
     one-premise (a .table .now) _ (a .at) (a .count) (sidesIn (a .first)) (sidesIn (a .second))
     (matched (a .fits) (a .known .now) (a .value .now)) (at-entry .entry-at .ensures) (at-claim .match-claim .ensures)
     (c .if2 .taken)
-
-match-claim-requires-2 : tie.Need-match-claim-requires-2
-match-claim-requires-2 c κs = search needs
-
-same-length-3 : tie.Need-same-length-3
-same-length-3 c = search needs
-
-same-length-4 : tie.Need-same-length-4
-same-length-4 c = search needs
 
 returns-3 : tie.Need-returns-3
 returns-3 c =
@@ -61,5 +37,6 @@ returns-3 c =
     (at-second .match-claim2 .ensures) (at-entry .before .if1 .left) (at-if .if2 .left)
 
 pub match-premises-spec : {M : Type 1} → statement M
-match-premises-spec = tie.close (tie.spec returns add-entry-at entry-at-requires match-claim-requires same-length
-    same-length-2 returns-2 match-claim-requires-2 same-length-3 same-length-4 returns-3)
+match-premises-spec =
+    tie.close (tie.spec returns (search needs) (λ c κs. search needs) (λ c κs. search needs) (search needs)
+    (search needs) returns-2 (λ c κs. search needs) (search needs) (search needs) returns-3)

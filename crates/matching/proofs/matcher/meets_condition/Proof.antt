@@ -10,36 +10,6 @@ use Rattle.matching.proofs.Conditions.{none-asked, one-asked}
 use Rattle.matching.proofs.matcher.meets_condition.Statement.{statement}
 use Rattle.matching.proofs.matcher.meets_condition.Tie as tie
 
-shared-slice-read-a : tie.Need-shared-slice-read-a
-shared-slice-read-a c = search needs
-
-shared-slice-read-b : tie.Need-shared-slice-read-b
-shared-slice-read-b c = search needs
-
-shared-slice-read-test : tie.Need-shared-slice-read-test
-shared-slice-read-test c = search needs
-
-axis-below-requires : tie.Need-axis-below-requires
-axis-below-requires c κs = search needs
-
-shared-slice-read-test-below : tie.Need-shared-slice-read-test-below
-shared-slice-read-test-below c = search needs
-
-shared-slice-read-test-below-2 : tie.Need-shared-slice-read-test-below-2
-shared-slice-read-test-below-2 c = search needs
-
-shared-slice-read-test-below-3 : tie.Need-shared-slice-read-test-below-3
-shared-slice-read-test-below-3 c = search needs
-
-test-below-requires : tie.Need-test-below-requires
-test-below-requires c κs = search needs
-
-and-requires : tie.Need-and-requires
-and-requires c κs = search needs
-
-or-requires : tie.Need-or-requires
-or-requires c κs = search needs
-
 returns : tie.Need-returns
 unfolding conditionOf meets numbersIn axisLetter
 returns c =
@@ -95,6 +65,6 @@ returns-7 c =
     none-asked (a .value .now) (a .k) (c .match .rest)
 
 pub meets-condition-spec : {M : Type 1} → statement M
-meets-condition-spec = tie.close (tie.spec shared-slice-read-a shared-slice-read-b shared-slice-read-test
-    axis-below-requires shared-slice-read-test-below shared-slice-read-test-below-2 shared-slice-read-test-below-3
-    test-below-requires and-requires or-requires returns returns-2 returns-3 returns-4 returns-5 returns-6 returns-7)
+meets-condition-spec = tie.close (tie.spec (search needs) (search needs) (search needs)
+    (search needs) (search needs) (search needs) (search needs)
+    (search needs) (search needs) (search needs) returns returns-2 returns-3 returns-4 returns-5 returns-6 returns-7)

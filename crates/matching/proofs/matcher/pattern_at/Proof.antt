@@ -1,25 +1,12 @@
 -- The patterns begin at their first place. Assumes nothing.
 use Prim.Native.Nat.{_+_}
 use mathlib.Core.Path.{ap, _∙_}
-use native.Mathlib.Omega.{arith}
 use borrow.Author.Needs.{needs}
 use Rattle.matching.specs.code.Pattern.{formPatterns}
 use Rattle.matching.specs.code.Encode.{firstPattern}
 use Rattle.matching.specs.code.Unpack.{entryAt, patternAt}
 use Rattle.matching.proofs.matcher.pattern_at.Statement.{statement}
 use Rattle.matching.proofs.matcher.pattern_at.Tie as tie
-
-sub-wide : tie.Need-sub-wide
-sub-wide c = search needs
-
-wide-requires : tie.Need-wide-requires
-wide-requires c κs = search needs
-
-add-entry-at : tie.Need-add-entry-at
-add-entry-at c = search needs
-
-entry-at-requires : tie.Need-entry-at-requires
-entry-at-requires c κs = search needs
 
 returns : tie.Need-returns
 unfolding patternAt firstPattern formPatterns
@@ -28,4 +15,4 @@ returns c =
     c .entry-at .ensures ∙ ap (λ i. entryAt (a .table .now) (firstPattern + i)) (c .before .wide .ensures)
 
 pub pattern-at-spec : {M : Type 1} → statement M
-pattern-at-spec = tie.close (tie.spec sub-wide wide-requires add-entry-at entry-at-requires returns)
+pattern-at-spec = tie.close (tie.spec (search needs) (search needs) (search needs) (λ c κs. search needs) returns)

@@ -1,5 +1,5 @@
 -- Past the last rule of the table there is none. Assumes nothing.
-use mathlib.Core.Path.{sym, _∙_, ap}
+use mathlib.Core.Path.{_∙_, ap}
 use borrow.Author.Needs.{needs}
 use borrow.Author.Tests.{lt-ltb, le-ltb}
 use Rattle.rules.specs.Yields.{tableRules}
@@ -11,12 +11,6 @@ returns : tie.Need-returns
 unfolding ruleAt
 returns c = rw (lt-ltb tableRules (c .before .before .args .rule) (c .if1 .taken))
 
-wide-requires : tie.Need-wide-requires
-wide-requires c κs = search needs
-
-entry-at-requires : tie.Need-entry-at-requires
-entry-at-requires c κs = search needs
-
 returns-2 : tie.Need-returns-2
 unfolding ruleAt
 returns-2 c =
@@ -25,4 +19,4 @@ returns-2 c =
     (c .entry-at .ensures ∙ ap (entryAt (a .table .now)) (c .before .wide .ensures))
 
 pub rule-at-spec : {M : Type 1} → statement M
-rule-at-spec = tie.close (tie.spec returns wide-requires entry-at-requires returns-2)
+rule-at-spec = tie.close (tie.spec returns (search needs) (λ c κs. search needs) returns-2)

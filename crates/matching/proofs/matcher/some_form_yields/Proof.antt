@@ -1,6 +1,6 @@
 -- Each of the forms is tried. Assumes nothing.
-use Prim.Native.Nat.{_+_, _*_, _≤_, _<_, _^_}
-use mathlib.Core.Path.{_≡_, refl, sym, ap}
+use Prim.Native.Nat.{_+_, _*_, _≤_, _^_}
+use mathlib.Core.Path.{sym, ap}
 use mathlib.Core.List.{[], _∷_}
 use native.Mathlib.Omega.{arith}
 use lib.ListN.{take}
@@ -22,9 +22,6 @@ Inv-loop rows table place n count left right first second at₀ rest₀ at rest 
 
 abbrev μ-loop : tie.MeasureT-loop
 μ-loop rows table place n count left right first second at₀ rest₀ at rest = rest
-
-wide-requires : tie.Need-wide-requires Inv-loop μ-loop
-wide-requires c κs = search needs
 
 loop-holds : tie.Need-loop-holds Inv-loop μ-loop
 loop-holds c =
@@ -70,7 +67,7 @@ some-form-yields-spec =
     (tie.spec
     Inv-loop
     μ-loop
-    wide-requires
+    (search needs)
     loop-holds
     form-yields-requires
     returns

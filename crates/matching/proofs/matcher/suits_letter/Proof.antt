@@ -5,15 +5,9 @@ use Rattle.matching.specs.code.RowYields.{suits}
 use Rattle.matching.proofs.matcher.suits_letter.Statement.{statement}
 use Rattle.matching.proofs.matcher.suits_letter.Tie as tie
 
-is-held-path-requires : tie.Need-is-held-path-requires
-is-held-path-requires c κs = search needs
-
 returns : tie.Need-returns
 unfolding suits
 returns c = rw (lt-ltb _ _ (c .before .if1 .taken)) (c .is-held-path .ensures)
-
-is-held-qualifier-requires : tie.Need-is-held-qualifier-requires
-is-held-qualifier-requires c κs = search needs
 
 returns-2 : tie.Need-returns-2
 unfolding suits
@@ -27,4 +21,4 @@ returns-3 c = rw (le-ltb _ _ (c .before .if1 .left), le-ltb _ _ (c .if2 .left))
 pub suits-letter-spec : {M : Type 1} → statement M
 suits-letter-spec =
     tie.close
-    (tie.spec is-held-path-requires returns is-held-qualifier-requires returns-2 returns-3)
+    (tie.spec (search needs) returns (search needs) returns-2 returns-3)

@@ -5,15 +5,9 @@ use Rattle.matching.specs.code.MatchTypes.{pairsOf}
 use Rattle.matching.proofs.order.axis_below.Statement.{statement}
 use Rattle.matching.proofs.order.axis_below.Tie as tie
 
-slice-aggregate-is-pair : tie.Need-slice-aggregate-is-pair
-slice-aggregate-is-pair c = search needs
-
-is-pair-requires : tie.Need-is-pair-requires
-is-pair-requires c κs = search needs
-
 returns : tie.Need-returns
 unfolding axisBelow axisPairs pairsOf
 returns c = c .is-pair .ensures
 
 pub axis-below-spec : {M : Type 1} → statement M
-axis-below-spec = tie.close (tie.spec slice-aggregate-is-pair is-pair-requires returns)
+axis-below-spec = tie.close (tie.spec (search needs) (search needs) returns)

@@ -17,21 +17,6 @@ abbrev μ-loop : tie.MeasureT-loop
 loop-holds : tie.Need-loop-holds Inv-loop μ-loop
 loop-holds c = (omega arith, refl)
 
-mul-pair : tie.Need-mul-pair Inv-loop μ-loop
-mul-pair c = search needs
-
-shared-slice-copy-out-pair : tie.Need-shared-slice-copy-out-pair Inv-loop μ-loop
-shared-slice-copy-out-pair c = search needs
-
-array-read-and : tie.Need-array-read-and Inv-loop μ-loop
-array-read-and c = search needs
-
-array-read-and-2 : tie.Need-array-read-and-2 Inv-loop μ-loop
-array-read-and-2 c = search needs
-
-and-requires : tie.Need-and-requires Inv-loop μ-loop
-and-requires c κs = search needs
-
 returns : tie.Need-returns Inv-loop μ-loop
 returns c =
     let l = c .before .before .before .before in
@@ -60,11 +45,11 @@ is-pair-spec =
     Inv-loop
     μ-loop
     loop-holds
-    mul-pair
-    shared-slice-copy-out-pair
-    array-read-and
-    array-read-and-2
-    and-requires
+    (search needs)
+    (search needs)
+    (search needs)
+    (search needs)
+    (search needs)
     returns
     add-i
     loop-less

@@ -5,12 +5,6 @@ use Rattle.matching.specs.code.MatchTypes.{pairsOf}
 use Rattle.matching.proofs.way_back.is_opposite.Statement.{statement}
 use Rattle.matching.proofs.way_back.is_opposite.Tie as tie
 
-slice-aggregate-is-pair : tie.Need-slice-aggregate-is-pair
-slice-aggregate-is-pair c = search needs
-
-is-pair-requires : tie.Need-is-pair-requires
-is-pair-requires c κs = search needs
-
 returns : tie.Need-returns
 unfolding opposites pairsOf
 returns c = c .is-pair .ensures
@@ -19,6 +13,6 @@ pub is-opposite-spec : {M : Type 1} → statement M
 is-opposite-spec =
     tie.close
     (tie.spec
-    slice-aggregate-is-pair
-    is-pair-requires
+    (search needs)
+    (search needs)
     returns)

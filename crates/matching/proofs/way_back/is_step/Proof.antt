@@ -5,21 +5,6 @@ use borrow.Author.Needs.{needs}
 use Rattle.matching.proofs.way_back.is_step.Statement.{statement}
 use Rattle.matching.proofs.way_back.is_step.Tie as tie
 
-wide-requires : tie.Need-wide-requires
-wide-requires c κs = search needs
-
-row-at-requires : tie.Need-row-at-requires
-row-at-requires c κs = search needs
-
-and-requires : tie.Need-and-requires
-and-requires c κs = search needs
-
-and-requires-2 : tie.Need-and-requires-2
-and-requires-2 c κs = search needs
-
-and-requires-3 : tie.Need-and-requires-3
-and-requires-3 c κs = search needs
-
 returns : tie.Need-returns
 returns c =
     let d = c .before .before .before .before in
@@ -32,9 +17,9 @@ pub is-step-spec : {M : Type 1} → statement M
 is-step-spec =
     tie.close
     (tie.spec
-    wide-requires
-    row-at-requires
-    and-requires
-    and-requires-2
-    and-requires-3
+    (search needs)
+    (search needs)
+    (search needs)
+    (search needs)
+    (search needs)
     returns)

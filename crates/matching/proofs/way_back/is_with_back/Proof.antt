@@ -6,42 +6,6 @@ use Rattle.matching.proofs.RowWayBack.{other-rows-way, with-back-way}
 use Rattle.matching.proofs.way_back.is_with_back.Statement.{statement}
 use Rattle.matching.proofs.way_back.is_with_back.Tie as tie
 
-wide-requires : tie.Need-wide-requires
-wide-requires c κs = search needs
-
-row-at-requires : tie.Need-row-at-requires
-row-at-requires c κs = search needs
-
-wide-requires-2 : tie.Need-wide-requires-2
-wide-requires-2 c κs = search needs
-
-row-at-requires-2 : tie.Need-row-at-requires-2
-row-at-requires-2 c κs = search needs
-
-wide-requires-3 : tie.Need-wide-requires-3
-wide-requires-3 c κs = search needs
-
-row-at-requires-3 : tie.Need-row-at-requires-3
-row-at-requires-3 c κs = search needs
-
-wide-requires-4 : tie.Need-wide-requires-4
-wide-requires-4 c κs = search needs
-
-row-at-requires-4 : tie.Need-row-at-requires-4
-row-at-requires-4 c κs = search needs
-
-and-requires : tie.Need-and-requires
-and-requires c κs = search needs
-
-and-requires-2 : tie.Need-and-requires-2
-and-requires-2 c κs = search needs
-
-and-requires-3 : tie.Need-and-requires-3
-and-requires-3 c κs = search needs
-
-and-requires-4 : tie.Need-and-requires-4
-and-requires-4 c κs = search needs
-
 returns : tie.Need-returns
 returns c =
     let c₄ = c .before .before .before .before in
@@ -70,9 +34,6 @@ is-back-requires c κs =
     let c₂₀ = c₁₆ .before .before .before .before in
     c₂₀ .before .pre
 
-same-length : tie.Need-same-length
-same-length c = search needs
-
 returns-2 : tie.Need-returns-2
 returns-2 c =
     let c₄ = c .before .before .before .before in
@@ -97,19 +58,19 @@ pub is-with-back-spec : {M : Type 1} → statement M
 is-with-back-spec =
     tie.close
     (tie.spec
-    wide-requires
-    row-at-requires
-    wide-requires-2
-    row-at-requires-2
-    wide-requires-3
-    row-at-requires-3
-    wide-requires-4
-    row-at-requires-4
-    and-requires
-    and-requires-2
-    and-requires-3
-    and-requires-4
+    (search needs)
+    (search needs)
+    (search needs)
+    (search needs)
+    (search needs)
+    (search needs)
+    (search needs)
+    (search needs)
+    (search needs)
+    (search needs)
+    (search needs)
+    (search needs)
     returns
     is-back-requires
-    same-length
+    (search needs)
     returns-2)

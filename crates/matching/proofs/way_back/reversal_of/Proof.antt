@@ -7,15 +7,6 @@ use Rattle.matching.proofs.RowWayBack.{union-seen, composition-seen, fi
 use Rattle.matching.proofs.way_back.reversal_of.Statement.{statement}
 use Rattle.matching.proofs.way_back.reversal_of.Tie as tie
 
-is-filter-back-requires : tie.Need-is-filter-back-requires
-is-filter-back-requires c κs = search needs
-
-is-step-back-requires : tie.Need-is-step-back-requires
-is-step-back-requires c κs = search needs
-
-and-requires : tie.Need-and-requires
-and-requires c κs = search needs
-
 returns : tie.Need-returns
 unfolding Reverses
 returns c back =
@@ -46,4 +37,4 @@ returns-4 c back =
 pub reversal-of-spec : {M : Type 1} → statement M
 reversal-of-spec =
     tie.close
-    (tie.spec is-filter-back-requires is-step-back-requires and-requires returns returns-2 returns-3 returns-4)
+    (tie.spec (search needs) (search needs) (search needs) returns returns-2 returns-3 returns-4)

@@ -1,6 +1,6 @@
 -- `Records::current` meets its contract. The loop's invariant: the highest edition from place i on. Assumes nothing.
 use Prim.Native.Nat.{_-_, _≤_}
-use mathlib.Core.Path.{_≡_, refl, sym, ap, _∙_}
+use mathlib.Core.Path.{_≡_, sym, ap, _∙_}
 use native.Mathlib.Omega.{arith}
 use lib.ListN.{length, take, drop}
 use borrow.Author.Needs.{needs}
@@ -17,9 +17,6 @@ Inv-loop series held highest₀ i₀ highest i =
 abbrev μ-loop : tie.MeasureT-loop
 μ-loop series held highest₀ i₀ highest i = i
 
-size-requires : tie.Need-size-requires Inv-loop μ-loop
-size-requires c κs = search needs
-
 loop-holds : tie.Need-loop-holds Inv-loop μ-loop
 loop-holds c =
     let s = c .before .before .args .self in
@@ -33,21 +30,6 @@ loop-holds c =
           (c .before .before .args .series)),
     )
 
-sub-i : tie.Need-sub-i Inv-loop μ-loop
-sub-i c = search needs
-
-mul-here : tie.Need-mul-here Inv-loop μ-loop
-mul-here c = search needs
-
-array-copy-out-here : tie.Need-array-copy-out-here Inv-loop μ-loop
-array-copy-out-here c = search needs
-
-and-requires : tie.Need-and-requires Inv-loop μ-loop
-and-requires c κs = search needs
-
-loop-less : tie.Need-loop-less Inv-loop μ-loop
-loop-less c = search needs
-
 loop-again : tie.Need-loop-again Inv-loop μ-loop
 loop-again c =
     let at-loop = c .before .before .before .before .before in
@@ -59,9 +41,6 @@ loop-again c =
     (l .inv .3)
     _ (c .before .and .ensures) (c .if1 .taken) in
     (omega arith, omega arith, l .inv .2, here)
-
-loop-less-2 : tie.Need-loop-less-2 Inv-loop μ-loop
-loop-less-2 c = search needs
 
 loop-again-2 : tie.Need-loop-again-2 Inv-loop μ-loop
 loop-again-2 c =
@@ -90,14 +69,14 @@ current-spec =
     (tie.spec
     Inv-loop
     μ-loop
-    size-requires
+    (search needs)
     loop-holds
-    sub-i
-    mul-here
-    array-copy-out-here
-    and-requires
-    loop-less
+    (search needs)
+    (search needs)
+    (search needs)
+    (search needs)
+    (λ c. search needs)
     loop-again
-    loop-less-2
+    (λ c. search needs)
     loop-again-2
     returns)

@@ -6,13 +6,10 @@ use lib.ListN.{length}
 use lib.Seq.{length-take-le}
 use borrow.Author.Needs.{needs}
 use Rattle.records.specs.Records.{maxRecords}
-use Rattle.records.specs.Held.{sizeOf}
+use Rattle.records.specs.code.Held.{sizeOf}
 use Rattle.records.proofs.Searches.{length-mapped}
 use Rattle.records.proofs.Records.is_full.Statement.{statement}
 use Rattle.records.proofs.Records.is_full.Tie as tie
-
-size-requires : tie.Need-size-requires
-size-requires c κs = search needs
 
 returns : tie.Need-returns
 returns c =
@@ -21,4 +18,4 @@ returns c =
     ap (leb maxRecords) (c .size .ensures ∙ sym (length-take-le (sizeOf s) (s .held) (omega arith)))
 
 pub is-full-spec : {M : Type 1} → statement M
-is-full-spec = tie.close (tie.spec size-requires returns)
+is-full-spec = tie.close (tie.spec (search needs) returns)

@@ -6,35 +6,14 @@ use Rattle.records.proofs.Judged.{not-the-next, no-path, no-fit, all-fu
 use Rattle.records.proofs.Records.judge.Statement.{statement}
 use Rattle.records.proofs.Records.judge.Tie as tie
 
-current-requires : tie.Need-current-requires
-current-requires c κs = search needs
-
-cast-due : tie.Need-cast-due
-cast-due c = search needs
-
-add-due : tie.Need-add-due
-add-due c = search needs
-
-cast-if1 : tie.Need-cast-if1
-cast-if1 c = search needs
-
 returns : tie.Need-returns
 returns c = not-the-next _ _ _ _ _ (c .before .before .current .ensures) (c .if1 .taken)
-
-is-held-path-requires : tie.Need-is-held-path-requires
-is-held-path-requires c κs = search needs
 
 returns-2 : tie.Need-returns-2
 returns-2 c =
     let at-if = c .before .before in
     no-path _ _ _ _ _ (at-if .before .before .current .ensures) (at-if .if1 .left)
     (sym (c .before .is-held-path .ensures) ∙ not-true _ (c .if2 .taken))
-
-row-of-requires : tie.Need-row-of-requires
-row-of-requires c κs = search needs
-
-is-fit-step-requires : tie.Need-is-fit-step-requires
-is-fit-step-requires c κs = search needs
 
 returns-3 : tie.Need-returns-3
 returns-3 c =
@@ -44,9 +23,6 @@ returns-3 c =
     (sym (at-path .before .is-held-path .ensures) ∙ not-false _ (at-path .if2 .left))
     _ (c .before .before .row-of .ensures)
     (sym (c .before .is-fit-step .ensures) ∙ not-true _ (c .if3 .taken))
-
-is-full-requires : tie.Need-is-full-requires
-is-full-requires c κs = search needs
 
 returns-4 : tie.Need-returns-4
 returns-4 c =
@@ -74,16 +50,16 @@ pub judge-spec : {M : Type 1} → statement M
 judge-spec =
     tie.close
     (tie.spec
-    current-requires
-    cast-due
-    add-due
-    cast-if1
+    (search needs)
+    (search needs)
+    (search needs)
+    (search needs)
     returns
-    is-held-path-requires
+    (search needs)
     returns-2
-    row-of-requires
-    is-fit-step-requires
+    (search needs)
+    (search needs)
     returns-3
-    is-full-requires
+    (search needs)
     returns-4
     returns-5)

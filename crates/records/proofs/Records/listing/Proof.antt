@@ -1,22 +1,17 @@
 -- `Records::listing` meets its contract: all are released. Assumes nothing.
 use Prim.Native.Nat.{_≤_}
-use mathlib.Core.Path.{_≡_, ap, _∙_}
+use mathlib.Core.Path.{ap, _∙_}
 use native.Mathlib.Omega.{arith}
 use lib.ListN.{length, length-take}
 use borrow.Author.Needs.{needs}
 use Rattle.records.specs.Records.{maxRecords}
-use Rattle.records.specs.Held.{sizeOf, recordsIn}
+use Rattle.records.specs.code.Held.{sizeOf, recordsIn}
 use Rattle.records.specs.Releases.{released}
-use Rattle.records.specs.Listed.{allReleases, listed}
+use Rattle.records.specs.code.Listed.{listed}
+use Rattle.records.specs.code.Promises.{allReleases}
 use Rattle.records.proofs.Released.{every-released}
 use Rattle.records.proofs.Records.listing.Statement.{statement}
 use Rattle.records.proofs.Records.listing.Tie as tie
-
-all-requires : tie.Need-all-requires
-all-requires c κs = search needs
-
-released-requires : tie.Need-released-requires
-released-requires c κs = search needs
 
 returns : tie.Need-returns
 unfolding allReleases
@@ -28,4 +23,4 @@ returns c =
     ∙ ap listed (every-released (recordsIn s) maxRecords few)
 
 pub listing-spec : {M : Type 1} → statement M
-listing-spec = tie.close (tie.spec all-requires released-requires returns)
+listing-spec = tie.close (tie.spec (search needs) (search needs) returns)

@@ -6,17 +6,11 @@ use lib.Seq.{length-take-le}
 use borrow.Author.Needs.{needs}
 use Rattle.calls.proofs.Accepted.{if-accepted, if-refused}
 use Rattle.records.specs.Records.{maxRecords}
-use Rattle.records.specs.Held.{sizeOf, recordsIn, withRecord}
+use Rattle.records.specs.code.Held.{sizeOf, recordsIn, withRecord}
 use Rattle.records.proofs.Searches.{length-mapped}
 use Rattle.records.proofs.Judged.{record-accepted}
 use Rattle.records.proofs.Records.record.Statement.{statement}
 use Rattle.records.proofs.Records.record.Tie as tie
-
-judge-requires : tie.Need-judge-requires
-judge-requires c κs = search needs
-
-number-requires : tie.Need-number-requires
-number-requires c κs = search needs
 
 put-requires : tie.Need-put-requires
 put-requires c κs =
@@ -51,4 +45,4 @@ returns-2 c =
     }
 
 pub record-spec : {M : Type 1} → statement M
-record-spec = tie.close (tie.spec judge-requires number-requires put-requires returns returns-2)
+record-spec = tie.close (tie.spec (search needs) (search needs) put-requires returns returns-2)

@@ -8,7 +8,7 @@ use lib.ListN.{length, take}
 use borrow.Author.Needs.{needs}
 use Rattle.records.specs.Records.{maxRecords}
 use Rattle.records.specs.Releases.{released}
-use Rattle.records.specs.Listed.{listed}
+use Rattle.records.specs.code.Listed.{listed}
 use Rattle.records.proofs.Searches.{length-mapped}
 use Rattle.records.proofs.Released.{Shown, none-shown, has-room, shown-more, shown-same, all-shown}
 use Rattle.records.proofs.Records.released.Statement.{statement}
@@ -22,12 +22,6 @@ Inv-loop n held flags shown₀ i₀ shown i =
 abbrev μ-loop : tie.MeasureT-loop
 μ-loop n held flags shown₀ i₀ shown i = n - i
 
-size-requires : tie.Need-size-requires Inv-loop μ-loop
-size-requires c κs = search needs
-
-new-requires : tie.Need-new-requires Inv-loop μ-loop
-new-requires c κs = search needs
-
 loop-holds : tie.Need-loop-holds Inv-loop μ-loop
 loop-holds c =
     let at-size = c .before .before .before in
@@ -37,25 +31,10 @@ loop-holds c =
     let count = at-size .size .ensures in
     (omega arith, omega arith, size, flags, none-shown _ _ _ _ (c .new .ensures))
 
-mul-here : tie.Need-mul-here Inv-loop μ-loop
-mul-here c = search needs
-
-array-copy-out-here : tie.Need-array-copy-out-here Inv-loop μ-loop
-array-copy-out-here c = search needs
-
-array-read-flag : tie.Need-array-read-flag Inv-loop μ-loop
-array-read-flag c = search needs
-
 put-requires : tie.Need-put-requires Inv-loop μ-loop
 put-requires c κs =
     let l = c .before .before .before .loop in
     has-room _ _ _ _ _ (omega arith) (l .inv .1) (l .inv .4)
-
-add-i : tie.Need-add-i Inv-loop μ-loop
-add-i c = search needs
-
-loop-less : tie.Need-loop-less Inv-loop μ-loop
-loop-less c = search needs
 
 loop-again : tie.Need-loop-again Inv-loop μ-loop
 loop-again c =
@@ -90,14 +69,14 @@ released-spec =
     (tie.spec
     Inv-loop
     μ-loop
-    size-requires
-    new-requires
+    (search needs)
+    (search needs)
     loop-holds
-    mul-here
-    array-copy-out-here
-    array-read-flag
+    (search needs)
+    (search needs)
+    (search needs)
     put-requires
-    add-i
-    loop-less
+    (search needs)
+    (λ c. search needs)
     loop-again
     returns)

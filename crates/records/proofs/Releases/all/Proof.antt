@@ -1,6 +1,6 @@
 -- `Releases::all` meets its contract. Assumes nothing.
 use mathlib.Core.Path.{refl}
-use Rattle.records.specs.Listed.{allReleases}
+use Rattle.records.specs.code.Promises.{allReleases}
 use Rattle.records.proofs.Releases.all.Statement.{statement}
 use Rattle.records.proofs.Releases.all.Tie as tie
 

@@ -1,6 +1,6 @@
 -- `Releases::new` meets its contract. Assumes nothing.
 use mathlib.Core.Path.{refl}
-use Rattle.records.specs.Listed.{noReleases}
+use Rattle.records.specs.code.Listed.{noReleases}
 use Rattle.records.proofs.Releases.new.Statement.{statement}
 use Rattle.records.proofs.Releases.new.Tie as tie
 

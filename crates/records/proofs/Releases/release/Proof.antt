@@ -8,18 +8,12 @@ use borrow.Author.Needs.{needs}
 use Rattle.calls.proofs.Accepted.{if-accepted, if-refused}
 use Rattle.records.specs.declared.Records.{Records}
 use Rattle.records.specs.Records.{maxRecords}
-use Rattle.records.specs.Held.{sizeOf, recordsIn}
-use Rattle.records.specs.Listed.{flagged}
+use Rattle.records.specs.code.Held.{sizeOf, recordsIn}
+use Rattle.records.specs.code.Listed.{flagged}
 use Rattle.records.proofs.Searches.{length-mapped}
 use Rattle.records.proofs.Released.{place-0, past-last, of-a-record}
 use Rattle.records.proofs.Releases.release.Statement.{statement}
 use Rattle.records.proofs.Releases.release.Tie as tie
-
-size-requires : tie.Need-size-requires
-size-requires c κs = search needs
-
-wide-requires : tie.Need-wide-requires
-wide-requires c κs = search needs
 
 returns : tie.Need-returns
 returns c =
@@ -40,9 +34,6 @@ returns-2 c =
     let wide = c .before .before .wide .ensures in
     let told = past-last (recordsIn (a .records)) _ (at-size .size .ensures ∙ sym count) (a .place) (omega arith) in
     record { answer = told; left = if-refused _ _ told _ _ (λ e. omega arith) }
-
-sub-put : tie.Need-sub-put
-sub-put c = search needs
 
 put-requires : tie.Need-put-requires
 put-requires c κs = let count = c .before .before .before .size .ensures in omega arith
@@ -66,4 +57,4 @@ returns-3 c =
 pub release-spec : {M : Type 1} → statement M
 release-spec =
     tie.close
-    (tie.spec size-requires wide-requires returns returns-2 sub-put put-requires returns-3)
+    (tie.spec (search needs) (search needs) returns returns-2 (search needs) put-requires returns-3)

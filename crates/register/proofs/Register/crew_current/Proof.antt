@@ -2,18 +2,12 @@
 use mathlib.Core.Path.{ap, _∙_}
 use borrow.Author.Needs.{needs}
 use Rattle.records.specs.Records.{current}
-use Rattle.records.specs.Held.{recordsIn}
+use Rattle.records.specs.code.Held.{recordsIn}
 use Rattle.records.proofs.Released.{in-listing}
 use Rattle.records.proofs.Crew.{released-fit}
 use Rattle.register.specs.Promises.{releasedIn}
 use Rattle.register.proofs.Register.crew_current.Statement.{statement}
 use Rattle.register.proofs.Register.crew_current.Tie as tie
-
-released-requires : tie.Need-released-requires
-released-requires c κs = search needs
-
-current-requires : tie.Need-current-requires
-current-requires c κs = search needs
 
 returns : tie.Need-returns
 returns c =
@@ -24,4 +18,4 @@ returns c =
     ∙ ap (λ rs. current rs (a .series)) (in-listing (releasedIn s) (released-fit (s .records) (s .releases .flags)))
 
 pub crew-current-spec : {M : Type 1} → statement M
-crew-current-spec = tie.close (tie.spec released-requires current-requires returns)
+crew-current-spec = tie.close (tie.spec (search needs) (search needs) returns)

@@ -3,11 +3,8 @@ use borrow.Author.Needs.{needs}
 use Rattle.register.proofs.Register.current.Statement.{statement}
 use Rattle.register.proofs.Register.current.Tie as tie
 
-current-requires : tie.Need-current-requires
-current-requires c κs = search needs
-
 returns : tie.Need-returns
 returns c = c .current .ensures
 
 pub current-spec : {M : Type 1} → statement M
-current-spec = tie.close (tie.spec current-requires returns)
+current-spec = tie.close (tie.spec (search needs) returns)

@@ -3,11 +3,8 @@ use borrow.Author.Needs.{needs}
 use Rattle.register.proofs.Register.listing.Statement.{statement}
 use Rattle.register.proofs.Register.listing.Tie as tie
 
-listing-requires : tie.Need-listing-requires
-listing-requires c κs = search needs
-
 returns : tie.Need-returns
 returns c = c .listing .ensures
 
 pub listing-spec : {M : Type 1} → statement M
-listing-spec = tie.close (tie.spec listing-requires returns)
+listing-spec = tie.close (tie.spec (search needs) returns)

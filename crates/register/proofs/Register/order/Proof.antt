@@ -3,11 +3,8 @@ use borrow.Author.Needs.{needs}
 use Rattle.register.proofs.Register.order.Statement.{statement}
 use Rattle.register.proofs.Register.order.Tie as tie
 
-order-requires : tie.Need-order-requires
-order-requires c κs = search needs
-
 returns : tie.Need-returns
 returns c = c .order .ensures
 
 pub order-spec : {M : Type 1} → statement M
-order-spec = tie.close (tie.spec order-requires returns)
+order-spec = tie.close (tie.spec (search needs) returns)

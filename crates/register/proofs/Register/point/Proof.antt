@@ -5,13 +5,10 @@ use Rattle.register.proofs.Calls.{on-made}
 use Rattle.register.proofs.Register.point.Statement.{statement}
 use Rattle.register.proofs.Register.point.Tie as tie
 
-point-requires : tie.Need-point-requires
-point-requires c κs = search needs
-
 returns : tie.Need-returns
 returns c =
     let at-made = c .before in
     on-made (at-made .before .before .before .before .args .self) _ _ _ (at-made .point .ensures) refl
 
 pub point-spec : {M : Type 1} → statement M
-point-spec = tie.close (tie.spec point-requires returns)
+point-spec = tie.close (tie.spec (search needs) returns)

@@ -3,11 +3,8 @@ use borrow.Author.Needs.{needs}
 use Rattle.register.proofs.Register.replace.Statement.{statement}
 use Rattle.register.proofs.Register.replace.Tie as tie
 
-replace-requires : tie.Need-replace-requires
-replace-requires c κs = search needs
-
 returns : tie.Need-returns
 returns c = c .replace .ensures
 
 pub replace-spec : {M : Type 1} → statement M
-replace-spec = tie.close (tie.spec replace-requires returns)
+replace-spec = tie.close (tie.spec (search needs) returns)

@@ -5,15 +5,6 @@ use Rattle.register.proofs.Calls.{return-barred, return-on, return-not}
 use Rattle.register.proofs.Register.return_to.Statement.{statement}
 use Rattle.register.proofs.Register.return_to.Tie as tie
 
-return-to-requires : tie.Need-return-to-requires
-return-to-requires c κs = search needs
-
-drops-in-use-requires : tie.Need-drops-in-use-requires
-drops-in-use-requires c κs = search needs
-
-number-requires : tie.Need-number-requires
-number-requires c κs = search needs
-
 returns : tie.Need-returns
 returns c =
     let at-number = c .before .before in
@@ -45,4 +36,4 @@ returns-3 c =
 pub return-to-spec : {M : Type 1} → statement M
 return-to-spec =
     tie.close
-    (tie.spec return-to-requires drops-in-use-requires number-requires returns returns-2 returns-3)
+    (tie.spec (search needs) (search needs) (search needs) returns returns-2 returns-3)

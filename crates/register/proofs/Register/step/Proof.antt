@@ -5,13 +5,10 @@ use Rattle.register.proofs.Calls.{on-made}
 use Rattle.register.proofs.Register.step.Statement.{statement}
 use Rattle.register.proofs.Register.step.Tie as tie
 
-step-requires : tie.Need-step-requires
-step-requires c κs = search needs
-
 returns : tie.Need-returns
 returns c =
     let at-made = c .before in
     on-made (at-made .before .before .before .before .args .self) _ _ _ (at-made .step .ensures) refl
 
 pub step-spec : {M : Type 1} → statement M
-step-spec = tie.close (tie.spec step-requires returns)
+step-spec = tie.close (tie.spec (search needs) returns)

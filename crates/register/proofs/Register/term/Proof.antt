@@ -5,13 +5,10 @@ use Rattle.register.proofs.Calls.{on-made}
 use Rattle.register.proofs.Register.term.Statement.{statement}
 use Rattle.register.proofs.Register.term.Tie as tie
 
-term-requires : tie.Need-term-requires
-term-requires c κs = search needs
-
 returns : tie.Need-returns
 returns c =
     let at-made = c .before in
     on-made (at-made .before .before .before .before .args .self) _ _ _ (at-made .term .ensures) refl
 
 pub term-spec : {M : Type 1} → statement M
-term-spec = tie.close (tie.spec term-requires returns)
+term-spec = tie.close (tie.spec (search needs) returns)

@@ -5,9 +5,6 @@ use Rattle.register.proofs.Calls.{on-made}
 use Rattle.register.proofs.Register.text.Statement.{statement}
 use Rattle.register.proofs.Register.text.Tie as tie
 
-text-requires : tie.Need-text-requires
-text-requires c κs = search needs
-
 returns : tie.Need-returns
 returns c =
     let at-text = c .before .before in
@@ -15,4 +12,4 @@ returns c =
     on-made (at-session .before .before .before .args .self) _ _ _ (at-text .text .ensures) refl
 
 pub text-spec : {M : Type 1} → statement M
-text-spec = tie.close (tie.spec text-requires returns)
+text-spec = tie.close (tie.spec (search needs) returns)

@@ -7,26 +7,11 @@ use borrow.Author.Needs.{needs}
 use Rattle.selection.proofs.evaluation.mark_leaf.Statement.{statement}
 use Rattle.selection.proofs.evaluation.mark_leaf.Tie as tie
 
-cast-mark-step : tie.Need-cast-mark-step
-cast-mark-step c = search needs
-
-mark-step-requires : tie.Need-mark-step-requires
-mark-step-requires c κs = search needs
-
-same-length : tie.Need-same-length
-same-length c = search needs
-
 returns : tie.Need-returns
 unfolding leafPath
 returns c =
     let called = c .before .before in
     rw (called .before .before .before .if1 .taken) (step-added _ _ _ _ _ (called .mark-step .ensures))
-
-slice-write-out : tie.Need-slice-write-out
-slice-write-out c = search needs
-
-same-length-2 : tie.Need-same-length-2
-same-length-2 c = search needs
 
 returns-2 : tie.Need-returns-2
 unfolding leafPath
@@ -45,11 +30,11 @@ pub mark-leaf-spec : {M : Type 1} → statement M
 mark-leaf-spec =
     tie.close
     (tie.spec
-    cast-mark-step
-    mark-step-requires
-    same-length
+    (search needs)
+    (λ c κs. search needs)
+    (search needs)
     returns
-    slice-write-out
-    same-length-2
+    (search needs)
+    (search needs)
     returns-2
     returns-3)

@@ -8,15 +8,9 @@ use Rattle.session.proofs.LineCalls.{step-names-free}
 use Rattle.session.proofs.read.is_step_names.Statement.{statement}
 use Rattle.session.proofs.read.is_step_names.Tie as tie
 
-slice-aggregate-is-line : tie.Need-slice-aggregate-is-line
-slice-aggregate-is-line c = search needs
-
-is-line-requires : tie.Need-is-line-requires
-is-line-requires c κs = search needs
-
 returns : tie.Need-returns
 unfolding stepNames ascii
 returns c = c .is-line .ensures ∙ starts-with-line stepNames step-names-free _
 
 pub is-step-names-spec : {M : Type 1} → statement M
-is-step-names-spec = tie.close (tie.spec slice-aggregate-is-line is-line-requires returns)
+is-step-names-spec = tie.close (tie.spec (search needs) (search needs) returns)

@@ -30,12 +30,6 @@ Inv-loop bytes start rows₀ table₀ filter₀ n₀ line₀ at₀ rows table fi
 abbrev μ-loop : tie.MeasureT-loop
 μ-loop bytes start rows₀ table₀ filter₀ n₀ line₀ at₀ rows table filter n line at = length bytes - at
 
-no-nestings-requires : tie.Need-no-nestings-requires Inv-loop μ-loop
-no-nestings-requires c κs = search needs
-
-clear-filter-requires : tie.Need-clear-filter-requires Inv-loop μ-loop
-clear-filter-requires c κs = search needs
-
 loop-holds : tie.Need-loop-holds Inv-loop μ-loop
 unfolding tableOf
 loop-holds c = (
@@ -47,14 +41,8 @@ loop-holds c = (
   none-kept _ _ (c .before .no-nestings .ensures) (c .clear-filter .ensures),
 )
 
-is-step-names-requires : tie.Need-is-step-names-requires Inv-loop μ-loop
-is-step-names-requires c κs = search needs
-
 add-t19 : tie.Need-add-t19 Inv-loop μ-loop
 add-t19 c = omega arith
-
-add-t20 : tie.Need-add-t20 Inv-loop μ-loop
-add-t20 c = search needs
 
 add-t21 : tie.Need-add-t21 Inv-loop μ-loop
 add-t21 c =
@@ -80,9 +68,6 @@ returns c =
     let (reading, inside) = names-there bytes (l .rows) (l .n) (l .line) (l .at) names in
     record { reading = sym (l .inv .4 ∙ reading); bounds = (omega arith, inside) }
 
-numbers-line-requires : tie.Need-numbers-line-requires Inv-loop μ-loop
-numbers-line-requires c κs = search needs
-
 same-length-2 : tie.Need-same-length-2 Inv-loop μ-loop
 same-length-2 c = omega arith
 
@@ -101,33 +86,13 @@ returns-2 c =
     (not-true _ (c .if2 .taken)) in
     record { reading = sym (l .inv .4 ∙ wrong); bounds = omega arith }
 
-array-read-t24 : tie.Need-array-read-t24 Inv-loop μ-loop
-array-read-t24 c = omega (arith, c .before .before .before .numbers-line .ensures .size)
-
-array-read-t27 : tie.Need-array-read-t27 Inv-loop μ-loop
-array-read-t27 c = omega (arith, c .before .before .before .numbers-line .ensures .size)
-
-array-read-t30 : tie.Need-array-read-t30 Inv-loop μ-loop
-array-read-t30 c = omega (arith, c .before .before .before .numbers-line .ensures .size)
-
-array-read-t33 : tie.Need-array-read-t33 Inv-loop μ-loop
-array-read-t33 c = omega (arith, c .before .before .before .numbers-line .ensures .size)
-
-slice-aggregate-term-kept : tie.Need-slice-aggregate-term-kept Inv-loop μ-loop
-slice-aggregate-term-kept c = search needs
-
-slice-aggregate-term-kept-2 : tie.Need-slice-aggregate-term-kept-2 Inv-loop μ-loop
-slice-aggregate-term-kept-2 c = search needs
-
 term-kept-requires : tie.Need-term-kept-requires Inv-loop μ-loop
 term-kept-requires c κs =
-    let at-form = c .before .before .before .before in
+    let at-row = c .before .before .before in
+    let at-form = at-row .before .before in
     let at-names-test = at-form .before .before .before in
     let l = at-names-test .before .before .before .loop in
     (l .inv .0, l .inv .1, l .inv .5)
-
-number-requires : tie.Need-number-requires Inv-loop μ-loop
-number-requires c κs = search needs
 
 same-length-3 : tie.Need-same-length-3 Inv-loop μ-loop
 same-length-3 c = omega arith
@@ -137,8 +102,8 @@ returns-3 c =
     let at-number = c .before in
     let at-rows = at-number .before .before .before .before in
     let at-term = at-rows .before in
-    let at-numbers = at-term .before .before .before .before in
-    let at-form = at-numbers .before in
+    let at-row = at-term .before .before .before .before in
+    let at-form = at-row .before .before in
     let at-line = at-form .before .before in
     let at-names-test = at-line .before in
     let at-names = at-names-test .before in
@@ -149,7 +114,7 @@ returns-3 c =
     let other = sym (at-names .is-step-names .ensures) ∙ at-names-test .if1 .left in
     let met = at-line .numbers-line .ensures in
     let right = not-false _ (at-form .if2 .left) in
-    let placed = at-term .term-kept .ensures .placed in
+    let placed = rw (at-row .row-of-numbers .ensures) at (at-term .term-kept .ensures .placed) in
     let number = at-number .number .ensures in
     let refused =
     row-refused-there bytes (l .rows) (l .n) (l .line) (l .at) other _ met right (l .inv .0) _ _ placed
@@ -160,14 +125,21 @@ add-n : tie.Need-add-n Inv-loop μ-loop
 add-n c = omega arith
 
 add-line : tie.Need-add-line Inv-loop μ-loop
-add-line c = omega arith
+add-line c =
+    let at-rows = c .before .before .before .before in
+    let at-term = at-rows .before .before in
+    let at-form = at-term .before .before .before .before .before .before in
+    let at-line = at-form .before .before in
+    let looped = at-line .before .before .before .before in
+    let bounds = at-line .numbers-line .ensures .right (not-false _ (at-form .if2 .left)) in
+    omega (arith, bounds, looped .loop .inv .2, at-form .before .struct-known .given)
 
 loop-less : tie.Need-loop-less Inv-loop μ-loop
 loop-less c =
     let at-rows = c .before .before .before .before in
     let at-term = at-rows .before .before in
-    let at-numbers = at-term .before .before .before .before in
-    let at-form = at-numbers .before in
+    let at-row = at-term .before .before .before .before in
+    let at-form = at-row .before .before in
     let bounds = at-form .before .before .numbers-line .ensures .right (not-false _ (at-form .if2 .left)) in
     omega arith
 
@@ -176,8 +148,8 @@ loop-again c =
     let at-number = c .before in
     let at-rows = at-number .before .before .before .before in
     let at-term = at-rows .before in
-    let at-numbers = at-term .before .before .before .before in
-    let at-form = at-numbers .before in
+    let at-row = at-term .before .before .before .before in
+    let at-form = at-row .before .before in
     let at-line = at-form .before .before in
     let at-names-test = at-line .before in
     let at-names = at-names-test .before in
@@ -188,7 +160,7 @@ loop-again c =
     let other = sym (at-names .is-step-names .ensures) ∙ at-names-test .if1 .left in
     let met = at-line .numbers-line .ensures in
     let right = not-false _ (at-form .if2 .left) in
-    let placed = at-term .term-kept .ensures .placed in
+    let placed = rw (at-row .row-of-numbers .ensures) at (at-term .term-kept .ensures .placed) in
     let held = sym (at-number .number .ensures) ∙ c .if3 .left in
     let bounds = met .right right in
     let room =
@@ -221,26 +193,23 @@ read-rows-spec =
     (tie.spec
     Inv-loop
     μ-loop
-    no-nestings-requires
-    clear-filter-requires
+    (search needs)
+    (search needs)
     loop-holds
-    is-step-names-requires
+    (search needs)
     add-t19
-    add-t20
+    (search needs)
     add-t21
     same-length
     returns
-    numbers-line-requires
+    (search needs)
     same-length-2
     returns-2
-    array-read-t24
-    array-read-t27
-    array-read-t30
-    array-read-t33
-    slice-aggregate-term-kept
-    slice-aggregate-term-kept-2
+    (search needs)
+    (λ c. search needs)
+    (λ c. search needs)
     term-kept-requires
-    number-requires
+    (search needs)
     same-length-3
     returns-3
     add-n

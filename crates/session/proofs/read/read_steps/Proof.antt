@@ -4,12 +4,13 @@ use Prim.Native.Nat.{_*_, _-_, _≤_}
 use mathlib.Core.Path.{_≡_, refl, sym, ap, _∙_}
 use native.Mathlib.Omega.{arith}
 use lib.ListN.{length, drop}
+use lib.Seq.{sets}
 use borrow.Author.Needs.{needs}
 use borrow.Author.Tests.{not-true, not-false}
 use Rattle.lines.specs.Line.{lines}
 use Rattle.terms.specs.Row.{maxRows}
 use Rattle.matching.specs.code.RowWayBack.{Noted}
-use Rattle.calls.specs.Book.{maxSteps}
+use Rattle.calls.specs.Book.{maxSteps, stepNumbers}
 use Rattle.calls.specs.code.Tables.{stepWidth, firstRows}
 use Rattle.calls.specs.Promises.{rowStepAnswer}
 use Rattle.session.specs.Reading.{refusedAt, stepsRead}
@@ -28,17 +29,8 @@ Inv-loop bytes start first rows n steps₀ table₀ noted₀ m₀ line₀ at₀ 
 abbrev μ-loop : tie.MeasureT-loop
 μ-loop bytes start first rows n steps₀ table₀ noted₀ m₀ line₀ at₀ steps noted m line at = length bytes - at
 
-rule-table-requires : tie.Need-rule-table-requires Inv-loop μ-loop
-rule-table-requires c κs = search needs
-
-no-notes-requires : tie.Need-no-notes-requires Inv-loop μ-loop
-no-notes-requires c κs = search needs
-
 loop-holds : tie.Need-loop-holds Inv-loop μ-loop
 loop-holds c = (omega arith, omega arith, omega arith, omega arith, refl, c .no-notes .ensures _, search needs)
-
-numbers-line-requires : tie.Need-numbers-line-requires Inv-loop μ-loop
-numbers-line-requires c κs = search needs
 
 same-length : tie.Need-same-length Inv-loop μ-loop
 same-length c = omega arith
@@ -57,35 +49,12 @@ returns c =
       bounds = omega arith;
     }
 
-array-read-t23 : tie.Need-array-read-t23 Inv-loop μ-loop
-array-read-t23 c = omega (arith, c .before .before .before .numbers-line .ensures .size)
-
-array-read-t26 : tie.Need-array-read-t26 Inv-loop μ-loop
-array-read-t26 c = omega (arith, c .before .before .before .numbers-line .ensures .size)
-
-array-read-t29 : tie.Need-array-read-t29 Inv-loop μ-loop
-array-read-t29 c = omega (arith, c .before .before .before .numbers-line .ensures .size)
-
-array-read-t32 : tie.Need-array-read-t32 Inv-loop μ-loop
-array-read-t32 c = omega (arith, c .before .before .before .numbers-line .ensures .size)
-
-array-read-t35 : tie.Need-array-read-t35 Inv-loop μ-loop
-array-read-t35 c = omega (arith, c .before .before .before .numbers-line .ensures .size)
-
-slice-aggregate-judge-noted : tie.Need-slice-aggregate-judge-noted Inv-loop μ-loop
-slice-aggregate-judge-noted c = search needs
-
-slice-aggregate-judge-noted-2 : tie.Need-slice-aggregate-judge-noted-2 Inv-loop μ-loop
-slice-aggregate-judge-noted-2 c = search needs
-
 judge-noted-requires : tie.Need-judge-noted-requires Inv-loop μ-loop
 judge-noted-requires c κs =
-    let at-form = c .before .before .before .before in
+    let at-step = c .before .before .before in
+    let at-form = at-step .before .before in
     let at-loop = at-form .before .before .before .before in
     (at-loop .before .before .rule-table .ensures, at-loop .loop .inv .5)
-
-number-requires : tie.Need-number-requires Inv-loop μ-loop
-number-requires c κs = search needs
 
 same-length-2 : tie.Need-same-length-2 Inv-loop μ-loop
 same-length-2 c = omega arith
@@ -94,16 +63,17 @@ returns-2 : tie.Need-returns-2 Inv-loop μ-loop
 returns-2 c =
     let at-judge = c .before .before .before in
     let judged = at-judge .judge-noted in
-    let at-numbers = at-judge .before .before .before .before in
-    let at-form = at-numbers .before in
+    let at-step = at-judge .before .before .before .before in
+    let at-form = at-step .before .before in
     let at-line = at-form .before .before in
     let at-loop = at-line .before .before in
     let l = at-loop .loop in
     let at-table = at-loop .before .before in
     let a = at-table .before .before .before .before .args in
     let right = not-false _ (at-form .if1 .left) in
+    let answered = rw (at-step .step-of-numbers .ensures) at (judged .ensures .0) in
     let refused = step-refused-there (a .bytes .now) (a .rows .now) (a .n) (l .steps) (l .m) (l .line) (l .at)
-    _ (at-line .numbers-line .ensures) right (l .inv .0) (judged .result) (judged .ensures .0)
+    _ (at-line .numbers-line .ensures) right (l .inv .0) (judged .result) answered
     (λ e. c .if2 .taken (c .before .number .ensures ∙ e)) in
     record {
       reading = ap (λ k. refusedAt k (l .line)) (c .before .number .ensures) ∙ sym (l .inv .4 ∙ refused);
@@ -115,8 +85,8 @@ put-step-requires c κs =
     let at-if = c .before in
     let at-judge = at-if .before .before .before in
     let judged = at-judge .judge-noted in
-    let at-numbers = at-judge .before .before .before .before in
-    let at-form = at-numbers .before in
+    let at-step = at-judge .before .before .before .before in
+    let at-form = at-step .before .before in
     let at-line = at-form .before .before in
     let at-loop = at-line .before .before in
     let l = at-loop .loop in
@@ -124,8 +94,9 @@ put-step-requires c κs =
     let a = at-table .before .before .before .before .args in
     let held = sym (at-if .before .number .ensures) ∙ at-if .if2 .left in
     let right = not-false _ (at-form .if1 .left) in
+    let answered = rw (at-step .step-of-numbers .ensures) at (judged .ensures .0) in
     let room = step-room (a .bytes .now) (a .rows .now) (a .n) (l .steps) (l .m) (l .line) (l .at)
-    _ (at-line .numbers-line .ensures) right (l .inv .0) (judged .result) (judged .ensures .0)
+    _ (at-line .numbers-line .ensures) right (l .inv .0) (judged .result) answered
     held (l .inv .1) in
     (room, l .inv .1)
 
@@ -133,14 +104,21 @@ add-m : tie.Need-add-m Inv-loop μ-loop
 add-m c = omega arith
 
 add-line : tie.Need-add-line Inv-loop μ-loop
-add-line c = omega arith
+add-line c =
+    let at-if = c .before .before .before .before in
+    let at-judge = at-if .before .before .before in
+    let at-form = at-judge .before .before .before .before .before .before in
+    let at-line = at-form .before .before in
+    let looped = at-line .before .before in
+    let bounds = at-line .numbers-line .ensures .right (not-false _ (at-form .if1 .left)) in
+    omega (arith, bounds, looped .loop .inv .2, at-form .before .struct-known .given)
 
 loop-less : tie.Need-loop-less Inv-loop μ-loop
 loop-less c =
     let at-if = c .before .before .before .before in
     let at-judge = at-if .before .before .before in
-    let at-numbers = at-judge .before .before .before .before in
-    let at-form = at-numbers .before in
+    let at-step = at-judge .before .before .before .before in
+    let at-form = at-step .before .before in
     let at-line = at-form .before .before in
     let bounds = at-line .numbers-line .ensures .right (not-false _ (at-form .if1 .left)) in
     omega arith
@@ -151,8 +129,8 @@ loop-again c =
     let at-if = at-put .before .before in
     let at-judge = at-if .before .before .before in
     let judged = at-judge .judge-noted in
-    let at-numbers = at-judge .before .before .before .before in
-    let at-form = at-numbers .before in
+    let at-step = at-judge .before .before .before .before in
+    let at-form = at-step .before .before in
     let at-line = at-form .before .before in
     let at-loop = at-line .before .before in
     let l = at-loop .loop in
@@ -160,13 +138,15 @@ loop-again c =
     let a = at-table .before .before .before .before .args in
     let held = sym (at-if .before .number .ensures) ∙ at-if .if2 .left in
     let right = not-false _ (at-form .if1 .left) in
+    let answered = rw (at-step .step-of-numbers .ensures) at (judged .ensures .0) in
     let bounds = at-line .numbers-line .ensures .right right in
     let room = step-room (a .bytes .now) (a .rows .now) (a .n) (l .steps) (l .m) (l .line) (l .at)
-    _ (at-line .numbers-line .ensures) right (l .inv .0) (judged .result) (judged .ensures .0)
+    _ (at-line .numbers-line .ensures) right (l .inv .0) (judged .result) answered
     held (l .inv .1) in
+    let written = ap (λ q. sets (l .steps) (stepWidth * l .m) (stepNumbers q)) (at-step .step-of-numbers .ensures) in
     let later = step-held-there (a .bytes .now) (a .rows .now) (a .n) (l .steps) (l .m) (l .line) (l .at)
-    _ (at-line .numbers-line .ensures) right (l .inv .0) (judged .result) (judged .ensures .0)
-    held _ (at-put .put-step .ensures) in
+    _ (at-line .numbers-line .ensures) right (l .inv .0) (judged .result) answered
+    held _ (at-put .put-step .ensures ∙ written) in
     (omega arith, omega arith, omega arith, omega arith, l .inv .4 ∙ later, judged .ensures .1, search needs)
 
 same-length-3 : tie.Need-same-length-3 Inv-loop μ-loop
@@ -187,21 +167,17 @@ read-steps-spec =
     (tie.spec
     Inv-loop
     μ-loop
-    rule-table-requires
-    no-notes-requires
+    (search needs)
+    (search needs)
     loop-holds
-    numbers-line-requires
+    (search needs)
     same-length
     returns
-    array-read-t23
-    array-read-t26
-    array-read-t29
-    array-read-t32
-    array-read-t35
-    slice-aggregate-judge-noted
-    slice-aggregate-judge-noted-2
+    (search needs)
+    (λ c. search needs)
+    (λ c. search needs)
     judge-noted-requires
-    number-requires
+    (search needs)
     same-length-2
     returns-2
     put-step-requires

@@ -10,12 +10,6 @@ use Rattle.session.proofs.Written.{session-tables, text-as}
 use Rattle.session.proofs.write.write_at.Statement.{statement}
 use Rattle.session.proofs.write.write_at.Tie as tie
 
-write-tables-requires : tie.Need-write-tables-requires
-write-tables-requires c κs = search needs
-
-same-length : tie.Need-same-length
-same-length c = search needs
-
 returns : tie.Need-returns
 returns c =
     let called = c .before .before in
@@ -26,4 +20,4 @@ returns c =
     text-as (session-tables (a .t3) rows steps) (called .write-tables .ensures)
 
 pub write-at-spec : {M : Type 1} → statement M
-write-at-spec = tie.close (tie.spec write-tables-requires same-length returns)
+write-at-spec = tie.close (tie.spec (search needs) (search needs) returns)

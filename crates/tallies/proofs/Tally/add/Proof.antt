@@ -16,12 +16,6 @@ returns-2 c =
     let a = c .before .before .before .args in
     long-left (a .self) (a .failed) (a .bytes .now) (c .before .if1 .left) (c .if2 .taken)
 
-read-requires : tie.Need-read-requires
-read-requires c κs = search needs
-
-number-requires : tie.Need-number-requires
-number-requires c κs = search needs
-
 returns-3 : tie.Need-returns-3
 returns-3 c =
     let at-read = c .before .before in
@@ -29,18 +23,6 @@ returns-3 c =
     let a = at-long .before .before .before .args in
     refused-left (a .self) (a .failed) (a .bytes .now) (at-long .before .if1 .left) (at-long .if2 .left)
     _ (at-read .read .ensures) _ (c .before .number .ensures) (c .if3 .taken)
-
-plus-uses-requires : tie.Need-plus-uses-requires
-plus-uses-requires c κs = search needs
-
-steps-held-requires : tie.Need-steps-held-requires
-steps-held-requires c κs = search needs
-
-cast-plus : tie.Need-cast-plus
-cast-plus c = search needs
-
-plus-requires : tie.Need-plus-requires
-plus-requires c κs = search needs
 
 returns-4 : tie.Need-returns-4
 returns-4 c =
@@ -60,11 +42,11 @@ add-spec =
     (tie.spec
     returns
     returns-2
-    read-requires
-    number-requires
+    (search needs)
+    (search needs)
     returns-3
-    plus-uses-requires
-    steps-held-requires
-    cast-plus
-    plus-requires
+    (search needs)
+    (search needs)
+    (search needs)
+    (search needs)
     returns-4)

@@ -8,18 +8,6 @@ use Rattle.tallies.proofs.Lined.{rule-line, total-line, no-line}
 use Rattle.tallies.proofs.Tally.line.Statement.{statement}
 use Rattle.tallies.proofs.Tally.line.Tie as tie
 
-mul-count : tie.Need-mul-count
-mul-count c = search needs
-
-array-read-count : tie.Need-array-read-count
-array-read-count c = search needs
-
-add-rule : tie.Need-add-rule
-add-rule c = search needs
-
-cast-t12 : tie.Need-cast-t12
-cast-t12 c = search needs
-
 returns : tie.Need-returns
 returns c =
     let t = c .before .before .args .self in
@@ -40,4 +28,4 @@ returns-3 c =
 
 pub line-spec : {M : Type 1} → statement M
 line-spec =
-    tie.close (tie.spec mul-count array-read-count add-rule cast-t12 returns returns-2 returns-3)
+    tie.close (tie.spec (search needs) (search needs) (search needs) (search needs) returns returns-2 returns-3)

@@ -7,19 +7,10 @@ use borrow.Author.Needs.{needs}
 use Rattle.terms.proofs.kept.keep.Statement.{statement}
 use Rattle.terms.proofs.kept.keep.Tie as tie
 
-row-count-requires : tie.Need-row-count-requires
-row-count-requires c κs = search needs
-
 nesting-kept-requires : tie.Need-nesting-kept-requires
 nesting-kept-requires c κs =
     let start = c .before .before .before .before .before in
     (omega (arith, start .pre .1), start .pre .0 .nested)
-
-slot-of-requires : tie.Need-slot-of-requires
-slot-of-requires c κs = search needs
-
-mul-table : tie.Need-mul-table
-mul-table c = search needs
 
 slice-write-table : tie.Need-slice-write-table
 slice-write-table c =
@@ -30,12 +21,6 @@ slice-write-filter : tie.Need-slice-write-filter
 slice-write-filter c =
     let start = c .before .before .before .before .before .before .before in
     omega (arith, slot-below (rowOf (start .args .row)), start .pre .0 .filtered .size)
-
-same-length : tie.Need-same-length
-same-length c = search needs
-
-same-length-2 : tie.Need-same-length-2
-same-length-2 c = search needs
 
 returns : tie.Need-returns
 returns c =
@@ -51,12 +36,12 @@ pub keep-spec : {M : Type 1} → statement M
 keep-spec =
     tie.close
     (tie.spec
-    row-count-requires
+    (search needs)
     nesting-kept-requires
-    slot-of-requires
-    mul-table
+    (search needs)
+    (search needs)
     slice-write-table
     slice-write-filter
-    same-length
-    same-length-2
+    (search needs)
+    (search needs)
     returns)

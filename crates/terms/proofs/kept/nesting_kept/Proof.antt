@@ -8,16 +8,10 @@ use borrow.Author.Needs.{needs}
 use Rattle.terms.proofs.kept.nesting_kept.Statement.{statement}
 use Rattle.terms.proofs.kept.nesting_kept.Tie as tie
 
-row-count-requires : tie.Need-row-count-requires
-row-count-requires c κs = search needs
-
 slice-aggregate-deeper-operand : tie.Need-slice-aggregate-deeper-operand
 slice-aggregate-deeper-operand c =
     let start = c .before .before .before .before in
     sym (length-take-le (c .before .row-count .result) (start .args .table .now) (omega (arith, start .pre .1 .size)))
-
-deeper-operand-requires : tie.Need-deeper-operand-requires
-deeper-operand-requires c κs = search needs
 
 add-result : tie.Need-add-result
 add-result c =
@@ -40,8 +34,8 @@ pub nesting-kept-spec : {M : Type 1} → statement M
 nesting-kept-spec =
     tie.close
     (tie.spec
-    row-count-requires
+    (search needs)
     slice-aggregate-deeper-operand
-    deeper-operand-requires
+    (search needs)
     add-result
     returns)

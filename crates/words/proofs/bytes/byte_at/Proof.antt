@@ -7,17 +7,9 @@ use Rattle.words.proofs.bytes.byte_at.Tie as tie
 use Rattle.words.proofs.bytes.byte_at.Reads as reads
 use Rattle.words.proofs.bytes.byte_at.Lts as lts
 
--- src/lib.rt:19:23
-shared-slice-read-result : tie.Need-shared-slice-read-result
-shared-slice-read-result c = search needs
-
--- src/lib.rt:16:1
-returns : tie.Need-returns
-returns c = search needs
-
 -- src/lib.rt:16:1
 returns-2 : tie.Need-returns-2
 returns-2 c = sym (past (c .before .args .s .now) (c .before .args .at) (omega arith))
 
 pub byte-at-spec : {M : Type 1} → statement M
-byte-at-spec = tie.close (tie.spec shared-slice-read-result returns returns-2)
+byte-at-spec = tie.close (tie.spec (search needs) (search needs) returns-2)

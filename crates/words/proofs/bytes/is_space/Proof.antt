@@ -6,22 +6,10 @@ use Rattle.words.proofs.bytes.is_space.Reads as reads
 use Rattle.words.proofs.bytes.is_space.Lts as lts
 use Rattle.common.proofs.or.Reads as or-reads
 
--- src/lib.rt:37:28
-or-requires : tie.Need-or-requires
-or-requires c κs = search needs
-
--- src/lib.rt:37:17
-or-requires-2 : tie.Need-or-requires-2
-or-requires-2 c κs = search needs
-
--- src/lib.rt:37:5
-or-requires-3 : tie.Need-or-requires-3
-or-requires-3 c κs = search needs
-
 -- src/lib.rt:34:1
 returns : tie.Need-returns
 unfolding isSpace
 returns c = cc
 
 pub is-space-spec : {M : Type 1} → statement M
-is-space-spec = tie.close (tie.spec or-requires or-requires-2 or-requires-3 returns)
+is-space-spec = tie.close (tie.spec (search needs) (search needs) (search needs) returns)

@@ -1,11 +1,11 @@
-use Rattle.words.proofs.Scanned.{is-name-there, pass-none, pass-one, pass-done, So-far, there, past}
+use Rattle.words.proofs.Scanned.{is-name-there, pass-none, pass-one, pass-done, So-far, there}
 use borrow.Author.Needs.{needs}
 use Prim.Native.Nat.{_-_}
 use lib.ListN.{length}
-use mathlib.Core.Path.{sym, _∙_, _≡_, ap, refl}
+use mathlib.Core.Path.{sym, _∙_}
 use native.Mathlib.Omega.{arith}
-use Rattle.grammar.specs.Bytes.{isSpace, isName, isStart}
-use Rattle.words.proofs.Scanned.{is-name-there, pass-none, pass-one, pass-done, So-far, there, past}
+use Rattle.grammar.specs.Bytes.{isName}
+use Rattle.words.proofs.Scanned.{is-name-there, pass-none, pass-one, pass-done, So-far, there}
 use Rattle.words.proofs.bytes.name_end.Statement.{statement}
 use Rattle.words.proofs.bytes.name_end.Tie as tie
 use Rattle.words.proofs.bytes.name_end.Reads as reads
@@ -22,14 +22,6 @@ abbrev μ-loop : tie.MeasureT-loop
 -- src/lib.rt:70:5
 loop-holds : tie.Need-loop-holds Inv-loop μ-loop
 loop-holds c = pass-none isName (c .before .args .s .now) (c .before .args .at) (omega arith)
-
--- src/lib.rt:70:19
-byte-at-requires : tie.Need-byte-at-requires Inv-loop μ-loop
-byte-at-requires c κs = search needs
-
--- src/lib.rt:70:11
-is-name-requires : tie.Need-is-name-requires Inv-loop μ-loop
-is-name-requires c κs = search needs
 
 -- src/lib.rt:71:9
 add-i : tie.Need-add-i Inv-loop μ-loop
@@ -80,8 +72,8 @@ name-end-spec =
     Inv-loop
     μ-loop
     loop-holds
-    byte-at-requires
-    is-name-requires
+    (search needs)
+    (search needs)
     add-i
     loop-less
     loop-again

@@ -1,11 +1,11 @@
-use Rattle.words.proofs.Scanned.{is-space-there, pass-none, pass-one, pass-done, So-far, there, past}
+use Rattle.words.proofs.Scanned.{is-space-there, pass-none, pass-one, pass-done, So-far, there}
 use borrow.Author.Needs.{needs}
 use Prim.Native.Nat.{_-_}
 use lib.ListN.{length}
-use mathlib.Core.Path.{sym, _∙_, _≡_, ap, refl}
+use mathlib.Core.Path.{sym, _∙_}
 use native.Mathlib.Omega.{arith}
-use Rattle.grammar.specs.Bytes.{isSpace, isName, isStart}
-use Rattle.words.proofs.Scanned.{is-space-there, pass-none, pass-one, pass-done, So-far, there, past}
+use Rattle.grammar.specs.Bytes.{isSpace}
+use Rattle.words.proofs.Scanned.{is-space-there, pass-none, pass-one, pass-done, So-far, there}
 use Rattle.words.proofs.bytes.skip.Statement.{statement}
 use Rattle.words.proofs.bytes.skip.Tie as tie
 use Rattle.words.proofs.bytes.skip.Reads as reads
@@ -22,14 +22,6 @@ abbrev μ-loop : tie.MeasureT-loop
 -- src/lib.rt:58:5
 loop-holds : tie.Need-loop-holds Inv-loop μ-loop
 loop-holds c = pass-none isSpace (c .before .args .s .now) (c .before .args .at) (omega arith)
-
--- src/lib.rt:58:20
-byte-at-requires : tie.Need-byte-at-requires Inv-loop μ-loop
-byte-at-requires c κs = search needs
-
--- src/lib.rt:58:11
-is-space-requires : tie.Need-is-space-requires Inv-loop μ-loop
-is-space-requires c κs = search needs
 
 -- src/lib.rt:59:9
 add-i : tie.Need-add-i Inv-loop μ-loop
@@ -80,8 +72,8 @@ skip-spec =
     Inv-loop
     μ-loop
     loop-holds
-    byte-at-requires
-    is-space-requires
+    (search needs)
+    (search needs)
     add-i
     loop-less
     loop-again

@@ -5,9 +5,6 @@ use borrow.Author.Needs.{needs}
 use Rattle.words.proofs.index.ends_at.Statement.{statement}
 use Rattle.words.proofs.index.ends_at.Tie as tie
 
-shared-slice-read-result : tie.Need-shared-slice-read-result
-shared-slice-read-result c = search needs
-
 returns : tie.Need-returns
 returns c = ends-here _ _ (c .before .if1 .taken)
 
@@ -18,6 +15,6 @@ pub ends-at-spec : {M : Type 1} → statement M
 ends-at-spec =
     tie.close
     (tie.spec
-    shared-slice-read-result
+    (search needs)
     returns
     returns-2)

@@ -1,7 +1,7 @@
 -- `index_lines` meets its contract. Assumes nothing.
-use mathlib.Core.Path.{_≡_, refl, sym, ap, _∙_, subst}
+use mathlib.Core.Path.{_≡_, refl}
 use native.Mathlib.Omega.{arith}
-use Prim.Native.Nat.{ℕ, _+_, _*_, _-_, _<_, _≤_}
+use Prim.Native.Nat.{_+_, _*_, _-_, _<_, _≤_}
 use lib.ListN.{length, getD, set, take, length-set}
 use lib.Seq.{getD-set-same}
 use Rattle.words.specs.code.Index.{IndexOf}
@@ -37,9 +37,6 @@ mul-takes-line c =
 
 sub-takes-line : tie.Need-sub-takes-line Inv-loop μ-loop
 sub-takes-line c = omega (arith, c .loop .inv .2)
-
-takes-line-requires : tie.Need-takes-line-requires Inv-loop μ-loop
-takes-line-requires c κs = search needs
 
 pass-line-requires : tie.Need-pass-line-requires Inv-loop μ-loop
 pass-line-requires c κs = c .before .takes-line .ensures (c .if1 .taken) .0
@@ -163,7 +160,7 @@ index-lines-spec =
     loop-holds
     mul-takes-line
     sub-takes-line
-    takes-line-requires
+    (search needs)
     pass-line-requires
     mul-index
     add-index

@@ -1,9 +1,9 @@
 -- `pass_line` meets its contract. Assumes nothing.
-use mathlib.Core.Path.{_≡_, sym, _∙_, subst}
+use mathlib.Core.Path.{sym, _∙_, subst}
 use mathlib.Core.Bool.{true, false}
 use native.Mathlib.Omega.{arith}
-use Prim.Native.Nat.{ℕ, _+_, _-_}
-use lib.ListN.{length, drop}
+use Prim.Native.Nat.{_+_, _-_}
+use lib.ListN.{length}
 use borrow.Author.Tests.{not-true, not-false}
 use Rattle.words.specs.code.Index.{ended}
 use Rattle.words.proofs.Indexed.{not-ended, Passing, passing-none, passing-on, passed-end, passed-last}
@@ -20,18 +20,12 @@ abbrev μ-loop : tie.MeasureT-loop
 loop-holds : tie.Need-loop-holds Inv-loop μ-loop
 loop-holds c = passing-none _ _ (c .before .pre)
 
-ends-at-requires : tie.Need-ends-at-requires Inv-loop μ-loop
-ends-at-requires c κs = search needs
-
 shared-slice-read-signed-by : tie.Need-shared-slice-read-signed-by Inv-loop μ-loop
 shared-slice-read-signed-by c =
     let at-ends = c .before .before in
     let start = at-ends .before .before .before in
     not-ended (start .args .names .now) (at-ends .before .loop .i)
     (sym (at-ends .ends-at .ensures) ∙ not-true _ (c .before .if1 .taken))
-
-signed-by-requires : tie.Need-signed-by-requires Inv-loop μ-loop
-signed-by-requires c κs = search needs
 
 add-i : tie.Need-add-i Inv-loop μ-loop
 add-i c =
@@ -59,9 +53,6 @@ loop-again c =
     (passing-on names (start .args .at) i _ (at-ends .before .loop .inv)
     (sym (at-ends .ends-at .ensures) ∙ not-true _ (c .before .before .if1 .taken)))
 
-add-t12 : tie.Need-add-t12 Inv-loop μ-loop
-add-t12 c = search needs
-
 returns : tie.Need-returns Inv-loop μ-loop
 returns c =
     let at-ends = c .before .before in
@@ -83,12 +74,12 @@ pass-line-spec =
     Inv-loop
     μ-loop
     loop-holds
-    ends-at-requires
+    (search needs)
     shared-slice-read-signed-by
-    signed-by-requires
+    (search needs)
     add-i
     loop-less
     loop-again
-    add-t12
+    (search needs)
     returns
     returns-2)

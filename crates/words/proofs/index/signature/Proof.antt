@@ -18,15 +18,6 @@ abbrev μ-loop : tie.MeasureT-loop
 loop-holds : tie.Need-loop-holds Inv-loop μ-loop
 loop-holds c = (refl, omega arith)
 
-shared-slice-read-signed-by : tie.Need-shared-slice-read-signed-by Inv-loop μ-loop
-shared-slice-read-signed-by c = search needs
-
-signed-by-requires : tie.Need-signed-by-requires Inv-loop μ-loop
-signed-by-requires c κs = search needs
-
-add-i : tie.Need-add-i Inv-loop μ-loop
-add-i c = search needs
-
 loop-less : tie.Need-loop-less Inv-loop μ-loop
 loop-less c = omega (arith, c .before .before .loop-test .taken)
 
@@ -52,9 +43,9 @@ signature-spec =
     Inv-loop
     μ-loop
     loop-holds
-    shared-slice-read-signed-by
-    signed-by-requires
-    add-i
+    (search needs)
+    (search needs)
+    (search needs)
     loop-less
     loop-again
     returns)

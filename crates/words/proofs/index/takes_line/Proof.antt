@@ -1,6 +1,5 @@
 -- `takes_line` meets its contract. Assumes nothing.
 use native.Mathlib.Omega.{arith}
-use borrow.Author.Needs.{needs}
 use Rattle.grammar.proofs.Basics.{never}
 use Rattle.words.proofs.index.takes_line.Statement.{statement}
 use Rattle.words.proofs.index.takes_line.Tie as tie

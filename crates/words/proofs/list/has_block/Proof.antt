@@ -1,10 +1,6 @@
 -- `has_block` meets its contract. Assumes nothing.
-use mathlib.Core.Path.{_≡_, refl, sym, ap, _∙_}
-use mathlib.Core.Bool.{true, false}
 use native.Mathlib.Omega.{arith}
-use Prim.Native.Nat.{_+_, _-_, _<_, _≤_}
-use lib.ListN.{length, drop}
-use borrow.Author.Needs.{needs}
+use Prim.Native.Nat.{_-_}
 use Rattle.grammar.proofs.Basics.{never}
 use Rattle.words.proofs.list.has_block.Statement.{statement}
 use Rattle.words.proofs.list.has_block.Tie as tie

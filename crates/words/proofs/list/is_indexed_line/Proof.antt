@@ -5,33 +5,12 @@ use borrow.Author.Needs.{needs}
 use Rattle.words.proofs.list.is_indexed_line.Statement.{statement}
 use Rattle.words.proofs.list.is_indexed_line.Tie as tie
 
-mul-signed : tie.Need-mul-signed
-mul-signed c = search needs
-
-add-signed : tie.Need-add-signed
-add-signed c = search needs
-
-mul-signed-2 : tie.Need-mul-signed-2
-mul-signed-2 c = search needs
-
-shared-slice-read-signed : tie.Need-shared-slice-read-signed
-shared-slice-read-signed c = search needs
-
 returns : tie.Need-returns
 returns c =
     let to-start = c .before .before .before .before in
     let start = to-start .before in
     line-unlike (start .args .names .now) (start .args .index .now) (start .args .word .now) (start .pre .0 .1)
     (start .args .k) (start .pre .1 .1) (start .pre .0 .0) _ (start .pre .1 .0) (c .if1 .taken)
-
-mul-is-name-line : tie.Need-mul-is-name-line
-mul-is-name-line c = search needs
-
-mul-is-name-line-2 : tie.Need-mul-is-name-line-2
-mul-is-name-line-2 c = search needs
-
-shared-slice-read-is-name-line : tie.Need-shared-slice-read-is-name-line
-shared-slice-read-is-name-line c = search needs
 
 cast-is-name-line : tie.Need-cast-is-name-line
 cast-is-name-line c =
@@ -44,9 +23,6 @@ cast-is-name-line c =
           (start .pre .1 .1),
     )
 
-is-name-line-requires : tie.Need-is-name-line-requires
-is-name-line-requires c κs = search needs
-
 returns-2 : tie.Need-returns-2
 returns-2 c =
     let to-start = c .before .before .before .before in
@@ -58,14 +34,14 @@ pub is-indexed-line-spec : {M : Type 1} → statement M
 is-indexed-line-spec =
     tie.close
     (tie.spec
-    mul-signed
-    add-signed
-    mul-signed-2
-    shared-slice-read-signed
+    (search needs)
+    (search needs)
+    (search needs)
+    (search needs)
     returns
-    mul-is-name-line
-    mul-is-name-line-2
-    shared-slice-read-is-name-line
+    (search needs)
+    (search needs)
+    (search needs)
     cast-is-name-line
-    is-name-line-requires
+    (λ c κs. search needs)
     returns-2)

@@ -1,22 +1,12 @@
 -- `is_name_after` meets its contract. Assumes nothing.
-use mathlib.Core.Path.{_≡_, refl, sym, ap, _∙_}
-use mathlib.Core.Bool.{true, false}
-use native.Mathlib.Omega.{arith}
-use Prim.Native.Nat.{_+_, _-_, _<_, _≤_}
-use lib.ListN.{length, drop}
+use Prim.Native.Nat.{_-_}
 use borrow.Author.Needs.{needs}
 use Rattle.words.proofs.Listed.{none-after, line-after}
 use Rattle.words.proofs.list.is_name_after.Statement.{statement}
 use Rattle.words.proofs.list.is_name_after.Tie as tie
 
-shared-slice-read-b : tie.Need-shared-slice-read-b
-shared-slice-read-b c = search needs
-
 returns : tie.Need-returns
 returns c = none-after _ _ (c .if1 .taken)
-
-add-is-name-line : tie.Need-add-is-name-line
-add-is-name-line c = search needs
 
 is-name-line-requires : tie.Need-is-name-line-requires
 is-name-line-requires c κs = c .before .before .before .before .pre .0
@@ -28,8 +18,8 @@ pub is-name-after-spec : {M : Type 1} → statement M
 is-name-after-spec =
     tie.close
     (tie.spec
-    shared-slice-read-b
+    (search needs)
     returns
-    add-is-name-line
+    (search needs)
     is-name-line-requires
     returns-2)

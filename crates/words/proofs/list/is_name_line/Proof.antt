@@ -1,8 +1,7 @@
-use mathlib.Core.Path.{_≡_, refl, sym, ap, _∙_}
+use mathlib.Core.Path.{sym, _∙_}
 use mathlib.Core.Bool.{true, false}
 use native.Mathlib.Omega.{arith}
-use Prim.Native.Nat.{_+_, _-_, _<_, _≤_}
-use lib.ListN.{length, drop}
+use Prim.Native.Nat.{_-_}
 use borrow.Author.Tests.{not-true, not-false}
 use Rattle.words.proofs.Named.{line-other, line-none, line-last, line-ends}
 use borrow.Author.Needs.{needs}
@@ -11,10 +10,6 @@ use Rattle.words.proofs.list.is_name_line.Tie as tie
 use Rattle.words.proofs.list.is_name_line.Reads as reads
 use Rattle.words.proofs.list.is_name_line.Lts as lts
 use Rattle.lines.proofs.starts_with.Reads as starts-with-reads
-
--- src/words.rt:71:9
-starts-with-requires : tie.Need-starts-with-requires
-starts-with-requires c κs = search needs
 
 -- src/words.rt:72:9
 returns : tie.Need-returns
@@ -29,10 +24,6 @@ returns-2 c =
     let start = to-args .before in
     line-none (start .args .word .now) (start .args .names .now) (start .args .at) (start .pre) (c .if2 .taken)
 
--- src/words.rt:77:8
-sub-if3 : tie.Need-sub-if3
-sub-if3 c = search needs
-
 -- src/words.rt:78:9
 returns-3 : tie.Need-returns-3
 returns-3 c =
@@ -41,14 +32,6 @@ returns-3 c =
     line-last (start .args .word .now) (start .args .names .now) (start .args .at) (start .pre)
     (sym (c .before .before .before .starts-with .ensures) ∙ not-false _ (c .before .before .if1 .left))
     (omega arith) (c .if3 .taken)
-
--- src/words.rt:80:11
-add-result : tie.Need-add-result
-add-result c = search needs
-
--- src/words.rt:80:5
-shared-slice-read-result : tie.Need-shared-slice-read-result
-shared-slice-read-result c = search needs
 
 -- src/words.rt:67:1
 returns-4 : tie.Need-returns-4
@@ -63,11 +46,11 @@ pub is-name-line-spec : {M : Type 1} → statement M
 is-name-line-spec =
     tie.close
     (tie.spec
-    starts-with-requires
+    (search needs)
     returns
     returns-2
-    sub-if3
+    (search needs)
     returns-3
-    add-result
-    shared-slice-read-result
+    (search needs)
+    (search needs)
     returns-4)

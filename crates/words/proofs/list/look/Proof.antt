@@ -1,9 +1,6 @@
 -- `look` meets its contract. Assumes nothing.
-use mathlib.Core.Path.{_≡_, refl, sym, ap, _∙_}
-use mathlib.Core.Bool.{true, false}
 use native.Mathlib.Omega.{arith}
-use Prim.Native.Nat.{_+_, _-_, _<_, _≤_}
-use lib.ListN.{length, drop}
+use Prim.Native.Nat.{_+_, _-_, _≤_}
 use borrow.Author.Needs.{needs}
 use Rattle.words.proofs.Listed.{one-most, look-none, look-byte, look-all}
 use lib.Dec.{eqb}
@@ -32,9 +29,6 @@ shared-slice-read-one-if c =
     let start = back1 .before in
     omega (arith, start .pre .1, c .before .loop-test .taken)
 
-one-if-requires : tie.Need-one-if-requires Inv-loop μ-loop
-one-if-requires c κs = search needs
-
 add-may-follow : tie.Need-add-may-follow Inv-loop μ-loop
 add-may-follow c =
     let back1 = c .before .before .before .before in
@@ -59,9 +53,6 @@ add-ends c =
       c .before .one-if .ensures,
       one-most b,
     )
-
-or-requires : tie.Need-or-requires Inv-loop μ-loop
-or-requires c κs = search needs
 
 add-k : tie.Need-add-k Inv-loop μ-loop
 add-k c = omega (arith, c .before .before .before .before .loop-test .taken)
@@ -95,11 +86,11 @@ look-spec =
     loop-holds
     add-one-if
     shared-slice-read-one-if
-    one-if-requires
+    (search needs)
     add-may-follow
     may-follow-requires
     add-ends
-    or-requires
+    (search needs)
     add-k
     loop-less
     loop-again

@@ -1,19 +1,10 @@
 -- `number_after` meets its contract. Assumes nothing.
-use mathlib.Core.Path.{_≡_, refl, sym, ap, _∙_}
-use mathlib.Core.Bool.{true, false}
 use native.Mathlib.Omega.{arith}
-use Prim.Native.Nat.{_+_, _-_, _<_, _≤_}
-use lib.ListN.{length, drop}
+use Prim.Native.Nat.{_-_}
 use borrow.Author.Needs.{needs}
 use Rattle.words.proofs.Listed.{numbered-in, numbered-out}
 use Rattle.words.proofs.list.number_after.Statement.{statement}
 use Rattle.words.proofs.list.number_after.Tie as tie
-
-add-result : tie.Need-add-result
-add-result c = search needs
-
-cast-result : tie.Need-cast-result
-cast-result c = search needs
 
 returns : tie.Need-returns
 returns c = numbered-in _ (c .if1 .taken)
@@ -25,7 +16,7 @@ pub number-after-spec : {M : Type 1} → statement M
 number-after-spec =
     tie.close
     (tie.spec
-    add-result
-    cast-result
+    (search needs)
+    (search needs)
     returns
     returns-2)

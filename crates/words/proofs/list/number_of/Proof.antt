@@ -8,9 +8,6 @@ use Rattle.words.proofs.list.number_of.Tie as tie
 search-index-requires : tie.Need-search-index-requires
 search-index-requires c κs = c .before .before .before .pre
 
-number-after-requires : tie.Need-number-after-requires
-number-after-requires c κs = search needs
-
 returns : tie.Need-returns
 returns c = c .number-after .ensures ∙ sym (c .before .before .search-index .ensures .hit (c .before .if1 .taken))
 
@@ -48,7 +45,7 @@ number-of-spec =
     tie.close
     (tie.spec
     search-index-requires
-    number-after-requires
+    (search needs)
     returns
     mul-start
     mul-start-2

@@ -1,9 +1,6 @@
 -- `search_block` meets its contract. Assumes nothing.
-use mathlib.Core.Path.{_≡_, refl, sym, ap, _∙_}
-use mathlib.Core.Bool.{true, false}
 use native.Mathlib.Omega.{arith}
-use Prim.Native.Nat.{_+_, _-_, _<_, _≤_}
-use lib.ListN.{length, drop}
+use Prim.Native.Nat.{_-_}
 use borrow.Author.Needs.{needs}
 use Rattle.words.proofs.list.search_block.Statement.{statement}
 use Rattle.words.proofs.list.search_block.Tie as tie
@@ -22,9 +19,6 @@ walk-requires c κs =
 returns : tie.Need-returns
 returns c = c .walk .ensures
 
-cast-t7 : tie.Need-cast-t7
-cast-t7 c = search needs
-
 returns-2 : tie.Need-returns-2
 returns-2 c = c .before .before .look .ensures .none (c .before .if1 .left)
 
@@ -36,5 +30,5 @@ search-block-spec =
     add-walk
     walk-requires
     returns
-    cast-t7
+    (search needs)
     returns-2)

@@ -1,9 +1,8 @@
 -- `search_from` meets its contract. Assumes nothing.
-use mathlib.Core.Path.{_≡_, refl, sym, ap, _∙_}
-use mathlib.Core.Bool.{true, false}
+use mathlib.Core.Path.{sym, _∙_}
 use native.Mathlib.Omega.{arith}
-use Prim.Native.Nat.{_+_, _-_, _<_, _≤_}
-use lib.ListN.{length, drop}
+use Prim.Native.Nat.{_+_, _-_, _≤_}
+use lib.ListN.{length}
 use borrow.Author.Needs.{needs}
 use Rattle.words.proofs.Listed.{first-hit, sought-first, sought-all}
 use Rattle.words.specs.code.Names.{Sought}
@@ -18,9 +17,6 @@ abbrev μ-loop : tie.MeasureT-loop
 
 is-name-line-requires : tie.Need-is-name-line-requires Inv-loop μ-loop
 is-name-line-requires c κs = c .before .before .pre .0
-
-number-after-requires : tie.Need-number-after-requires Inv-loop μ-loop
-number-after-requires c κs = search needs
 
 returns : tie.Need-returns Inv-loop μ-loop
 returns c =
@@ -56,9 +52,6 @@ add-ends c =
       c .before .search-block .ensures .few,
       c .before .before .before .has-block .ensures (c .before .before .if2 .taken),
     )
-
-number-after-requires-2 : tie.Need-number-after-requires-2 Inv-loop μ-loop
-number-after-requires-2 c κs = search needs
 
 returns-2 : tie.Need-returns-2 Inv-loop μ-loop
 returns-2 c =
@@ -103,9 +96,6 @@ add-number-after c =
     let at-loop = at-walk .before .before .before in
     omega (arith, at-loop .loop .inv .2, at-walk .walk .ensures .few)
 
-number-after-requires-3 : tie.Need-number-after-requires-3 Inv-loop μ-loop
-number-after-requires-3 c κs = search needs
-
 returns-3 : tie.Need-returns-3 Inv-loop μ-loop
 returns-3 c =
     let at-walk = c .before .before .before in
@@ -129,19 +119,19 @@ search-from-spec =
     Inv-loop
     μ-loop
     is-name-line-requires
-    number-after-requires
+    (search needs)
     returns
     loop-holds
     has-block-requires
     search-block-requires
     add-ends
-    number-after-requires-2
+    (search needs)
     returns-2
     add-at
     loop-less
     loop-again
     walk-requires
     add-number-after
-    number-after-requires-3
+    (search needs)
     returns-3
     returns-4)

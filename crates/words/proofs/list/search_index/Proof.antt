@@ -1,11 +1,9 @@
 -- `search_index` meets its contract. Assumes nothing.
-use mathlib.Core.Path.{_≡_, sym, _∙_}
+use mathlib.Core.Path.{sym, _∙_}
 use native.Mathlib.Omega.{arith}
-use Prim.Native.Nat.{_+_, _*_, _-_, _/_, _<_, _≤_}
+use Prim.Native.Nat.{_-_, _/_, _≤_}
 use lib.ListN.{length}
 use borrow.Author.Needs.{needs}
-use Rattle.grammar.specs.Words.{find, bytesOf, numberOf}
-use Rattle.words.specs.code.Names.{numberedFrom}
 use Rattle.words.proofs.Indexed.{Before, before-none, before-more, index-hit, index-missed}
 use Rattle.words.proofs.list.search_index.Statement.{statement}
 use Rattle.words.proofs.list.search_index.Tie as tie
@@ -15,9 +13,6 @@ Inv-loop names index word sought k₀ k = Before names word k × (k ≤ length i
 
 abbrev μ-loop : tie.MeasureT-loop
 μ-loop names index word sought k₀ k = length index / 2 - k
-
-signature-requires : tie.Need-signature-requires Inv-loop μ-loop
-signature-requires c κs = search needs
 
 loop-holds : tie.Need-loop-holds Inv-loop μ-loop
 loop-holds c =
@@ -37,9 +32,6 @@ returns c =
     let start = to-start .before in
     index-hit (start .args .names .now) (start .args .word .now) (start .args .index .now) (turn .loop .k)
     (turn .loop .inv .0) (sym (c .before .is-indexed-line .ensures) ∙ c .if1 .taken)
-
-add-k : tie.Need-add-k Inv-loop μ-loop
-add-k c = search needs
 
 loop-less : tie.Need-loop-less Inv-loop μ-loop
 loop-less c = omega (arith, c .before .before .loop-test .taken)
@@ -69,11 +61,11 @@ search-index-spec =
     (tie.spec
     Inv-loop
     μ-loop
-    signature-requires
+    (search needs)
     loop-holds
     is-indexed-line-requires
     returns
-    add-k
+    (search needs)
     loop-less
     loop-again
     returns-2)

@@ -1,9 +1,7 @@
 -- `walk` meets its contract. Assumes nothing.
-use mathlib.Core.Path.{_≡_, refl, sym, ap, _∙_}
-use mathlib.Core.Bool.{true, false}
+use mathlib.Core.Bool.{false}
 use native.Mathlib.Omega.{arith}
-use Prim.Native.Nat.{_+_, _-_, _<_, _≤_}
-use lib.ListN.{length, drop}
+use Prim.Native.Nat.{_-_, _≤_}
 use borrow.Author.Needs.{needs}
 use Rattle.words.proofs.Listed.{one-most, searched-none, walk-hit, walked, walk-all}
 use lib.Dec.{eqb}
@@ -26,12 +24,6 @@ shared-slice-read-one-if c =
     let back1 = c .before .before .before .before in
     let start = back1 .before in
     omega (arith, start .pre .2, c .before .loop-test .taken)
-
-one-if-requires : tie.Need-one-if-requires Inv-loop μ-loop
-one-if-requires c κs = search needs
-
-cast-ends : tie.Need-cast-ends Inv-loop μ-loop
-cast-ends c = search needs
 
 add-ends : tie.Need-add-ends Inv-loop μ-loop
 add-ends c =
@@ -97,8 +89,8 @@ walk-spec =
     μ-loop
     loop-holds
     shared-slice-read-one-if
-    one-if-requires
-    cast-ends
+    (search needs)
+    (search needs)
     add-ends
     is-name-after-requires
     returns

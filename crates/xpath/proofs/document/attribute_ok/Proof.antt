@@ -8,15 +8,6 @@ use borrow.Author.Needs.{needs}
 use Rattle.xpath.proofs.document.attribute_ok.Statement.{statement}
 use Rattle.xpath.proofs.document.attribute_ok.Tie as tie
 
-add-is-attribute : tie.Need-add-is-attribute
-add-is-attribute c = search needs
-
-is-attribute-requires : tie.Need-is-attribute-requires
-is-attribute-requires c κs = search needs
-
-attribute-placed-requires : tie.Need-attribute-placed-requires
-attribute-placed-requires c κs = search needs
-
 returns : tie.Need-returns
 returns c =
     let a = c .before .before .before .before .args in
@@ -34,4 +25,4 @@ returns-2 c =
 pub attribute-ok-spec : {M : Type 1} → statement M
 attribute-ok-spec =
     tie.close
-    (tie.spec add-is-attribute is-attribute-requires attribute-placed-requires returns returns-2)
+    (tie.spec (search needs) (search needs) (λ c κs. search needs) returns returns-2)

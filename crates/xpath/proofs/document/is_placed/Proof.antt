@@ -8,18 +8,6 @@ use Rattle.xpath.proofs.document.is_placed.Tie as tie
 returns : tie.Need-returns
 returns c = same-placed _ _ _ _ (c .if1 .taken)
 
-add-end : tie.Need-add-end
-add-end c = search needs
-
-cast-climb-toward : tie.Need-cast-climb-toward
-cast-climb-toward c = search needs
-
-climb-toward-requires : tie.Need-climb-toward-requires
-climb-toward-requires c κs = search needs
-
-same-length : tie.Need-same-length
-same-length c = search needs
-
 returns-2 : tie.Need-returns-2
 returns-2 c =
     let l = c .before .before .climb-toward in
@@ -28,4 +16,4 @@ returns-2 c =
 pub is-placed-spec : {M : Type 1} → statement M
 is-placed-spec =
     tie.close
-    (tie.spec returns add-end cast-climb-toward climb-toward-requires same-length returns-2)
+    (tie.spec returns (search needs) (search needs) (λ c κs. search needs) (search needs) returns-2)

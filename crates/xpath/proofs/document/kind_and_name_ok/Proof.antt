@@ -38,18 +38,6 @@ named k n f =
     rw (ne-eqb n 0 f, le-leb 1 n (omega arith))
     (or-and (eqb k 1 || eqb k 5) (eqb k 4) (leb n 65535) ∙ simp (and-false, and-true, or-false))
 
-and-requires : tie.Need-and-requires
-and-requires c κs = search needs
-
-or-requires : tie.Need-or-requires
-or-requires c κs = search needs
-
-or-requires-2 : tie.Need-or-requires-2
-or-requires-2 c κs = search needs
-
-and-requires-2 : tie.Need-and-requires-2
-and-requires-2 c κs = search needs
-
 returns : tie.Need-returns
 returns c = c .and .ensures ∙ rw (c .before .if1 .taken) (unnamed _)
 
@@ -61,4 +49,4 @@ returns-2 c =
 
 pub kind-and-name-ok-spec : {M : Type 1} → statement M
 kind-and-name-ok-spec =
-    tie.close (tie.spec and-requires or-requires or-requires-2 and-requires-2 returns returns-2)
+    tie.close (tie.spec (search needs) (search needs) (search needs) (search needs) returns returns-2)

@@ -5,11 +5,8 @@ use borrow.Author.Needs.{needs}
 use Rattle.xpath.proofs.document.kind_at.Statement.{statement}
 use Rattle.xpath.proofs.document.kind_at.Tie as tie
 
-number-at-requires : tie.Need-number-at-requires
-number-at-requires c κs = search needs
-
 returns : tie.Need-returns
 returns c = c .number-at .ensures ∙ sym (kind-lent _ _)
 
 pub kind-at-spec : {M : Type 1} → statement M
-kind-at-spec = tie.close (tie.spec number-at-requires returns)
+kind-at-spec = tie.close (tie.spec (λ c κs. search needs) returns)

@@ -8,18 +8,6 @@ use borrow.Author.Needs.{needs}
 use Rattle.xpath.proofs.document.later_row_ok.Statement.{statement}
 use Rattle.xpath.proofs.document.later_row_ok.Tie as tie
 
-add-i : tie.Need-add-i
-add-i c = search needs
-
-parent-at-requires : tie.Need-parent-at-requires
-parent-at-requires c κs = search needs
-
-is-placed-requires : tie.Need-is-placed-requires
-is-placed-requires c κs = search needs
-
-same-length : tie.Need-same-length
-same-length c = search needs
-
 returns : tie.Need-returns
 returns c =
     let t = c .before .before .before in
@@ -33,9 +21,6 @@ kind-of-requires : tie.Need-kind-of-requires
 kind-of-requires c κs =
     let t = c .before .before .before in
     omega (arith, placed-below _ _ _ _ _ _ (t .is-placed .ensures) (not-false _ (c .if1 .left)))
-
-same-length-2 : tie.Need-same-length-2
-same-length-2 c = search needs
 
 returns-2 : tie.Need-returns-2
 returns-2 c =
@@ -52,18 +37,6 @@ returns-2 c =
           )),
       row-closed _ _ _ _ _ _ _ (add-one _) u w,
     )
-
-kind-at-requires : tie.Need-kind-at-requires
-kind-at-requires c κs = search needs
-
-name-at-requires : tie.Need-name-at-requires
-name-at-requires c κs = search needs
-
-kind-and-name-ok-requires : tie.Need-kind-and-name-ok-requires
-kind-and-name-ok-requires c κs = search needs
-
-same-length-3 : tie.Need-same-length-3
-same-length-3 c = search needs
 
 returns-3 : tie.Need-returns-3
 returns-3 c =
@@ -85,12 +58,6 @@ returns-3 c =
           )),
       row-closed _ _ _ _ _ _ _ (add-one _) u w,
     )
-
-attribute-ok-requires : tie.Need-attribute-ok-requires
-attribute-ok-requires c κs = search needs
-
-same-length-4 : tie.Need-same-length-4
-same-length-4 c = search needs
 
 returns-4 : tie.Need-returns-4
 returns-4 c =
@@ -119,19 +86,19 @@ pub later-row-ok-spec : {M : Type 1} → statement M
 later-row-ok-spec =
     tie.close
     (tie.spec
-    add-i
-    parent-at-requires
-    is-placed-requires
-    same-length
+    (search needs)
+    (search needs)
+    (λ c κs. search needs)
+    (search needs)
     returns
     kind-of-requires
-    same-length-2
+    (search needs)
     returns-2
-    kind-at-requires
-    name-at-requires
-    kind-and-name-ok-requires
-    same-length-3
+    (search needs)
+    (search needs)
+    (search needs)
+    (search needs)
     returns-3
-    attribute-ok-requires
-    same-length-4
+    (λ c κs. search needs)
+    (search needs)
     returns-4)

@@ -5,11 +5,8 @@ use borrow.Author.Needs.{needs}
 use Rattle.xpath.proofs.document.name_at.Statement.{statement}
 use Rattle.xpath.proofs.document.name_at.Tie as tie
 
-number-at-requires : tie.Need-number-at-requires
-number-at-requires c κs = search needs
-
 returns : tie.Need-returns
 returns c = c .number-at .ensures ∙ sym (name-lent _ _)
 
 pub name-at-spec : {M : Type 1} → statement M
-name-at-spec = tie.close (tie.spec number-at-requires returns)
+name-at-spec = tie.close (tie.spec (λ c κs. search needs) returns)

@@ -4,9 +4,6 @@ use borrow.Author.Needs.{needs}
 use Rattle.xpath.proofs.document.number_at.Statement.{statement}
 use Rattle.xpath.proofs.document.number_at.Tie as tie
 
-number-of-requires : tie.Need-number-of-requires
-number-of-requires c κs = search needs
-
 returns : tie.Need-returns
 returns c = rw (lt-ltb _ _ (c .before .if1 .taken)) (c .number-of .ensures)
 
@@ -14,4 +11,4 @@ returns-2 : tie.Need-returns-2
 returns-2 c = rw (le-ltb _ _ (c .if1 .left))
 
 pub number-at-spec : {M : Type 1} → statement M
-number-at-spec = tie.close (tie.spec number-of-requires returns returns-2)
+number-at-spec = tie.close (tie.spec (λ c κs. search needs) returns returns-2)

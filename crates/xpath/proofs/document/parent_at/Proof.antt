@@ -5,11 +5,8 @@ use borrow.Author.Needs.{needs}
 use Rattle.xpath.proofs.document.parent_at.Statement.{statement}
 use Rattle.xpath.proofs.document.parent_at.Tie as tie
 
-number-at-requires : tie.Need-number-at-requires
-number-at-requires c κs = search needs
-
 returns : tie.Need-returns
 returns c = c .number-at .ensures ∙ sym (parent-lent _ _)
 
 pub parent-at-spec : {M : Type 1} → statement M
-parent-at-spec = tie.close (tie.spec number-at-requires returns)
+parent-at-spec = tie.close (tie.spec (λ c κs. search needs) returns)

@@ -4,20 +4,11 @@ use borrow.Author.Needs.{needs}
 use Rattle.xpath.proofs.node_tests.kind_of_test.Statement.{statement}
 use Rattle.xpath.proofs.node_tests.kind_of_test.Tie as tie
 
-principal-kind-requires : tie.Need-principal-kind-requires
-principal-kind-requires c κs = search needs
-
 returns : tie.Need-returns
 returns c = rw (le-leb _ 1 (c .before .if1 .taken), c .principal-kind .ensures)
 
 returns-2 : tie.Need-returns-2
 returns-2 c = rw (lt-leb _ 1 (c .before .if1 .left), eq-eqb _ _ (c .if2 .taken))
-
-sub-wide : tie.Need-sub-wide
-sub-wide c = search needs
-
-wide-requires : tie.Need-wide-requires
-wide-requires c κs = search needs
 
 returns-3 : tie.Need-returns-3
 returns-3 c =
@@ -26,4 +17,4 @@ returns-3 c =
 
 pub kind-of-test-spec : {M : Type 1} → statement M
 kind-of-test-spec =
-    tie.close (tie.spec principal-kind-requires returns returns-2 sub-wide wide-requires returns-3)
+    tie.close (tie.spec (search needs) returns returns-2 (search needs) (search needs) returns-3)

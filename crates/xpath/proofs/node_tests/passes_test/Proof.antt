@@ -15,18 +15,6 @@ returns c = rw (c .if1 .taken)
 returns-2 : tie.Need-returns-2
 returns-2 c = past-last-test _ _ _ _ _ (omega arith)
 
-kind-at-requires : tie.Need-kind-at-requires
-kind-at-requires c κs = search needs
-
-kind-of-test-requires : tie.Need-kind-of-test-requires
-kind-of-test-requires c κs = search needs
-
-name-at-requires : tie.Need-name-at-requires
-name-at-requires c κs = search needs
-
-and-requires : tie.Need-and-requires
-and-requires c κs = search needs
-
 returns-3 : tie.Need-returns-3
 returns-3 c =
     let named = c .before in
@@ -34,15 +22,6 @@ returns-3 c =
     c .and .ensures
     ∙ rw (found .before .kind-at .ensures, found .kind-of-test .ensures, named .name-at .ensures)
     (name-by-kind _ _ _ _ _ (named .before .if3 .taken))
-
-and-requires-2 : tie.Need-and-requires-2
-and-requires-2 c κs = search needs
-
-name-at-requires-2 : tie.Need-name-at-requires-2
-name-at-requires-2 c κs = search needs
-
-and-requires-3 : tie.Need-and-requires-3
-and-requires-3 c κs = search needs
 
 returns-4 : tie.Need-returns-4
 returns-4 c =
@@ -71,13 +50,13 @@ passes-test-spec =
     (tie.spec
     returns
     returns-2
-    kind-at-requires
-    kind-of-test-requires
-    name-at-requires
-    and-requires
+    (search needs)
+    (search needs)
+    (search needs)
+    (search needs)
     returns-3
-    and-requires-2
-    name-at-requires-2
-    and-requires-3
+    (search needs)
+    (search needs)
+    (search needs)
     returns-4
     returns-5)

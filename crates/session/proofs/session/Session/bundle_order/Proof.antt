@@ -6,21 +6,6 @@ use Rattle.session.specs.View.{view}
 use Rattle.session.proofs.session.Session.bundle_order.Statement.{statement}
 use Rattle.session.proofs.session.Session.bundle_order.Tie as tie
 
-first-rows-requires : tie.Need-first-rows-requires
-first-rows-requires c κs = search needs
-
-first-steps-requires : tie.Need-first-steps-requires
-first-steps-requires c κs = search needs
-
-first-rows-requires-2 : tie.Need-first-rows-requires-2
-first-rows-requires-2 c κs = search needs
-
-first-steps-requires-2 : tie.Need-first-steps-requires-2
-first-steps-requires-2 c κs = search needs
-
-bundle-order-on-requires : tie.Need-bundle-order-on-requires
-bundle-order-on-requires c κs = search needs
-
 returns : tie.Need-returns
 unfolding view bundleOrderAnswer bundleOrder termSteps
 returns c =
@@ -40,9 +25,9 @@ pub bundle-order-spec : {M : Type 1} → statement M
 bundle-order-spec =
     tie.close
     (tie.spec
-    first-rows-requires
-    first-steps-requires
-    first-rows-requires-2
-    first-steps-requires-2
-    bundle-order-on-requires
+    (search needs)
+    (search needs)
+    (search needs)
+    (search needs)
+    (search needs)
     returns)

@@ -1,5 +1,5 @@
 -- `Session::drops_in_use` meets its contract: the counts of a point are those of its rows and steps. Assumes nothing.
-use mathlib.Core.Path.{_≡_, sym, ap, ap₂, _∙_}
+use mathlib.Core.Path.{sym, ap, ap₂, _∙_}
 use mathlib.Core.Bool.{not}
 use lib.ListN.{length}
 use borrow.Author.Needs.{needs}
@@ -7,31 +7,10 @@ use Rattle.terms.specs.Row.{tableOf}
 use Rattle.calls.specs.code.Tables.{stepsOf, firstRows, firstSteps}
 use Rattle.calls.proofs.Tables.{steps-lent}
 use Rattle.records.specs.Records.{allKept}
-use Rattle.records.specs.Held.{recordsIn}
+use Rattle.records.specs.code.Held.{recordsIn}
 use Rattle.session.proofs.PointsHeld.{rows-there, steps-there}
 use Rattle.session.proofs.session.Session.drops_in_use.Statement.{statement}
 use Rattle.session.proofs.session.Session.drops_in_use.Tie as tie
-
-point-named-requires : tie.Need-point-named-requires
-point-named-requires c κs = search needs
-
-wide-requires : tie.Need-wide-requires
-wide-requires c κs = search needs
-
-first-rows-requires : tie.Need-first-rows-requires
-first-rows-requires c κs = search needs
-
-row-count-requires : tie.Need-row-count-requires
-row-count-requires c κs = search needs
-
-wide-requires-2 : tie.Need-wide-requires-2
-wide-requires-2 c κs = search needs
-
-first-steps-requires : tie.Need-first-steps-requires
-first-steps-requires c κs = search needs
-
-all-kept-requires : tie.Need-all-kept-requires
-all-kept-requires c κs = search needs
 
 returns : tie.Need-returns
 returns c =
@@ -56,11 +35,11 @@ pub drops-in-use-spec : {M : Type 1} → statement M
 drops-in-use-spec =
     tie.close
     (tie.spec
-    point-named-requires
-    wide-requires
-    first-rows-requires
-    row-count-requires
-    wide-requires-2
-    first-steps-requires
-    all-kept-requires
+    (search needs)
+    (search needs)
+    (search needs)
+    (search needs)
+    (search needs)
+    (search needs)
+    (search needs)
     returns)

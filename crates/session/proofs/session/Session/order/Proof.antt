@@ -4,15 +4,6 @@ use Rattle.session.specs.View.{view}
 use Rattle.session.proofs.session.Session.order.Statement.{statement}
 use Rattle.session.proofs.session.Session.order.Tie as tie
 
-first-rows-requires : tie.Need-first-rows-requires
-first-rows-requires c κs = search needs
-
-first-rows-requires-2 : tie.Need-first-rows-requires-2
-first-rows-requires-2 c κs = search needs
-
-order-on-requires : tie.Need-order-on-requires
-order-on-requires c κs = search needs
-
 returns : tie.Need-returns
 unfolding view
 returns c =
@@ -22,4 +13,4 @@ returns c =
 
 pub order-spec : {M : Type 1} → statement M
 order-spec =
-    tie.close (tie.spec first-rows-requires first-rows-requires-2 order-on-requires returns)
+    tie.close (tie.spec (search needs) (search needs) (search needs) returns)

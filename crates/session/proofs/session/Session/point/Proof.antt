@@ -10,27 +10,6 @@ use Rattle.session.proofs.session.PointMade.{point-room, point-made-hel
 use Rattle.session.proofs.session.Session.point.Statement.{statement}
 use Rattle.session.proofs.session.Session.point.Tie as tie
 
-clamp-requires : tie.Need-clamp-requires
-clamp-requires c κs = search needs
-
-clamp-requires-2 : tie.Need-clamp-requires-2
-clamp-requires-2 c κs = search needs
-
-clamp-requires-3 : tie.Need-clamp-requires-3
-clamp-requires-3 c κs = search needs
-
-judge-point-requires : tie.Need-judge-point-requires
-judge-point-requires c κs = search needs
-
-number-requires : tie.Need-number-requires
-number-requires c κs = search needs
-
-cast-rows : tie.Need-cast-rows
-cast-rows c = search needs
-
-cast-steps : tie.Need-cast-steps
-cast-steps c = search needs
-
 put-point-requires : tie.Need-put-point-requires
 put-point-requires c κs =
     let at-number = c .before .before in
@@ -44,9 +23,6 @@ put-point-requires c κs =
           (at-clamp .clamp3 .ensures),
       size,
     )
-
-add-self : tie.Need-add-self
-add-self c = search needs
 
 returns : tie.Need-returns
 returns c =
@@ -70,14 +46,14 @@ pub point-spec : {M : Type 1} → statement M
 point-spec =
     tie.close
     (tie.spec
-    clamp-requires
-    clamp-requires-2
-    clamp-requires-3
-    judge-point-requires
-    number-requires
-    cast-rows
-    cast-steps
+    (search needs)
+    (search needs)
+    (search needs)
+    (search needs)
+    (search needs)
+    (search needs)
+    (search needs)
     put-point-requires
-    add-self
+    (search needs)
     returns
     returns-2)

@@ -10,12 +10,6 @@ use Rattle.session.proofs.Views.{fresh-sized}
 use Rattle.session.proofs.session.Session.read.Statement.{statement}
 use Rattle.session.proofs.session.Session.read.Tie as tie
 
-new-requires : tie.Need-new-requires
-new-requires c κs = search needs
-
-is-row-names-requires : tie.Need-is-row-names-requires
-is-row-names-requires c κs = search needs
-
 refused-read-requires : tie.Need-refused-read-requires
 refused-read-requires c κs = (c .before .before .new .ensures, omega arith)
 
@@ -26,32 +20,11 @@ returns c =
     let no-first-names = sym (at-names .is-row-names .ensures) ∙ not-true _ (c .before .if1 .taken) in
     read-met _ _ (c .refused-read .ensures .1) (c .refused-read .ensures .0 ∙ no-names bytes no-first-names)
 
-no-rows-requires : tie.Need-no-rows-requires
-no-rows-requires c κs = search needs
-
-add-read-rows : tie.Need-add-read-rows
-add-read-rows c = search needs
-
-slice-aggregate-read-rows : tie.Need-slice-aggregate-read-rows
-slice-aggregate-read-rows c = search needs
-
 read-rows-requires : tie.Need-read-rows-requires
 read-rows-requires c κs =
     let at-names = c .before .before .before in
     let names = sym (at-names .is-row-names .ensures) ∙ not-false _ (c .before .before .if1 .left) in
     (omega arith, first-line _ names, ap length (c .before .no-rows .ensures) ∙ fresh-sized .rows)
-
-enum-known-ended : tie.Need-enum-known-ended
-enum-known-ended c = search needs
-
-no-steps-requires : tie.Need-no-steps-requires
-no-steps-requires c κs = search needs
-
-slice-aggregate-read-steps : tie.Need-slice-aggregate-read-steps
-slice-aggregate-read-steps c = search needs
-
-slice-aggregate-read-steps-2 : tie.Need-slice-aggregate-read-steps-2
-slice-aggregate-read-steps-2 c = search needs
 
 read-steps-requires : tie.Need-read-steps-requires
 read-steps-requires c κs =
@@ -66,9 +39,6 @@ read-steps-requires c κs =
     _ _ (at-rows .read-rows .ensures) (at-ended .ended .given .1) in
     (bounds .0, bounds .1, ap length (at-no-steps .no-steps .ensures) ∙ fresh-sized .steps)
 
-enum-known-last : tie.Need-enum-known-last
-enum-known-last c = search needs
-
 cast-t28 : tie.Need-cast-t28
 cast-t28 c =
     let at-steps = c .before .before .before .before in
@@ -76,9 +46,6 @@ cast-t28 c =
     let few = steps-bounds _ _ _ _ _ _ _ (at-no-steps .no-steps .ensures)
     _ _ (at-steps .read-steps .ensures) (c .before .last .given .1) in
     omega arith
-
-enum-known-last-2 : tie.Need-enum-known-last-2
-enum-known-last-2 c = search needs
 
 refused-read-requires-2 : tie.Need-refused-read-requires-2
 refused-read-requires-2 c κs =
@@ -90,9 +57,6 @@ refused-read-requires-2 c κs =
     let bounds = steps-bounds _ _ _ _ _ _ _ (at-no-steps .no-steps .ensures)
     _ _ (at-steps .read-steps .ensures) (c .before .last2 .given .1) in
     (at-names .before .new .ensures, bounds)
-
-enum-known-ended-2 : tie.Need-enum-known-ended-2
-enum-known-ended-2 c = search needs
 
 refused-read-requires-3 : tie.Need-refused-read-requires-3
 refused-read-requires-3 c κs =
@@ -156,24 +120,24 @@ pub read-spec : {M : Type 1} → statement M
 read-spec =
     tie.close
     (tie.spec
-    new-requires
-    is-row-names-requires
+    (search needs)
+    (search needs)
     refused-read-requires
     returns
-    no-rows-requires
-    add-read-rows
-    slice-aggregate-read-rows
+    (search needs)
+    (search needs)
+    (search needs)
     read-rows-requires
-    enum-known-ended
-    no-steps-requires
-    slice-aggregate-read-steps
-    slice-aggregate-read-steps-2
+    (search needs)
+    (search needs)
+    (search needs)
+    (search needs)
     read-steps-requires
-    enum-known-last
+    (search needs)
     cast-t28
-    enum-known-last-2
+    (search needs)
     refused-read-requires-2
-    enum-known-ended-2
+    (search needs)
     refused-read-requires-3
     returns-2
     returns-3

@@ -7,36 +7,6 @@ use Rattle.session.proofs.session.PointMade.{few-places, return-made-he
 use Rattle.session.proofs.session.Session.return_to.Statement.{statement}
 use Rattle.session.proofs.session.Session.return_to.Tie as tie
 
-judge-return-requires : tie.Need-judge-return-requires
-judge-return-requires c κs = search needs
-
-number-requires : tie.Need-number-requires
-number-requires c κs = search needs
-
-point-place-requires : tie.Need-point-place-requires
-point-place-requires c κs = search needs
-
-point-named-requires : tie.Need-point-named-requires
-point-named-requires c κs = search needs
-
-wide-requires : tie.Need-wide-requires
-wide-requires c κs = search needs
-
-wide-requires-2 : tie.Need-wide-requires-2
-wide-requires-2 c κs = search needs
-
-mul-clear-rows : tie.Need-mul-clear-rows
-mul-clear-rows c = search needs
-
-clear-rows-requires : tie.Need-clear-rows-requires
-clear-rows-requires c κs = search needs
-
-mul-clear-steps : tie.Need-mul-clear-steps
-mul-clear-steps c = search needs
-
-clear-steps-requires : tie.Need-clear-steps-requires
-clear-steps-requires c κs = search needs
-
 add-clear-points : tie.Need-add-clear-points
 add-clear-points c =
     let at-clear = c .before .before .before .before in
@@ -56,9 +26,6 @@ mul-clear-points c =
     let at-judge = at-if .before .before in
     let s = at-judge .before .before .before .before .args .t1 in
     omega (arith, few-places s _ _ (at-place .point-place .ensures))
-
-clear-points-requires : tie.Need-clear-points-requires
-clear-points-requires c κs = search needs
 
 add-self : tie.Need-add-self
 add-self c =
@@ -97,19 +64,19 @@ pub return-to-spec : {M : Type 1} → statement M
 return-to-spec =
     tie.close
     (tie.spec
-    judge-return-requires
-    number-requires
-    point-place-requires
-    point-named-requires
-    wide-requires
-    wide-requires-2
-    mul-clear-rows
-    clear-rows-requires
-    mul-clear-steps
-    clear-steps-requires
+    (search needs)
+    (search needs)
+    (search needs)
+    (search needs)
+    (search needs)
+    (search needs)
+    (search needs)
+    (search needs)
+    (search needs)
+    (search needs)
     add-clear-points
     mul-clear-points
-    clear-points-requires
+    (search needs)
     add-self
     returns
     returns-2)

@@ -5,15 +5,9 @@ use Rattle.session.specs.View.{view}
 use Rattle.session.proofs.session.Session.rule_uses.Statement.{statement}
 use Rattle.session.proofs.session.Session.rule_uses.Tie as tie
 
-first-steps-requires : tie.Need-first-steps-requires
-first-steps-requires c κs = search needs
-
-rule-uses-requires : tie.Need-rule-uses-requires
-rule-uses-requires c κs = search needs
-
 returns : tie.Need-returns
 unfolding view
 returns c = c .rule-uses .ensures ∙ rw (c .before .first-steps .ensures)
 
 pub rule-uses-spec : {M : Type 1} → statement M
-rule-uses-spec = tie.close (tie.spec first-steps-requires rule-uses-requires returns)
+rule-uses-spec = tie.close (tie.spec (search needs) (search needs) returns)

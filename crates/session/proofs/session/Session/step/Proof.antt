@@ -14,26 +14,14 @@ use Rattle.session.proofs.session.StepMade.{step-made-held, step-made-r
 use Rattle.session.proofs.session.Session.step.Statement.{statement}
 use Rattle.session.proofs.session.Session.step.Tie as tie
 
-clamp-requires : tie.Need-clamp-requires
-clamp-requires c κs = search needs
-
-rule-table-requires : tie.Need-rule-table-requires
-rule-table-requires c κs = search needs
-
-slice-aggregate-judge-step : tie.Need-slice-aggregate-judge-step
-slice-aggregate-judge-step c = search needs
-
 judge-step-requires : tie.Need-judge-step-requires
 judge-step-requires c κs =
     let at-rows = c .before .before .before .before in
     at-rows .before .before .rule-table .ensures
 
-number-requires : tie.Need-number-requires
-number-requires c κs = search needs
-
-put-in-table-requires : tie.Need-put-in-table-requires
+put-step-requires : tie.Need-put-step-requires
 unfolding rowStepAnswer
-put-in-table-requires c κs =
+put-step-requires c κs =
     let at-number = c .before .before in
     let at-judge = at-number .before in
     let at-table = at-judge .before in
@@ -46,9 +34,6 @@ put-in-table-requires c κs =
     let all = steps-held (a .t1 .steps) (min (a .t1 .«step_count») maxSteps) (omega arith) size in
     (omega (arith, room, at-clamp .clamp .ensures, all), size)
 
-add-self : tie.Need-add-self
-add-self c = search needs
-
 returns : tie.Need-returns
 returns c =
     let at-if = c .before .before in
@@ -57,7 +42,7 @@ returns c =
     let at-rows = at-table .before .before .before .before in
     let at-clamp = at-rows .before .before .before in
     step-made-held (at-clamp .before .args .t1) _ (at-judge .judge-step .result) (at-judge .judge-step .ensures)
-    (sym (at-if .before .number .ensures) ∙ at-if .if1 .taken) _ (at-clamp .clamp .ensures) _ (c .put-in-table .ensures)
+    (sym (at-if .before .number .ensures) ∙ at-if .if1 .taken) _ (at-clamp .clamp .ensures) _ (c .put-step .ensures)
 
 returns-2 : tie.Need-returns-2
 returns-2 c =
@@ -71,12 +56,12 @@ pub step-spec : {M : Type 1} → statement M
 step-spec =
     tie.close
     (tie.spec
-    clamp-requires
-    rule-table-requires
-    slice-aggregate-judge-step
+    (search needs)
+    (search needs)
+    (search needs)
     judge-step-requires
-    number-requires
-    put-in-table-requires
-    add-self
+    (search needs)
+    put-step-requires
+    (search needs)
     returns
     returns-2)

@@ -5,12 +5,9 @@ use Rattle.session.specs.View.{view}
 use Rattle.session.proofs.session.Session.step_saying.Statement.{statement}
 use Rattle.session.proofs.session.Session.step_saying.Tie as tie
 
-step-saying-requires : tie.Need-step-saying-requires
-step-saying-requires c κs = search needs
-
 returns : tie.Need-returns
 unfolding view stepSaying isReplaced
 returns c = c .step-saying .ensures
 
 pub step-saying-spec : {M : Type 1} → statement M
-step-saying-spec = tie.close (tie.spec step-saying-requires returns)
+step-saying-spec = tie.close (tie.spec (search needs) returns)

@@ -9,16 +9,10 @@ use Rattle.session.proofs.Views.{steps-viewed}
 use Rattle.session.proofs.session.Session.steps_held.Statement.{statement}
 use Rattle.session.proofs.session.Session.steps_held.Tie as tie
 
-clamp-requires : tie.Need-clamp-requires
-clamp-requires c κs = search needs
-
-cast-result : tie.Need-cast-result
-cast-result c = search needs
-
 returns : tie.Need-returns
 returns c = let s = c .before .args .self in
     let size : length (s .steps) ≡ stepWidth * maxSteps = search needs in
     c .clamp .ensures ∙ sym (steps-viewed s size)
 
 pub steps-held-spec : {M : Type 1} → statement M
-steps-held-spec = tie.close (tie.spec clamp-requires cast-result returns)
+steps-held-spec = tie.close (tie.spec (search needs) (search needs) returns)

@@ -5,30 +5,19 @@ use borrow.Author.Needs.{needs}
 use Rattle.session.proofs.session.Session.term.Statement.{statement}
 use Rattle.session.proofs.session.Session.term.Tie as tie
 
-clamp-requires : tie.Need-clamp-requires
-clamp-requires c κs = search needs
-
-term-in-table-requires : tie.Need-term-in-table-requires
-term-in-table-requires c κs = search needs
-
-number-requires : tie.Need-number-requires
-number-requires c κs = search needs
-
-add-self : tie.Need-add-self
-add-self c = search needs
-
 returns : tie.Need-returns
 returns c =
     let at-term = c .before .before in
-    term-made-held _ _ _ (at-term .before .before .clamp .ensures) _ _ (at-term .term-in-table .ensures)
+    term-made-held _ _ _ (at-term .before .before .clamp .ensures) _ _ (at-term .term-in-place .ensures)
     (sym (c .before .number .ensures) ∙ c .if1 .taken)
 
 returns-2 : tie.Need-returns-2
 returns-2 c =
     let at-term = c .before .before in
-    term-made-refused _ _ _ (at-term .before .before .clamp .ensures) _ _ (at-term .term-in-table .ensures)
+    term-made-refused _ _ _ (at-term .before .before .clamp .ensures) _ _ (at-term .term-in-place .ensures)
     (λ e. c .if1 .left (c .before .number .ensures ∙ e))
 
 pub term-spec : {M : Type 1} → statement M
 term-spec =
-    tie.close (tie.spec clamp-requires term-in-table-requires number-requires add-self returns returns-2)
+    tie.close
+    (tie.spec (search needs) (λ c κs. search needs) (search needs) (search needs) returns returns-2)

@@ -4,9 +4,6 @@ use Rattle.session.proofs.session.TextMade.{text-made-held, text-made-r
 use Rattle.session.proofs.session.Session.text.Statement.{statement}
 use Rattle.session.proofs.session.Session.text.Tie as tie
 
-read-text-requires : tie.Need-read-text-requires
-read-text-requires c κs = search needs
-
 returns : tie.Need-returns
 returns c =
     let at-read = c .before .before in
@@ -22,4 +19,4 @@ returns-2 c =
     (at-read .read-text .ensures) (c .if1 .left)
 
 pub text-spec : {M : Type 1} → statement M
-text-spec = tie.close (tie.spec read-text-requires returns returns-2)
+text-spec = tie.close (tie.spec (search needs) returns returns-2)

@@ -4,20 +4,11 @@ use Rattle.session.proofs.Written.{write-refused, write-held}
 use Rattle.session.proofs.session.Session.write.Statement.{statement}
 use Rattle.session.proofs.session.Session.write.Tie as tie
 
-write-lines-requires : tie.Need-write-lines-requires
-write-lines-requires c κs = search needs
-
-same-length : tie.Need-same-length
-same-length c = search needs
-
 returns : tie.Need-returns
 returns c =
     let called = c .before .before .before in
     let a = called .before .before .before .args in
     write-refused (a .self) (a .out .now) _ _ (called .write-lines .ensures) (c .if1 .taken)
-
-same-length-2 : tie.Need-same-length-2
-same-length-2 c = search needs
 
 returns-2 : tie.Need-returns-2
 returns-2 c =
@@ -26,4 +17,4 @@ returns-2 c =
     write-held (a .self) (a .out .now) _ _ (called .write-lines .ensures) (c .if1 .left)
 
 pub write-spec : {M : Type 1} → statement M
-write-spec = tie.close (tie.spec write-lines-requires same-length returns same-length-2 returns-2)
+write-spec = tie.close (tie.spec (search needs) (search needs) returns (search needs) returns-2)
