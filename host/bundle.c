@@ -75,7 +75,7 @@ static bool operands_before(struct row row, size_t count)
 static bool parse_row(const uint8_t *at, const uint8_t *end, struct bundle *bundle)
 {
     uint16_t n[4];
-    if (bundle->row_count == MOST_ROWS || !parse_numbers(at, end, 4, n)) {
+    if (bundle->row_count == SPINEBRIAR_MOST_ROWS || !parse_numbers(at, end, 4, n)) {
         return false;
     }
     struct row row = {n[0], n[1], n[2], n[3]};
@@ -89,7 +89,7 @@ static bool parse_row(const uint8_t *at, const uint8_t *end, struct bundle *bund
 static bool parse_step(const uint8_t *at, const uint8_t *end, struct bundle *bundle)
 {
     uint16_t n[5];
-    if (bundle->step_count == MOST_STEPS || !parse_numbers(at, end, 5, n)) {
+    if (bundle->step_count == SPINEBRIAR_MOST_STEPS || !parse_numbers(at, end, 5, n)) {
         return false;
     }
     struct step step = {n[0], n[1], n[2], n[3], n[4]};
@@ -125,5 +125,5 @@ void parse_bundle(const uint8_t *bytes, size_t length, struct bundle *bundle)
 
 bool read_bundle(const char *path, struct bytes *file)
 {
-    return read_bytes(path, MOST_BUNDLE_BYTES, file);
+    return read_bytes(path, SPINEBRIAR_MOST_BYTES, file);
 }

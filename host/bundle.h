@@ -4,8 +4,7 @@
 #define HOST_BUNDLE_H
 
 #include "bytes.h"
-
-enum { MOST_BUNDLE_BYTES = 65536, MOST_ROWS = 1024, MOST_STEPS = 2048, MOST_RULE = 59 };
+#include "spinebriar.h"
 
 /* The kinds of rows. */
 enum {
@@ -23,8 +22,8 @@ struct step {
 
 struct bundle {
     size_t row_count, step_count;
-    struct row rows[MOST_ROWS];
-    struct step steps[MOST_STEPS];
+    struct row rows[SPINEBRIAR_MOST_ROWS];
+    struct step steps[SPINEBRIAR_MOST_STEPS];
 };
 
 /* How many lines a text has; a last one without a newline counts. */
@@ -42,7 +41,7 @@ void show_line(struct bytes text, size_t line, bool wrong_form, char shown[SHOWN
    A line that is not so ends it. */
 void parse_bundle(const uint8_t *bytes, size_t length, struct bundle *bundle);
 
-/* Reads the bundle in a file; false after a message. More than MOST_BUNDLE_BYTES are not read: no bundle is so
+/* Reads the bundle in a file; false after a message. More than SPINEBRIAR_MOST_BYTES are not read: no bundle is so
    long. */
 bool read_bundle(const char *path, struct bytes *file);
 

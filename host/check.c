@@ -82,8 +82,8 @@ static int print_refusal(struct bytes bundle, uint16_t answer, size_t line, cons
 /* YES for an accepted bundle; else it is said why not. */
 static int judge(struct bytes bundle, const struct names *names, FILE *out)
 {
-    if (bundle.length > MOST_BUNDLE_BYTES) {
-        fprintf(out, "refused: more than %d bytes, and no bundle is so long\n", MOST_BUNDLE_BYTES);
+    if (bundle.length > SPINEBRIAR_MOST_BYTES) {
+        fprintf(out, "refused: more than %d bytes, and no bundle is so long\n", SPINEBRIAR_MOST_BYTES);
         return NO;
     }
     size_t line = 0;

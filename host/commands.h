@@ -38,8 +38,8 @@ int claim_bytes(struct bytes bundle, const struct names *names, const char *old_
 /* The nodes of a document that select finds: YES, with a mark of 1 or 0 for each, or NO after a message. And what it
    prints of them. */
 int select_nodes(const struct document *document, const struct names *names, const struct options *options,
-                 uint8_t marks[MOST_NODES]);
-void print_nodes(const struct document *document, const struct names *names, const uint8_t marks[MOST_NODES],
+                 uint8_t marks[SPINEBRIAR_MOST_NODES]);
+void print_nodes(const struct document *document, const struct names *names, const uint8_t marks[SPINEBRIAR_MOST_NODES],
                  FILE *out);
 
 /* What file prints of calls, replay's lines; `path` is for messages. */

@@ -23,7 +23,7 @@ struct reading {
 static void put_node(struct reading *reading, uint16_t kind, uint16_t name)
 {
     struct document *document = reading->document;
-    if (document->count < MOST_NODES) {
+    if (document->count < SPINEBRIAR_MOST_NODES) {
         document->nodes[document->count] = (struct node){kind, reading->open, name};
         document->lines[document->count] = XML_GetCurrentLineNumber(reading->parser);
     }
@@ -51,7 +51,7 @@ static uint16_t added_number(struct reading *reading, const char *name)
         }
     }
     size_t number = reading->names->lines + document->added + 1;
-    if (number > MOST_NAMES || document->added == MOST_NODES) {
+    if (number > SPINEBRIAR_MOST_NUMBER || document->added == SPINEBRIAR_MOST_NODES) {
         return 0;
     }
     char *copy = strdup(name);
@@ -68,7 +68,7 @@ static uint16_t added_number(struct reading *reading, const char *name)
 static uint16_t name_number(struct reading *reading, const char *name, bool may_have_prefix)
 {
     const char *colon = strchr(name, ':');
-    if (reading->document->count >= MOST_NODES) {
+    if (reading->document->count >= SPINEBRIAR_MOST_NODES) {
         return 0;
     }
     if (colon != NULL && may_have_prefix && reading->options.local_names) {
@@ -111,7 +111,7 @@ static void element_starts(void *data, const char *name, const char **attributes
     struct reading *reading = data;
     size_t row = reading->document->count;
     put_node(reading, ELEMENT, name_number(reading, name, true));
-    if (row < MOST_NODES) {
+    if (row < SPINEBRIAR_MOST_NODES) {
         reading->open = (uint16_t)row;
     }
     for (size_t i = 0; attributes[i] != NULL; i += 2) {
@@ -227,8 +227,8 @@ static bool parse_file(FILE *file, const char *path, struct reading *reading)
 static int judged(const char *path, const struct reading *reading)
 {
     size_t count = reading->document->count;
-    if (count > MOST_NODES) {
-        complain("%s: %zu nodes; a document has at most %d", path, count, MOST_NODES);
+    if (count > SPINEBRIAR_MOST_NODES) {
+        complain("%s: %zu nodes; a document has at most %d", path, count, SPINEBRIAR_MOST_NODES);
         return NO;
     }
     if (reading->memory_short) {

@@ -5,8 +5,7 @@
 #include <stdio.h>
 
 #include "names.h"
-
-enum { MOST_NODES = 512 };
+#include "spinebriar.h"
 
 /* The kinds of nodes. */
 enum { ROOT, ELEMENT, TEXT, COMMENT, INSTRUCTION, ATTRIBUTE };
@@ -16,11 +15,12 @@ struct node {
 };
 
 struct document {
-    size_t count; /* of all nodes of the file; only the first MOST_NODES are in `nodes` */
-    struct node nodes[MOST_NODES];
-    unsigned long lines[MOST_NODES]; /* of the file, where the node, or an attribute's element, begins */
+    size_t count; /* of all nodes of the file; only the first SPINEBRIAR_MOST_NODES are in `nodes` */
+    struct node nodes[SPINEBRIAR_MOST_NODES];
+    unsigned long lines[SPINEBRIAR_MOST_NODES]; /* of the file, where the node, or an attribute's element, begins */
     size_t added;
-    struct name more[MOST_NODES]; /* the names that the list lacks, with their numbers, in memory of their own */
+    /* the names that the list lacks, with their numbers, in memory of their own */
+    struct name more[SPINEBRIAR_MOST_NODES];
 };
 
 struct document_options {

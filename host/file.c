@@ -7,8 +7,6 @@
 #include "commands.h"
 #include "spinebriar.h"
 
-enum { MOST_CALLS_BYTES = 65536 };
-
 /* The line begins with none of the words that file takes. */
 static bool is_other_word(const char *shown)
 {
@@ -35,18 +33,18 @@ static void tell_line(struct bytes calls, size_t line, const char *path, uint16_
 
 int file_bytes(struct bytes calls, const char *path, FILE *out)
 {
-    if (calls.length > MOST_CALLS_BYTES) {
-        complain("%s: more than %d bytes of calls", path, MOST_CALLS_BYTES);
+    if (calls.length > SPINEBRIAR_MOST_BYTES) {
+        complain("%s: more than %d bytes of calls", path, SPINEBRIAR_MOST_BYTES);
         return NO;
     }
     /* A bundle has at most 62,504 bytes. */
-    uint8_t *bundle = malloc(MOST_BUNDLE_BYTES);
+    uint8_t *bundle = malloc(SPINEBRIAR_MOST_BYTES);
     if (bundle == NULL) {
         complain("%s", strerror(ENOMEM));
         return UNREADABLE;
     }
     size_t value = 0;
-    uint16_t answer = spinebriar_file(calls.at, calls.length, bundle, MOST_BUNDLE_BYTES, &value);
+    uint16_t answer = spinebriar_file(calls.at, calls.length, bundle, SPINEBRIAR_MOST_BYTES, &value);
     if (answer == SPINEBRIAR_ACCEPTED) {
         fwrite(bundle, 1, value, out);
     } else {
@@ -59,7 +57,7 @@ int file_bytes(struct bytes calls, const char *path, FILE *out)
 int file_command(const struct options *options, FILE *out)
 {
     struct bytes calls;
-    if (!read_bytes(options->file, MOST_CALLS_BYTES, &calls)) {
+    if (!read_bytes(options->file, SPINEBRIAR_MOST_BYTES, &calls)) {
         return UNREADABLE;
     }
     int status = file_bytes(calls, options->file, out);

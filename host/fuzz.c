@@ -41,7 +41,7 @@ static void prepare(void)
 static void try_select(const struct document *document, const char *selector, uint32_t from)
 {
     struct options options = {.selector = selector, .from = from, .limited = true, .limit = 100000};
-    uint8_t marks[MOST_NODES] = {0};
+    uint8_t marks[SPINEBRIAR_MOST_NODES] = {0};
     int status = select_nodes(document, &names, &options, marks);
     assert(status == YES || status == NO);
     if (status == YES) {
@@ -83,11 +83,11 @@ static void one(const uint8_t *data, size_t size)
 {
     struct bytes bundle = {(uint8_t *)data, size};
     uint16_t answer = spinebriar_read(data, size);
-    int wanted = answer == SPINEBRIAR_ACCEPTED && size <= MOST_BUNDLE_BYTES ? YES : NO;
+    int wanted = answer == SPINEBRIAR_ACCEPTED && size <= SPINEBRIAR_MOST_BYTES ? YES : NO;
     assert(check_bytes(bundle, &names, sink) == wanted && explain_bytes(bundle, &names, sink) == wanted);
     int claimed = wanted == YES && says_mark(data, size) ? YES : NO;
     assert(claim_bytes(bundle, &names, "mark", "descendant::*", sink) == claimed);
-    if (answer != SPINEBRIAR_ACCEPTED && size <= MOST_BUNDLE_BYTES) {
+    if (answer != SPINEBRIAR_ACCEPTED && size <= SPINEBRIAR_MOST_BYTES) {
         check_line(data, size, answer);
     }
 }
@@ -96,7 +96,7 @@ static void one(const uint8_t *data, size_t size)
 static void check_rows(const struct document *document)
 {
     const struct node *nodes = document->nodes;
-    assert(document->count >= 1 && document->count <= MOST_NODES);
+    assert(document->count >= 1 && document->count <= SPINEBRIAR_MOST_NODES);
     assert(nodes[0].kind == 0 && nodes[0].parent == 0 && nodes[0].name == 0);
     for (size_t i = 1; i < document->count; i++) {
         size_t above = i - 1;
@@ -122,7 +122,7 @@ static void one(const uint8_t *data, size_t size)
         rewind(file);
         if (read_document(file, "fuzz", &names, options, &document) == YES) {
             check_rows(&document);
-            try_select(&document, "//node()|//@*", (uint32_t)(size % MOST_NODES));
+            try_select(&document, "//node()|//@*", (uint32_t)(size % SPINEBRIAR_MOST_NODES));
             try_select(&document, "mark/following::node()[ancestor::log]", 0);
         }
         free_document(&document);
@@ -169,7 +169,7 @@ static void one(const uint8_t *data, size_t size)
     memcpy(file.at, data, size);
     assert(names_of(file, &list));
     check_mark(&list);
-    for (size_t number = 0; number <= list.lines && number <= MOST_NAMES; number++) {
+    for (size_t number = 0; number <= list.lines && number <= SPINEBRIAR_MOST_NUMBER; number++) {
         const struct name *name = name_of(&list, (uint16_t)number);
         assert(name == NULL || number_of(&list, name->text, name->length) == number);
     }
@@ -177,7 +177,7 @@ static void one(const uint8_t *data, size_t size)
     size_t lines = list.lines;
     bool listed = number_of(&list, "mark", 4) != 0;
     assert(extend_names(&list, &added, 1) && list.stored == size && list.lines == lines + 1);
-    assert(listed || lines >= MOST_NAMES || number_of(&list, "mark", 4) == lines + 1);
+    assert(listed || lines >= SPINEBRIAR_MOST_NUMBER || number_of(&list, "mark", 4) == lines + 1);
     check_mark(&list);
     free_names(&list);
 }

@@ -72,7 +72,7 @@ static size_t count_lines(struct bytes file)
 /* How many lines can have a number. */
 static size_t numbered_lines(const struct names *names)
 {
-    return names->lines < MOST_NAMES ? names->lines : MOST_NAMES;
+    return names->lines < SPINEBRIAR_MOST_NUMBER ? names->lines : SPINEBRIAR_MOST_NUMBER;
 }
 
 bool names_of(struct bytes file, struct names *names)

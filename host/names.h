@@ -5,8 +5,9 @@
 #define HOST_NAMES_H
 
 #include "bytes.h"
+#include "spinebriar.h"
 
-enum { MOST_NAMES = 65535, MOST_NAMES_BYTES = 1 << 24 };
+enum { MOST_NAMES_BYTES = 1 << 24 };
 
 struct name {
     const char *text;
@@ -18,7 +19,7 @@ struct names {
     struct bytes file;
     size_t stored; /* so many of these bytes stand in the file, the others are to be added */
     size_t lines;
-    struct name *by_line; /* line n's at n - 1, up to MOST_NAMES, with number 0 where it has none */
+    struct name *by_line; /* line n's at n - 1, up to SPINEBRIAR_MOST_NUMBER, with number 0 where it has none */
     struct name *by_text; /* those that have a number, sorted */
     size_t count;
 };

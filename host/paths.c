@@ -54,7 +54,7 @@ static void put_step(const struct document *document, const struct places *place
 void put_path(const struct document *document, const struct places *places, const struct names *names, size_t node,
               FILE *out)
 {
-    size_t above[MOST_NODES], depth = 0;
+    size_t above[SPINEBRIAR_MOST_NODES], depth = 0;
     for (; node != 0; node = document->nodes[node].parent) {
         above[depth++] = node;
     }

@@ -8,7 +8,7 @@
 
 /* Of each node, its place from 1 among its parent's children of its kind and name, and how many these are. */
 struct places {
-    uint16_t place[MOST_NODES], of[MOST_NODES];
+    uint16_t place[SPINEBRIAR_MOST_NODES], of[SPINEBRIAR_MOST_NODES];
 };
 
 void number_places(const struct document *document, struct places *places);

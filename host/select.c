@@ -12,7 +12,7 @@ enum { NUMBERS = 3 };
 static uint16_t mark_nodes(const struct document *document, const struct names *names, const struct options *options,
                            uint32_t limit, uint8_t *marks, size_t *value)
 {
-    uint16_t numbers[NUMBERS * MOST_NODES];
+    uint16_t numbers[NUMBERS * SPINEBRIAR_MOST_NODES];
     for (size_t i = 0; i < document->count; i++) {
         struct node node = document->nodes[i];
         numbers[NUMBERS * i] = node.kind;
@@ -21,7 +21,7 @@ static uint16_t mark_nodes(const struct document *document, const struct names *
     }
     return spinebriar_select(names->file.at, names->file.length, (const uint8_t *)options->selector,
                              strlen(options->selector), numbers, NUMBERS * document->count, (uint16_t)options->from,
-                             limit, marks, MOST_NODES, value);
+                             limit, marks, SPINEBRIAR_MOST_NODES, value);
 }
 
 /* Why nothing was selected. */
@@ -41,7 +41,7 @@ static int tell_refusal(uint16_t answer, size_t value, const struct options *opt
 }
 
 int select_nodes(const struct document *document, const struct names *names, const struct options *options,
-                 uint8_t marks[MOST_NODES])
+                 uint8_t marks[SPINEBRIAR_MOST_NODES])
 {
     size_t value = 0;
     uint32_t limit = options->limited ? options->limit : default_limit(options->selector, document->count);
@@ -49,7 +49,7 @@ int select_nodes(const struct document *document, const struct names *names, con
     return answer == SPINEBRIAR_ACCEPTED ? YES : tell_refusal(answer, value, options, limit, document->count);
 }
 
-void print_nodes(const struct document *document, const struct names *names, const uint8_t marks[MOST_NODES],
+void print_nodes(const struct document *document, const struct names *names, const uint8_t marks[SPINEBRIAR_MOST_NODES],
                  FILE *out)
 {
     struct places places;
@@ -67,7 +67,7 @@ int select_command(const struct options *options, FILE *out)
 {
     struct names names;
     struct document document;
-    uint8_t marks[MOST_NODES] = {0};
+    uint8_t marks[SPINEBRIAR_MOST_NODES] = {0};
     int status = load_document(options, &names, &document);
     if (status != YES) {
         return status;

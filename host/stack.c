@@ -11,7 +11,7 @@
 #include "bytes.h"
 #include "spinebriar.h"
 
-enum { STACK = 1 << 20, PAINT = 0xa5, MOST_BYTES = 65536, NODES = 512 };
+enum { STACK = 1 << 20, PAINT = 0xa5 };
 
 /* Every selector is as deep as rows may nest, in another way. */
 static const char *const SELECTORS[] = {
@@ -28,7 +28,7 @@ enum { SELECTOR_COUNT = sizeof SELECTORS / sizeof *SELECTORS };
 static struct bytes bundle;
 static const char *selector;
 static uint8_t names[4096]; /* the name a and empty lines, enough for a list that is indexed */
-static uint16_t document[3 * NODES];
+static uint16_t document[3 * SPINEBRIAR_MOST_NODES];
 
 static void call_nothing(void)
 {
@@ -56,16 +56,16 @@ static void call_claim(void)
 static void call_select(void)
 {
     size_t value;
-    uint8_t marks[NODES];
-    spinebriar_select(names, sizeof names, (const uint8_t *)selector, strlen(selector), document, 3 * NODES, 0, 100000,
-                      marks, NODES, &value);
+    uint8_t marks[SPINEBRIAR_MOST_NODES];
+    spinebriar_select(names, sizeof names, (const uint8_t *)selector, strlen(selector), document,
+                      3 * SPINEBRIAR_MOST_NODES, 0, 100000, marks, SPINEBRIAR_MOST_NODES, &value);
 }
 
 /* A term, a step, and the selector as text. */
 static void call_file(void)
 {
-    static uint8_t out[MOST_BYTES];
-    static char calls[MOST_BYTES];
+    static uint8_t out[SPINEBRIAR_MOST_BYTES];
+    static char calls[SPINEBRIAR_MOST_BYTES];
     size_t value;
     int length = snprintf(calls, sizeof calls, "names a\nterm 2 1 0 1\nstep 2 0 0 0 0\ntext %s\n", selector);
     spinebriar_file((const uint8_t *)calls, (size_t)length, out, sizeof out, &value);
@@ -120,7 +120,7 @@ static void measure(struct call *call)
 /* A chain of elements, each in the one before, or all of them children of the first. */
 static void make_document(bool chain)
 {
-    for (uint16_t i = 1; i < NODES; i++) {
+    for (uint16_t i = 1; i < SPINEBRIAR_MOST_NODES; i++) {
         document[3 * i] = 1;
         document[3 * i + 1] = chain || i == 1 ? (uint16_t)(i - 1) : 1;
         document[3 * i + 2] = 1;
@@ -147,7 +147,7 @@ int main(int argc, char **argv)
     memset(names, '\n', sizeof names);
     names[0] = 'a';
     for (int i = 1; i < argc; i++) {
-        if (!read_bytes(argv[i], MOST_BYTES, &bundle)) {
+        if (!read_bytes(argv[i], SPINEBRIAR_MOST_BYTES, &bundle)) {
             return UNREADABLE;
         }
         measure_all();

@@ -15,8 +15,8 @@ struct shown {
     const struct bundle *bundle;
     const struct names *names; /* without a name a number is shown as `#7` */
     FILE *out;
-    size_t width[MOST_ROWS];
-    bool looked_at[MOST_ROWS];
+    size_t width[SPINEBRIAR_MOST_ROWS];
+    bool looked_at[SPINEBRIAR_MOST_ROWS];
 };
 
 /* Prepares to show the rows of the bundle. */

@@ -19,6 +19,17 @@
 #define SPINEBRIAR_SELECT_STACK 327680
 #define SPINEBRIAR_FILE_STACK 786432
 
+/* The limits of the papers: of a bundle its bytes, rows, steps and rules, the nodes of a document, the largest number
+   of a name. More is refused by the call that is given it. */
+enum {
+    SPINEBRIAR_MOST_BYTES = 65536,
+    SPINEBRIAR_MOST_ROWS = 1024,
+    SPINEBRIAR_MOST_STEPS = 2048,
+    SPINEBRIAR_MOST_RULE = 59,
+    SPINEBRIAR_MOST_NODES = 512,
+    SPINEBRIAR_MOST_NUMBER = 65535
+};
+
 #ifdef __cplusplus
 extern "C" {
 #endif

@@ -55,9 +55,9 @@ def constant(path, name):
     return int(re.search(r'^\W*(?:pub const )?%s(?:: usize)? = (\d+)' % name, text_of(path), re.M).group(1))
 
 
-def host_number(path, name):
-    """A number of an enum in host/."""
-    return int(re.search(r'\b%s = (\d+)' % name, text_of('host/' + path)).group(1))
+def header_number(name):
+    """A limit of include/spinebriar.h."""
+    return int(re.search(r'\bSPINEBRIAR_MOST_%s = (\d+)' % name, text_of('include/spinebriar.h')).group(1))
 
 
 def kinds():
@@ -143,10 +143,8 @@ def limits():
               ('rules/specs/Yields.antt', 'wayBackRule')]
     specified = [constant('crates/' + path, name) for path, name in places]
     same('limits', [int(row[1]) for row in table('what | most')], specified)
-    host = [host_number('bundle.h', 'MOST_ROWS'), host_number('bundle.h', 'MOST_STEPS'),
-            host_number('document.h', 'MOST_NODES'), host_number('bundle.h', 'MOST_BUNDLE_BYTES'),
-            host_number('names.h', 'MOST_NAMES')]
-    same('host/: limits', host, [specified[i] for i in (0, 1, 3, 4, 5)])
+    header = [header_number(name) for name in ('ROWS', 'STEPS', 'NODES', 'BYTES', 'NUMBER', 'RULE')]
+    same('include/spinebriar.h: limits', header, [specified[i] for i in (0, 1, 3, 4, 5, 6)])
 
 
 def main():
