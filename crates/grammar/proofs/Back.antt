@@ -10,7 +10,7 @@ use Rattle.lines.specs.Line.{sameBytes}
 use Rattle.grammar.specs.Bytes.{Bytes, isSpace, isStart, isName, isQuote, every, isWord, nonempty}
 use Rattle.grammar.specs.Bytes.{apart, notWord, trueWord, falseWord}
 use Rattle.grammar.specs.Words.{isAxis, isType, instructionWord}
-use Rattle.grammar.specs.Grammar.{Axis, implied, attribute, axis, Test, any, called, kind, target, Step}
+use Rattle.grammar.specs.Grammar.{Axis, implied, attribute, axis, Test, any, called, kind, target, LocationStep}
 use Rattle.grammar.specs.Grammar.{dot, dots, test, filter, Rel, one, slash, Path, root}
 use Rattle.grammar.specs.Grammar.{Union, union, Unary, paths, group, negation}
 use Rattle.grammar.specs.Grammar.{constant, And, operand, Or, spellAxis, spellTest}
@@ -224,13 +224,13 @@ prefix-told bare r = refl
 prefix-told (atRoot w) r = simp append-assoc
 prefix-told (atAny w) r = simp append-assoc
 
-join-told : (l : Lead) (s : Step) → toldPrefix (prefixOf l) ++ spellRel (join l s) ≡ toldLead l ++ spellStep s
+join-told : (l : Lead) (s : LocationStep) → toldPrefix (prefixOf l) ++ spellRel (join l s) ≡ toldLead l ++ spellStep s
 unfolding toldLead join spellRel prefixOf
 join-told (start x) s = refl
 join-told (after1 x r w) s = simp append-assoc
 join-told (after2 x r w) s = simp append-assoc
 
-pub path-told : (l : Lead) (s : Step) → spellPath (pathTo l s) ≡ toldLead l ++ spellStep s
+pub path-told : (l : Lead) (s : LocationStep) → spellPath (pathTo l s) ≡ toldLead l ++ spellStep s
 path-told l s = prefix-told (prefixOf l) (join l s) ∙ join-told l s
 
 pub alt-told : (g : Alt) (p : Path) → spellUnion (joinAlt g p) ≡ toldAlt g ++ spellPath p
@@ -238,7 +238,7 @@ unfolding spellUnion joinAlt toldAlt
 alt-told first p = refl
 alt-told (more u w) p = simp append-assoc
 
-join-fine : (l : Lead) (s : Step) (d : ℕ) → FineLead l d → FineStep s d → FineRel (join l s) d
+join-fine : (l : Lead) (s : LocationStep) (d : ℕ) → FineLead l d → FineStep s d → FineRel (join l s) d
 unfolding join
 join-fine (start x) s d h i = i
 join-fine (after1 x r w) s d h i = (h .1, h .2, i)
@@ -256,7 +256,7 @@ prefix-fine bare r d h i = i
 prefix-fine (atRoot w) r d h i = (h, i)
 prefix-fine (atAny w) r d h i = (h, i)
 
-pub path-fine : (l : Lead) (s : Step) (d : ℕ) → FineLead l d → FineStep s d → FinePath (pathTo l s) d
+pub path-fine : (l : Lead) (s : LocationStep) (d : ℕ) → FineLead l d → FineStep s d → FinePath (pathTo l s) d
 path-fine l s d h i = prefix-fine (prefixOf l) (join l s) d (lead-prefix-fine l d h) (join-fine l s d h i)
 
 pub alt-fine : (g : Alt) (p : Path) (d : ℕ) → FineAlt g d → FinePath p d → FineUnion (joinAlt g p) d
@@ -264,7 +264,7 @@ unfolding joinAlt
 alt-fine first p d h i = i
 alt-fine (more u w) p d h i = (h .0, h .1, i)
 
-join-last : (l : Lead) (s : Step) → lastRel (join l s) ≡ lastStep s
+join-last : (l : Lead) (s : LocationStep) → lastRel (join l s) ≡ lastStep s
 unfolding join lastRel
 join-last (start x) s = refl
 join-last (after1 x r w) s = refl
@@ -276,7 +276,7 @@ prefix-last bare r = refl
 prefix-last (atRoot w) r = refl
 prefix-last (atAny w) r = refl
 
-path-last : (l : Lead) (s : Step) → lastPath (pathTo l s) ≡ lastStep s
+path-last : (l : Lead) (s : LocationStep) → lastPath (pathTo l s) ≡ lastStep s
 path-last l s = prefix-last (prefixOf l) (join l s) ∙ join-last l s
 
 alt-last : (g : Alt) (p : Path) → lastUnion (joinAlt g p) ≡ lastPath p
@@ -353,7 +353,7 @@ gap-start k w b h = (
   λ e. absurd (never (sym (rw (eq-byte b 111 e) at h))),
 )
 
-spell-filter : (s : Step) (w : Bytes) (e : Or) (v : Bytes) → spellStep (filter s w e v)
+spell-filter : (s : LocationStep) (w : Bytes) (e : Or) (v : Bytes) → spellStep (filter s w e v)
     ≡ spellStep s ++ (w ++ (91 ∷ (spellOr e ++ (v ++ (93 ∷ [])))))
 unfolding spellStep
 spell-filter s w e v = refl
@@ -563,14 +563,14 @@ slash-list c g p r l s w e =
 slash-same : (g p r l s : Bytes) → p ++ r ≡ l ++ s → (g ++ p) ++ r ≡ (g ++ l) ++ s
 slash-same g p r l s e = append-assoc g p r ∙ (rw e (sym (append-assoc g l s)))
 
-slash-clear : (c : Ctx) (g : Alt) (l : Lead) (s : Step) → Clr c g l (spellStep s)
+slash-clear : (c : Ctx) (g : Alt) (l : Lead) (s : LocationStep) → Clr c g l (spellStep s)
     → Clr c g (start (prefixOf l)) (spellRel (join l s))
 unfolding toldLead
 slash-clear c g l s h =
     rw (slash-same (toldAlt g) (toldPrefix (prefixOf l)) (spellRel (join l s)) (toldLead l) (spellStep s)
     (join-told l s)) h
 
-may-more : (s : Step) (w : Bytes) (b : ℕ) → mayFollow (lastStep s) (w ++ (b ∷ [])) ≡ true
+may-more : (s : LocationStep) (w : Bytes) (b : ℕ) → mayFollow (lastStep s) (w ++ (b ∷ [])) ≡ true
 unfolding lastStep lastTest mayFollow
 may-more (dot v) w b = refl
 may-more (dots v) w b = refl
@@ -613,7 +613,7 @@ paren-list : (k a w n v t : Bytes) (b : ℕ) → k ++ ((a ++ (w ++ n)) ++ (v ++ 
     → k ++ (a ++ (w ++ (n ++ (v ++ (b ∷ []))))) ≡ t
 paren-list k a w n v t b h = simp append-assoc at h
 
-paren-read : (c : Ctx) (g : Alt) (l : Lead) (s : Step) (v t : Bytes)
+paren-read : (c : Ctx) (g : Alt) (l : Lead) (s : LocationStep) (v t : Bytes)
     → before c g l ++ (spellStep s ++ (v ++ (40 ∷ []))) ≡ t → FineAt c g l → Clr c g l (spellStep s)
     → FineStep s (room c) → Spaces v → Read t (parenByte c g l s v)
 unfolding parenByte spellStep spellTest told every
@@ -628,7 +628,7 @@ paren-read c g l (dot w) v t h fa fl fs fv = tt
 paren-read c g l (dots w) v t h fa fl fs fv = tt
 paren-read c g l (filter s w e u) v t h fa fl fs fv = tt
 
-colon-read : (c : Ctx) (g : Alt) (l : Lead) (s : Step) (v t : Bytes)
+colon-read : (c : Ctx) (g : Alt) (l : Lead) (s : LocationStep) (v t : Bytes)
     → before c g l ++ (spellStep s ++ (v ++ (58 ∷ []))) ≡ t → FineAt c g l → Clr c g l (spellStep s)
     → FineStep s (room c) → Spaces v → Read t (colonByte c g l s v)
 unfolding colonByte spellStep spellTest spellAxis told
@@ -653,7 +653,7 @@ path-list c g l s p w t e h = rw e (simp append-assoc (simp append-assoc at h))
 path-clear : (c : Ctx) (g l s p : Bytes) → p ≡ l ++ s → ClearCtx c ((g ++ l) ++ s) → ClearCtx c (g ++ p)
 path-clear c g l s p e h = rw e (rw append-assoc at h)
 
-after-read : (c : Ctx) (g : Alt) (l : Lead) (s : Step) (w : Bytes) (b : ℕ) (t : Bytes)
+after-read : (c : Ctx) (g : Alt) (l : Lead) (s : LocationStep) (w : Bytes) (b : ℕ) (t : Bytes)
     → before c g l ++ (spellStep s ++ (w ++ (b ∷ []))) ≡ t → FineAt c g l → Clr c g l (spellStep s)
     → FineStep s (room c) → Spaces w
     → Gap (lastStep s) w b → Read t (afterByte c g l s w b)

@@ -17,7 +17,7 @@ use Rattle.terms.specs.Nesting.{operandNesting, nestingBy, nesting}
 use Rattle.lines.specs.Line.{sameBytes}
 use Rattle.grammar.specs.Bytes.{Bytes}
 use Rattle.grammar.specs.Words.{find, next, isSome, orZero, axes, types}
-use Rattle.grammar.specs.Grammar.{Axis, implied, attribute, axis, Test, any, called, kind, target, Step}
+use Rattle.grammar.specs.Grammar.{Axis, implied, attribute, axis, Test, any, called, kind, target, LocationStep}
 use Rattle.grammar.specs.Grammar.{dot, dots, test, filter, Rel, one, slash, slashes, Path, relative, root}
 use Rattle.grammar.specs.Grammar.{rooted, anywhere, Union, single, union, Unary, paths, group, negation}
 use Rattle.grammar.specs.Grammar.{constant, And, operand, conj, Or, alone, disj, FineAxis, FineTest, FineStep}
@@ -136,7 +136,8 @@ module _ (num : Bytes → ℕ) (most : (n : Bytes) → num n ≤ maxNumber) wher
     unfolding stepOf relOf relAfter pathOf unionOf unaryOf andOf orOf stepNames relNames pathNames unionNames unaryNames
         andNames orNames
 
-    step-fits : (s : Step) (d i : ℕ) → FineStep s d → unlisted num (stepNames s i) ≡ none → PathFits (stepOf num s)
+    step-fits : (s : LocationStep) (d i : ℕ) → FineStep s d → unlisted num (stepNames s i) ≡ none
+        → PathFits (stepOf num s)
     step-fits (dot w) d i h e = type-fits 0 (omega arith) 0 (omega arith)
     step-fits (dots w) d i h e = type-fits 2 (omega arith) 0 (omega arith)
     step-fits (test a t) d i h e = test-fits (axisOf a) t _ (axis-fits a (h .0)) (h .1) e

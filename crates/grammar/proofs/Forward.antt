@@ -11,7 +11,7 @@ use Rattle.lines.specs.Line.{sameBytes}
 use Rattle.grammar.specs.Bytes.{Bytes, isSpace, isStart, isName, isQuote, every, isWord, nonempty}
 use Rattle.grammar.specs.Bytes.{apart, notWord, trueWord, falseWord}
 use Rattle.grammar.specs.Words.{find, next, axes, types, isSome, isAxis, isType, instructionWord}
-use Rattle.grammar.specs.Grammar.{Axis, implied, attribute, axis, Test, any, called, kind, target, Step}
+use Rattle.grammar.specs.Grammar.{Axis, implied, attribute, axis, Test, any, called, kind, target, LocationStep}
 use Rattle.grammar.specs.Grammar.{dot, dots, test, filter, Rel, one, slash, slashes, Path, relative, root}
 use Rattle.grammar.specs.Grammar.{rooted, anywhere, Union, single, union, Unary, paths, group, negation}
 use Rattle.grammar.specs.Grammar.{constant, And, operand, conj, Or, alone, disj, spellAxis, spellTest}
@@ -35,7 +35,7 @@ use Rattle.grammar.proofs.Basics.{space-name, space-start, start-name, 
 use Rattle.grammar.proofs.Basics.{collect}
 
 -- where the reader stands after a tree's last byte
-unfoldable pub endStep : Ctx → Alt → Lead → Step → State
+unfoldable pub endStep : Ctx → Alt → Lead → LocationStep → State
 endStep c g l (dot w) = dot1 c g l w
 endStep c g l (dots w) = after c g l (dots w) []
 endStep c g l (test a (any w)) = after c g l (test a (any w)) []
@@ -79,7 +79,7 @@ need-spaces : (c : Ctx) (g : Alt) (l : Lead) (v t : Bytes) → Spaces v → walk
 unfolding step needByte
 need-spaces c g l v t h = collect isSpace (need c g l) (λ w b e. rw (space-start b e, e)) v [] t h
 
-pub after-spaces : (c : Ctx) (g : Alt) (l : Lead) (s : Step) (w v t : Bytes) → Spaces v
+pub after-spaces : (c : Ctx) (g : Alt) (l : Lead) (s : LocationStep) (w v t : Bytes) → Spaces v
     → walk (v ++ t) (after c g l s w) ≡ walk t (after c g l s (w ++ v))
 unfolding step afterByte
 after-spaces c g l s w v t h = collect isSpace (after c g l s) (λ w b e. rw e) v w t h
@@ -161,7 +161,7 @@ testing-name c g l a w (b ∷ n) t h i =
     (name-bytes c g l a w (b ∷ []) n t (u .1))
 
 -- a byte that would lengthen the step's last token
-unfoldable touches : Step → ℕ → Bool
+unfoldable touches : LocationStep → ℕ → Bool
 touches (dot w) b = eqb b 46
 touches (dots w) b = false
 touches (test a (any w)) b = false
@@ -177,7 +177,7 @@ free : (c : Bool) → (not c || false) ≡ true → c ≡ false
 free true h = absurd (never h)
 free false h = refl
 
-step-then : (c : Ctx) (g : Alt) (l : Lead) (s : Step) (w : Bytes) (b : ℕ) (t : Bytes) (y : Next) → Spaces w
+step-then : (c : Ctx) (g : Alt) (l : Lead) (s : LocationStep) (w : Bytes) (b : ℕ) (t : Bytes) (y : Next) → Spaces w
     → (not (touches s b) || nonempty w) ≡ true
     → follow (afterByte c g l s w b) none (λ x. walk t x) ≡ y → walk (w ++ (b ∷ t)) (endStep c g l s) ≡ y
 unfolding touches nonempty endStep step every afterByte
@@ -210,7 +210,7 @@ leadTo x (one s) = start x
 leadTo x (slash r w s) = after1 x r w
 leadTo x (slashes r w s) = after2 x r w
 
-unfoldable pub lastOf : Rel → Step
+unfoldable pub lastOf : Rel → LocationStep
 lastOf (one s) = s
 lastOf (slash r w s) = s
 lastOf (slashes r w s) = s
@@ -235,7 +235,7 @@ or-right : (c d : Bool) → d ≡ true → (c || d) ≡ true
 or-right true d h = refl
 or-right false d h = h
 
-fits-step : (s : Step) (w : Bytes) (b : ℕ) → Fits (lastStep s) w b → eqb b 46 ≡ false
+fits-step : (s : LocationStep) (w : Bytes) (b : ℕ) → Fits (lastStep s) w b → eqb b 46 ≡ false
     → (not (touches s b) || nonempty w) ≡ true
 unfolding touches lastStep lastTest mayFollow
 fits-step (dot v) w b f e = rw e refl
@@ -632,7 +632,7 @@ axis-leads (axis w n v) t h i =
     leads-more (w ++ (n ++ (v ++ (58 ∷ 58 ∷ [])))) _
     (leads-spaces w _ (h .0) (leads-more n _ (leads-word n (axis-word n (h .1)))))
 
-step-leads : (s : Step) (d : ℕ) → FineStep s d → leads (spellStep s) ≡ true
+step-leads : (s : LocationStep) (d : ℕ) → FineStep s d → leads (spellStep s) ≡ true
 unfolding spellStep leads
 step-leads (dot w) d h = leads-spaces w (46 ∷ []) h refl
 step-leads (dots w) d h = leads-spaces w (46 ∷ 46 ∷ []) h refl
@@ -663,10 +663,10 @@ rel-slash : (c : Ctx) (g : Alt) (x : Prefix) (r : Rel) (w t : Bytes) (y : Next) 
 unfolding afterByte isSpace isName isStart follow
 rel-slash c g x r w t y h j = rel-then c g x r w 47 t y h (inl refl) refl (rw (lead-prefix, lead-join) j)
 
-may-take : (s : Step) (d : ℕ) → takesPredicate s ≡ true → 0 < d → (takesPredicate s && ltb 0 d) ≡ true
+may-take : (s : LocationStep) (d : ℕ) → takesPredicate s ≡ true → 0 < d → (takesPredicate s && ltb 0 d) ≡ true
 may-take s d h i = and-in (takesPredicate s) (ltb 0 d) h (has-room d i)
 
-fits-bracket : (s : Step) (w : Bytes) → (not (touches s 91) || nonempty w) ≡ true
+fits-bracket : (s : LocationStep) (w : Bytes) → (not (touches s 91) || nonempty w) ≡ true
 unfolding isName isStart
 fits-bracket s w = fits-step s w 91 (inl refl) refl
 
@@ -675,8 +675,8 @@ mutual
       endUnion endUnary endAnd endOr isName isStart isSpace afterByte parenByte callByte leadByte groupByte walk
       follow step shut room roomOf needByte sameBytes touches find next types isSome ascii
 
-  pub read-step : (s : Step) (c : Ctx) (g : Alt) (l : Lead) → FineStep s (room c) → walk (spellStep s) (need c g l [])
-      ≡ some (endStep c g l s)
+  pub read-step : (s : LocationStep) (c : Ctx) (g : Alt) (l : Lead) → FineStep s (room c)
+      → walk (spellStep s) (need c g l []) ≡ some (endStep c g l s)
   read-step (dot w) c g l h = need-spaces c g l w (46 ∷ []) h
   read-step (dots w) c g l h = need-spaces c g l w (46 ∷ 46 ∷ []) h
   read-step (test a t) c g l h = read-axis c g l a t (h .0) (h .1)

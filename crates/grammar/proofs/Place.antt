@@ -7,7 +7,7 @@ use mathlib.Core.List.{[], _∷_, _++_, append-assoc, append-nil}
 use mathlib.Core.Option.{Option, none, some}
 use native.Mathlib.Omega.{arith}
 use Rattle.grammar.specs.Bytes.{Bytes, isSpace, isStart, isName, isQuote, every}
-use Rattle.grammar.specs.Grammar.{Axis, implied, axis, Test, any, called, kind, target, Step}
+use Rattle.grammar.specs.Grammar.{Axis, implied, axis, Test, any, called, kind, target, LocationStep}
 use Rattle.grammar.specs.Grammar.{dot, dots, test, filter, Rel, one, slash, slashes, Path, relative, root}
 use Rattle.grammar.specs.Grammar.{rooted, anywhere, Union, single, union, Unary, paths, group, negation}
 use Rattle.grammar.specs.Grammar.{constant, And, Or, spellAxis, spellTest}
@@ -55,7 +55,7 @@ then st x b e c = record {
 mutual
   unfolding finish atTop walk step afterByte pathByte unionByte unaryByte shut isSpace isStart isName
 
-  fin-after : (c : Ctx) (g : Alt) (l : Lead) (s : Step) (w : Bytes) → Completed (after c g l s w)
+  fin-after : (c : Ctx) (g : Alt) (l : Lead) (s : LocationStep) (w : Bytes) → Completed (after c g l s w)
   fin-after top g l s w = record { rest = []; last = after top g l s w; text = _; walks = refl; ends = refl }
   fin-after (inside x p) g l s w =
       fin-open x (after (inside x p) g l s w) (orTo p (paths (joinAlt g (pathTo l s)))) w refl refl
@@ -198,8 +198,8 @@ top-spells g p w t hg hp hw e =
 step-list : (g l s w p : Bytes) → p ≡ l ++ s → (g ++ l) ++ (s ++ w) ≡ g ++ (p ++ w)
 step-list g l s w p e = rw e (simp append-assoc)
 
-top-step : (g : Alt) (l : Lead) (s : Step) (w t : Bytes) → FineAlt g 32 → FineLead l 32 → FineStep s 32 → Spaces w → t
-    ≡ (toldAlt g ++ toldLead l) ++ (spellStep s ++ w) → Spells t (joinAlt g (pathTo l s))
+top-step : (g : Alt) (l : Lead) (s : LocationStep) (w t : Bytes) → FineAlt g 32 → FineLead l 32 → FineStep s 32
+    → Spaces w → t ≡ (toldAlt g ++ toldLead l) ++ (spellStep s ++ w) → Spells t (joinAlt g (pathTo l s))
 top-step g l s w t hg hl hs hw e =
     top-spells g (pathTo l s) w t hg (path-fine l s 32 hl hs) hw
     (e ∙ step-list (toldAlt g) (toldLead l) (spellStep s) w (spellPath (pathTo l s)) (path-told l s))
@@ -245,7 +245,7 @@ finish-spells (closed x p u w) y e f = absurd (no-text y e)
 finish-spells (keyword x p u w k) y e f = absurd (no-text y e)
 
 -- a text of the grammar is accepted with its tree
-end-step : (g : Alt) (l : Lead) (s : Step) (w : Bytes) → Spaces w
+end-step : (g : Alt) (l : Lead) (s : LocationStep) (w : Bytes) → Spaces w
     → Ended w (endStep top g l s) (textOf (joinAlt g (pathTo l s)) w)
 unfolding endStep walk finish atTop every step afterByte
 end-step g l (dots v) w h =

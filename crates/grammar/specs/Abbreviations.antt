@@ -12,20 +12,21 @@ use Rattle.lines.specs.Ascii.{ascii}
 use Rattle.xpath.specs.Document.{Document}
 use Rattle.xpath.specs.Meaning.{selects, holds}
 use Rattle.grammar.specs.Bytes.{Bytes}
-use Rattle.grammar.specs.Grammar.{implied, attribute, axis, Test, kind, Step, dot, dots, test, filter, Rel, one}
+use Rattle.grammar.specs.Grammar.{implied, attribute, axis, Test, kind, LocationStep, dot, dots, test, filter}
+use Rattle.grammar.specs.Grammar.{Rel, one}
 use Rattle.grammar.specs.Grammar.{slash, slashes, Path, relative, root, rooted, anywhere, Union, union}
 use Rattle.grammar.specs.Grammar.{Unary, paths, group, negation, constant, And, conj, Or, disj}
 use Rattle.grammar.specs.Denotes.{stepOf, relOf, pathOf, unionOf, unaryOf, andOf, orOf}
 
 -- a step with its axis written out, and node()
-abbrev pub unabbreviated : String → Test → Step
+abbrev pub unabbreviated : String → Test → LocationStep
 unabbreviated a t = test (axis [] (ascii a) []) t
 
 abbrev pub anyNode : Test
 anyNode = kind [] (ascii "node") [] []
 
 -- `/` between a step and further steps
-unfoldable pub before : Step → Rel → Rel
+unfoldable pub before : LocationStep → Rel → Rel
 before s (one t) = slash (one s) [] t
 before s (slash r w t) = slash (before s r) w t
 before s (slashes r w t) = slashes (before s r) w t
@@ -38,7 +39,7 @@ pub record Expansions (num : Bytes → ℕ) : Type 0 where
   pub self : (w : Bytes) → stepOf num (dot w) ≡ stepOf num (unabbreviated "self" anyNode)
   pub parent : (w : Bytes) → stepOf num (dots w) ≡ stepOf num (unabbreviated "parent" anyNode)
   -- `//` is `/descendant-or-self::node()/`, at the beginning too
-  pub below : (r : Rel) (w : Bytes) (s : Step)
+  pub below : (r : Rel) (w : Bytes) (s : LocationStep)
       → relOf num (slashes r w s) ≡ relOf num (slash (slash r w (unabbreviated "descendant-or-self" anyNode)) [] s)
   pub anywhere : (w : Bytes) (r : Rel)
       → pathOf num (anywhere w r) ≡ pathOf num (rooted w (before (unabbreviated "descendant-or-self" anyNode) r))
@@ -50,14 +51,14 @@ pub record Meanings (num : Bytes → ℕ) (d : Document) (x : ℕ) : Type 0 wher
   pub rooted : (w : Bytes) (r : Rel) (y : ℕ)
       → selects d (pathOf num (rooted w r)) x y ≡ selects d (pathOf num (relative r)) 0 y
   -- a step is taken from every node that the steps before it select
-  pub chain : (r : Rel) (w : Bytes) (s : Step) (y : ℕ)
+  pub chain : (r : Rel) (w : Bytes) (s : LocationStep) (y : ℕ)
       → selects d (relOf num (slash r w s)) x y
       ≡ anyBelow (length d) (λ z. selects d (relOf num r) x z && selects d (stepOf num s) z y)
   -- a union selects what either path does
   pub either : (u : Union) (w : Bytes) (p : Path) (y : ℕ)
       → selects d (unionOf num (union u w p)) x y ≡ (selects d (unionOf num u) x y || selects d (pathOf num p) x y)
   -- a predicate keeps the nodes at which it is true
-  pub predicate : (s : Step) (w : Bytes) (e : Or) (v : Bytes) (y : ℕ)
+  pub predicate : (s : LocationStep) (w : Bytes) (e : Or) (v : Bytes) (y : ℕ)
       → selects d (stepOf num (filter s w e v)) x y ≡ (selects d (stepOf num s) x y && holds d (orOf num e) y)
   -- a path or union is true where it selects some node
   pub some : (u : Union) → holds d (unaryOf num (paths u)) x ≡ anyBelow (length d) (selects d (unionOf num u) x)

@@ -16,7 +16,7 @@ use Rattle.common.specs.RowKinds.{false-row, not-row, and-row, or-row, inclusio
 use Rattle.xpath.specs.Term as term
 use Rattle.xpath.specs.Term.{some-of}
 use Rattle.terms.specs.Row.{Row, row, find}
-use Rattle.grammar.specs.Grammar.{Axis, implied, attribute, axis, Test, any, called, kind, target, Step}
+use Rattle.grammar.specs.Grammar.{Axis, implied, attribute, axis, Test, any, called, kind, target, LocationStep}
 use Rattle.grammar.specs.Grammar.{dot, dots, test, filter, Rel, one, slash, slashes, Path, relative, root}
 use Rattle.grammar.specs.Grammar.{rooted, anywhere, Union, single, union, Unary, paths, group, negation}
 use Rattle.grammar.specs.Grammar.{constant, And, operand, conj, Or, alone, disj, spellAxis}
@@ -44,7 +44,7 @@ module _ (num : Bytes → ℕ) where
   testOf a (target w v u q m y) = term.AxisStep a target-test (num m)
 
   unfoldable mutual
-    pub stepOf : Step → term.Path
+    pub stepOf : LocationStep → term.Path
     stepOf (dot w) = term.AxisStep self node-test 0
     stepOf (dots w) = term.AxisStep parent node-test 0
     stepOf (test a t) = testOf (axisOf a) t
@@ -100,7 +100,7 @@ testNames i (target w v u q m y) =
 
 -- the names of a tree that begins at place i, of tests and of targets, in order
 unfoldable mutual
-  pub stepNames : Step → ℕ → List Named
+  pub stepNames : LocationStep → ℕ → List Named
   stepNames (dot w) i = []
   stepNames (dots w) i = []
   stepNames (test a t) i = testNames (i + length (spellAxis a)) t

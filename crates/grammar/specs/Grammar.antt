@@ -28,15 +28,15 @@ pub data Test : Type 0 where
 
 mutual
   -- [4] Step, [12] AbbreviatedStep, [8] Predicate, whose [9] PredicateExpr is an Or
-  pub data Step : Type 0 where
-    dot dots : (w : Bytes) → Step
-    test : Axis → Test → Step
-    filter : Step → (w : Bytes) → Or → (v : Bytes) → Step
+  pub data LocationStep : Type 0 where
+    dot dots : (w : Bytes) → LocationStep
+    test : Axis → Test → LocationStep
+    filter : LocationStep → (w : Bytes) → Or → (v : Bytes) → LocationStep
 
   -- [3] RelativeLocationPath, [11]
   pub data Rel : Type 0 where
-    one : Step → Rel
-    slash slashes : Rel → (w : Bytes) → Step → Rel
+    one : LocationStep → Rel
+    slash slashes : Rel → (w : Bytes) → LocationStep → Rel
 
   -- [1] LocationPath, [2], [10]
   pub data Path : Type 0 where
@@ -83,7 +83,7 @@ spellBool true = trueWord
 spellBool false = falseWord
 
 unfoldable mutual
-  pub spellStep : Step → Bytes
+  pub spellStep : LocationStep → Bytes
   spellStep (dot w) = w ++ (dot-byte ∷ [])
   spellStep (dots w) = w ++ (dot-byte ∷ dot-byte ∷ [])
   spellStep (test a t) = spellAxis a ++ spellTest t
@@ -129,7 +129,7 @@ lastTest (called w n) = word
 lastTest (kind w n v u) = other
 lastTest (target w v u q m y) = other
 
-unfoldable pub lastStep : Step → Last
+unfoldable pub lastStep : LocationStep → Last
 lastStep (dot w) = other
 lastStep (dots w) = other
 lastStep (test a t) = lastTest t
@@ -171,7 +171,7 @@ mayFollow slashed w = false
 mayFollow other w = true
 
 -- a predicate may follow: not after `.` and `..`
-unfoldable pub takesPredicate : Step → Bool
+unfoldable pub takesPredicate : LocationStep → Bool
 takesPredicate (dot w) = false
 takesPredicate (dots w) = false
 takesPredicate (test a t) = true
@@ -193,7 +193,7 @@ FineTest (target w v u q m y) = Spaces w × Spaces v × Spaces u × (isQuote q �
 
 -- whitespace is whitespace, names are names, tokens are the longest, and at most d more levels are opened
 abbrev mutual
-  pub FineStep : Step → ℕ → Type 0
+  pub FineStep : LocationStep → ℕ → Type 0
   FineStep (dot w) d = Spaces w
   FineStep (dots w) d = Spaces w
   FineStep (test a t) d = FineAxis a × FineTest t

@@ -17,7 +17,7 @@ use Rattle.grammar.specs.Bytes.{Bytes, isSpace, isStart, isName, isQuote, every
 use Rattle.grammar.specs.Bytes.{trueWord, falseWord}
 use Rattle.grammar.specs.Words.{find, next, types, axes, isSome, orZero, isType, typeCode, isAxis, axisCode}
 use Rattle.grammar.specs.Words.{instructionWord, numberOf}
-use Rattle.grammar.specs.Grammar.{Axis, implied, attribute, axis, Test, any, called, kind, target, Step, dot}
+use Rattle.grammar.specs.Grammar.{Axis, implied, attribute, axis, Test, any, called, kind, target, LocationStep, dot}
 use Rattle.grammar.specs.Grammar.{dots, test, Spaces, spellAxis, spellTest, spellStep, takesPredicate}
 use Rattle.grammar.specs.Denotes.{stepOf, testOf, axisOf, stepNames, testNames, unlisted}
 use Rattle.grammar.specs.code.Reader.{State, need, name, testing, colon, typeOpen, quote, quoted, unquoted}

@@ -10,7 +10,7 @@ use native.Mathlib.Numerals.{add-one}
 use lib.ListN.{length, getD, take, drop, length-drop, length-append, drop-of-length-le}
 use lib.Seq.{drop-cons, take-at}
 use Rattle.grammar.specs.Bytes.{Bytes, isSpace, isStart, isName, every, isWord}
-use Rattle.grammar.specs.Grammar.{Axis, called, Step, test}
+use Rattle.grammar.specs.Grammar.{Axis, called, LocationStep, test}
 use Rattle.grammar.specs.code.Reader.{State, need, name, testing, typeOpen, quote, quoted, unquoted, after}
 use Rattle.grammar.specs.code.Reader.{closed, Ctx, top, Open, Pend, Alt, Lead, step, follow}
 use Rattle.grammar.specs.code.Reader.{finish, run, outcome, bad, needByte, afterByte}
@@ -63,7 +63,7 @@ module _ (s : Bytes) (at to : ℕ) (q : Passed isSpace s at to) where
   unfolding step needByte
   need-over c g l = over isSpace (need c g l) (λ w b e. rw (space-start b e, e)) s at to q []
 
-  pub after-over : (c : Ctx) (g : Alt) (l : Lead) (x : Step) → run (drop at s) (after c g l x [])
+  pub after-over : (c : Ctx) (g : Alt) (l : Lead) (x : LocationStep) → run (drop at s) (after c g l x [])
       ≡ run (drop to s) (after c g l x (q .bytes))
   unfolding step afterByte
   after-over c g l x = over isSpace (after c g l x) (λ w b e. rw e) s at to q []

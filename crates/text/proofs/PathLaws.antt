@@ -13,7 +13,7 @@ use Rattle.xpath.specs.Term as term
 use Rattle.terms.specs.Row.{row}
 use Rattle.grammar.specs.Bytes.{Bytes, isSpace, isStart}
 use Rattle.grammar.specs.Words.{numberOf}
-use Rattle.grammar.specs.Grammar.{Step, Rel, one, slash, slashes, Path, root, rooted, Union}
+use Rattle.grammar.specs.Grammar.{LocationStep, Rel, one, slash, slashes, Path, root, rooted, Union}
 use Rattle.grammar.specs.Grammar.{union, Unary, paths, spellStep, spellRel, spellPath, spellUnion}
 use Rattle.grammar.specs.Denotes.{Named, everyBelow, stepOf, relOf, relAfter, pathOf, unionOf, stepNames}
 use Rattle.grammar.specs.Denotes.{relNames, pathNames, unionNames, unlisted, putPath, nestPath}
@@ -65,7 +65,7 @@ more-not-callable (inside o p) u w = refl
 -- the path so far, up to its last step
 pub record Pathing (s list : Bytes) (left : ℕ) (xs : List ℕ) (x : Reading) (ys : List ℕ) (y : Reading) : Type 0 where
   pub lead : Lead
-  pub last : Step
+  pub last : LocationStep
   pub spaces : Bytes
   pub size : x .at + length (spellPath (pathTo lead last) ++ spaces) ≡ y .at
   pub made : MadePath list (pathOf (numberOf list) (pathTo lead last))
@@ -93,9 +93,10 @@ pub record Leads (s list : Bytes) (left : ℕ) (xs : List ℕ) (x : Reading) (ys
   pub runs : (c : Ctx) (g : Alt) → room c ≡ left
       → run (drop (x .at) s) (need c g begin []) ≡ run (drop (y .at) s) (need c g lead spaces)
   pub due : (c : Ctx) (g : Alt) → Due s (y .at) c g lead spaces
-  pub denotes : (t : Step) → pathOf (numberOf list) (pathTo lead t) ≡ term.Composition path (stepOf (numberOf list) t)
-  pub named : (t : Step) → pathNames (pathTo lead t) (x .at) ≡ names ++ stepNames t place
-  pub size : (t : Step) → x .at + length (spellPath (pathTo lead t)) ≡ place + length (spellStep t)
+  pub denotes : (t : LocationStep) → pathOf (numberOf list) (pathTo lead t)
+      ≡ term.Composition path (stepOf (numberOf list) t)
+  pub named : (t : LocationStep) → pathNames (pathTo lead t) (x .at) ≡ names ++ stepNames t place
+  pub size : (t : LocationStep) → x .at + length (spellPath (pathTo lead t)) ≡ place + length (spellStep t)
 
 -- a step after what leads to it
 pub path-joined : (s list : Bytes) (left : ℕ) (xs : List ℕ) (x : Reading) (ys : List ℕ) (y : Reading)
@@ -346,11 +347,11 @@ slash-ends [] c g x r w h = refl
 slash-ends (b ∷ t) c g x r w h = rw h refl
 
 -- names at equal places
-same-names : (t : Step) (ns : List Named) (i j : ℕ) → i ≡ j → ns ++ stepNames t i ≡ ns ++ stepNames t j
+same-names : (t : LocationStep) (ns : List Named) (i j : ℕ) → i ≡ j → ns ++ stepNames t i ≡ ns ++ stepNames t j
 same-names t ns i j e = ap (λ (k : ℕ). ns ++ stepNames t k) e
 
 -- a step after a path: its term, its names, its spelling
-module _ (num : Bytes → ℕ) (r : Rel) (w : Bytes) (t : Step) where
+module _ (num : Bytes → ℕ) (r : Rel) (w : Bytes) (t : LocationStep) where
   slash-denotes : (x : Prefix) → pathOf num (withPrefix x (slash r w t))
       ≡ term.Composition (pathOf num (withPrefix x r)) (stepOf num t)
   unfolding pathOf relOf relAfter withPrefix
@@ -507,7 +508,7 @@ path-more s list left xs x ys y zs z us u vs v ok b p m j got =
     path-joined s list left xs x zs z us u vs v l m j
 
 -- a path ends where no `/` follows
-after-path : (t : Bytes) (c : Ctx) (g : Alt) (l : Lead) (x : Step) (w : Bytes) → isSpace (getD t 0 0) ≡ false
+after-path : (t : Bytes) (c : Ctx) (g : Alt) (l : Lead) (x : LocationStep) (w : Bytes) → isSpace (getD t 0 0) ≡ false
     → eqb (getD t 0 0) 47 ≡ false → onlyInStep (getD t 0 0) ≡ false
     → run t (after c g l x w) ≡ afterPath c g (pathTo l x) w t
 unfolding run finish step afterByte afterPath onlyInStep

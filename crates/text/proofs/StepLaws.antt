@@ -12,7 +12,7 @@ use lib.ListN.{length, drop, length-append}
 use Rattle.terms.specs.Row.{row}
 use Rattle.grammar.specs.Bytes.{Bytes, isSpace}
 use Rattle.grammar.specs.Words.{numberOf}
-use Rattle.grammar.specs.Grammar.{Step, filter, Or, takesPredicate, spellStep, spellOr}
+use Rattle.grammar.specs.Grammar.{LocationStep, filter, Or, takesPredicate, spellStep, spellOr}
 use Rattle.grammar.specs.Denotes.{stepOf, orOf, stepNames, orNames, putPath, putQual, nestPath}
 use Rattle.grammar.specs.code.Reader.{State, after, Ctx, Open, bracket, Alt, Lead, step, follow, run, bad}
 use Rattle.grammar.specs.code.Reader.{room, roomOf, enter, shut, afterByte, parenByte, colonByte}
@@ -132,7 +132,8 @@ module _ (s list : Bytes) (left : ℕ) (xs : List ℕ) (x : Reading) (r : Ready 
       }
 
   module _ (h : 0 < left) where
-    bracket-opens : (c : Ctx) (g : Alt) (l : Lead) (t : Step) (w : Bytes) → room c ≡ left → takesPredicate t ≡ true
+    bracket-opens : (c : Ctx) (g : Alt) (l : Lead) (t : LocationStep) (w : Bytes) → room c ≡ left
+        → takesPredicate t ≡ true
         → run (drop (x .at) s) (after c g l t w) ≡ run (drop (x .at + 1) s) (enter (bracket c g l t w))
     unfolding step afterByte isSpace
     bracket-opens c g l t w i k =
@@ -173,7 +174,7 @@ module _ (s list : Bytes) (left : ℕ) (xs : List ℕ) (x : Reading) (r : Ready 
 -- the step so far: what may not follow it, and whether a predicate may
 pub record Stepping (s list : Bytes) (left : ℕ) (filters : Bool)
     (xs : List ℕ) (x : Reading) (ys : List ℕ) (y : Reading) : Type 0 where
-  pub tree : Bytes → Step
+  pub tree : Bytes → LocationStep
   pub spaces : Bytes
   pub read : StepRead s list left tree spaces xs x ys y
   pub paren : (c : Ctx) (g : Alt) (l : Lead) (w : Bytes) → (callable c g l ≡ true → NoCall s (x .at))

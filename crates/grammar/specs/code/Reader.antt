@@ -12,7 +12,7 @@ use Rattle.grammar.specs.Bytes.{open-byte, close-byte, star-byte, dot-by
 use Rattle.grammar.specs.Bytes.{open-bracket, close-bracket, bar-byte, letter-a, letter-d, letter-n}
 use Rattle.grammar.specs.Bytes.{letter-o, letter-r}
 use Rattle.grammar.specs.Words.{isAxis, isType, instructionWord}
-use Rattle.grammar.specs.Grammar.{Axis, implied, attribute, axis, any, called, kind, target, Step}
+use Rattle.grammar.specs.Grammar.{Axis, implied, attribute, axis, any, called, kind, target, LocationStep}
 use Rattle.grammar.specs.Grammar.{dot, dots, test, filter, Rel, one, slash, slashes, Path, relative, root}
 use Rattle.grammar.specs.Grammar.{rooted, anywhere, Union, single, union, Unary, paths, group, negation}
 use Rattle.grammar.specs.Grammar.{constant, And, operand, conj, Or, alone, disj, takesPredicate, maxLevels}
@@ -48,7 +48,7 @@ mutual
     inside : Open → Pend → Ctx
 
   pub data Open : Type 0 where
-    bracket : Ctx → Alt → Lead → Step → Bytes → Open
+    bracket : Ctx → Alt → Lead → LocationStep → Bytes → Open
     negate : Open → Pend → (w v : Bytes) → Open
     grouped : Open → Pend → (w : Bytes) → Open
 
@@ -67,7 +67,7 @@ pub data State : Type 0 where
   quote : Ctx → Alt → Lead → Axis → (w v u : Bytes) (q : ℕ) → State
   quoted : Ctx → Alt → Lead → Axis → (w v u : Bytes) (q : ℕ) (m : Bytes) → State
   unquoted : Ctx → Alt → Lead → Axis → (w v u : Bytes) (q : ℕ) (m y : Bytes) → State
-  after : Ctx → Alt → Lead → Step → (w : Bytes) → State
+  after : Ctx → Alt → Lead → LocationStep → (w : Bytes) → State
   constOpen : Open → Pend → Bool → (w v u : Bytes) → State
   closed : Open → Pend → Unary → (w : Bytes) → State
   keyword : Open → Pend → Unary → (w : Bytes) → Keyword → State
@@ -77,7 +77,7 @@ prefixOf (start x) = x
 prefixOf (after1 x r w) = x
 prefixOf (after2 x r w) = x
 
-unfoldable pub join : Lead → Step → Rel
+unfoldable pub join : Lead → LocationStep → Rel
 join (start x) s = one s
 join (after1 x r w) s = slash r w s
 join (after2 x r w) s = slashes r w s
@@ -87,7 +87,7 @@ withPrefix bare r = relative r
 withPrefix (atRoot w) r = rooted w r
 withPrefix (atAny w) r = anywhere w r
 
-abbrev pub pathTo : Lead → Step → Path
+abbrev pub pathTo : Lead → LocationStep → Path
 pathTo l s = withPrefix (prefixOf l) (join l s)
 
 unfoldable pub joinAlt : Alt → Path → Union
@@ -189,7 +189,7 @@ callByte (inside x p) first (start bare) (attribute y) w n v = none
 callByte (inside x p) first (start bare) (axis y m z) w n v = none
 
 -- `(` after a step
-unfoldable pub parenByte : Ctx → Alt → Lead → Step → Bytes → Next
+unfoldable pub parenByte : Ctx → Alt → Lead → LocationStep → Bytes → Next
 parenByte c g l (test a (called w n)) v = cond (isType n) (some (typeOpen c g l a w n v [])) (callByte c g l a w n v)
 parenByte c g l (test a (any w)) v = none
 parenByte c g l (test a (kind w n y u)) v = none
@@ -199,7 +199,7 @@ parenByte c g l (dots w) v = none
 parenByte c g l (filter s w e u) v = none
 
 -- `:` after a step
-unfoldable pub colonByte : Ctx → Alt → Lead → Step → Bytes → Next
+unfoldable pub colonByte : Ctx → Alt → Lead → LocationStep → Bytes → Next
 colonByte c g l (test implied (called w n)) v = cond (isAxis n) (some (colon c g l w n v)) none
 colonByte c g l (test implied (any w)) v = none
 colonByte c g l (test implied (kind w n y u)) v = none
@@ -211,7 +211,7 @@ colonByte c g l (dots w) v = none
 colonByte c g l (filter s w e u) v = none
 
 -- the byte after a step
-unfoldable pub afterByte : Ctx → Alt → Lead → Step → Bytes → ℕ → Next
+unfoldable pub afterByte : Ctx → Alt → Lead → LocationStep → Bytes → ℕ → Next
 afterByte c g l s w b =
     cond (isSpace b) (some (after c g l s (w ++ (b ∷ []))))
     (cond (eqb b slash-byte) (some (slash1 c g (prefixOf l) (join l s) w))

@@ -13,7 +13,7 @@ use Rattle.grammar.specs.Bytes.{Bytes, isSpace, isStart, isName, isWord, notWor
 use Rattle.grammar.specs.Bytes.{falseWord}
 use Rattle.grammar.specs.Bytes.{open-byte, star-byte, colon-byte}
 use Rattle.grammar.specs.Words.{isType, typeCode, numberOf}
-use Rattle.grammar.specs.Grammar.{Axis, implied, attribute, axis, Test, any, called, target, Step}
+use Rattle.grammar.specs.Grammar.{Axis, implied, attribute, axis, Test, any, called, target, LocationStep}
 use Rattle.grammar.specs.Grammar.{test, Spaces, spellTest, spellStep, takesPredicate}
 use Rattle.grammar.specs.Denotes.{stepOf, testOf, stepNames, testNames, unlisted}
 use Rattle.grammar.specs.code.Reader.{State, Next, need, name, typeOpen, quote, after, Ctx, top, inside}
@@ -182,7 +182,7 @@ pub record Due (s : Bytes) (at : ℕ) (c : Ctx) (g : Alt) (l : Lead) (w : Bytes)
 
 -- the head of a step, which may take predicates; its tree by the whitespace before it
 pub record HeadRead (s list : Bytes) (at : ℕ) (h : Head) : Type 0 where
-  pub tree : Bytes → Step
+  pub tree : Bytes → LocationStep
   pub spaces : Bytes
   pub runs : (c : Ctx) (g : Alt) (l : Lead) (w : Bytes) → run (drop at s) (need c g l w)
       ≡ run (drop (h .at) s) (after c g l (tree w) spaces)

@@ -13,7 +13,7 @@ use Rattle.terms.specs.Row.{Row}
 use Rattle.grammar.specs.Bytes.{Bytes, isSpace}
 use Rattle.grammar.specs.Bytes.{open-byte, letter-a}
 use Rattle.grammar.specs.Words.{numberOf}
-use Rattle.grammar.specs.Grammar.{Step, Path, Union, Unary, And, Or, filter, takesPredicate, spellStep}
+use Rattle.grammar.specs.Grammar.{LocationStep, Path, Union, Unary, And, Or, filter, takesPredicate, spellStep}
 use Rattle.grammar.specs.Grammar.{spellPath, spellUnion, spellUnary, spellAnd, spellOr}
 use Rattle.grammar.specs.Denotes.{Put, Named, stepOf, pathOf, unionOf, unaryOf, andOf, orOf, stepNames}
 use Rattle.grammar.specs.Denotes.{pathNames, unionNames, unaryNames, andNames, orNames, unlisted, putPath}
@@ -70,7 +70,7 @@ pub record PredicateRead (s list : Bytes) (left : ℕ) (xs : List ℕ) (x : Read
   pub inner : Bytes
   pub spaces : Bytes
   pub size : x .at + length (spellOr tree ++ (inner ++ spaces)) + 2 ≡ y .at
-  pub runs : (c : Ctx) (g : Alt) (l : Lead) (t : Step) (w : Bytes) → room c ≡ left → takesPredicate t ≡ true
+  pub runs : (c : Ctx) (g : Alt) (l : Lead) (t : LocationStep) (w : Bytes) → room c ≡ left → takesPredicate t ≡ true
       → run (drop (x .at) s) (after c g l t w) ≡ run (drop (y .at) s) (after c g l (filter t w tree inner) spaces)
   pub made : (f : List Row → Put) (n : ℕ) (m : Option ℕ) (zs : List ℕ) (z : Reading) → Made f n m zs z xs x
       → Made (joined filter-row f (putQual (orOf (numberOf list) tree)))
@@ -83,11 +83,11 @@ pub record PredicateMet (s list : Bytes) (left : ℕ) (xs : List ℕ) (x : Readi
   pub reached : Reached s (x .at) ys y
   pub further : y .ok ≡ true → x .at < y .at
   pub read : y .ok ≡ true → PredicateRead s list left xs x ys y
-  pub failed : y .ok ≡ false → (c : Ctx) (g : Alt) (l : Lead) (t : Step) (w : Bytes) → room c ≡ left
+  pub failed : y .ok ≡ false → (c : Ctx) (g : Alt) (l : Lead) (t : LocationStep) (w : Bytes) → room c ≡ left
       → takesPredicate t ≡ true → run (drop (x .at) s) (after c g l t w) ≡ bad (length s - y .at)
 
 -- a step, from a place without whitespace: its tree by the whitespace before it, and whitespace after it
-pub record StepRead (s list : Bytes) (left : ℕ) (tree : Bytes → Step) (spaces : Bytes)
+pub record StepRead (s list : Bytes) (left : ℕ) (tree : Bytes → LocationStep) (spaces : Bytes)
     (xs : List ℕ) (x : Reading) (ys : List ℕ) (y : Reading) : Type 0 where
   pub size : (w : Bytes) → x .at + length (spellStep (tree w) ++ spaces) ≡ length w + y .at
   pub runs : (c : Ctx) (g : Alt) (l : Lead) (w : Bytes) → room c ≡ left
@@ -103,7 +103,8 @@ StepFails s left at to = (c : Ctx) (g : Alt) (l : Lead) (w : Bytes) → room c �
 pub record StepMet (s list : Bytes) (left : ℕ) (xs : List ℕ) (x : Reading) (ys : List ℕ) (y : Reading)
     : Type 0 where
   pub reached : Reached s (x .at) ys y
-  pub read : y .ok ≡ true → (tree : Bytes → Step) × (spaces : Bytes) × StepRead s list left tree spaces xs x ys y
+  pub read : y .ok ≡ true
+      → (tree : Bytes → LocationStep) × (spaces : Bytes) × StepRead s list left tree spaces xs x ys y
   pub stops : y .ok ≡ true → onlyInStep (byteAt s (y .at)) ≡ false
   pub failed : y .ok ≡ false → StepFails s left (x .at) (y .at)
 
