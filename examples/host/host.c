@@ -3,7 +3,7 @@
 
    At the root of the repository:
 
-       rt staticlib exports
+       tools/archive.sh exports
        cc -Wall -Wextra -Iinclude -o target/host examples/host/host.c target/staticlib/libexports.a
        target/host FILE
 */

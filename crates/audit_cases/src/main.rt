@@ -1,14 +1,20 @@
 // Prints of each bundle in data/ what audit prints of it.
+#![tactic(auto)]
 
-fn print_case(name: &[u8]) {
-    let file = os::open_read(name);
-    reports::print_report(file);
-    libc::close(file);
+use std::fs::File;
+use std::io;
+use std::os::fd::AsRawFd;
+use std::rt::Files;
+
+fn print_case(rt: &impl Files<File = File>, name: &str) -> io::Result<()> {
+    let file = File::open(rt, name)?;
+    reports::print_report(file.as_raw_fd());
+    Ok(())
 }
 
-fn main() {
-    print_case(b"refused");
-    print_case(b"steps");
-    print_case(b"bytes_65536");
-    print_case(b"bytes_65537");
+fn main(rt: HostRuntime) -> io::Result<()> {
+    print_case(&rt, "refused")?;
+    print_case(&rt, "steps")?;
+    print_case(&rt, "bytes_65536")?;
+    print_case(&rt, "bytes_65537")
 }

@@ -1,4 +1,6 @@
 // What the program audit prints of a bundle.
+#![tactic(auto)]
+
 ghost use Rattle.std.specs.Prelude.{◌≡◌, cond};
 ghost use Rattle.calls.specs.Book.{answer, accepted};
 ghost use Rattle.auditing.specs.Audit.{report};
@@ -7,7 +9,7 @@ use session::Session;
 
 // What the program audit prints: the answer's number, the refused line or 0, the steps held, the rows of the last
 // step or zeros.
-#[derive(Drop)]
+#[derive(Clone, Copy)]
 pub struct Report {
     pub answer: u16,
     pub line: usize,

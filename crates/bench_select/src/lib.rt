@@ -1,4 +1,6 @@
 // Select, write, orders and the reading of a selector as text, for a benchmark in C, on what the caller lends.
+#![tactic(auto)]
+
 ghost use Rattle.std.specs.Prelude.{◌≡◌, [], length};
 ghost use Rattle.terms.specs.Row.{table_of};
 ghost use Rattle.calls.specs.SelectCall.{select_answer, select_buffer};

@@ -52,7 +52,8 @@ field_short rs i qualifier x t law few fits = digits_4 x (omega (arith, law.0))
 
 -- the most digits of a row's line, kind by kind
 kind_short : {k : ℕ} → Kind k
-    → length (decimal k) + field_digits (fields_of k).a + field_digits (fields_of k).b + field_digits (fields_of k).c ≤ 11
+    → length (decimal k) + field_digits (fields_of k).a + field_digits (fields_of k).b + field_digits (fields_of k).c
+    ≤ 11
 unfolding field_digits fields_of decimal digits_of
 kind_short void_kind = omega arith
 kind_short root_kind = omega arith

@@ -254,7 +254,8 @@ all_spelled read text texts none_told one_told one (l ∷ ls) (x ∷ xs) e =
 
 pub rows_spelled : (ls : List Line) (rs : List Row) → map row_of_line ls ≡ map some rs → text_of ls ≡ rows_text rs
 unfolding rows_text row_of_line
-rows_spelled = all_spelled row_of_line row_text rows_text refl (λ r rs. refl) (made_spelled 3 row_of_numbers row_numbers four)
+rows_spelled = all_spelled row_of_line row_text rows_text refl (λ r rs. refl)
+    (made_spelled 3 row_of_numbers row_numbers four)
 
 pub steps_spelled : (ls : List Line) (ps : List Step) → map step_of_line ls ≡ map some ps → text_of ls ≡ steps_text ps
 unfolding steps_text step_of_line

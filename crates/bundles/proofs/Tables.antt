@@ -23,7 +23,8 @@ one_line width n (m ∷ ns) rest =
     ap (λ w. decimal n ++ space ∷ w) (one_line width m ns rest)
     ∙ sym (append_assoc (decimal n) (space ∷ line_text (m ∷ ns)) (lines_text width rest))
 
-pub rows_text_lem : (n : ℕ) (xs : List ℕ) → length xs ≡ row_width * n → lines_text row_width xs ≡ rows_text (table_of xs)
+pub rows_text_lem : (n : ℕ) (xs : List ℕ) → length xs ≡ row_width * n → lines_text row_width xs
+    ≡ rows_text (table_of xs)
 unfolding table_of rows_text numbers_text
 rows_text_lem zero [] e = refl
 rows_text_lem zero (k ∷ xs) e = absurd (omega arith)
@@ -35,7 +36,8 @@ rows_text_lem (suc n) (k ∷ x ∷ y ∷ z ∷ xs) e =
     one_line row_width k (x ∷ y ∷ z ∷ []) xs
     ∙ ap (λ w. line_text (k ∷ x ∷ y ∷ z ∷ []) ++ w) (rows_text_lem n xs (omega arith))
 
-pub steps_text_lem : (n : ℕ) (xs : List ℕ) → length xs ≡ step_width * n → lines_text step_width xs ≡ steps_text (steps_of xs)
+pub steps_text_lem : (n : ℕ) (xs : List ℕ) → length xs ≡ step_width * n → lines_text step_width xs
+    ≡ steps_text (steps_of xs)
 unfolding steps_of steps_text numbers_text
 steps_text_lem zero [] e = refl
 steps_text_lem zero (k ∷ xs) e = absurd (omega arith)
@@ -64,7 +66,8 @@ tables_length xs ys =
     omega arith
 
 -- the first rows and steps are no more than the limits
-pub few_row_numbers : (n : ℕ) (xs : List ℕ) {ys : List ℕ} → ys ≡ first_row_numbers n xs → length ys ≤ row_width * max_rows
+pub few_row_numbers : (n : ℕ) (xs : List ℕ) {ys : List ℕ} → ys ≡ first_row_numbers n xs →
+    length ys ≤ row_width * max_rows
 few_row_numbers n xs e = omega (arith, ap length e, length-take (row_width * min n max_rows) xs)
 
 pub few_step_numbers : (n : ℕ) (xs : List ℕ) {ys : List ℕ} → ys ≡ first_step_numbers n xs

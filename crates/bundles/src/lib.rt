@@ -1,4 +1,6 @@
 // The text of a bundle, written from lent rows and steps; the row and the step of a line's numbers.
+#![tactic(auto)]
+
 ghost use Rattle.std.specs.Prelude.{◌≡◌, [], ◌∷◌, ◌++◌, ◌+◌, ◌*◌, ◌≤◌, ◌<◌, length};
 ghost use Rattle.lines.specs.Line.{newline};
 ghost use Rattle.lines.specs.Written.{decimal};

@@ -23,7 +23,8 @@ use Rattle.rules.specs.Yields.{max_rule, Yields}
 use Rattle.rules.specs.Decision.{yields_dec}
 use Rattle.matching.proofs.RowYields.{row_yields_iff}
 use Rattle.calls.specs.Book.{Step, no_step, max_steps, Book, Answer, answer}
-use Rattle.calls.specs.StepCall.{same_sort, bad_side_of, bad_premise_of, claim_of, premises_of, step_answer_by, is_yielded}
+use Rattle.calls.specs.StepCall.{same_sort, bad_side_of, bad_premise_of, claim_of, premises_of, step_answer_by}
+use Rattle.calls.specs.StepCall.{is_yielded}
 use Rattle.calls.specs.StepCall.{step_answer}
 use Rattle.calls.specs.Calls.{Call, term, step, text, point, return, book_answer, row_answer, Reachable}
 use Rattle.calls.specs.Promises.{sides_of, row_yielded, row_step_answer}

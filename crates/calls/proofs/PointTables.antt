@@ -27,7 +27,8 @@ points_lent (n ∷ r ∷ p ∷ xs) = let h = points_lent xs in omega arith
 
 -- point i is the three numbers at its place
 point_lent : (xs : List ℕ) (i : ℕ) → i < length xs / 3
-    → get_or (counts_of xs) i no_counts ≡ counts (get_or xs (3 * i + 0) 0) (get_or xs (3 * i + 1) 0) (get_or xs (3 * i + 2) 0)
+    → get_or (counts_of xs) i no_counts
+    ≡ counts (get_or xs (3 * i + 0) 0) (get_or xs (3 * i + 1) 0) (get_or xs (3 * i + 2) 0)
 unfolding counts_of
 point_lent [] i h = absurd (omega arith)
 point_lent (n ∷ []) i h = absurd (omega arith)
@@ -40,7 +41,8 @@ point_lent (n ∷ r ∷ p ∷ xs) (suc i) h =
     past_point j = let e : 3 * suc i + j ≡ suc (suc (suc (3 * i + j))) = omega arith in rw e
 
 pub point_read : (xs : List ℕ) (i : ℕ) → i < length xs / 3
-    → counts (get_or xs (3 * i) 0) (get_or xs (3 * i + 1) 0) (get_or xs (3 * i + 2) 0) ≡ get_or (counts_of xs) i no_counts
+    → counts (get_or xs (3 * i) 0) (get_or xs (3 * i + 1) 0) (get_or xs (3 * i + 2) 0)
+    ≡ get_or (counts_of xs) i no_counts
 point_read xs i h =
     ap (λ j. counts (get_or xs j 0) (get_or xs (3 * i + 1) 0) (get_or xs (3 * i + 2) 0)) (sym (add-zero (3 * i)))
     ∙ sym (point_lent xs i h)
@@ -86,7 +88,8 @@ module _ (xs : List ℕ) (name i : ℕ) where
     unfolding place_of
     place_here e = rw (name_next, eq-eqb (get_or xs (3 * i) 0) name e)
 
-    pub place_later : ¬ (get_or xs (3 * i) 0 ≡ name) → place_of (drop i names) name ≡ place_of (drop (i + 1) names) name + 1
+    pub place_later : ¬ (get_or xs (3 * i) 0 ≡ name)
+        → place_of (drop i names) name ≡ place_of (drop (i + 1) names) name + 1
     unfolding place_of
     place_later f = rw (name_next, ne_eqb (get_or xs (3 * i) 0) name f)
 

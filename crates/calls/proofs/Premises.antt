@@ -71,7 +71,8 @@ premises_by ps (suc (suc k)) i j a b = (
     premises_past ps zero = tt
     premises_past ps (suc k) = tt
 
-pub premises_held : (ps : List Step) (p : Step) → bad_premise_of (length ps) p ≤ 0 → Every (HeldIn ps) (premises_of ps p)
+pub premises_held : (ps : List Step) (p : Step) → bad_premise_of (length ps) p ≤ 0
+    → Every (HeldIn ps) (premises_of ps p)
 unfolding bad_premise_of premises_of
 premises_held ps p h =
     let k = premise_count p.rule in

@@ -116,7 +116,8 @@ each_and_last d P ps p f g i h =
     (below_suc k)
 
 -- what holds of held steps says so of premises
-premises_true : (rs : List Row) (ps qs : List Step) → ((i : ℕ) → i < length ps → IsTrue (claim_of rs (get_or ps i no_step)))
+premises_true : (rs : List Row) (ps qs : List Step)
+    → ((i : ℕ) → i < length ps → IsTrue (claim_of rs (get_or ps i no_step)))
     → Every (HeldIn ps) qs → Every IsTrue (map (claim_of rs) qs)
 premises_true rs ps [] f h = tt
 premises_true rs ps (q ∷ qs) f h = (rw h.0.2 (f h.0.0 h.0.1), premises_true rs ps qs f h.1)

@@ -3,7 +3,7 @@
 use Prim.Native.Nat.{ℕ, zero, suc, ◌+◌, ◌≤◌, ◌<◌}
 use mathlib.Core.Path.{◌≡◌, refl, sym, ap, subst, ◌∙◌}
 use mathlib.Core.Bool.{Bool, true, false, cond}
-use mathlib.Core.List.{List, [], ◌∷◌, ◌++◌, map, append_assoc, append-nil}
+use mathlib.Core.List.{List, [], ◌∷◌, ◌++◌, append_assoc, append-nil}
 use native.Mathlib.Omega.{arith}
 use native.Mathlib.Numerals.{add-one}
 use lib.Dec.{eqb}
@@ -48,7 +48,8 @@ begins_rows new p rs ps w =
       steps = w.steps;
     }
 
-begins_step_lem : (q : Step) (p : Point) (rs : List Row) (ps : List Step) → Begins p rs ps → Begins p rs (ps ++ (q ∷ []))
+begins_step_lem : (q : Step) (p : Point) (rs : List Row) (ps : List Step) → Begins p rs ps
+    → Begins p rs (ps ++ (q ∷ []))
 begins_step_lem q p rs ps w =
     record {
       later_rows = w.later_rows;
@@ -175,7 +176,8 @@ names_append [] qs = refl
 names_append (p ∷ ps) qs = ap (λ ns. p.name ∷ ns) (names_append ps qs)
 
 -- a name that is none of the first ones stands after them
-place_after : (ns ms : List ℕ) (n : ℕ) → ¬ (place_of ns n < length ns) → place_of (ns ++ ms) n ≡ length ns + place_of ms n
+place_after : (ns ms : List ℕ) (n : ℕ) → ¬ (place_of ns n < length ns)
+    → place_of (ns ++ ms) n ≡ length ns + place_of ms n
 unfolding place_of
 place_after [] ms n f = omega arith
 place_after (x ∷ ns) ms n f = by_test (eqb x n) f (place_after ns ms n)

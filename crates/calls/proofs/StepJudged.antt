@@ -39,7 +39,8 @@ module _ (y : Bool) (b : Book) (p : Step) where
 
         pub step_held : y ≡ true → n < max_steps → answer 0 (n + 1) ≡ step_answer_by y b p
         unfolding step_answer_by
-        step_held h l = rw (rule, ← is-i, le-ltb 0 i sides, ← is-n, ← is-j, le-ltb 0 j premises, h, lt-leb max_steps n l)
+        step_held h l =
+            rw (rule, ← is-i, le-ltb 0 i sides, ← is-n, ← is-j, le-ltb 0 j premises, h, lt-leb max_steps n l)
 
 pub neither : (a b : Bool) → (a || b) ≡ false → (a ≡ false) × (b ≡ false)
 neither true b e = absurd (false≢true (sym e))

@@ -1,5 +1,5 @@
 -- The laws of text calls. Assumes nothing.
-use Prim.Native.Nat.{suc, ◌+◌, ◌≤◌}
+use Prim.Native.Nat.{suc, ◌≤◌}
 use mathlib.Core.Path.{◌≡◌, refl, sym, ap, subst, ◌∙◌}
 use mathlib.Core.List.{List, [], ◌∷◌, ◌++◌, map, append_assoc, append-nil}
 use native.Mathlib.Omega.{arith}
@@ -26,7 +26,7 @@ use Rattle.calls.specs.Book.{Step, Point, Book, pointed_book, Answer, answer}
 use Rattle.calls.specs.TermCall.{term_answer}
 use Rattle.calls.specs.TextCall.{text_reply, text_answer}
 use Rattle.calls.specs.Runs.{next, shown, final}
-use Rattle.calls.specs.Calls.{Call, term, CallSeen, plain_book}
+use Rattle.calls.specs.Calls.{term, CallSeen, plain_book}
 use Rattle.calls.specs.TextLaws.{AnswersAsDefined, new_rows, AsTermCalls, GivesItsTerm, GivesItsNesting}
 use Rattle.calls.proofs.Accepted.{if_accepted}
 use Rattle.calls.proofs.TermJudged.{row_held}

@@ -24,7 +24,8 @@ sides_taken ps (suc (suc k)) i j = rw (take-nil k ℕ, take-nil k Sides)
 -- the rows of the step at place n
 module _ (xs : List ℕ) (i n : ℕ) (place : n ≡ i - 1) where
   pub sides_lent : n < length xs / 5
-      → record { left = get_or xs (5 * n + 1) 0; right = get_or xs (5 * n + 2) 0 } ≡ sides_of (step_numbered (steps_of xs) i)
+      → record { left = get_or xs (5 * n + 1) 0; right = get_or xs (5 * n + 2) 0 }
+      ≡ sides_of (step_numbered (steps_of xs) i)
   unfolding sides_of
   sides_lent h = rw (← place, step_lent xs n h)
 

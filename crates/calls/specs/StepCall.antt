@@ -1,5 +1,6 @@
 -- The call step on the plain book. Assumes nothing.
-use Rattle.std.specs.Prelude.{ℕ, ◌+◌, ◌-◌, Bool, not, cond, ◌&&◌, ◌||◌, List, [], ◌∷◌, ◌++◌, map, leb, ltb, eqb, length, get_or, take}
+use Rattle.std.specs.Prelude.{ℕ, ◌+◌, ◌-◌, Bool, not, cond, ◌&&◌, ◌||◌, List, [], ◌∷◌, ◌++◌, map, leb, ltb, eqb, length}
+use Rattle.std.specs.Prelude.{get_or, take}
 use Rattle.std.proofs.Math.Bool.{decide}
 use Rattle.terms.specs.Row.{Row, row_at}
 use Rattle.terms.specs.Fields.{is_path}

@@ -12,7 +12,7 @@ use Rattle.grammar.specs.Answer.{reply, Answers}
 use Rattle.calls.specs.Book.{Book}
 use Rattle.calls.specs.TextCall.{text_reply, text_answer, text_book}
 use Rattle.calls.specs.Runs.{shown, final}
-use Rattle.calls.specs.Calls.{Call, term, CallSeen, plain_book, Reachable}
+use Rattle.calls.specs.Calls.{term, CallSeen, plain_book, Reachable}
 
 -- the reply is the one that the definition has
 abbrev pub AnswersAsDefined : Type 0

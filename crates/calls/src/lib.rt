@@ -1,5 +1,7 @@
 // What the calls on lent rows, steps and points have in common: their answers, steps and points, and the first rows and
 // steps of a table. Each call is judged in a crate of its own.
+#![tactic(auto)]
+
 mod points;
 mod step;
 
@@ -12,7 +14,7 @@ pub use points::{MAX_POINTS, POINT_WIDTH, PointAnswer, PointCounts};
 pub use step::{MAX_STEPS, STEP_WIDTH, Step, sides_of, step_count};
 
 // The answer of a term call.
-#[derive(Drop)]
+#[derive(Clone, Copy)]
 pub enum TermAnswer {
     Held(u16),
     BadKind,
@@ -23,7 +25,7 @@ pub enum TermAnswer {
 }
 
 // The answer of a step call.
-#[derive(Drop)]
+#[derive(Clone, Copy)]
 pub enum StepAnswer {
     Held(u16),
     NoRule,
@@ -34,7 +36,7 @@ pub enum StepAnswer {
 }
 
 // The answer of a select call.
-#[derive(Drop)]
+#[derive(Clone, Copy)]
 pub enum SelectAnswer {
     Selected(u32),
     BadDocument(u16),

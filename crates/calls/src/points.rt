@@ -10,7 +10,7 @@ pub const POINT_WIDTH: usize = 3;
 pub const MAX_POINTS: usize = 8;
 
 // A point: its name, and how many rows and steps were held when it was set.
-#[derive(Drop)]
+#[derive(Clone, Copy)]
 pub struct PointCounts {
     pub name: u16,
     pub rows: u16,
@@ -18,7 +18,7 @@ pub struct PointCounts {
 }
 
 // The answer of a call that sets a point or returns to one.
-#[derive(Drop)]
+#[derive(Clone, Copy)]
 pub enum PointAnswer {
     Accepted,
     BadPoint(u16),

@@ -13,7 +13,7 @@ pub const STEP_WIDTH: usize = 5;
 pub const MAX_STEPS: usize = 2048;
 
 // A step: a rule, two rows, and two premises by their numbers.
-#[derive(Drop)]
+#[derive(Clone, Copy)]
 pub struct Step {
     pub rule: u16,
     pub left: u16,

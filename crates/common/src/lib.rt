@@ -1,5 +1,7 @@
 // What every crate uses: the papers' numbers by name, a number made wider, and connectives as functions, for
 // straight-line code.
+#![tactic(auto)]
+
 pub mod axis;
 pub mod node_kind;
 pub mod node_test;

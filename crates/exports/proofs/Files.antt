@@ -23,7 +23,8 @@ use Rattle.session.specs.Promises.{session_answer, session, CallsMade}
 use Rattle.session.specs.Reading.{Reading, refused_at, reading}
 use Rattle.session.specs.ReadDemand.{IsAccepted}
 use Rattle.session.specs.WriteCall.{session_text, write_answer, write_buffer}
-use Rattle.filing.specs.Filing.{Action, lends, makes, line_action, line_number, line_session, line_names, lines_filed, filed}
+use Rattle.filing.specs.Filing.{Action, lends, makes, line_action, line_number, line_session, line_names, lines_filed}
+use Rattle.filing.specs.Filing.{filed}
 use Rattle.filing.specs.Filing.{file_answer, file_buffer, FileMet, calls_from, calls_in, action_calls}
 use Rattle.filing.proofs.Fits.{calls_fit}
 use Rattle.exports.proofs.ReadBack.{text_reads_back}

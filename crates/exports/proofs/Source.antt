@@ -4,6 +4,7 @@ use Prim.Native.Nat.{ℕ}
 use mathlib.Core.Path.{◌≡◌, refl}
 use mathlib.Core.List.{List, []}
 use denote.Ref.{Bor}
+use denote.MutBor.{MutBor}
 use lib.ListN.{length}
 use Rattle.grammar.specs.Bytes.{Bytes}
 use Rattle.calls.specs.Book.{Answer, answer}
@@ -69,6 +70,9 @@ file_tied script buffer left a (file_called κs args r x m) = m
 abbrev lent : {A : Type 0} → A → Bor A
 lent x = record { ref_ptr = (0, 0); now = x }
 
+abbrev lent_to_write : {A : Type 0} → A → MutBor A
+lent_to_write x = record { ref_ptr = (0, 0); ghost_name = 0; now = x }
+
 pub reads_exist : (bytes : Bytes) → (n : ℕ) × Reads bytes n
 reads_exist bytes =
     ((reading bytes).answer.number, read_called ([], tt) (lent bytes, tt) _ (lent bytes, tt) refl)
@@ -77,7 +81,8 @@ pub read_lines_exist : (bytes : Bytes) → (a : Answer) × ReadLines bytes a
 read_lines_exist bytes =
     let a = (reading bytes).answer in (
       a,
-      read_line_called ([], ([], tt)) (lent bytes, (lent 0, tt)) a.number (lent bytes, (lent a.value, tt)) refl,
+      read_line_called ([], ([], tt)) (lent bytes, (lent_to_write 0, tt)) a.number
+          (lent bytes, (lent_to_write a.value, tt)) refl,
     )
 
 pub claims_exist : (bundle names old new : Bytes) → (c : Claimed) × Claims bundle names old new c
@@ -85,8 +90,12 @@ claims_exist bundle names old new =
     let c = claim_answer bundle names old new in (
       c,
       claim_called ([], ([], ([], ([], ([], ([], tt))))))
-          (lent bundle, (lent names, (lent old, (lent new, (lent 0, (lent 0, tt)))))) c.answer.number
-          (lent bundle, (lent names, (lent old, (lent new, (lent c.answer.value, (lent c.part, tt)))))) refl,
+          (lent bundle, (lent names, (lent old, (lent new, (lent_to_write 0, (lent_to_write 0, tt))))))
+          c.answer.number (
+            lent bundle,
+            (lent names, (lent old, (lent new, (lent_to_write c.answer.value, (lent_to_write c.part, tt))))),
+          )
+          refl,
     )
 
 pub text_selects_exist : (names t : Bytes) (xs : List ℕ) (x limit : ℕ) (buffer : List ℕ)
@@ -97,8 +106,8 @@ text_selects_exist names t xs x limit buffer =
       a,
       left,
       select_called ([], ([], ([], ([], ([], tt)))))
-          (lent names, (lent t, (lent xs, (x, (limit, (lent buffer, (lent 0, tt))))))) a.number
-          (lent names, (lent t, (lent xs, (x, (limit, (lent left, (lent a.value, tt)))))))
+          (lent names, (lent t, (lent xs, (x, (limit, (lent_to_write buffer, (lent_to_write 0, tt))))))) a.number
+          (lent names, (lent t, (lent xs, (x, (limit, (lent_to_write left, (lent_to_write a.value, tt)))))))
           (record { answer = refl; bytes = refl }),
     )
 
@@ -108,8 +117,8 @@ files_exist script buffer =
     let left = file_buffer script buffer in (
       a,
       left,
-      file_called ([], ([], ([], tt))) (lent script, (lent buffer, (lent 0, tt))) a.number
-          (lent script, (lent left, (lent a.value, tt))) (record { answer = refl; bytes = refl }),
+      file_called ([], ([], ([], tt))) (lent script, (lent_to_write buffer, (lent_to_write 0, tt))) a.number
+          (lent script, (lent_to_write left, (lent_to_write a.value, tt))) (record { answer = refl; bytes = refl }),
     )
 
 pub claim_demand : ClaimDemand Claims

@@ -97,8 +97,7 @@ fn claim_in(bundle: &[u8], names: &[u8], old: &[u8], new: &[u8]) -> ClaimAnswer
 }
 
 // The number of the answer, its value, and what it is about.
-#[unsafe(no_mangle)]
-pub extern "C" fn spinebriar_claim(
+pub fn spinebriar_claim(
     bundle: &[u8],
     names: &[u8],
     old: &[u8],

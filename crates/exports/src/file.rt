@@ -4,8 +4,7 @@ ghost use Rattle.filing.specs.Filing.{FileMet};
 
 // The number of the answer and its value: the bundle's length, which is written to the buffer's start, or the refused
 // line, or the length needed.
-#[unsafe(no_mangle)]
-pub extern "C" fn spinebriar_file(calls: &[u8], out: &mut [u8], value: &mut usize) -> u16
+pub fn spinebriar_file(calls: &[u8], out: &mut [u8], value: &mut usize) -> u16
     ensures { FileMet calls.now out.old (answer result value.new)
         out.new }
 {

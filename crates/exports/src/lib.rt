@@ -1,5 +1,13 @@
-// What a host in C calls: the number of each answer is the result, and values go into what it lends.
+// What a host in C calls, by the archive of crate exports_c: the number of each answer is the result, and values go
+// into what it lends.
+#![tactic(auto)]
+
 mod claim;
 mod file;
 mod read;
 mod select;
+
+pub use claim::spinebriar_claim;
+pub use file::spinebriar_file;
+pub use read::{spinebriar_read, spinebriar_read_line};
+pub use select::spinebriar_select;

@@ -6,8 +6,7 @@ ghost use Rattle.session.specs.Reading.{reading};
 use session::Session;
 
 // The number of the answer to a bundle's bytes.
-#[unsafe(no_mangle)]
-pub extern "C" fn spinebriar_read(bytes: &[u8]) -> u16
+pub fn spinebriar_read(bytes: &[u8]) -> u16
     ensures { result ≡ (reading bytes.now).answer.number }
 {
     let answer = Session::read(bytes).answer;
@@ -15,8 +14,7 @@ pub extern "C" fn spinebriar_read(bytes: &[u8]) -> u16
 }
 
 // The same, with the answer's value: the number of steps held, or the refused line.
-#[unsafe(no_mangle)]
-pub extern "C" fn spinebriar_read_line(bytes: &[u8], value: &mut usize) -> u16
+pub fn spinebriar_read_line(bytes: &[u8], value: &mut usize) -> u16
     ensures { answer result value.new ≡ (reading bytes.now).answer }
 {
     let answer = Session::read(bytes).answer;

@@ -5,8 +5,7 @@ ghost use Rattle.exports.specs.TextSelect.{TextSelectMade};
 use session::Session;
 
 // The number of the answer and its value; the marks are written as `Session::select` writes them.
-#[unsafe(no_mangle)]
-pub extern "C" fn spinebriar_select(
+pub fn spinebriar_select(
     names: &[u8],
     selector: &[u8],
     document: &[u16],

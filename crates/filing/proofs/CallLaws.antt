@@ -53,7 +53,8 @@ text_done s script names at few rest is size list left room put t t-is k v u m r
     let whole = take_all size (names_of rest) (omega (arith, same_size, few_here, room, put.0)) in
     let list-is = put.1 ∙ whole ∙ ap names_of is in
     let met = subst (λ ys. Met s (text ys t) (answer k v) u) list-is m in
-    call_done s _ (answer k v) u (subst (λ ys. Met s (text (names_at script names) ys) (answer k v) u) t-is met) k refl r
+    call_done s _ (answer k v) u (subst (λ ys. Met s (text (names_at script names) ys) (answer k v) u) t-is met) k
+    refl r
     done
 
 -- the names of a line that are not too many, and too many

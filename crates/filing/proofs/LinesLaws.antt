@@ -135,7 +135,8 @@ filed_from s script names n at = lines_filed s names n (lines (drop at script))
 
 by_first : (s : Session) (names : Bytes) (n : ℕ) (ls : List Line) → ¬ (ls ≡ [])
     → lines_filed s names n ls ≡ cond (eqb (line_number s (first_action names ls)) 0)
-    (lines_filed (line_session s (first_action names ls)) (line_names names (first_action names ls)) (n + 1) (drop 1 ls))
+    (lines_filed (line_session s (first_action names ls)) (line_names names (first_action names ls)) (n + 1)
+    (drop 1 ls))
     (refused_at (line_number s (first_action names ls)) n)
 unfolding lines_filed
 by_first s names n [] full = absurd (full refl)

@@ -1,4 +1,6 @@
 // Makes the calls of a script's lines from a fresh session, and writes the bundle of what they leave.
+#![tactic(auto)]
+
 ghost use Rattle.std.specs.Prelude.{◌≡◌, cond, ◌≤◌, ◌<◌, length};
 ghost use Rattle.std.proofs.Math.Option.{none};
 ghost use Rattle.common.specs.Limits.{max_bytes};
@@ -14,7 +16,7 @@ use script_words::Word;
 use session::Session;
 
 // The answer to a script: 0 and the length of its bundle, or a refusal and its line or the length needed.
-#[derive(Drop)]
+#[derive(Clone, Copy)]
 pub struct FileAnswer {
     pub number: u16,
     pub value: usize,

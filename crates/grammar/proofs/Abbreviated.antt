@@ -16,7 +16,8 @@ use Rattle.lines.specs.Line.{same_bytes}
 use Rattle.grammar.specs.Bytes.{Bytes}
 use Rattle.grammar.specs.Words.{find, next, or_zero, axes, types}
 use Rattle.grammar.specs.Grammar.{Rel, one, slash, slashes}
-use Rattle.grammar.specs.Denotes.{axis_of, test_of, constant_of, step_of, rel_of, rel_after, path_of, union_of, unary_of}
+use Rattle.grammar.specs.Denotes.{axis_of, test_of, constant_of, step_of, rel_of, rel_after, path_of, union_of}
+use Rattle.grammar.specs.Denotes.{unary_of}
 use Rattle.grammar.specs.Denotes.{and_of, or_of, every_below}
 use Rattle.grammar.specs.Abbreviations.{unabbreviated, any_node, before, Expansions, Meanings, Expanded, Meant}
 

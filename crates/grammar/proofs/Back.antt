@@ -6,7 +6,7 @@ use mathlib.Core.List.{[], ◌∷◌, ◌++◌, append_assoc, append-nil}
 use mathlib.Core.Option.{none, some}
 use lib.Dec.{eqb, ltb, ltb→lt}
 use Rattle.lines.specs.Ascii.{ascii}
-use Rattle.lines.specs.Line.{same_bytes_lem}
+use Rattle.lines.specs.Line.{same_bytes}
 use Rattle.grammar.specs.Bytes.{Bytes, is_space, is_start, is_name, is_quote, every, is_word, nonempty}
 use Rattle.grammar.specs.Bytes.{apart, not_word, true_word, false_word}
 use Rattle.grammar.specs.Words.{is_axis, is_type, instruction_word}
@@ -24,9 +24,10 @@ use Rattle.grammar.specs.code.Reader.{quote, quoted, unquoted, after, const_open
 use Rattle.grammar.specs.code.Reader.{k_an, k_and, k_o, k_or, Ctx, top, inside, Open, bracket, negate, grouped}
 use Rattle.grammar.specs.code.Reader.{Prefix, bare, at_root, at_any, Lead, start, after1, after2, Alt, first}
 use Rattle.grammar.specs.code.Reader.{more, Left, nothing, either, Pend, plain, both, prefix_of, join}
-use Rattle.grammar.specs.code.Reader.{with_prefix, path_to, join_alt, wrap, left_of, and_to, or_to, room, room_of_lem}
+use Rattle.grammar.specs.code.Reader.{with_prefix, path_to, join_alt, wrap, left_of, and_to, or_to, room, room_of}
 use Rattle.grammar.specs.code.Reader.{begin, enter, step, need_byte, shut, unary_byte, union_byte}
-use Rattle.grammar.specs.code.Reader.{path_byte, group_byte, lead_byte, call_byte, paren_byte_next, colon_byte_next, after_byte}
+use Rattle.grammar.specs.code.Reader.{path_byte, group_byte, lead_byte, call_byte, paren_byte_next, colon_byte_next}
+use Rattle.grammar.specs.code.Reader.{after_byte}
 use Rattle.grammar.specs.code.Reader.{keyword_byte}
 use Rattle.lines.proofs.SameBytes.{same_bytes_lem}
 use Rattle.grammar.proofs.Basics.{so, never, and_out, and_in, branch, eq_byte}
@@ -135,15 +136,15 @@ Clr c g l t = ClearCtx c ((told_alt g ++ told_lead l) ++ t)
 abbrev mutual
   pub FineCtx : Ctx → Type 0
   FineCtx top = Unit {0}
-  FineCtx (inside x p) = FineOpen x × FinePend p (room_of_lem x)
+  FineCtx (inside x p) = FineOpen x × FinePend p (room_of x)
 
   pub FineOpen : Open → Type 0
   FineOpen (bracket c g l s w) = FineCtx c × FineAlt g (room c) × FineLead l (room c) × Clr c g l (spell_step s)
       × FineStep s (room c) × (takes_predicate s ≡ true) × Spaces w × (0 < room c)
-  FineOpen (negate x p w v) = FineOpen x × FinePend p (room_of_lem x) × ClearPend p (w ++ not_word) × Spaces w × Spaces v
-      × (0 < room_of_lem x)
-  FineOpen (grouped x p w) = FineOpen x × FinePend p (room_of_lem x) × ClearPend p (w ++ (40 ∷ [])) × Spaces w
-      × (0 < room_of_lem x)
+  FineOpen (negate x p w v) = FineOpen x × FinePend p (room_of x) × ClearPend p (w ++ not_word) × Spaces w × Spaces v
+      × (0 < room_of x)
+  FineOpen (grouped x p w) = FineOpen x × FinePend p (room_of x) × ClearPend p (w ++ (40 ∷ [])) × Spaces w
+      × (0 < room_of x)
 
 abbrev pub FineAt : Ctx → Alt → Lead → Type 0
 FineAt c g l = FineCtx c × FineAlt g (room c) × FineLead l (room c)
@@ -167,12 +168,12 @@ FineState (unquoted c g l a w v u q m y) = FineAt c g l × Clr c g l (spell_axis
     × FineAxis a × Spaces w × Spaces v × Spaces u × (is_quote q ≡ true) × (is_word m ≡ true) × Spaces y
 FineState (after c g l s w) = FineAt c g l × Clr c g l (spell_step s) × FineStep s (room c) × Spaces w
     × (may_follow (last_step s) w ≡ true)
-FineState (const_open x p k w v u) = FineOpen x × FinePend p (room_of_lem x) × ClearPend p (w ++ spell_bool k) × Spaces w
+FineState (const_open x p k w v u) = FineOpen x × FinePend p (room_of x) × ClearPend p (w ++ spell_bool k) × Spaces w
     × Spaces v × Spaces u
-FineState (closed x p u w) = FineOpen x × FinePend p (room_of_lem x) × ClearPend p (spell_unary u) × FineUnary u (room_of_lem x)
+FineState (closed x p u w) = FineOpen x × FinePend p (room_of x) × ClearPend p (spell_unary u) × FineUnary u (room_of x)
     × Spaces w × (last_unary u ≡ other)
-FineState (keyword x p u w k) = FineOpen x × FinePend p (room_of_lem x) × ClearPend p (spell_unary u)
-    × FineUnary u (room_of_lem x) × Spaces w × (may_follow (last_unary u) w ≡ true)
+FineState (keyword x p u w k) = FineOpen x × FinePend p (room_of x) × ClearPend p (spell_unary u)
+    × FineUnary u (room_of x) × Spaces w × (may_follow (last_unary u) w ≡ true)
 
 -- what a next state has to be, if there is one
 abbrev pub Read : Bytes → Next → Type 0
@@ -224,7 +225,8 @@ prefix_told bare r = refl
 prefix_told (at_root w) r = simp append_assoc
 prefix_told (at_any w) r = simp append_assoc
 
-join_told : (l : Lead) (s : LocationStep) → told_prefix (prefix_of l) ++ spell_rel (join l s) ≡ told_lead l ++ spell_step s
+join_told : (l : Lead) (s : LocationStep) → told_prefix (prefix_of l) ++ spell_rel (join l s) ≡ told_lead l
+    ++ spell_step s
 unfolding told_lead join spell_rel prefix_of
 join_told (start x) s = refl
 join_told (after1 x r w) s = simp append_assoc
@@ -389,8 +391,8 @@ clear_group : (p : Pend) (w t : Bytes) → ClearPend p (w ++ (40 ∷ [])) → Cl
 clear_group p w t h = rw append_assoc at (more_pend p (w ++ (40 ∷ [])) t h)
 
 shut_read : (x : Open) (e : Or) (w : Bytes) (b : ℕ) (t : Bytes) → told_open x ++ (spell_or e ++ (w ++ (b ∷ []))) ≡ t
-    → FineOpen x → FineOr e (room_of_lem x) → Spaces w → Read t (shut x e w b)
-unfolding shut told before told_open room_of_lem last_step last_unary may_follow every
+    → FineOpen x → FineOr e (room_of x) → Spaces w → Read t (shut x e w b)
+unfolding shut told before told_open room_of last_step last_unary may_follow every
 shut_read (bracket c g l s v) e w b t h f he hw =
     branch (Read t) (eqb b 93) _ _
     (λ i. (
@@ -423,13 +425,13 @@ shut_read (grouped x p v) e w b t h f he hw =
 
 unary_read : (x : Open) (p : Pend) (u : Unary) (w : Bytes) (b : ℕ) (t : Bytes)
     → told_open x ++ (told_pend p ++ (spell_unary u ++ (w ++ (b ∷ [])))) ≡ t
-    → FineOpen x → FinePend p (room_of_lem x) → ClearPend p (spell_unary u) → FineUnary u (room_of_lem x) → Spaces w
+    → FineOpen x → FinePend p (room_of x) → ClearPend p (spell_unary u) → FineUnary u (room_of x) → Spaces w
     → Gap (last_unary u) w b → Read t (unary_byte x p u w b)
 unfolding unary_byte told told_word
 unary_read x p u w b t h fx fp fc fu fw g =
     branch (Read t) (eqb b 97) _ _ (λ i. (rw (eq_byte b 97 i) at h, (fx, fp, fc, fu, fw, g.0 i)))
     (λ _. branch (Read t) (eqb b 111) _ _ (λ i. (rw (eq_byte b 111 i) at h, (fx, fp, fc, fu, fw, g.1 i)))
-    (λ _. shut_read x (or_to p u) w b t (rw (or_told p u, append_assoc) h) fx (or_fine p u (room_of_lem x) fp fu fc) fw))
+    (λ _. shut_read x (or_to p u) w b t (rw (or_told p u, append_assoc) h) fx (or_fine p u (room_of x) fp fu fc) fw))
 
 union_read : (c : Ctx) (u : Union) (w : Bytes) (b : ℕ) (t : Bytes) → told_ctx c ++ (spell_union u ++ (w ++ (b ∷ [])))
     ≡ t
@@ -487,11 +489,11 @@ unfolding group_byte before told_ctx told_alt told_lead told_prefix told_open
 group_read top g w b t h fc fl fw = tt
 group_read (inside x p) (more u v) w b t h fc fl fw = tt
 group_read (inside x p) first w b t h fc fl fw =
-    branch (Read t) (eqb b 40 && ltb 0 (room_of_lem x)) _ _
-    (λ i. let u = and_out (eqb b 40) (ltb 0 (room_of_lem x)) i in
+    branch (Read t) (eqb b 40 && ltb 0 (room_of x)) _ _
+    (λ i. let u = and_out (eqb b 40) (ltb 0 (room_of x)) i in
     enter_read t (grouped x p w)
     (rw (eq_byte b 40 u.0) at (operand_list (told_open x) (told_pend p) (w ++ (b ∷ [])) t h))
-    (fc.0, fc.1, rw (eq_byte b 40 u.0) at fl, fw, room_of_lem (room_of_lem x) u.1))
+    (fc.0, fc.1, rw (eq_byte b 40 u.0) at fl, fw, room_of_lem (room_of x) u.1))
     (λ _. tt)
   where
     operand_list : (x p w t : Bytes) → ((x ++ p) ++ []) ++ w ≡ t → x ++ (p ++ w) ≡ t
@@ -591,14 +593,20 @@ call_read : (c : Ctx) (g : Alt) (l : Lead) (a : Axis) (w n v t : Bytes)
 unfolding call_byte before told_ctx told_alt told_lead told_prefix told_open spell_axis told spell_bool every ascii
 call_read (inside x p) first (start bare) implied w n v t h fa fl fw fv =
     let k = operand_list (told_open x) (told_pend p) (w ++ (n ++ (v ++ (40 ∷ [])))) t h in
-    branch (Read t) (same_bytes_lem n not_word) _ _
-    (λ i. branch (Read t) (ltb 0 (room_of_lem x)) _ _
+    branch (Read t) (same_bytes n not_word) _ _
+    (λ i. branch (Read t) (ltb 0 (room_of x)) _ _
     (λ j. enter_read t (negate x p w v) (rw (same_bytes_lem n not_word i) at k)
-    (fa.0.0, fa.0.1, rw (same_bytes_lem n not_word i) at fl, fw, fv, room_of_lem (room_of_lem x) j)) (λ _. tt))
-    (λ _. branch (Read t) (same_bytes_lem n true_word) _ _
-    (λ i. (rw (same_bytes_lem n true_word i) at k, (fa.0.0, fa.0.1, rw (same_bytes_lem n true_word i) at fl, fw, fv, refl)))
-    (λ _. branch (Read t) (same_bytes_lem n false_word) _ _
-    (λ i. (rw (same_bytes_lem n false_word i) at k, (fa.0.0, fa.0.1, rw (same_bytes_lem n false_word i) at fl, fw, fv, refl)))
+    (fa.0.0, fa.0.1, rw (same_bytes_lem n not_word i) at fl, fw, fv, room_of_lem (room_of x) j)) (λ _. tt))
+    (λ _. branch (Read t) (same_bytes n true_word) _ _
+    (λ i. (
+      rw (same_bytes_lem n true_word i) at k,
+      (fa.0.0, fa.0.1, rw (same_bytes_lem n true_word i) at fl, fw, fv, refl),
+    ))
+    (λ _. branch (Read t) (same_bytes n false_word) _ _
+    (λ i. (
+      rw (same_bytes_lem n false_word i) at k,
+      (fa.0.0, fa.0.1, rw (same_bytes_lem n false_word i) at fl, fw, fv, refl),
+    ))
     (λ _. tt)))
 call_read top g l a w n v t h fa fl fw fv = tt
 call_read (inside x p) (more u y) l a w n v t h fa fl fw fv = tt
@@ -662,7 +670,8 @@ after_read c g l s w b t h fa fl fs fw k =
     branch (Read t) (is_space b) _ _ (λ i. (h, (fa, fl, fs, snoc is_space w b fw i, may_more s w b)))
     (λ _. branch (Read t) (eqb b 47) _ _
     (λ i. (
-      slash_list (told_ctx c) (told_alt g) (told_prefix (prefix_of l)) (spell_rel (join l s)) (told_lead l) (spell_step s)
+      slash_list (told_ctx c) (told_alt g) (told_prefix (prefix_of l)) (spell_rel (join l s)) (told_lead l)
+          (spell_step s)
           (w ++ (47 ∷ [])) (join_told l s) ∙ (rw (eq_byte b 47 i) at h),
       (
         (fa.0, fa.1, lead_prefix_fine l (room c) fa.2),
@@ -700,7 +709,8 @@ eight x c p u w k b e = rw e (simp (append_assoc, append-nil))
 word_read : (x : Open) (p : Pend) (u : Unary) (w : Bytes) (k : Keyword) (b : ℕ) (t : Bytes)
     → told_open x ++ (told_pend p ++ (spell_unary u ++ (w ++ (told_word k ++ (b ∷ []))))) ≡ t
     → FineState (keyword x p u w k) → Read t (keyword_byte x p u w k b)
-unfolding keyword_byte told before told_word told_alt told_lead told_prefix told_ctx told_pend told_left room apart every
+unfolding keyword_byte told before told_word told_alt told_lead told_prefix told_ctx told_pend told_left room apart
+    every
 word_read x p u w k_a b t h f = branch (Read t) (eqb b 110) _ _ (λ i. (rw (eq_byte b 110 i) at h, f)) (λ _. tt)
 word_read x p u w k_an b t h f = branch (Read t) (eqb b 100) _ _ (λ i. (rw (eq_byte b 100 i) at h, f)) (λ _. tt)
 word_read x p u w k_o b t h f = branch (Read t) (eqb b 114) _ _ (λ i. (rw (eq_byte b 114 i) at h, f)) (λ _. tt)
@@ -709,7 +719,7 @@ word_read x p u w k_and b t h f =
     (λ i. need_read (inside x (both (left_of p) (and_to p u) w)) first begin [] b t
     (seven (told_open x) (told_left (left_of p)) (spell_and (and_to p u)) (told_pend p) (spell_unary u) w
     (97 ∷ 110 ∷ 100 ∷ []) (b ∷ []) (and_told p u) ∙ h) (
-      (f.0, (left_fine p (room_of_lem x) f.1, and_fine p u (room_of_lem x) f.1 f.3 f.2, f.4, rw and_last f.5)),
+      (f.0, (left_fine p (room_of x) f.1, and_fine p u (room_of x) f.1 f.3 f.2, f.4, rw and_last f.5)),
       tt,
       tt,
     )
@@ -719,7 +729,7 @@ word_read x p u w k_or b t h f =
     (λ i. need_read (inside x (plain (either (or_to p u) w))) first begin [] b t
     (eight (told_open x) (spell_or (or_to p u)) (told_pend p) (spell_unary u) w (111 ∷ 114 ∷ []) (b ∷ []) (or_told p u)
     ∙ h)
-    ((f.0, (or_fine p u (room_of_lem x) f.1 f.3 f.2, f.4, rw (or_last, and_last) f.5)), tt, tt)
+    ((f.0, (or_fine p u (room_of x) f.1 f.3 f.2, f.4, rw (or_last, and_last) f.5)), tt, tt)
     (rw i) refl)
 
 -- what stands before a step that `/` or `//` leads
@@ -847,7 +857,8 @@ may_other k w h = rw h refl
 
 -- each byte read
 pub step_read : (st : State) (b : ℕ) → FineState st → Read (told st ++ (b ∷ [])) (step st b)
-unfolding step told before told_lead told_prefix spell_step spell_axis spell_test last_step last_test last_unary may_follow
+unfolding step told before told_lead told_prefix spell_step spell_axis spell_test last_step last_test last_unary
+    may_follow
     every
 step_read (need c g l w) b f =
     need_read c g l w b _ (simp append_assoc) f.0 (more_clr c g l w (b ∷ []) f.1) f.2
@@ -919,8 +930,8 @@ step_read (type_open c g l a w n v u) b f =
       rw (eq_byte b 41 i) (kind_list (before c g l) (spell_axis a) w n v u (41 ∷ [])),
       (f.0, clr_name c g l (spell_axis a) w n _ f.1, (f.2, (f.3, f.4, f.5, f.6)), refl, refl),
     ))
-    (λ _. branch (Read _) (is_quote b && same_bytes_lem n instruction_word) _ _
-    (λ i. let z = and_out (is_quote b) (same_bytes_lem n instruction_word) i in (
+    (λ _. branch (Read _) (is_quote b && same_bytes n instruction_word) _ _
+    (λ i. let z = and_out (is_quote b) (same_bytes n instruction_word) i in (
       rw (← same_bytes_lem n instruction_word z.1) (quote_list (before c g l) (spell_axis a) w n v u (b ∷ [])),
       (f.0, rw (same_bytes_lem n instruction_word z.1) at f.1, f.2, f.3, f.5, f.6, z.0),
     )) (λ _. tt)))

@@ -22,7 +22,8 @@ use Rattle.grammar.specs.Grammar.{dot, dots, test, filter, Rel, one, slash, slas
 use Rattle.grammar.specs.Grammar.{rooted, anywhere, Union, single, union, Unary, paths, group, negation}
 use Rattle.grammar.specs.Grammar.{constant, And, operand, conj, Or, alone, disj, FineAxis, FineTest, FineStep}
 use Rattle.grammar.specs.Grammar.{FineRel, FinePath, FineUnion, FineUnary, FineAnd, FineOr}
-use Rattle.grammar.specs.Denotes.{axis_of, test_of, constant_of, step_of, rel_of, rel_after, path_of, union_of, unary_of}
+use Rattle.grammar.specs.Denotes.{axis_of, test_of, constant_of, step_of, rel_of, rel_after, path_of, union_of}
+use Rattle.grammar.specs.Denotes.{unary_of}
 use Rattle.grammar.specs.Denotes.{and_of, or_of, Named, test_names, step_names, rel_names, path_names, union_names}
 use Rattle.grammar.specs.Denotes.{unary_names, and_names, or_names, unlisted}
 use Rattle.grammar.proofs.Basics.{never}
@@ -133,7 +134,8 @@ module _ (num : Bytes → ℕ) (most : (n : Bytes) → num n ≤ max_number) whe
   below_fits = type_fits 5 (omega arith) 0 (omega arith)
 
   mutual
-    unfolding step_of rel_of rel_after path_of union_of unary_of and_of or_of step_names rel_names path_names union_names unary_names
+    unfolding step_of rel_of rel_after path_of union_of unary_of and_of or_of step_names rel_names path_names
+        union_names unary_names
         and_names or_names
 
     step_fits : (s : LocationStep) (d i : ℕ) → FineStep s d → unlisted num (step_names s i) ≡ none

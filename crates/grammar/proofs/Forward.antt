@@ -7,7 +7,7 @@ use mathlib.Core.Option.{Option, none, some}
 use mathlib.Core.Logic.{◌⊎◌, inl, inr, ⊎_elim}
 use lib.Dec.{eqb, ltb, lt→ltb}
 use Rattle.lines.specs.Ascii.{ascii}
-use Rattle.lines.specs.Line.{same_bytes_lem}
+use Rattle.lines.specs.Line.{same_bytes}
 use Rattle.grammar.specs.Bytes.{Bytes, is_space, is_start, is_name, is_quote, every, is_word, nonempty}
 use Rattle.grammar.specs.Bytes.{apart, not_word, true_word, false_word}
 use Rattle.grammar.specs.Words.{find, next, axes, types, is_some, is_axis, is_type, instruction_word}
@@ -27,7 +27,8 @@ use Rattle.grammar.specs.code.Reader.{Prefix, bare, at_root, at_any, Lead, start
 use Rattle.grammar.specs.code.Reader.{more, Left, nothing, either, Pend, plain, both, prefix_of, join}
 use Rattle.grammar.specs.code.Reader.{with_prefix, join_alt, wrap, left_of, and_to, or_to, room, room_of}
 use Rattle.grammar.specs.code.Reader.{begin, enter, step, walk, follow, need_byte, shut, unary_byte, union_byte}
-use Rattle.grammar.specs.code.Reader.{path_byte, group_byte, lead_byte, call_byte, paren_byte_next, colon_byte_next, after_byte}
+use Rattle.grammar.specs.code.Reader.{path_byte, group_byte, lead_byte, call_byte, paren_byte_next, colon_byte_next}
+use Rattle.grammar.specs.code.Reader.{after_byte}
 use Rattle.grammar.specs.code.Reader.{keyword_byte}
 use Rattle.lines.proofs.SameBytes.{same_bytes_lem}
 use Rattle.grammar.proofs.Basics.{never, is_true, and_out, and_in, or_out, eq_byte, space_cases}
@@ -499,9 +500,9 @@ axis_list w n v t st y h = simp append_assoc h
 found_word : (n : Bytes) (ms : List Bytes) → all_words ms ≡ true → is_some (find n ms) ≡ true → is_word n ≡ true
 unfolding all_words find is_some
 found_word n [] h e = absurd (never e)
-found_word n (m ∷ ms) h e = go (same_bytes_lem n m) refl (found_word n ms (and_out (is_word m) (all_words ms) h).1)
+found_word n (m ∷ ms) h e = go (same_bytes n m) refl (found_word n ms (and_out (is_word m) (all_words ms) h).1)
   where
-    go : (c : Bool) → same_bytes_lem n m ≡ c → (is_some (find n ms) ≡ true → is_word n ≡ true) → is_word n ≡ true
+    go : (c : Bool) → same_bytes n m ≡ c → (is_some (find n ms) ≡ true → is_word n ≡ true) → is_word n ≡ true
     go true i k = rw (same_bytes_lem n m i) (and_out (is_word m) (all_words ms) h).0
     go false i k = k (some_next (find n ms) (rw i at e))
 
@@ -545,7 +546,8 @@ module _ (c : Ctx) (g : Alt) (l : Lead) where
       ≡ true → Spaces y
       → walk (v ++ (40 ∷ (u ++ (q ∷ (m ++ (q ∷ (y ++ (41 ∷ [])))))))) (name c g l a w instruction_word)
       ≡ some (after c g l (test a (target w v u q m y)) [])
-  unfolding is_space is_name is_start after_byte paren_byte_next step walk follow touches end_step find next types is_some same_bytes_lem
+  unfolding is_space is_name is_start after_byte paren_byte_next step walk follow touches end_step find next types
+      is_some same_bytes
       instruction_word
   test_target a w v u q m y h k j n z =
       step_then c g l (test a (called w instruction_word)) v 40 (u ++ (q ∷ (m ++ (q ∷ (y ++ (41 ∷ [])))))) _ h refl
@@ -671,9 +673,11 @@ unfolding is_name is_start
 fits_bracket s w = fits_step s w 91 (inl refl) refl
 
 mutual
-  unfolding spell_step spell_rel spell_path spell_union spell_unary spell_and spell_or spell_bool end_step end_rel end_path
-      end_union end_unary end_and end_or is_name is_start is_space after_byte paren_byte_next call_byte lead_byte group_byte walk
-      follow step shut room room_of need_byte same_bytes_lem touches find next types is_some ascii
+  unfolding spell_step spell_rel spell_path spell_union spell_unary spell_and spell_or spell_bool end_step end_rel
+      end_path
+      end_union end_unary end_and end_or is_name is_start is_space after_byte paren_byte_next call_byte lead_byte
+      group_byte walk
+      follow step shut room room_of need_byte same_bytes touches find next types is_some ascii
 
   pub read_step : (s : LocationStep) (c : Ctx) (g : Alt) (l : Lead) → FineStep s (room c)
       → walk (spell_step s) (need c g l []) ≡ some (end_step c g l s)

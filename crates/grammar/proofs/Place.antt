@@ -28,7 +28,7 @@ use Rattle.grammar.specs.code.Reader.{bad, initial}
 use lib.ListN.{length, take, drop, take-append-drop, length-append}
 use lib.Seq.{take_at, take-take}
 use Rattle.grammar.proofs.Basics.{and_out, space_name, space_start, walk_byte, walk_join}
-use Rattle.grammar.proofs.Forward.{end_step_lem, end_rel, end_path, end_union}
+use Rattle.grammar.proofs.Forward.{end_step, end_rel, end_path, end_union}
 use Rattle.grammar.proofs.Forward.{read_union, after_spaces, root_spaces, space_dot}
 use Rattle.grammar.proofs.Forward.{space_slash, quote_name, quote_self}
 use Rattle.grammar.proofs.Back.{told, before, told_ctx, told_alt, told_lead, told_prefix, FineState}
@@ -246,8 +246,8 @@ finish_spells (keyword x p u w k) y e f = absurd (no_text y e)
 
 -- a text of the grammar is accepted with its tree
 end_step_lem : (g : Alt) (l : Lead) (s : LocationStep) (w : Bytes) → Spaces w
-    → Ended w (end_step_lem top g l s) (text_of (join_alt g (path_to l s)) w)
-unfolding end_step_lem walk finish at_top every step after_byte
+    → Ended w (end_step top g l s) (text_of (join_alt g (path_to l s)) w)
+unfolding end_step walk finish at_top every step after_byte
 end_step_lem g l (dots v) w h =
     record {
       last = after top g l (dots v) w;

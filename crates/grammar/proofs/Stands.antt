@@ -49,7 +49,8 @@ nestings_length : (rs : List Row) → length (nestings rs) ≡ length rs
 unfolding nestings
 nestings_length rs = length_entries nesting_by rs
 
-pub nesting_stays : (rs ss : List Row) (i : ℕ) → i < length rs → get_or (nestings (rs ++ ss)) i 0 ≡ get_or (nestings rs) i 0
+pub nesting_stays : (rs ss : List Row) (i : ℕ) → i < length rs → get_or (nestings (rs ++ ss)) i 0
+    ≡ get_or (nestings rs) i 0
 nesting_stays rs ss i h =
     sym (get_or-take (length rs) (nestings (rs ++ ss)) i 0 h)
     ∙ ap (λ (ns : List ℕ). get_or ns i 0) (sym (nestings_take (length rs) (rs ++ ss))
@@ -229,16 +230,19 @@ QualifierStands f rs = Stands (put_qual f rs).rows (put_qual f rs).at (of_qualif
 
 -- two operands, the second put after the first, and the row over both
 mutual
-  unfolding put_path put_qual nest_path nest_qual fields_of field_ok nesting nesting_by operand_nesting term_by term_at as_path
+  unfolding put_path put_qual nest_path nest_qual fields_of field_ok nesting nesting_by operand_nesting term_by
+      term_at as_path
       as_qualifier
 
   pub path_stands : (p : term.Path) (rs : List Row) → Built rs → PathFits p → nest_path p ≤ max_nesting
       → PathStands p rs
   path_stands term.Void rs b h l =
-      leaf_stands rs 0 (of_path term.Void) b (well_formed_lem rs 0 0 0 0 (omega arith) refl refl refl (omega arith)) refl
+      leaf_stands rs 0 (of_path term.Void) b (well_formed_lem rs 0 0 0 0 (omega arith) refl refl refl (omega arith))
+      refl
       refl
   path_stands term.Root rs b h l =
-      leaf_stands rs 1 (of_path term.Root) b (well_formed_lem rs 1 0 0 0 (omega arith) refl refl refl (omega arith)) refl
+      leaf_stands rs 1 (of_path term.Root) b (well_formed_lem rs 1 0 0 0 (omega arith) refl refl refl (omega arith))
+      refl
       refl
   path_stands (term.AxisStep a t c) rs b h l =
       let s = row_stands rs (row 2 a t c) b (h.0 rs) in
@@ -247,7 +251,8 @@ mutual
       let x = path_stands p rs b h.0 (omega arith) in
       let y = path_stands q (put_path p rs).rows x.built h.1 (omega arith) in
       let z = stands_on x (path_longer q (put_path p rs).rows) y.built in
-      over_stands _ 3 _ _ (nest_path p) (nest_path q) (of_path p) (of_path q) (of_path (term.Union p q)) z y (omega arith)
+      over_stands _ 3 _ _ (nest_path p) (nest_path q) (of_path p) (of_path q) (of_path (term.Union p q)) z y
+      (omega arith)
       (is_held_path z) (is_held_path y) refl (omega (arith, z.nest, y.nest)) (omega arith)
       (rw (z.term, y.term) refl)
   path_stands (term.Composition p q) rs b h l =
@@ -268,11 +273,13 @@ mutual
   pub qualifier_stands : (f : term.Qualifier) (rs : List Row) → Built rs → QualifierFits f → nest_qual f ≤ max_nesting
       → QualifierStands f rs
   qualifier_stands term.True rs b h l =
-      leaf_stands rs 6 (of_qualifier term.True) b (well_formed_lem rs 6 0 0 0 (omega arith) refl refl refl (omega arith))
+      leaf_stands rs 6 (of_qualifier term.True) b
+      (well_formed_lem rs 6 0 0 0 (omega arith) refl refl refl (omega arith))
       refl
       refl
   qualifier_stands term.False rs b h l =
-      leaf_stands rs 7 (of_qualifier term.False) b (well_formed_lem rs 7 0 0 0 (omega arith) refl refl refl (omega arith))
+      leaf_stands rs 7 (of_qualifier term.False) b
+      (well_formed_lem rs 7 0 0 0 (omega arith) refl refl refl (omega arith))
       refl
       refl
   qualifier_stands (term.Not f) rs b h l =
@@ -289,20 +296,23 @@ mutual
       let x = qualifier_stands f rs b h.0 (omega arith) in
       let y = qualifier_stands g (put_qual f rs).rows x.built h.1 (omega arith) in
       let z = stands_on x (qualifier_longer g (put_qual f rs).rows) y.built in
-      over_stands _ 9 _ _ (nest_qual f) (nest_qual g) (of_qualifier f) (of_qualifier g) (of_qualifier (term.And f g)) z y
+      over_stands _ 9 _ _ (nest_qual f) (nest_qual g) (of_qualifier f) (of_qualifier g) (of_qualifier (term.And f g))
+      z y
       (omega arith) (is_held_qualifier z) (is_held_qualifier y) refl (omega (arith, z.nest, y.nest)) (omega arith)
       (rw (z.term, y.term) refl)
   qualifier_stands (term.Or f g) rs b h l =
       let x = qualifier_stands f rs b h.0 (omega arith) in
       let y = qualifier_stands g (put_qual f rs).rows x.built h.1 (omega arith) in
       let z = stands_on x (qualifier_longer g (put_qual f rs).rows) y.built in
-      over_stands _ 10 _ _ (nest_qual f) (nest_qual g) (of_qualifier f) (of_qualifier g) (of_qualifier (term.Or f g)) z y
+      over_stands _ 10 _ _ (nest_qual f) (nest_qual g) (of_qualifier f) (of_qualifier g) (of_qualifier (term.Or f g))
+      z y
       (omega arith) (is_held_qualifier z) (is_held_qualifier y) refl (omega (arith, z.nest, y.nest)) (omega arith)
       (rw (z.term, y.term) refl)
   qualifier_stands (term.In p q) rs b h l =
       let x = path_stands p rs b h.0 (omega arith) in
       let y = path_stands q (put_path p rs).rows x.built h.1 (omega arith) in
       let z = stands_on x (path_longer q (put_path p rs).rows) y.built in
-      over_stands _ 11 _ _ (nest_path p) (nest_path q) (of_path p) (of_path q) (of_qualifier (term.In p q)) z y (omega arith)
+      over_stands _ 11 _ _ (nest_path p) (nest_path q) (of_path p) (of_path q) (of_qualifier (term.In p q)) z y
+      (omega arith)
       (is_held_path z) (is_held_path y) refl (omega (arith, z.nest, y.nest)) (omega arith)
       (rw (z.term, y.term) refl)

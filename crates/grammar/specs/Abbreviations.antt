@@ -30,7 +30,8 @@ before s (slashes r w t) = slashes (before s r) w t
 pub record Expansions (num : Bytes → ℕ) : Type 0 where
   -- child by default, `@`, `.` and `..`
   pub child : (t : Test) → step_of num (test implied t) ≡ step_of num (unabbreviated "child" t)
-  pub attributes : (w : Bytes) (t : Test) → step_of num (test (attribute w) t) ≡ step_of num (unabbreviated "attribute" t)
+  pub attributes : (w : Bytes) (t : Test) → step_of num (test (attribute w) t)
+      ≡ step_of num (unabbreviated "attribute" t)
   pub self : (w : Bytes) → step_of num (dot w) ≡ step_of num (unabbreviated "self" any_node)
   pub parent : (w : Bytes) → step_of num (dots w) ≡ step_of num (unabbreviated "parent" any_node)
   -- `//` is `/descendant-or-self::node()/`, at the beginning too

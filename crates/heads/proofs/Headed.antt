@@ -12,7 +12,7 @@ use Rattle.common.specs.Axes.{max_axis}
 use Rattle.common.specs.NodeTests.{node_test}
 use Rattle.xpath.specs.Term as term
 use Rattle.lines.specs.Ascii.{ascii}
-use Rattle.lines.specs.Line.{same_bytes_lem}
+use Rattle.lines.specs.Line.{same_bytes}
 use Rattle.grammar.specs.Bytes.{Bytes, is_space, is_start, is_name, is_quote, every, is_word, not_word}
 use Rattle.grammar.specs.Bytes.{true_word, false_word}
 use Rattle.grammar.specs.Words.{find, next, types, axes, is_some, or_zero, is_type, type_code, is_axis, axis_code}
@@ -72,7 +72,8 @@ yes_no : {A : Type 0} → ◌≡◌ {A = Bool} true false → A
 yes_no e = absurd (never (sym e))
 
 -- `.` and `..`
-dot_ends : (t : Bytes) (c : Ctx) (g : Alt) (l : Lead) (w : Bytes) → eqb (get_or t 0 0) 46 ≡ false → run t (dot1 c g l w)
+dot_ends : (t : Bytes) (c : Ctx) (g : Alt) (l : Lead) (w : Bytes) → eqb (get_or t 0 0) 46 ≡ false
+    → run t (dot1 c g l w)
     ≡ run t (after c g l (dot w) [])
 unfolding run finish step
 dot_ends [] c g l w h = refl
@@ -249,11 +250,11 @@ from_next o i (some k) = omega arith
 picked : (o i : ℕ) (ms : List Bytes) (n : Bytes) → pick_from o i ms n ≡ from_some o i (find n ms)
 unfolding pick_from find from_some
 picked o i [] n = refl
-picked o i (m ∷ ms) n = go (same_bytes_lem n m) refl (picked o (suc i) ms n)
+picked o i (m ∷ ms) n = go (same_bytes n m) refl (picked o (suc i) ms n)
   where
-    go : (b : Bool) → same_bytes_lem n m ≡ b → pick_from o (suc i) ms n ≡ from_some o (suc i) (find n ms)
-        → cond (same_bytes_lem n m) i (pick_from o (suc i) ms n)
-        ≡ from_some o i (cond (same_bytes_lem n m) (some 0) (next (find n ms)))
+    go : (b : Bool) → same_bytes n m ≡ b → pick_from o (suc i) ms n ≡ from_some o (suc i) (find n ms)
+        → cond (same_bytes n m) i (pick_from o (suc i) ms n)
+        ≡ from_some o i (cond (same_bytes n m) (some 0) (next (find n ms)))
     go true e k = rw e (omega arith)
     go false e k = rw e (k ∙ from_next o i (find n ms))
 
@@ -288,9 +289,9 @@ less_next (some i) m k h e = omega (arith, some_same (suc i) k e, h i refl)
 find_less : (n : Bytes) (ms : List Bytes) (k : ℕ) → find n ms ≡ some k → k < length ms
 unfolding find
 find_less n [] k e = absurd (none_some k e)
-find_less n (m ∷ ms) k e = go (same_bytes_lem n m) refl (λ i f. find_less n ms i f)
+find_less n (m ∷ ms) k e = go (same_bytes n m) refl (λ i f. find_less n ms i f)
   where
-    go : (b : Bool) → same_bytes_lem n m ≡ b → ((i : ℕ) → find n ms ≡ some i → i < length ms) → k < suc (length ms)
+    go : (b : Bool) → same_bytes n m ≡ b → ((i : ℕ) → find n ms ≡ some i → i < length ms) → k < suc (length ms)
     go true f h = omega (arith, some_same 0 k (rw f at e))
     go false f h = less_next (find n ms) (length ms) k h (rw f at e)
 
@@ -317,23 +318,23 @@ axis_some n t e f = go (find n axes) (e ∙ picked 12 0 axes n)
 
 -- node types
 instruction_code : type_code instruction_word ≡ 5
-unfolding instruction_word types find same_bytes_lem next or_zero
+unfolding instruction_word types find same_bytes next or_zero
 instruction_code = refl
 
-not_instruction : (n : Bytes) (t : ℕ) → t ≡ type_code n → (t ≡ 5 → ⊥) → same_bytes_lem n instruction_word ≡ false
-not_instruction n t e f = go (same_bytes_lem n instruction_word) refl
+not_instruction : (n : Bytes) (t : ℕ) → t ≡ type_code n → (t ≡ 5 → ⊥) → same_bytes n instruction_word ≡ false
+not_instruction n t e f = go (same_bytes n instruction_word) refl
   where
-    go : (b : Bool) → same_bytes_lem n instruction_word ≡ b → same_bytes_lem n instruction_word ≡ false
+    go : (b : Bool) → same_bytes n instruction_word ≡ b → same_bytes n instruction_word ≡ false
     go true h = absurd (f (e ∙ ap type_code (same_bytes_lem n instruction_word h) ∙ instruction_code))
     go false h = h
 
 -- a type of code 5 is `processing-instruction`
-is_instruction : (n : Bytes) → is_type n ≡ true → 5 ≡ type_code n → same_bytes_lem n instruction_word ≡ true
+is_instruction : (n : Bytes) → is_type n ≡ true → 5 ≡ type_code n → same_bytes n instruction_word ≡ true
 unfolding types find is_some next or_zero instruction_word
 is_instruction n h e = go _ _ _ _ refl refl refl refl
   where
-    go : (a b c d : Bool) → same_bytes_lem n (ascii "node") ≡ a → same_bytes_lem n (ascii "text") ≡ b
-        → same_bytes_lem n (ascii "comment") ≡ c → same_bytes_lem n instruction_word ≡ d → same_bytes_lem n instruction_word ≡ true
+    go : (a b c d : Bool) → same_bytes n (ascii "node") ≡ a → same_bytes n (ascii "text") ≡ b
+        → same_bytes n (ascii "comment") ≡ c → same_bytes n instruction_word ≡ d → same_bytes n instruction_word ≡ true
     go a b c true i j k l = l
     go true b c false i j k l = absurd (omega (arith, rw i at e))
     go false true c false i j k l = absurd (omega (arith, rw (i, j) at e))
@@ -389,8 +390,9 @@ module _ (s list : Bytes) (at ax t inner : ℕ) (q : Passed is_space s at inner)
       colon_kind c g l (axis x m o) w n v u y = refl
 
   type_fails : (byte_at s inner ≡ 41 → ⊥)
-      → ((n : Bytes) → is_type n ≡ true → t ≡ type_code n → (is_quote (byte_at s inner) && same_bytes_lem n instruction_word)
-      ≡ false) → TypeMet s list at ax t (no_head inner)
+      → ((n : Bytes) → is_type n ≡ true → t ≡ type_code n
+      → (is_quote (byte_at s inner) && same_bytes n instruction_word) ≡ false)
+      → TypeMet s list at ax t (no_head inner)
   unfolding step finish
   type_fails b f =
       record {
@@ -450,7 +452,7 @@ module _ (s list : Bytes) (at ax t inner : ℕ) (q : Passed is_space s at inner)
           (rw (
             q.stops,
             not_close,
-            and_in (is_quote (byte_at s inner)) (same_bytes_lem n instruction_word) k (is_instruction n i (sym f ∙ j)),
+            and_in (is_quote (byte_at s inner)) (same_bytes n instruction_word) k (is_instruction n i (sym f ∙ j)),
           )
           refl)
 
@@ -483,10 +485,10 @@ call_none : (c : Ctx) (g : Alt) (l : Lead) (a : Axis) (w n v : Bytes)
     → (is_implied a ≡ true → callable c g l ≡ true → opens_call n ≡ false) → call_byte c g l a w n v ≡ none
 unfolding call_byte callable is_implied opens_call
 call_none (inside x p) first (start bare) implied w n v h =
-    go (same_bytes_lem n not_word) (same_bytes_lem n true_word) (same_bytes_lem n false_word) refl refl refl (h refl refl)
+    go (same_bytes n not_word) (same_bytes n true_word) (same_bytes n false_word) refl refl refl (h refl refl)
   where
-    go : (b d e : Bool) → same_bytes_lem n not_word ≡ b → same_bytes_lem n true_word ≡ d → same_bytes_lem n false_word ≡ e
-        → (same_bytes_lem n not_word || (same_bytes_lem n true_word || same_bytes_lem n false_word)) ≡ false
+    go : (b d e : Bool) → same_bytes n not_word ≡ b → same_bytes n true_word ≡ d → same_bytes n false_word ≡ e
+        → (same_bytes n not_word || (same_bytes n true_word || same_bytes n false_word)) ≡ false
         → call_byte (inside x p) first (start bare) implied w n v ≡ none
     go false false false i j k f = rw (i, j, k) refl
     go true d e i j k f = yes_no (rw i at f)
@@ -562,7 +564,8 @@ module _ (s list : Bytes) (at end to ax : ℕ) (m : NameAt s at end to) where
           → colon_byte_next c g l (test a (called w named_word)) m.spaces.bytes ≡ none
       implied_colon a h c g l w = go (is_implied a) refl
         where
-          go : (b : Bool) → is_implied a ≡ b → colon_byte_next c g l (test a (called w named_word)) m.spaces.bytes ≡ none
+          go : (b : Bool) → is_implied a ≡ b
+              → colon_byte_next c g l (test a (called w named_word)) m.spaces.bytes ≡ none
           go true e = absurd (h e)
           go false e = colon_axis c g l a (called w named_word) m.spaces.bytes e
 
@@ -585,7 +588,8 @@ module _ (s list : Bytes) (at end to ax : ℕ) (m : NameAt s at end to) where
       (λ i j. h i j named_word m.spaces.bytes (drop (suc to) s) (word_is s at end m.begins m.names)
       m.spaces.all split)))
 
-  pub name_type : (t : ℕ) (h : Head) → byte_at s to ≡ 40 → is_type (part s at end) ≡ true → t ≡ type_code (part s at end)
+  pub name_type : (t : ℕ) (h : Head) → byte_at s to ≡ 40 → is_type (part s at end) ≡ true
+      → t ≡ type_code (part s at end)
       → TypeMet s list (to + 1) ax t h → TestMet s list at ax (byte_at s to ≡ 58 → ⊥) h
   unfolding step after_byte paren_byte_next is_space
   name_type t h e f k x =
@@ -868,7 +872,8 @@ head_dot s list at h m =
 
 -- the longest run of bytes that pass a test is one
 module _ (p : ℕ → Bool) where
-  pub same_split : (x r y q : Bytes) → every p x ≡ true → every p y ≡ true → p (get_or r 0 0) ≡ false → p (get_or q 0 0)
+  pub same_split : (x r y q : Bytes) → every p x ≡ true → every p y ≡ true → p (get_or r 0 0) ≡ false
+      → p (get_or q 0 0)
       ≡ false → x ++ r ≡ y ++ q → (x ≡ y) × (r ≡ q)
   unfolding every
   same_split [] r [] q h i j k e = (refl, e)
@@ -929,7 +934,7 @@ module _ (s : Bytes) (at end paren : ℕ) (m : NameAt s at end paren) where
   pub operand_named : (byte_at s paren ≡ 40 → ⊥) → OperandMet s at Opening.Paths at
   operand_named b = (λ n v t i j e. absurd (b (same_call n v t i j e).1), no_open)
 
-  operand_call : (word : Bytes) → byte_at s paren ≡ 40 → same_bytes_lem operand_word word ≡ true → CallAt s at paren word
+  operand_call : (word : Bytes) → byte_at s paren ≡ 40 → same_bytes operand_word word ≡ true → CallAt s at paren word
   operand_call word b e =
       record {
         spaces = m.spaces.bytes;
@@ -955,8 +960,8 @@ module _ (s : Bytes) (at end paren : ℕ) (m : NameAt s at end paren) where
       subst (λ (y : Opens). OperandMet s at y paren)
       (sym (e ∙ ap opened_by (word_part s at end m.begins m.names))) (go _ _ _ refl refl refl)
     where
-      go : (p q r : Bool) → same_bytes_lem operand_word not_word ≡ p → same_bytes_lem operand_word true_word ≡ q
-          → same_bytes_lem operand_word false_word ≡ r → OperandMet s at (opened_by operand_word) paren
+      go : (p q r : Bool) → same_bytes operand_word not_word ≡ p → same_bytes operand_word true_word ≡ q
+          → same_bytes operand_word false_word ≡ r → OperandMet s at (opened_by operand_word) paren
       go true q r i j k = rw i (operand_call not_word b i)
       go false true r i j k = rw (i, j) (operand_call true_word b j)
       go false false true i j k = rw (i, j, k) (operand_call false_word b k)

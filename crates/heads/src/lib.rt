@@ -1,4 +1,6 @@
 // What a step or an operand begins with.
+#![tactic(auto)]
+
 ghost use Rattle.std.specs.Prelude.{◌≡◌, true, false, ◌≤◌, length};
 ghost use Rattle.grammar.specs.Bytes.{is_space, is_start, is_quote, is_word, dot_byte, colon_byte};
 ghost use Rattle.grammar.specs.Words.{number_of};
@@ -14,7 +16,7 @@ use words::bytes::{byte_at, is_start, name_end, skip};
 // A step without its predicates: `at` is the first place after it that has no whitespace; or, where it is none, the
 // first byte that can't continue. `filters`: predicates may follow. `place`: that of its name, where it has one that
 // is not listed.
-#[derive(Drop)]
+#[derive(Clone, Copy)]
 pub struct Head {
     pub ok: bool,
     pub at: usize,
@@ -27,7 +29,7 @@ pub struct Head {
 }
 
 // How an operand begins.
-#[derive(Drop)]
+#[derive(Clone, Copy)]
 pub enum Opens {
     Paths,
     Group,
@@ -37,7 +39,7 @@ pub enum Opens {
 }
 
 // How it begins, and the place of its `(`.
-#[derive(Drop)]
+#[derive(Clone, Copy)]
 pub struct Operand {
     pub opens: Opens,
     pub paren: usize,

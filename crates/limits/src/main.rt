@@ -1,5 +1,7 @@
 // Each limit of a session, met and then passed by one. Prints the limits that a session names, on a line, and then
 // what the calls answer, `NUMBER VALUE` a line, in pairs: the last call within the limit, and the one beyond it.
+#![tactic(auto)]
+
 ghost use Rattle.std.specs.Prelude.{◌≡◌, ◌≤◌, length};
 ghost use Rattle.script_words.specs.Words.{max_numbers};
 

@@ -28,7 +28,8 @@ too_many w ws = refl
 
 -- a number that a space ends, and then the rest of the line
 pub record Prepended (b : ℕ) (bs : List ℕ) (v : ℕ) (xs rest : List ℕ) : Type 0 where
-  pub numbers : first_parts (numbers_up_to (b ∷ bs)) (lines xs) ≡ prepended v (first_parts (numbers_up_to bs) (lines rest))
+  pub numbers : first_parts (numbers_up_to (b ∷ bs)) (lines xs)
+      ≡ prepended v (first_parts (numbers_up_to bs) (lines rest))
   pub next : drop 1 (lines xs) ≡ drop 1 (lines rest)
 
 pub number_and_space : (b : ℕ) (bs : List ℕ) (v : ℕ) (w r : List ℕ) → number_up_to b w ≡ some v
@@ -111,7 +112,8 @@ module _ (count : ℕ) (xs : List ℕ) (at : ℕ) (few : count ≤ max_count) wh
   if_ok : (ns : List ℕ) (ok b : Bool) → ok ≡ b → cond ok (some ns) none ≡ first_numbers count (lines (drop at xs)) →
       cond b (some ns) none ≡ cond (leb count max_count) (first_numbers count (lines (drop at xs))) none
   if_ok ns ok b e m =
-      rw (le-leb count max_count few) (subst (λ t. cond t (some ns) none ≡ first_numbers count (lines (drop at xs))) e m)
+      rw (le-leb count max_count few)
+      (subst (λ t. cond t (some ns) none ≡ first_numbers count (lines (drop at xs))) e m)
 
   pub not_met_there : (ok : Bool) (ns : List ℕ) (next : ℕ) → PartsMet (line_numbers count) xs at ok ns next
       → ok ≡ false →

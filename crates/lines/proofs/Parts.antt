@@ -46,7 +46,8 @@ module _ {A : Type 0} (read : List (List ℕ) → Option A) (w r : List ℕ) (f 
   unfolding first_parts
   before_space = by_cut (cutting newline r)
     where
-      by_cut : Cutting newline r → first_parts read (lines (w ++ space ∷ r)) ≡ first_parts (λ ws. read (w ∷ ws)) (lines r)
+      by_cut : Cutting newline r → first_parts read (lines (w ++ space ∷ r))
+          ≡ first_parts (λ ws. read (w ∷ ws)) (lines r)
       by_cut (whole h n) = no_whole_line read _ (free_append newline w (space ∷ r) f (refl, h))
           ∙ sym (no_whole_line (λ ws. read (w ∷ ws)) r h)
       by_cut (in_two l t e h) =
@@ -179,7 +180,8 @@ pub record Found (most e : ℕ) (xs : List ℕ) (v : ℕ) (rest : List ℕ) : Ty
   pub text : xs ≡ bytes ++ e ∷ rest
   pub is_number : number_up_to most bytes ≡ some v
 
-pub number_found : (most e : ℕ) (xs : List ℕ) (v : ℕ) (rest : List ℕ) → some (number_before v rest) ≡ number_cut most e xs
+pub number_found : (most e : ℕ) (xs : List ℕ) (v : ℕ) (rest : List ℕ) → some (number_before v rest)
+    ≡ number_cut most e xs
     → Found most e xs v rest
 unfolding number_cut Option-elim
 number_found most e xs v rest s = by_cut (cutting e xs)

@@ -5,16 +5,16 @@ use mathlib.Core.Bool.{Bool, true, false, ◌&&◌, false≢true}
 use mathlib.Core.List.{List, [], ◌∷◌}
 use lib.Dec.{eqb}
 use borrow.Author.Tests.{eqb-true}
-use Rattle.lines.specs.Line.{same_bytes_lem}
+use Rattle.lines.specs.Line.{same_bytes}
 
-pub same_bytes_lem : (xs ys : List ℕ) → same_bytes_lem xs ys ≡ true → xs ≡ ys
-unfolding same_bytes_lem
+pub same_bytes_lem : (xs ys : List ℕ) → same_bytes xs ys ≡ true → xs ≡ ys
+unfolding same_bytes
 same_bytes_lem [] [] e = refl
 same_bytes_lem [] (y ∷ ys) e = absurd (false≢true e)
 same_bytes_lem (x ∷ xs) [] e = absurd (false≢true e)
 same_bytes_lem (x ∷ xs) (y ∷ ys) e = by_test (eqb x y) refl e (same_bytes_lem xs ys)
   where
-    by_test : (b : Bool) → eqb x y ≡ b → (b && same_bytes_lem xs ys) ≡ true → (same_bytes_lem xs ys ≡ true → xs ≡ ys)
+    by_test : (b : Bool) → eqb x y ≡ b → (b && same_bytes xs ys) ≡ true → (same_bytes xs ys ≡ true → xs ≡ ys)
         → x ∷ xs ≡ y ∷ ys
     by_test true s t later = λ i. eqb-true x y s i ∷ later t i
     by_test false s t later = absurd (false≢true t)

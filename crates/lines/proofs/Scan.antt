@@ -283,7 +283,8 @@ module _ (most end : ℕ) (xs : List ℕ) (at i n : ℕ) (inside : i < length xs
   unfolding scan
   end_there e = so_far ∙ rw (add-one, drop-cons xs i 0 inside, eq-eqb (get_or xs i 0) end e)
 
-  pub stops_there : ¬ (get_or xs i 0 ≡ end) → none ≡ one_more most n (get_or xs i 0) → number_cut most end (drop at xs) ≡ none
+  pub stops_there : ¬ (get_or xs i 0 ≡ end) → none ≡ one_more most n (get_or xs i 0) →
+      number_cut most end (drop at xs) ≡ none
   unfolding scan Option-elim
   stops_there f e = so_far ∙ rw (drop-cons xs i 0 inside, ne_eqb (get_or xs i 0) end f, ← e)
 

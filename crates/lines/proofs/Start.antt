@@ -39,7 +39,8 @@ not_empty_line x (l ∷ ls) = by_test l.ended
     by_test true = refl
     by_test false = refl
 
-pub starts_with_line : (ys : List ℕ) → Free newline ys → (xs : List ℕ) → starts_with (ys ++ newline ∷ []) xs ≡ first_is ys
+pub starts_with_line : (ys : List ℕ) → Free newline ys → (xs : List ℕ) → starts_with (ys ++ newline ∷ []) xs
+    ≡ first_is ys
     (lines xs)
 unfolding starts_with lines first_is is_line same_bytes
 starts_with_line [] f [] = refl
@@ -97,7 +98,8 @@ module _ (xs ys : List ℕ) (at i : ℕ) (k : i < length ys) where
   pub starts_differ : at + i < length xs → ¬ (get_or xs (at + i) 0 ≡ get_or ys i 0)
       → starts_with (drop i ys) (drop (at + i) xs) ≡ false
   unfolding starts_with
-  starts_differ h f = rw (drop-cons xs (at + i) 0 h, drop-cons ys i 0 k, ne_eqb (get_or xs (at + i) 0) (get_or ys i 0) f)
+  starts_differ h f =
+      rw (drop-cons xs (at + i) 0 h, drop-cons ys i 0 k, ne_eqb (get_or xs (at + i) 0) (get_or ys i 0) f)
 
   pub starts_past : length xs ≤ at + i → starts_with (drop i ys) (drop (at + i) xs) ≡ false
   unfolding starts_with
@@ -130,14 +132,16 @@ module _ (ys xs : List ℕ) (at : ℕ) where
 
   pub line_there : at + length ys < length xs → starts_with (ys ++ newline ∷ []) (drop at xs)
       ≡ (starts_with ys (drop at xs) && eqb (get_or xs (at + length ys) 0) newline)
-  line_there h = starts_newline ys (drop at xs) (omega (arith, length-drop at xs)) ∙ rw (get_or-drop at xs (length ys) 0)
+  line_there h = starts_newline ys (drop at xs) (omega (arith, length-drop at xs))
+      ∙ rw (get_or-drop at xs (length ys) 0)
 
 -- the lines after a known one
 pub record Passed (ys xs : List ℕ) (at : ℕ) : Type 0 where
   pub rest : lines (drop (at + (length ys + 1)) xs) ≡ drop 1 (lines (drop at xs))
   pub inside : at + (length ys + 1) ≤ length xs
 
-pub line_passed : (ys xs : List ℕ) (at : ℕ) → Free newline ys → first_is ys (lines (drop at xs)) ≡ true → Passed ys xs at
+pub line_passed : (ys xs : List ℕ) (at : ℕ) → Free newline ys → first_is ys (lines (drop at xs)) ≡ true →
+    Passed ys xs at
 line_passed ys xs at f e =
     let size = length-append ys (newline ∷ []) in
     let start = starts (ys ++ newline ∷ []) xs at (starts_with_line ys f (drop at xs) ∙ e) in

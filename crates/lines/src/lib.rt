@@ -1,6 +1,8 @@
 // Numbers and lines of numbers in a text: base ten, no leading zeros, at most 65535 in a line of numbers, one space
 // between two numbers, a newline after every line. Every function takes every input. A text is read from a position on,
 // and no line is searched for its end first.
+#![tactic(auto)]
+
 ghost use Rattle.std.specs.Prelude.{◌≡◌, true, false, [], ◌∷◌, ◌++◌, ◌-◌, ◌<◌, length, drop};
 ghost use Rattle.lines.specs.Line.{newline};
 ghost use Rattle.lines.specs.Number.{digit0, max_number, is_digit};
@@ -28,7 +30,7 @@ enum Digits {
 }
 
 // A number, and the position after the byte that ends it; where there is none, 0 and the text's length.
-#[derive(Drop)]
+#[derive(Clone, Copy)]
 pub struct Number {
     pub ok: bool,
     pub value: u32,
@@ -45,7 +47,7 @@ struct LineNumber {
 
 // A line of numbers, zeros after them, and the position of the next line; where there is none, zeros and the text's
 // length.
-#[derive(Drop)]
+#[derive(Clone, Copy)]
 pub struct NumbersLine {
     pub ok: bool,
     pub numbers: [u16; MAX_COUNT],

@@ -256,11 +256,13 @@ module _ (d : Document) (es : List ℕ) (r : Prepared d es) (t : ℕ → Bool) (
         λ s. absurd s,
       )
 
-  pub no_following_sibling : {old : List ℕ} → (eqb x 0 || is_attribute d x) ≡ true → Added (length d) old old (stepped 7)
+  pub no_following_sibling : {old : List ℕ} → (eqb x 0 || is_attribute d x) ≡ true →
+      Added (length d) old old (stepped 7)
   unfolding on_axis
   no_following_sibling e = nothing_added (stepped 7) (λ y l. rw (no_siblings e y))
 
-  pub no_preceding_sibling : {old : List ℕ} → (eqb x 0 || is_attribute d x) ≡ true → Added (length d) old old (stepped 8)
+  pub no_preceding_sibling : {old : List ℕ} → (eqb x 0 || is_attribute d x) ≡ true →
+      Added (length d) old old (stepped 8)
   unfolding on_axis
   no_preceding_sibling e = nothing_added (stepped 8) (λ y l. rw (no_siblings e y))
 

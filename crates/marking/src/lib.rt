@@ -1,5 +1,7 @@
 // The nodes that a step selects, marked beside those that are marked already. The document is well formed, and `ends`
 // has the ends of its rows' subtrees, so that no axis needs a look at every node.
+#![tactic(auto)]
+
 ghost use Rattle.std.specs.Prelude.{◌≡◌, ◌&&◌, ◌≤◌, ◌<◌, T, ltb, leb, eqb, length, get_or};
 ghost use Rattle.common.specs.Axes.{parent, ancestor, following_sibling, preceding_sibling, preceding};
 ghost use Rattle.xpath.specs.Document.{document_of, is_child, is_ancestor, well_formed, max_nodes};

@@ -13,7 +13,8 @@ use Rattle.common.specs.Lists.{all_of}
 use Rattle.rules.specs.Form.{Form, Rule}
 use Rattle.rules.specs.RuleTable.{rules}
 use Rattle.rules.specs.Yields.{table_rules, forms_in, forms_of, first_count, premise_count}
-use Rattle.matching.specs.code.Pattern.{path_letter_number, qualifier_letter_number, axis_letter_number, test_letter_number, name_letter}
+use Rattle.matching.specs.code.Pattern.{path_letter_number, qualifier_letter_number, axis_letter_number}
+use Rattle.matching.specs.code.Pattern.{test_letter_number, name_letter}
 use Rattle.matching.specs.code.Pattern.{axis_pattern, test_pattern, name_pattern, path_pattern, claim_pattern}
 use Rattle.matching.specs.code.Pattern.{FormPattern, form_pattern, form_patterns}
 use Rattle.matching.specs.code.Encode.{first_pattern, rule_table}
@@ -47,8 +48,10 @@ same_below f g (suc k) n q h =
     (le_or_lt k n)
 
 decoded : values_below tabled (suc table_rules) ≡ values_below ruled (suc table_rules)
-unfolding values_below rules forms_of forms_in premise_count first_count form_pattern claim_pattern path_pattern axis_pattern
-    test_pattern name_pattern path_letter_number qualifier_letter_number axis_letter_number test_letter_number name_letter rule_forms rule_at forms_from
+unfolding values_below rules forms_of forms_in premise_count first_count form_pattern claim_pattern path_pattern
+    axis_pattern
+    test_pattern name_pattern path_letter_number qualifier_letter_number axis_letter_number test_letter_number
+    name_letter rule_forms rule_at forms_from
     form_at premises_at
     conditions_of condition_of decode pattern_at unpacked first_pattern form_patterns rule_table
 decoded = refl

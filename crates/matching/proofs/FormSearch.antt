@@ -29,7 +29,8 @@ module _ (f : FormPattern → Bool) (t : List ℕ) (count n₀ place : ℕ) wher
     search_ends h s = let e : n ≡ 0 = omega arith in rw (s, e)
 
     module _ (h : 0 < n) {b : Bool} (q : b ≡ f (form_at t count i)) where
-      at_form : Searched n i → any_of f (forms_from t count n₀ place) ≡ (b || any_of f (forms_from t count (n - 1) (i + 2)))
+      at_form : Searched n i → any_of f (forms_from t count n₀ place)
+          ≡ (b || any_of f (forms_from t count (n - 1) (i + 2)))
       unfolding any_of forms_from
       at_form s =
           let e : n ≡ suc (n - 1) = omega arith in

@@ -16,7 +16,8 @@ use Rattle.terms.proofs.Terms.{path_term, qualifier_term}
 use Rattle.terms.proofs.Built.{built_terms_differ}
 use Rattle.rules.specs.Form.{PathLetter, QualifierLetter, AxisLetter, TestLetter}
 use Rattle.rules.specs.Instance.{Letters}
-use Rattle.matching.specs.code.Pattern.{letter_count, path_letter_number, qualifier_letter_number, axis_letter_number, test_letter_number}
+use Rattle.matching.specs.code.Pattern.{letter_count, path_letter_number, qualifier_letter_number, axis_letter_number}
+use Rattle.matching.specs.code.Pattern.{test_letter_number}
 use Rattle.matching.specs.code.Pattern.{name_letter}
 use Rattle.matching.specs.code.RowYields.{suits}
 
@@ -77,7 +78,8 @@ letters_of rs ys =
 -- a letter's value is what it stands for in that choice
 pub value_means : (rs : List Row) (ys : List ℕ) (k : ℕ) → k < letter_count → T (suits rs k (get_or ys k 0))
     → Means rs (letters_of rs ys) k (get_or ys k 0)
-unfolding Means meant letters_of suits path_letter_number qualifier_letter_number axis_letter_number test_letter_number name_letter
+unfolding Means meant letters_of suits path_letter_number qualifier_letter_number axis_letter_number
+    test_letter_number name_letter
 value_means rs ys zero h s = (s, refl)
 value_means rs ys (suc zero) h s = (s, refl)
 value_means rs ys (suc (suc zero)) h s = (s, refl)

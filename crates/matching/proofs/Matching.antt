@@ -65,7 +65,8 @@ module _ (t : List ℕ) where
     unfolding match decode
     number_way depth h = rw (lt-ltb x first_letter h)
 
-    pub letter_way : (depth k : ℕ) (b : Bool) → first_letter ≤ x → x < first_row → k ≡ x - first_letter → b ≡ suits rs k v
+    pub letter_way : (depth k : ℕ) (b : Bool) → first_letter ≤ x → x < first_row → k ≡ x - first_letter → b
+        ≡ suits rs k v
         → bind k v (check b m) ≡ match rs (decode t (suc depth) x) v m
     unfolding match decode
     letter_way depth k b h l q p = rw (le-ltb x first_letter h, lt-ltb x first_row l, ← q, ← p)

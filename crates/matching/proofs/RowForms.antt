@@ -12,7 +12,8 @@ use mir.Facts.{yes_and, yes_ltb, leb_yes}
 use Rattle.xpath.specs.Term.{Path, Qualifier, AxisStep, Union, Composition, Filter}
 use Rattle.common.proofs.Reflect.{facts}
 use Rattle.terms.specs.Row.{Row, row, row_at}
-use Rattle.terms.specs.Fields.{Field, unused, axis, test, name, path, qualifier, fields_of, max_kind, is_path, is_qualifier}
+use Rattle.terms.specs.Fields.{Field, unused, axis, test, name, path, qualifier, fields_of, max_kind, is_path}
+use Rattle.terms.specs.Fields.{is_qualifier}
 use Rattle.terms.specs.Fields.{held_path, held_qualifier}
 use Rattle.terms.specs.Terms.{Term, of_path, of_qualifier, term_by, terms, term_at, path_at, qualifier_at}
 use Rattle.terms.specs.AcceptedRows.{Built}
@@ -23,7 +24,8 @@ use Rattle.rules.specs.Form.{PathLetter, QualifierLetter, AxisLetter, TestLetter
 use Rattle.rules.specs.Form.{test_letter, PathForm, path_letter, ◌::◌, ◌¦◌, ◌∕◌, ◌⟦◌⟧, QualifierForm, qualifier_letter}
 use Rattle.rules.specs.Form.{Not◌, ◌And◌, ◌Or◌, ◌In◌}
 use Rattle.rules.specs.Instance.{Letters, axis_for, test_for, path_for, qualifier_for}
-use Rattle.matching.specs.code.Pattern.{Pattern, number, letter, row_pattern, path_letter_number, qualifier_letter_number, axis_letter_number}
+use Rattle.matching.specs.code.Pattern.{Pattern, number, letter, row_pattern, path_letter_number}
+use Rattle.matching.specs.code.Pattern.{qualifier_letter_number, axis_letter_number}
 use Rattle.matching.specs.code.Pattern.{test_letter_number, name_letter, axis_pattern, test_pattern, name_pattern}
 use Rattle.matching.specs.code.Pattern.{path_pattern, qualifier_pattern}
 use Rattle.matching.specs.code.RowYields.{suits, is_row}
@@ -124,7 +126,8 @@ module _ {rs : List Row} (built : Built rs) (e : Letters) where
       (made : (a b c : ℕ) → term_by (terms rs) (row k a b c)
       ≡ σ.term (make (value_at rs (part_a k) a) (value_at rs (part_b k) b) (value_at rs (part_c k) c)))
       (kind : (t : Value (part_a k)) (u : Value (part_b k)) (w : Value (part_c k)) → kind_of (σ.term (make t u w)) ≡ k)
-      (tells : (t t₁ : Value (part_a k)) (u u₁ : Value (part_b k)) (w w₁ : Value (part_c k)) → make t u w ≡ make t₁ u₁ w₁
+      (tells : (t t₁ : Value (part_a k)) (u u₁ : Value (part_b k)) (w w₁ : Value (part_c k)) → make t u w
+      ≡ make t₁ u₁ w₁
       → (t ≡ t₁) × (u ≡ u₁) × (w ≡ w₁)) where
     made_at : (v : ℕ) → v < length rs → (row_at rs v).kind ≡ k →
         IsPart rs p v × (value_at rs p v ≡ make (value_at rs (part_a k) (row_at rs v).a)
@@ -145,7 +148,8 @@ module _ {rs : List Row} (built : Built rs) (e : Letters) where
         ∙ kind t u w
 
     row_is : {x y z : Pattern} {t : Value (part_a k)} {u : Value (part_b k)} {w : Value (part_c k)} →
-        FormIs (part_a k) x t → FormIs (part_b k) y u → FormIs (part_c k) z w → FormIs p (row_pattern k x y z) (make t u w)
+        FormIs (part_a k) x t → FormIs (part_b k) y u → FormIs (part_c k) z w →
+        FormIs p (row_pattern k x y z) (make t u w)
     unfolding is_row
     row_is {t} {u} {w} f g h =
         record {
@@ -209,7 +213,8 @@ module _ {rs : List Row} (built : Built rs) (e : Letters) where
   path_letter_is PathLetter.r = record { at = λ v. (λ i. i.1, λ u. (u.0, u)) }
   path_letter_is PathLetter.s = record { at = λ v. (λ i. i.1, λ u. (u.0, u)) }
 
-  qualifier_letter_is : (x : QualifierLetter) → FormIs qualifier_part (letter (qualifier_letter_number x)) (e.qualifier x)
+  qualifier_letter_is : (x : QualifierLetter) → FormIs qualifier_part (letter (qualifier_letter_number x))
+      (e.qualifier x)
   unfolding qualifier_letter_number suits Means meant
   qualifier_letter_is QualifierLetter.f = record { at = λ v. (λ i. i.1, λ u. (u.0, u)) }
   qualifier_letter_is QualifierLetter.g = record { at = λ v. (λ i. i.1, λ u. (u.0, u)) }

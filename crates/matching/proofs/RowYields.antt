@@ -36,7 +36,8 @@ use Rattle.matching.proofs.Letters.{held_qualifier_lem}
 use Rattle.matching.proofs.RowForms.{path_instance, qualifier_instance}
 use Rattle.matching.proofs.WayBackRows.{with_back_iff}
 
-pub says_paths : (rs : List Row) (l r : ℕ) → T (held_path rs l) → says rs l r ≡ Containment (path_at rs l) (path_at rs r)
+pub says_paths : (rs : List Row) (l r : ℕ) → T (held_path rs l) → says rs l r
+    ≡ Containment (path_at rs l) (path_at rs r)
 unfolding says held_path
 says_paths rs l r t = let u = and_yes (ltb l (length rs)) (is_path (row_at rs l)) t in
     rw ((true_iff (is_path (row_at rs l))).0 u.1)
@@ -203,7 +204,8 @@ module _ {rs : List Row} (built : Built rs) (n : ℕ) (s : Sides) (ss : List Sid
         premises = tail-eq_of_cons-eq q;
       }
 
-  yields_form : (y : FormYields n (says_of rs s) (map (says_of rs) ss)) → T (form_yields rs s ss (form_pattern n y.form))
+  yields_form : (y : FormYields n (says_of rs s) (map (says_of rs) ss)) →
+      T (form_yields rs s ss (form_pattern n y.form))
   unfolding form_yields match_form form_pattern match_claims
   yields_form y =
       let w : Form = y.form in

@@ -14,7 +14,8 @@ use Rattle.common.proofs.Reflect.{facts}
 use Rattle.xpath.specs.Term.{Path, Qualifier, Void, Root, AxisStep, Union, Composition, Filter, Not, In, some_of}
 use Rattle.terms.specs.Row.{Row, row, row_at, same_row}
 use Rattle.terms.specs.Fields.{fields_of, max_kind}
-use Rattle.terms.specs.Terms.{of_path, of_qualifier, as_path, as_qualifier, term_by, terms, term_at, path_at, qualifier_at}
+use Rattle.terms.specs.Terms.{of_path, of_qualifier, as_path, as_qualifier, term_by, terms, term_at, path_at}
+use Rattle.terms.specs.Terms.{qualifier_at}
 use Rattle.terms.specs.AcceptedRows.{Built}
 use Rattle.terms.proofs.ByKind.{Kind, void_kind, root_kind, step_kind, union_kind, composition_kind, filter_kind}
 use Rattle.terms.proofs.ByKind.{true_kind, false_kind, not_kind, and_kind, or_kind, in_kind, kind_of_lem, kind_of}
@@ -72,7 +73,8 @@ module _ {rs : List Row} (built : Built rs) where
     unfolding term_by as_path term_at
     composition_at e = ap as_path (term_of_kind 4 e)
 
-    filter_at : (row_at rs i).kind ≡ 5 → path_at rs i ≡ Filter (path_at rs (row_at rs i).a) (qualifier_at rs (row_at rs i).b)
+    filter_at : (row_at rs i).kind ≡ 5 → path_at rs i ≡ Filter (path_at rs (row_at rs i).a)
+        (qualifier_at rs (row_at rs i).b)
     unfolding term_by as_path term_at
     filter_at e = ap as_path (term_of_kind 5 e)
 
@@ -80,7 +82,8 @@ module _ {rs : List Row} (built : Built rs) where
     unfolding term_by as_qualifier term_at
     not_at e = ap as_qualifier (term_of_kind 8 e)
 
-    inclusion_at : (row_at rs i).kind ≡ 11 → qualifier_at rs i ≡ In (path_at rs (row_at rs i).a) (path_at rs (row_at rs i).b)
+    inclusion_at : (row_at rs i).kind ≡ 11 → qualifier_at rs i
+        ≡ In (path_at rs (row_at rs i).a) (path_at rs (row_at rs i).b)
     unfolding term_by as_qualifier term_at
     inclusion_at e = ap as_qualifier (term_of_kind 11 e)
 
@@ -142,7 +145,8 @@ module _ {rs : List Row} (built : Built rs) where
               let f = (operand_iff q y.b lq hq b).0 s.1 in
               ap₂ (joined make) e f ∙ ap {B = Option Path} some (sym path),
           λ e.
-              let (u, v, f, g, h) = joined_some make (way_back (path_at rs p)) (way_back (path_at rs q)) (path_at rs j) e in
+              let (u, v, f, g, h) = joined_some make (way_back (path_at rs p)) (way_back (path_at rs q))
+              (path_at rs j) e in
               let c = kind u v h in
               let (path, a, b) = made c in
               let (m, n) = injective u v _ _ (h ∙ path) in
@@ -323,7 +327,8 @@ module _ {rs : List Row} (built : Built rs) where
       (λ t. f.0 (subst T q t), λ e. subst T (sym q) (f.1 e))
 
   -- row j is the way back of row i just where its term is that of row i's term
-  pub is_back_iff : (i j : ℕ) → PathRow i → PathRow j → T (is_back rs i j) ↔ (way_back (path_at rs i) ≡ some (path_at rs j))
+  pub is_back_iff : (i j : ℕ) → PathRow i → PathRow j → T (is_back rs i j)
+      ↔ (way_back (path_at rs i) ≡ some (path_at rs j))
   is_back_iff i j h g = back_below (suc i) i j (omega arith) h g
 
   -- the rows of a step say r <= r[some w], w being r's way back

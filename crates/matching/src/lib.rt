@@ -1,4 +1,6 @@
 // The step checker: whether a rule yields a step from its premises, judged on the rows' numbers.
+#![tactic(auto)]
+
 mod matcher;
 mod order;
 mod tables;

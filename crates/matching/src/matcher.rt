@@ -53,14 +53,14 @@ const N_NOT_NODE: u16 = 5;
 const A_NOT_ATTRIBUTE: u16 = 6;
 
 // The rows that a step is about.
-#[derive(Drop)]
+#[derive(Clone, Copy)]
 pub struct Sides {
     pub left: u16,
     pub right: u16,
 }
 
 // An entry of a table: four numbers of three digits each.
-#[derive(Drop)]
+#[derive(Clone, Copy)]
 pub struct Entry(pub u16, pub u16, pub u16, pub u16);
 
 // The last three digits.

@@ -1,11 +1,13 @@
 // Lists of names, one a line. A last line may lack its newline.
+#![tactic(auto)]
+
 ghost use Rattle.std.specs.Prelude.{◌≡◌, ◌+◌, length, drop};
 ghost use Rattle.lines.specs.Line.{lines};
 ghost use Rattle.names.specs.Names.{NameMet};
 ghost use Rattle.names.specs.code.LineStarts.{first_length, NextMet, StartMet};
 
 // A name stands in a list from `start` on, and before `end`.
-#[derive(Drop)]
+#[derive(Clone, Copy)]
 pub struct Name {
     pub start: usize,
     pub end: usize,

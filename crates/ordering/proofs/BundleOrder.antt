@@ -1,7 +1,7 @@
 -- The order of lists of steps, as terms, is a total order. Assumes nothing.
 use mathlib.Core.Path.{◌≡◌, refl, sym, ap, ap₂, ◌∙◌}
 use mathlib.Core.List.{List, [], ◌∷◌}
-use Rattle.ordering.specs.Order.{equal, ◌andThen◌, number_order}
+use Rattle.ordering.specs.Order.{equal, ◌and_then◌, number_order}
 use Rattle.ordering.specs.TermOrder.{term_order}
 use Rattle.ordering.specs.BundleOrder.{TermStep, step_order, steps_order}
 use Rattle.ordering.specs.OrderLaws.{reverse}

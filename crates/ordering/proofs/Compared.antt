@@ -13,7 +13,7 @@ use Rattle.terms.specs.Terms.{terms, term_at}
 use Rattle.terms.proofs.Noted.{nothing_noted, noted_more}
 use Rattle.ordering.specs.declared.Sort.{Sort}
 use Rattle.ordering.specs.declared.Pair.{Pair}
-use Rattle.ordering.specs.Order.{Order, less, equal, greater, ◌andThen◌, number_order}
+use Rattle.ordering.specs.Order.{Order, less, equal, greater, ◌and_then◌, number_order}
 use Rattle.ordering.specs.TermOrder.{row_order, field_order, term_order}
 use Rattle.ordering.specs.OrderCall.{order_value}
 use Rattle.ordering.specs.code.Sorts.{sorts_of, term_kind, field_as, Paired, Noted, Compared}

@@ -5,7 +5,7 @@ use mathlib.Core.Logic.{◌⊎◌, inl, inr, ⊎_elim}
 use native.Mathlib.Omega.{arith}
 use borrow.Author.Tests.{lt-ltb, le-ltb}
 use Rattle.common.proofs.Reflect.{le_or_lt}
-use Rattle.ordering.specs.Order.{Order, less, equal, greater, ◌andThen◌, number_order}
+use Rattle.ordering.specs.Order.{Order, less, equal, greater, ◌and_then◌, number_order}
 use Rattle.ordering.specs.OrderCall.{order_value}
 use Rattle.ordering.specs.OrderLaws.{reverse, AtMost, TotalOrder}
 

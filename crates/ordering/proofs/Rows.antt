@@ -136,7 +136,8 @@ by_void p q (inl e) = rw e (void_left q)
 by_void p q (inr e) = rw e (from_right (path_row Void) (path_row p) (void_left p))
 
 by_false : (f g : term.Qualifier) → (f ≡ False) ⊎ (g ≡ False)
-    → row_order (qualifier_row f) (qualifier_row g) ≡ number_order (row_kind (qualifier_row f)) (row_kind (qualifier_row g))
+    → row_order (qualifier_row f) (qualifier_row g)
+    ≡ number_order (row_kind (qualifier_row f)) (row_kind (qualifier_row g))
 by_false f g (inl e) = rw e (false_left g)
 by_false f g (inr e) = rw e (from_right (qualifier_row False) (qualifier_row f) (false_left f))
 

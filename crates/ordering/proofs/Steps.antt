@@ -11,7 +11,7 @@ use Rattle.terms.specs.Terms.{term_at}
 use Rattle.calls.specs.Book.{Step, step, no_step}
 use Rattle.calls.specs.code.Tables.{steps_of}
 use Rattle.calls.proofs.Tables.{step_lent}
-use Rattle.ordering.specs.Order.{Order, ◌andThen◌, number_order}
+use Rattle.ordering.specs.Order.{Order, ◌and_then◌, number_order}
 use Rattle.ordering.specs.TermOrder.{term_order}
 use Rattle.ordering.specs.BundleOrder.{term_step, step_order, steps_order}
 use Rattle.ordering.specs.OrderCall.{order_value}

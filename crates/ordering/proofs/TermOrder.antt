@@ -10,7 +10,7 @@ use Rattle.xpath.specs.Term.{Or}
 use Rattle.xpath.specs.Term.{In}
 use Rattle.terms.specs.Fields.{last_path}
 use Rattle.terms.specs.Terms.{Term, of_path, of_qualifier}
-use Rattle.ordering.specs.Order.{equal, ◌andThen◌, number_order}
+use Rattle.ordering.specs.Order.{equal, ◌and_then◌, number_order}
 use Rattle.ordering.specs.TermOrder.{TermRow, term_row, TermField, number, operand, path_row, qualifier_row}
 use Rattle.ordering.specs.TermOrder.{row_of_term}
 use Rattle.ordering.specs.TermOrder.{row_order, field_order, term_order}
@@ -180,7 +180,8 @@ unfolding term_order
 terms_ordered =
     record {
       same = λ t. row_same (row_of_term t);
-      equal_same = λ t u e. sym (term_back t) ∙ ap term_of_row (row_equal (row_of_term t) (row_of_term u) e) ∙ term_back u;
+      equal_same = λ t u e.
+          sym (term_back t) ∙ ap term_of_row (row_equal (row_of_term t) (row_of_term u) e) ∙ term_back u;
       reversed = λ t u. row_reversed (row_of_term t) (row_of_term u);
       follows = λ t u v. row_follows (row_of_term t) (row_of_term u) (row_of_term v);
     }

@@ -3,7 +3,7 @@ use Rattle.std.specs.Prelude.{ℕ, List, [], ◌∷◌, map}
 use Rattle.terms.specs.Row.{Row}
 use Rattle.terms.specs.Terms.{Term, term_at}
 use Rattle.calls.specs.Book.{Step, Book}
-use Rattle.ordering.specs.Order.{Order, less, equal, greater, ◌andThen◌, number_order}
+use Rattle.ordering.specs.Order.{Order, less, equal, greater, ◌and_then◌, number_order}
 use Rattle.ordering.specs.TermOrder.{term_order}
 
 -- a step as terms; its premises' numbers don't count

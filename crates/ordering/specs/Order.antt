@@ -4,9 +4,9 @@ use Rattle.std.specs.Prelude.{ℕ, cond, ltb}
 pub data Order : Type 0 where
   less equal greater : Order
 
-infixr 60 ◌andThen◌
+infixr 60 ◌and_then◌
 -- the second decides where the first finds equal
-abbrev pub ◌andThen◌ : Order → Order → Order
+abbrev pub ◌and_then◌ : Order → Order → Order
 less and_then o = less
 equal and_then o = o
 greater and_then o = greater

@@ -6,7 +6,7 @@ use Rattle.xpath.specs.Term.{Path, Qualifier, Void, Root, AxisStep, Union, Compo
 use Rattle.xpath.specs.Term.{Or}
 use Rattle.xpath.specs.Term.{In}
 use Rattle.terms.specs.Terms.{Term, of_path, of_qualifier}
-use Rattle.ordering.specs.Order.{Order, less, greater, ◌andThen◌, number_order}
+use Rattle.ordering.specs.Order.{Order, less, greater, ◌and_then◌, number_order}
 
 -- a term as document 01 has it: a row with its operands' terms in place of their numbers
 mutual

@@ -1,4 +1,6 @@
 // The order of terms and of bundles, on the lent rows and steps of two sessions.
+#![tactic(auto)]
+
 ghost use Rattle.std.specs.Prelude.{◌≡◌, cond, get_or, take};
 ghost use Rattle.terms.specs.Row.{row_at, table_of};
 ghost use Rattle.terms.specs.Terms.{terms, term_at};
@@ -24,14 +26,14 @@ const EQUAL: u16 = 1;
 const GREATER: u16 = 2;
 
 // The answer of an order call.
-#[derive(Drop)]
+#[derive(Clone, Copy)]
 pub enum OrderAnswer {
     Compared(u16),
     BadSide(u16),
 }
 
 // What a field of a row is.
-#[derive(Drop)]
+#[derive(Clone, Copy)]
 enum Sort {
     Nothing,
     Number,

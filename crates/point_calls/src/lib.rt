@@ -1,10 +1,13 @@
 // Named points on lent numbers, three a point: its name, and how many rows and steps were held when it was set; the
 // answers of the calls that set one or return to one.
+#![tactic(auto)]
+
 ghost use Rattle.std.specs.Prelude.{◌≡◌, ◌*◌, ◌<◌, length, get_or};
 ghost use Rattle.std.proofs.lemmas.List.Edits.{sets};
 ghost use Rattle.calls.specs.Book.{max_points};
 ghost use Rattle.calls.specs.PointCall.{place_of, point_answer, return_answer};
-ghost use Rattle.calls.specs.code.Points.{point_answer_of, point_width, no_counts, counts_of, counts_names, counts_numbers};
+ghost use Rattle.calls.specs.code.Points.{point_answer_of, point_width, no_counts, counts_of};
+ghost use Rattle.calls.specs.code.Points.{counts_names, counts_numbers};
 ghost use Rattle.calls.specs.code.Points.{point_named, first_point_numbers, first_points, cleared};
 
 use calls::{MAX_POINTS, POINT_WIDTH, PointAnswer, PointCounts, clamp, front};

@@ -231,7 +231,8 @@ module _ (s : Bytes) (xs : List ℕ) (r : Reading) (to : ℕ) (q : Passed is_spa
   begin_bare e = record
       { to = to; passed = q; bare = λ _. (refl, refl); root = λ f. absurd (e f); any = λ f. absurd (e f) }
 
-  pub begin_root : (ys : List ℕ) (p : Reading) (end : ℕ) (z : Start) → byte_at s to ≡ 47 → (byte_at s (to + 1) ≡ 47 → ⊥)
+  pub begin_root : (ys : List ℕ) (p : Reading) (end : ℕ) (z : Start) → byte_at s to ≡ 47
+      → (byte_at s (to + 1) ≡ 47 → ⊥)
       → PutMet (row 1 0 0 0) 1 xs (moved_to r to) ys p → Passed is_space s (to + 1) end → z
       ≡ root_start s (moved_to p end) → BeginPut s xs r ys z
   begin_root ys p end z e f m v g =

@@ -1,4 +1,6 @@
 // Where a reading stands, and the rows it puts.
+#![tactic(auto)]
+
 ghost use Rattle.std.specs.Prelude.{◌≡◌, true, false, cond, ◌&&◌, suc, ◌+◌, ◌*◌, ◌<◌, ◌≤◌, max, eqb, length};
 ghost use Rattle.grammar.specs.Bytes.{slash_byte, letter_a, letter_o};
 ghost use Rattle.terms.specs.Row.{row, max_rows};
@@ -22,7 +24,7 @@ const TOO_DEEP: u16 = terms::MAX_NESTING + 1;
 // What was read ends before `at`, where no whitespace is; or, if not `ok`, `at` is the first byte that can't continue.
 // `row` is that of the last term read, `nesting` its nesting, `count` how many rows there are, as long as all fitted.
 // `listed`: so were all names; else `missing` is the place of the first that is not.
-#[derive(Drop)]
+#[derive(Clone, Copy)]
 pub struct Reading {
     pub ok: bool,
     pub at: usize,
@@ -36,7 +38,7 @@ pub struct Reading {
 
 // A path's beginning: `lead` has the row of what stands before its first step, if it is `rooted`; `steps`: a step must
 // follow.
-#[derive(Drop)]
+#[derive(Clone, Copy)]
 pub struct Start {
     pub lead: Reading,
     pub rooted: bool,

@@ -31,7 +31,8 @@ released_at (r ∷ rs) (f ∷ fs) i h = by_test (eqb f 1) refl i h (released_at 
   where
     by_test : (b : Bool) → eqb f 1 ≡ b → (i : ℕ) → i < length (cond b (r ∷ released rs fs) (released rs fs))
         → ((k : ℕ) → k < length (released rs fs)
-        → (j : ℕ) × (j < length rs) × IsReleased fs j × (get_or (released rs fs) k empty_record ≡ get_or rs j empty_record))
+        → (j : ℕ) × (j < length rs) × IsReleased fs j
+        × (get_or (released rs fs) k empty_record ≡ get_or rs j empty_record))
         → (j : ℕ) × (j < length (r ∷ rs)) × IsReleased (f ∷ fs) j
         × (get_or (cond b (r ∷ released rs fs) (released rs fs)) i empty_record ≡ get_or (r ∷ rs) j empty_record)
     by_test true e zero h later = (0, omega arith, eqb-true f 1 e, refl)

@@ -72,7 +72,8 @@ current_most (r ∷ rs) s (suc i) h e =
 
 -- a record of that series, edition and row is held
 abbrev HeldAs : List Record → (s e : ℕ) → (ℕ → Type 0) → Type 0
-HeldAs rs s e P = (j : ℕ) × (j < length rs) × ((get_or rs j empty_record).series ≡ s) × ((get_or rs j empty_record).edition ≡ e)
+HeldAs rs s e P = (j : ℕ) × (j < length rs) × ((get_or rs j empty_record).series ≡ s)
+    × ((get_or rs j empty_record).edition ≡ e)
     × P (get_or rs j empty_record).row
 
 -- the current edition, where there is one, is held
@@ -107,7 +108,8 @@ row_pattern (r ∷ rs) s e (suc i) h p q =
     by_test false f w = (suc w.0, omega arith, w.2, w.3, w.4)
 
 -- what is kept is there
-kept_at : (n m : ℕ) (rs : List Record) → all_kept n m rs ≡ true → (i : ℕ) → i < length rs → (get_or rs i empty_record).row < n
+kept_at : (n m : ℕ) (rs : List Record) → all_kept n m rs ≡ true → (i : ℕ) → i < length rs
+    → (get_or rs i empty_record).row < n
 unfolding all_kept all_of
 kept_at n m [] e i h = absurd (omega arith)
 kept_at n m (r ∷ rs) e zero h =
@@ -131,7 +133,8 @@ path_held rows x h e = rw (lt-ltb x (length rows) h, e)
 record InOrder (rows : List Row) (rs : List Record) : Type 0 where
   pub paths : (i : ℕ) → i < length rs → held_path rows (get_or rs i empty_record).row ≡ true
   pub from_1 : (i : ℕ) → i < length rs → 1 ≤ (get_or rs i empty_record).edition
-  pub within : (i j : ℕ) → i < length rs → j < length rs → (get_or rs i empty_record).series ≡ (get_or rs j empty_record).series
+  pub within : (i j : ℕ) → i < length rs → j < length rs
+      → (get_or rs i empty_record).series ≡ (get_or rs j empty_record).series
       → (get_or rs i empty_record).edition ≤ (get_or rs j empty_record).edition
       → Within rows (get_or rs i empty_record).row (get_or rs j empty_record).row
 

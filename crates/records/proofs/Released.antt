@@ -5,7 +5,7 @@ use mathlib.Core.Bool.{cond}
 use mathlib.Core.List.{List, [], ◌∷◌, ◌++◌, append-nil}
 use native.Mathlib.Omega.{arith}
 use native.Mathlib.Numerals.{add-one}
-use lib.Dec.{leb, eqb}
+use lib.Dec.{eqb}
 use lib.ListN.{length, get_or, take, drop, set, replicate, length-append}
 use lib.Seq.{drop-cons, append_snoc, set-append_seam, take-append_seam}
 use borrow.Author.Tests.{le-leb, lt-leb, eq-eqb, ne_eqb}

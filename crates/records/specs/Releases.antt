@@ -1,5 +1,6 @@
 -- Releases of document 02's register: what the office and a crew see of its records. Assumes nothing.
-use Rattle.std.specs.Prelude.{ℕ, ◌-◌, ◌<◌, ◌≡◌, cond, false, ◌&&◌, List, [], ◌∷◌, leb, eqb, length, get_or, set, replicate}
+use Rattle.std.specs.Prelude.{ℕ, ◌-◌, ◌<◌, ◌≡◌, cond, false, ◌&&◌, List, [], ◌∷◌, leb, eqb, length, get_or, set}
+use Rattle.std.specs.Prelude.{replicate}
 use Rattle.records.specs.declared.Record.{Record}
 use Rattle.calls.specs.Book.{Answer, answer}
 use Rattle.common.specs.Refusals.{no_record}
@@ -77,7 +78,8 @@ pub record ShowsReleased (rs : List Record) (fs : List ℕ) : Type 0 where
   pub each : (i : ℕ) → i < length rs → IsReleased fs i
       → (j : ℕ) × (j < length (released rs fs)) × (get_or (released rs fs) j empty_record ≡ get_or rs i empty_record)
   pub no_other : (j : ℕ) → j < length (released rs fs)
-      → (i : ℕ) × (i < length rs) × IsReleased fs i × (get_or (released rs fs) j empty_record ≡ get_or rs i empty_record)
+      → (i : ℕ) × (i < length rs) × IsReleased fs i
+      × (get_or (released rs fs) j empty_record ≡ get_or rs i empty_record)
 
 -- record i of b, which is released, is in d at its place, and released
 pub record StillReleased (b d : OfficeHoldings) (i : ℕ) : Type 0 where

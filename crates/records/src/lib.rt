@@ -1,9 +1,12 @@
 // The records of the register, editions of series, and which of them are released, held by value; the answers of the
 // calls record, current and release, and listings.
+#![tactic(auto)]
+
 ghost use Rattle.std.specs.Prelude.{◌≡◌, ◌<◌, leb, length, set};
 ghost use Rattle.terms.specs.Row.{table_of};
 ghost use Rattle.calls.specs.code.Tables.{steps_of};
-ghost use Rattle.records.specs.Records.{current, row_of, is_fit_step, record_answer, all_kept, empty_record, max_records};
+ghost use Rattle.records.specs.Records.{current, row_of, is_fit_step, record_answer, all_kept};
+ghost use Rattle.records.specs.Records.{empty_record, max_records};
 ghost use Rattle.records.specs.code.Held.{record_answer_of, size_of, records_in, no_records, with_record};
 ghost use Rattle.records.specs.Releases.{released};
 ghost use Rattle.records.specs.code.Listed.{release_answer_of, flagged, no_releases, listed};
@@ -12,7 +15,7 @@ ghost use Rattle.records.specs.code.Promises.{RecordMade, all_releases, ReleaseM
 pub const MAX_RECORDS: usize = 256;
 
 // A record: a series, an edition from 1, a path row and a step.
-#[derive(Drop)]
+#[derive(Clone, Copy)]
 pub struct Record {
     pub series: u16,
     pub edition: u16,
@@ -21,14 +24,14 @@ pub struct Record {
 }
 
 // Records, of which the first ones are held, as many as the count says.
-#[derive(Drop)]
+#[derive(Clone, Copy)]
 pub struct Records {
     pub held: [Record; MAX_RECORDS],
     pub count: usize,
 }
 
 // The answer of a record call.
-#[derive(Drop)]
+#[derive(Clone, Copy)]
 pub enum RecordAnswer {
     Recorded,
     NotNext(u32),
@@ -36,26 +39,26 @@ pub enum RecordAnswer {
     RegisterFull,
 }
 
-#[derive(Drop)]
+#[derive(Clone, Copy)]
 pub struct RecordsMade {
     pub answer: RecordAnswer,
     pub records: Records,
 }
 
 // Which records are released: 1 at the place of each that is.
-#[derive(Drop)]
+#[derive(Clone, Copy)]
 pub struct Releases {
     pub flags: [u8; MAX_RECORDS],
 }
 
 // The answer of a release.
-#[derive(Drop)]
+#[derive(Clone, Copy)]
 pub enum ReleaseAnswer {
     Released,
     NoRecord(u16),
 }
 
-#[derive(Drop)]
+#[derive(Clone, Copy)]
 pub struct ReleasesMade {
     pub answer: ReleaseAnswer,
     pub releases: Releases,

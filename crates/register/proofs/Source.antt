@@ -6,6 +6,7 @@ use mathlib.Core.List.{List, []}
 use lib.Dec.{leb, eqb}
 use lib.ListN.{length}
 use denote.Ref.{Bor}
+use denote.MutBor.{MutBor}
 use Rattle.terms.specs.Row.{Row, row}
 use Rattle.terms.specs.Fields.{held_path}
 use Rattle.calls.specs.declared.SelectAnswer.{SelectAnswer}
@@ -237,6 +238,9 @@ not_barred t barred = by_test (accepted t)
 abbrev lent : {A : Type 0} → A → Bor A
 lent x = record { ref_ptr = (0, 0); now = x }
 
+abbrev lent_to_write : {A : Type 0} → A → MutBor A
+lent_to_write x = record { ref_ptr = (0, 0); ghost_name = 0; now = x }
+
 -- a release bars none of the register's calls
 not_barred_twice : (t : Answer) → t ≡ cond (accepted (cond (accepted t && false) (answer full_or_in_use 0) t) && false)
     (answer no_record 0) (cond (accepted t && false) (answer full_or_in_use 0) t)
@@ -350,8 +354,9 @@ selects_exist s row xs x limit buffer =
     let (t, left, m) = below.selects_exist s row xs x limit buffer in (
       t,
       left,
-      select_called ([], ([], tt)) (r, (row, (lent xs, (x, (limit, (lent buffer, tt)))))) t
-          (r, (row, (lent xs, (x, (limit, (lent left, tt)))))) (below.select_tied s row xs x limit buffer t left m),
+      select_called ([], ([], tt)) (r, (row, (lent xs, (x, (limit, (lent_to_write buffer, tt)))))) t
+          (r, (row, (lent xs, (x, (limit, (lent_to_write left, tt))))))
+          (below.select_tied s row xs x limit buffer t left m),
     )
 
 pub replaces_exist : (r : Register) (old new by : List ℕ) → (t : ReplaceAnswer) × Replaced r old new by t
@@ -380,7 +385,7 @@ writes_exist r buffer =
     let (w, left, m) = below.writes_exist r.session buffer in (
       w,
       left,
-      write_called ([], tt) (r, (lent buffer, tt)) w (r, (lent left, tt))
+      write_called ([], tt) (r, (lent_to_write buffer, tt)) w (r, (lent_to_write left, tt))
           (below.write_tied r.session buffer w left m),
     )
 

@@ -1,6 +1,8 @@
 // A register above a session: records of editions, whose rows and steps no return drops, which of them are released,
 // and every call of the session passed on. A crew's calls are `crew_listing` and `crew_current`; all others are the
 // office's.
+#![tactic(auto)]
+
 ghost use Rattle.std.specs.Prelude.{◌≡◌};
 ghost use Rattle.terms.specs.Row.{row};
 ghost use Rattle.calls.specs.Book.{step};
@@ -26,7 +28,7 @@ use session::{
     TermAnswer, TextAnswer, WriteAnswer,
 };
 
-#[derive(Drop)]
+#[derive(Clone, Copy)]
 pub struct Register {
     session: Session,
     records: Records,
@@ -34,56 +36,56 @@ pub struct Register {
 }
 
 // The answer of a return: the session's, or that a row or step is in use.
-#[derive(Drop)]
+#[derive(Clone, Copy)]
 pub enum ReturnAnswer {
     Accepted,
     BadPoint(u16),
     InUse,
 }
 
-#[derive(Drop)]
+#[derive(Clone, Copy)]
 pub struct TermResult {
     pub answer: TermAnswer,
     pub register: Register,
 }
 
-#[derive(Drop)]
+#[derive(Clone, Copy)]
 pub struct StepResult {
     pub answer: StepAnswer,
     pub register: Register,
 }
 
-#[derive(Drop)]
+#[derive(Clone, Copy)]
 pub struct TextResult {
     pub answer: TextAnswer,
     pub register: Register,
 }
 
-#[derive(Drop)]
+#[derive(Clone, Copy)]
 pub struct PointResult {
     pub answer: PointAnswer,
     pub register: Register,
 }
 
-#[derive(Drop)]
+#[derive(Clone, Copy)]
 pub struct ReturnResult {
     pub answer: ReturnAnswer,
     pub register: Register,
 }
 
-#[derive(Drop)]
+#[derive(Clone, Copy)]
 pub struct RecordResult {
     pub answer: RecordAnswer,
     pub register: Register,
 }
 
-#[derive(Drop)]
+#[derive(Clone, Copy)]
 pub struct ReleaseResult {
     pub answer: ReleaseAnswer,
     pub register: Register,
 }
 
-#[derive(Drop)]
+#[derive(Clone, Copy)]
 pub struct ReadResult {
     pub answer: ReadAnswer,
     pub register: Register,

@@ -32,7 +32,8 @@ module _ (rs : List Row) (P : Path → Type 0) where
   skipped false p ps s = s
 
   -- a number of the list that is a held path is among its paths
-  path_among : (n : ℕ) → T (held_path rs n) → P (path_at rs n) → (ns : List ℕ) → T (is_in ns n) → Some P (paths_of rs ns)
+  path_among : (n : ℕ) → T (held_path rs n) → P (path_at rs n) → (ns : List ℕ) → T (is_in ns n)
+      → Some P (paths_of rs ns)
   unfolding is_in any_of paths_of
   path_among n held x [] t = absurd t
   path_among n held x (m ∷ ns) t =

@@ -14,7 +14,7 @@ use mir.Facts.{and_yes, yes_and, yes_eqb}
 use Rattle.common.specs.Bounded.{first_below, all_below}
 use Rattle.common.proofs.Search.{first_not_yet, first_found, none_iff}
 use Rattle.common.proofs.Reflect.{true_iff, all_yes, yes_all}
-use Rattle.calls.specs.Book.{Book, Answer, answer}
+use Rattle.calls.specs.Book.{Book, answer}
 use Rattle.common.specs.Refusals.{bad_lists, not_covered}
 use Rattle.calls.proofs.StepJudged.{neither}
 use Rattle.replacing.specs.declared.ReplaceAnswer.{ReplaceAnswer}

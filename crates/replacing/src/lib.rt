@@ -1,4 +1,6 @@
 // The answer of the call replace, on lent rows and steps: whether a list of old rows is covered by a list of new ones.
+#![tactic(auto)]
+
 ghost use Rattle.std.specs.Prelude.{◌≡◌, [], ◌∷◌, ◌≤◌, length};
 ghost use Rattle.terms.specs.Row.{table_of};
 ghost use Rattle.calls.specs.Book.{book, max_steps};
@@ -10,7 +12,7 @@ ghost use Rattle.replacing.specs.ReplaceCall.{are_bad_lists, replace_answer, rep
 pub const MAX_LIST: usize = 64;
 
 // The answer of a replace call.
-#[derive(Drop)]
+#[derive(Clone, Copy)]
 pub enum ReplaceAnswer {
     Covered,
     BadLists,

@@ -1,5 +1,6 @@
 // Makes the calls of a script from standard input on a register and prints each answer. A line of another form ends it
 // and is printed as refusal 10; so is input that is too long, with line 0.
+#![tactic(auto)]
 
 fn main() {
     transcript::print_answers();

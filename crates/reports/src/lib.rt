@@ -1,4 +1,6 @@
 // What the program audit prints, of any open file.
+#![tactic(auto)]
+
 use auditing::Report;
 
 fn print_after_space(value: u64) {

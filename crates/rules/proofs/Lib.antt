@@ -2,5 +2,6 @@ pub mod RuleSound
 pub mod Orders
 pub mod Rules
 pub mod AxisRules
+pub mod RuleTen
 pub mod WayBackSound
 pub mod Sound

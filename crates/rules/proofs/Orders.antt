@@ -21,7 +21,7 @@ use Rattle.xpath.proofs.Order.{following_sibling_follows}
 use Rattle.xpath.proofs.Targets.{has_target}
 use Rattle.common.specs.Lists.{Every}
 use Rattle.rules.specs.Instance.{Test}
-use Rattle.rules.specs.Order.{axis_pairs, is_pair, axis_below, test_below_lem}
+use Rattle.rules.specs.Order.{axis_pairs, is_pair, axis_below, test_below}
 use Rattle.common.proofs.Entries.{◌&◌}
 
 -- what is true of every pair of a list is true of each
@@ -87,9 +87,9 @@ unfolding passes
 same_test a b t c d y e s = rw e at s
 
 -- a node that passes a lower test passes a higher one
-pub test_below_lem : (a : ℕ) (n m : Test) (d : Document) (y : ℕ) → T (test_below_lem n.test n.name m.test m.name) →
+pub test_below_lem : (a : ℕ) (n m : Test) (d : Document) (y : ℕ) → T (test_below n.test n.name m.test m.name) →
     T (passes a n.test n.name d y) → T (passes a m.test m.name d y)
-unfolding test_below_lem passes
+unfolding test_below passes
 test_below_lem a n m d y b s =
     let same : Bool = eqb n.test m.test && eqb n.name m.name in
     let named : Bool = eqb n.test name_test && eqb m.test star_test in

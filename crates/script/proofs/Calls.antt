@@ -121,7 +121,8 @@ module _ (word : Word) (most : ℕ) (s : shape_of word ≡ Listed most) (few : m
         ≡ at_most most (first_parts all_numbers (lines (drop at xs)))
     unfolding at_most Option-elim
     at_most_lem =
-        first_mapped (at_most most) refl (λ ws. at_most most (all_numbers ws)) all_numbers (λ ws. refl) (lines (drop at xs))
+        first_mapped (at_most most) refl (λ ws. at_most most (all_numbers ws)) all_numbers (λ ws. refl)
+        (lines (drop at xs))
 
     pub no_list : at_most most (first_parts all_numbers (lines (drop at xs))) ≡ none
         → CallMet (word_command word) xs at (no_call (length xs))

@@ -35,7 +35,8 @@ appended_one ns v (some ms) = ap some (sym (append_assoc ns (v ∷ []) ms))
 
 -- the line at `at` has the numbers ns, and goes on at `from`
 pub record SoFar (xs : List ℕ) (at from : ℕ) (ns : List ℕ) : Type 0 where
-  pub numbers : first_parts all_numbers (lines (drop at xs)) ≡ appended ns (first_parts all_numbers (lines (drop from xs)))
+  pub numbers : first_parts all_numbers (lines (drop at xs))
+      ≡ appended ns (first_parts all_numbers (lines (drop from xs)))
   pub next : drop 1 (lines (drop at xs)) ≡ drop 1 (lines (drop from xs))
   pub onward : at ≤ from
 

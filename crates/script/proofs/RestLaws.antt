@@ -42,7 +42,8 @@ module _ (xs : List ℕ) (i : ℕ) (inside : i < length xs) where
       ap (λ ys. first_bytes (lines ys)) here ∙ rw (ne_eqb (get_or xs i 0) newline f)
       (one_more (get_or xs i 0) (lines (drop (i + 1) xs)))
 
-  pub behind_space : ¬ (get_or xs i 0 ≡ newline) → get_or xs i 0 ≡ space → rest_of (line_from xs i) ≡ line_from xs (i + 1)
+  pub behind_space : ¬ (get_or xs i 0 ≡ newline) → get_or xs i 0 ≡ space → rest_of (line_from xs i)
+      ≡ line_from xs (i + 1)
   unfolding rest_of
   behind_space f e = ap rest_of (at_other f) ∙ rw (eq-eqb (get_or xs i 0) space e)
 

@@ -32,7 +32,8 @@ pub none_passed : (xs : List ℕ) (at : ℕ) → Passed xs at at
 none_passed xs at = record { first = refl; next = refl; from = omega arith }
 
 -- a byte more at the start of the first line
-one_first : (x : ℕ) (ls : List Line) → first_parts (numbers_in Rest) (in_first_line x ls) ≡ first_parts (numbers_in Rest) ls
+one_first : (x : ℕ) (ls : List Line) → first_parts (numbers_in Rest) (in_first_line x ls)
+    ≡ first_parts (numbers_in Rest) ls
 unfolding first_parts in_first_line
 one_first x [] = refl
 one_first x (l ∷ ls) = refl
@@ -52,7 +53,8 @@ module _ (xs : List ℕ) (at i : ℕ) (p : Passed xs at i) (inside : i < length 
       let other : lines (drop i xs) ≡ in_first_line (get_or xs i 0) (lines (drop (i + 1) xs)) =
       ap lines here ∙ rw (ne_eqb (get_or xs i 0) newline f) in
       record {
-        first = p.first ∙ ap (first_parts (numbers_in Rest)) other ∙ one_first (get_or xs i 0) (lines (drop (i + 1) xs));
+        first = p.first ∙ ap (first_parts (numbers_in Rest)) other
+            ∙ one_first (get_or xs i 0) (lines (drop (i + 1) xs));
         next = p.next ∙ ap (drop 1) other ∙ one_next (get_or xs i 0) (lines (drop (i + 1) xs));
         from = omega (arith, p.from);
       }

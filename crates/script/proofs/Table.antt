@@ -27,7 +27,8 @@ use Rattle.script.proofs.Words.{word_and_numbers, word_alone, word_without_numbe
 
 -- entry i is tried, after the entries before it
 module _ (xs : List ℕ) (at i : ℕ) (h : i < length words)
-    (so_far : first_parts command_of (lines (drop at xs)) ≡ first_parts (command_by (drop i words)) (lines (drop at xs)))
+    (so_far : first_parts command_of (lines (drop at xs))
+    ≡ first_parts (command_by (drop i words)) (lines (drop at xs)))
     (entry : Entry) (met : EntryMet (get_or words i no_entry) entry)
   where
     abbrev w : List ℕ
@@ -43,7 +44,8 @@ module _ (xs : List ℕ) (at i : ℕ) (h : i < length words)
         ∙ ap (λ es. first_parts (command_by es) (lines (drop at xs)))
         (drop-cons words i no_entry h ∙ ap (λ n. get_or words i no_entry ∷ drop n words) (sym (add-one i)))
 
-    by_entry : (r : CallLine) → CallMet (command_by (get_or words i no_entry ∷ later)) xs at r → CallMet command_of xs at r
+    by_entry : (r : CallLine) → CallMet (command_by (get_or words i no_entry ∷ later)) xs at r →
+        CallMet command_of xs at r
     by_entry r m =
         record {
           line = m.line ∙ ap (λ o. Option-elim o (no_call (length xs)) (call_line r.next)) (sym here);
@@ -82,7 +84,8 @@ module _ (xs : List ℕ) (at i : ℕ) (h : i < length words)
             let start = starts (w ++ newline ∷ []) xs at (is_so true e) in
             omega (arith, start.inside (omega (arith, size)), size, met.size)
 
-        stands : (t d : Bool) → d ≡ stands_alone entry.3 → d ≡ t → stands_alone (shape_of (get_or words i no_entry).1) ≡ t
+        stands : (t d : Bool) → d ≡ stands_alone entry.3 → d ≡ t → stands_alone (shape_of (get_or words i no_entry).1)
+            ≡ t
         stands t d e f = ap stands_alone (sym met.shape) ∙ sym e ∙ f
 
         pub word_read : a ≡ true → (d : Bool) → d ≡ stands_alone entry.3 → d ≡ true → (r : CallLine)

@@ -8,7 +8,7 @@ use native.Mathlib.Omega.{arith}
 use lib.Dec.{eqb}
 use lib.ListN.{length, drop, length-append}
 use borrow.Author.Tests.{eq-eqb, le-leb, eqb-true}
-use Rattle.lines.specs.Line.{newline, space, lines, same_bytes_lem}
+use Rattle.lines.specs.Line.{newline, space, lines, same_bytes}
 use Rattle.lines.specs.Number.{numbers_up_to}
 use Rattle.lines.specs.code.NumbersRead.{first_parts, starts_with}
 use Rattle.lines.proofs.Cutting.{Free, lines_at, no_whole_line}
@@ -58,8 +58,8 @@ alone_listed Selection = refl
 alone_listed Room = refl
 alone_listed Rest = refl
 
-same_itself : (xs : List ℕ) → same_bytes_lem xs xs ≡ true
-unfolding same_bytes_lem
+same_itself : (xs : List ℕ) → same_bytes xs xs ≡ true
+unfolding same_bytes
 same_itself [] = refl
 same_itself (x ∷ xs) = rw (eq-eqb x x refl, same_itself xs)
 
@@ -88,7 +88,8 @@ module _ (w : List ℕ) (word : Word) (es : List (List ℕ × Word)) (f : Free n
         let behind = drop (at + (length w + 1)) xs in
         let text : drop at xs ≡ w ++ space ∷ behind =
         start.text ∙ ap (λ n. (w ++ space ∷ []) ++ drop (at + n) xs) size ∙ append_assoc w (space ∷ []) behind in
-        let same : first_parts (command_by table) (lines (drop at xs)) ≡ first_parts (word_command word) (lines behind) =
+        let same : first_parts (command_by table) (lines (drop at xs))
+        ≡ first_parts (word_command word) (lines behind) =
         ap (λ t. first_parts (command_by table) (lines t)) text ∙ before_space (command_by table) w behind f g
         ∙ first_mapped (λ o. o) refl (λ ws. command_by table (w ∷ ws)) (word_command word) by_word (lines behind) in
         let next : drop 1 (lines (drop at xs)) ≡ drop 1 (lines behind) =
@@ -145,9 +146,9 @@ module _ (w : List ℕ) (word : Word) (es : List (List ℕ × Word)) (f : Free n
       where
         other : (v r : List ℕ) (e : ℕ) → drop at xs ≡ v ++ e ∷ r → starts_with (w ++ e ∷ []) (drop at xs) ≡ false
             → (ws : List (List ℕ)) → command_by table (v ∷ ws) ≡ command_by es (v ∷ ws)
-        other v r e t n ws = by_test (same_bytes_lem v w) refl
+        other v r e t n ws = by_test (same_bytes v w) refl
           where
-            by_test : (b : Bool) → same_bytes_lem v w ≡ b → command_by table (v ∷ ws) ≡ command_by es (v ∷ ws)
+            by_test : (b : Bool) → same_bytes v w ≡ b → command_by table (v ∷ ws) ≡ command_by es (v ∷ ws)
             by_test false s = rw s
             by_test true s =
                 let i = same_bytes_lem v w s in

@@ -1,4 +1,6 @@
 // A line of a script as a call on a session: a word, and numbers after it, one space before each.
+#![tactic(auto)]
+
 ghost use Rattle.std.specs.Prelude.{◌≡◌, ◌+◌, ◌≤◌, ◌<◌, min, length, take, drop};
 ghost use Rattle.script_words.specs.Words.{max_numbers, shape_of};
 ghost use Rattle.lines.specs.Line.{lines};
@@ -22,7 +24,7 @@ pub const MAX_ROOM: usize = common::MAX_BYTES;
 // The numbers after a word, by its shape: `a` to `e` are those that are counted, in their order; `size` says how many
 // are listed; a select has its row in `a`, its context node in `b`, its limit, and in `size` the length of the marks
 // buffer that it is lent; and `size` is a buffer's length. The others are 0.
-#[derive(Drop)]
+#[derive(Clone, Copy)]
 pub struct Values {
     pub a: u16,
     pub b: u16,
@@ -35,7 +37,7 @@ pub struct Values {
 
 // A call: its word, the numbers after it, those that are listed and zeros after them, and the position of the next
 // line. A line that is no call is not `ok`, and has zeros and the text's length.
-#[derive(Drop)]
+#[derive(Clone, Copy)]
 pub struct CallLine {
     pub ok: bool,
     pub word: Word,

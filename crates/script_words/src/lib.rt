@@ -1,4 +1,6 @@
 // The words of a script's lines, and what stands after each.
+#![tactic(auto)]
+
 ghost use Rattle.std.specs.Prelude.{◌<◌, length, get_or};
 ghost use Rattle.script_words.specs.Words.{words};
 ghost use Rattle.script_words.specs.code.Entries.{no_entry, EntryMet};
@@ -12,7 +14,7 @@ pub const MAX_NUMBERS: usize = xpath::NODE_WIDTH * (xpath::MAX_NODES + 1);
 // The most numbers of a line of old rows, of new rows, or of steps: more than a replace takes.
 pub const MAX_LISTED: usize = 100;
 
-#[derive(Drop)]
+#[derive(Clone, Copy)]
 pub enum Word {
     Term,
     Step,
@@ -40,7 +42,7 @@ pub enum Word {
 
 // What stands after a word: so many numbers of 16 bits, a list of up to so many, the numbers of a select, the length
 // of a buffer, or any bytes.
-#[derive(Drop)]
+#[derive(Clone, Copy)]
 pub enum Shape {
     Counted(usize),
     Listed(usize),
@@ -50,7 +52,7 @@ pub enum Shape {
 }
 
 // A word's bytes and spaces after them, how many bytes it has, which word it is, and what stands after it.
-#[derive(Drop)]
+#[derive(Clone, Copy)]
 pub struct Entry(pub [u8; WORD_WIDTH], pub usize, pub Word, pub Shape);
 
 // One byte more than the longest word has.

@@ -78,7 +78,8 @@ module _ (rs : List Row) (row : ℕ) (xs : List ℕ) (x limit : ℕ) (buffer : L
         evaluation_answers =
             rw (← taken, lt-leb (length (document_of xs)) x inside, path, size)
             (answer_by_tests (visits (document_of xs) (path_at rs row) x) limit _ buffer
-            (ltb (length buffer) (length (document_of xs))) (leb (visits (document_of xs) (path_at rs row) x) limit) refl)
+            (ltb (length buffer) (length (document_of xs)))
+            (leb (visits (document_of xs) (path_at rs row) x) limit) refl)
 
         evaluation_leaves : (evaluated rs row (document_of xs) x limit buffer).buffer
             ≡ select_buffer rs row xs x limit buffer

@@ -1,4 +1,6 @@
 // Select calls on lent rows: the answer, and the marks.
+#![tactic(auto)]
+
 ghost use Rattle.std.specs.Prelude.{◌≡◌};
 ghost use Rattle.terms.specs.Row.{table_of};
 ghost use Rattle.selection.specs.code.EvaluatedTypes.{answer_of};

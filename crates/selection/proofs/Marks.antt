@@ -5,7 +5,7 @@ use mathlib.Core.Bool.{Bool, true, false, cond, ◌&&◌, or-false}
 use mathlib.Core.List.{List}
 use native.Mathlib.Omega.{arith}
 use native.Mathlib.Numerals.{add-one}
-use lib.ListN.{length, get_or, set, replicate, length-replicate}
+use lib.ListN.{get_or, set, replicate, length-replicate}
 use Rattle.common.specs.Bounded.{any_below}
 use Rattle.xpath.specs.Document.{max_nodes}
 use Rattle.selection.specs.Marks.{written}

@@ -19,7 +19,7 @@ use terms::Row;
 use xpath::MAX_NODES;
 
 // Whether the visits that a path needs were within the limit, and how many they were.
-#[derive(Drop)]
+#[derive(Clone, Copy)]
 pub struct PathResult {
     pub finished: bool,
     pub visits: u32,

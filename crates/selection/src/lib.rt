@@ -1,4 +1,6 @@
 // The evaluation of a path from a context node, with a limit on its visits.
+#![tactic(auto)]
+
 mod evaluation;
 
 ghost use Rattle.std.specs.Prelude.{◌≡◌, ◌≤◌, length};
@@ -11,7 +13,7 @@ ghost use Rattle.selection.specs.Evaluation.{outcome, evaluated};
 ghost use Rattle.selection.specs.code.EvaluatedTypes.{answer_of};
 
 // The visits made; or the marks have no room for the document; or more visits are needed than the limit.
-#[derive(Drop)]
+#[derive(Clone, Copy)]
 pub enum Evaluated {
     Selected(u32),
     NoRoom,

@@ -10,7 +10,7 @@ use Rattle.terms.specs.Row.{Row}
 use Rattle.common.specs.Limits.{max_bytes}
 use Rattle.common.specs.Lists.{Every}
 use Rattle.lines.specs.Ascii.{ascii}
-use Rattle.lines.specs.Line.{newline, Line, line, in_first_part, lines, parts, same_bytes_lem, is_line, first_is}
+use Rattle.lines.specs.Line.{newline, Line, line, in_first_part, lines, parts, same_bytes, is_line, first_is}
 use Rattle.lines.specs.Number.{is_digit, is_decimal, append_digits, numbers_up_to, numbers_of}
 use Rattle.lines.specs.code.NumbersRead.{first_parts, first_numbers}
 use Rattle.lines.proofs.Cutting.{lines_at}
@@ -65,11 +65,11 @@ not_names (l ∷ ls) ns e = by_test (is_line step_names l) refl
     by_test false is = refl
 
 names_are_names : is_line step_names (line step_names true) ≡ true
-unfolding is_line same_bytes_lem step_names ascii
+unfolding is_line same_bytes step_names ascii
 names_are_names = refl
 
 first_names_are : is_line row_names (line row_names true) ≡ true
-unfolding is_line same_bytes_lem row_names ascii
+unfolding is_line same_bytes row_names ascii
 first_names_are = refl
 
 -- the reading that holds all
@@ -198,7 +198,7 @@ read_demand_by Selected Called Read Write select_tied call_tied met_called read_
           let same = ap reading text ∙ left_reads_back cs os s (run_map call_tied run) fits in
           let met = read_tied _ t r in
           (met.answer ∙ ap (λ r. r.answer) same, met.session ∙ ap (λ r. r.session) same);
-      same_bytes_lem = λ bytes t r e buffer left w m taken.
+      same_bytes = λ bytes t r e buffer left w m taken.
           let read = read_accepted Selected Called select_tied met_called bytes t (read_tied bytes t r) e in
           written_text t.session buffer w left (write_tied t.session buffer w left m) taken
           ∙ read_text bytes read.rows read.steps read.seen t.session read.bundle

@@ -67,7 +67,8 @@ module _ (bytes xs : List ℕ) (n line at : ℕ) where
       let passed = line_passed step_names bytes at step_names_free e in
       (names_read here line _ e ∙ ap (steps_read row_step_answer here (line + 1)) (sym passed.rest), passed.inside)
 
-  pub row_end : length bytes ≤ at → rows_read row_step_answer here line (lines (drop at bytes)) ≡ refused_at wrong_form line
+  pub row_end : length bytes ≤ at → rows_read row_step_answer here line (lines (drop at bytes))
+      ≡ refused_at wrong_form line
   unfolding rows_read
   row_end h = rw (no_lines bytes at h)
 
@@ -146,12 +147,14 @@ module _ (bytes xs : List ℕ) (n : ℕ) (ys : List ℕ) (k line at : ℕ) where
     step_there = rw (first_five r.numbers (omega (arith, m.size)))
 
     module _ (right : r.ok ≡ true) (few : k ≤ max_steps) (t : StepAnswer)
-        (judged : step_answer_of t ≡ row_step_answer (book (first_rows n xs) (first_steps k ys)) (step_of_numbers r.numbers))
+        (judged : step_answer_of t ≡ row_step_answer (book (first_rows n xs) (first_steps k ys))
+        (step_of_numbers r.numbers))
       where
         five_read : some five ≡ first_numbers step_width (lines (drop at bytes))
         five_read = line_numbers_lem step_width bytes at (omega arith) r true m right
 
-        five_judged : step_answer_of t ≡ row_step_answer (book (first_rows n xs) (first_steps k ys)) (step_of_numbers five)
+        five_judged : step_answer_of t ≡ row_step_answer (book (first_rows n xs) (first_steps k ys))
+            (step_of_numbers five)
         five_judged = judged ∙ ap (row_step_answer (book (first_rows n xs) (first_steps k ys))) step_there
 
         steps_counted_lem : k ≡ min k max_steps

@@ -59,7 +59,8 @@ module _ (s : Session) (n : ℕ) where
       row_refused f = row_called ls other ns first ∙ sym (if_refused _ _ m.answer _ _ f)
           ∙ ap (λ o. refused_at o.number n) (sym m.answer)
 
-  pub step_wrong : (ls : List Line) → ¬ (ls ≡ []) → none ≡ first_numbers step_width ls → steps_read row_step_answer s n ls
+  pub step_wrong : (ls : List Line) → ¬ (ls ≡ []) → none ≡ first_numbers step_width ls →
+      steps_read row_step_answer s n ls
       ≡ refused_at wrong_form n
   unfolding steps_read first_parts numbers_of step_of_line Option-elim
   step_wrong [] full f = absurd (full refl)

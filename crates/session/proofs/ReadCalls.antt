@@ -10,7 +10,7 @@ use lib.ListN.{length}
 use borrow.Author.Tests.{eqb-true, eqb-false}
 use Rattle.terms.specs.Row.{Row}
 use Rattle.common.specs.Lists.{Every}
-use Rattle.lines.specs.Line.{Line, line, lines, same_bytes_lem, is_line}
+use Rattle.lines.specs.Line.{Line, line, lines, same_bytes, is_line}
 use Rattle.lines.proofs.SameBytes.{same_bytes_lem}
 use Rattle.session.specs.declared.session.Session.{Session}
 use Rattle.session.specs.declared.read.ReadResult.{ReadResult}
@@ -36,7 +36,7 @@ pub is_line_lem : (ys : List ℕ) (l : Line) → is_line ys l ≡ true → l ≡
 unfolding is_line
 is_line_lem ys l e = by_end l.ended refl e
   where
-    by_end : (b : Bool) → l.ended ≡ b → (b && same_bytes_lem l.bytes ys) ≡ true → l ≡ line ys true
+    by_end : (b : Bool) → l.ended ≡ b → (b && same_bytes l.bytes ys) ≡ true → l ≡ line ys true
     by_end true s t = λ i. line (same_bytes_lem l.bytes ys t i) (s i)
     by_end false s t = absurd (false≢true t)
 
@@ -170,7 +170,8 @@ rows_made s n (l ∷ ls) e = by_names (is_line step_names l) refl e (λ r. rows_
   where
     by_form : (o : Option Row) → row_of_line l ≡ o → (Option-elim o (refused_at wrong_form n)
         (after_row s n ls)).answer.number ≡ 0
-        → ((r : Row) → (rows_read row_step_answer (with_row s r) (n + 1) ls).answer.number ≡ 0 → RowsMade (with_row s r) ls
+        → ((r : Row) → (rows_read row_step_answer (with_row s r) (n + 1) ls).answer.number ≡ 0 →
+        RowsMade (with_row s r) ls
         (rows_read row_step_answer (with_row s r) (n + 1) ls).session)
         → RowsMade s (l ∷ ls) (Option-elim o (refused_at wrong_form n) (after_row s n ls)).session
     by_form none is e later = absurd (omega arith)
@@ -179,7 +180,8 @@ rows_made s n (l ∷ ls) e = by_names (is_line step_names l) refl e (λ r. rows_
     by_names : (b : Bool) → is_line step_names l ≡ b
         → (cond b (steps_read row_step_answer s (n + 1) ls) (Option-elim (row_of_line l) (refused_at wrong_form n)
         (after_row s n ls))).answer.number ≡ 0
-        → ((r : Row) → (rows_read row_step_answer (with_row s r) (n + 1) ls).answer.number ≡ 0 → RowsMade (with_row s r) ls
+        → ((r : Row) → (rows_read row_step_answer (with_row s r) (n + 1) ls).answer.number ≡ 0 →
+        RowsMade (with_row s r) ls
         (rows_read row_step_answer (with_row s r) (n + 1) ls).session)
         → RowsMade s (l ∷ ls) (cond b (steps_read row_step_answer s (n + 1) ls)
         (Option-elim (row_of_line l) (refused_at wrong_form n) (after_row s n ls))).session

@@ -37,7 +37,8 @@ read_met bytes t v e =
 pub refused_variant : (k n : ℕ) → 0 < k → false ≡ accepted (answer k n)
 refused_variant k n h = sym (ne_eqb k 0 (λ e. omega arith))
 
-no_names_read : (ls : List Line) → first_is row_names ls ≡ false → lines_read row_step_answer ls ≡ refused_at wrong_form 1
+no_names_read : (ls : List Line) → first_is row_names ls ≡ false → lines_read row_step_answer ls
+    ≡ refused_at wrong_form 1
 unfolding lines_read first_is
 no_names_read [] e = refl
 no_names_read (l ∷ ls) e = rw e
@@ -64,7 +65,8 @@ module _ (bytes : List ℕ) (e : first_is row_names (lines bytes) ≡ true) wher
 
   from_line_2 : reading bytes ≡ rows_read row_step_answer fresh_session 2 (lines (drop 11 bytes))
   unfolding row_names ascii
-  from_line_2 = reading_by_rows bytes ∙ first_names_read (lines bytes) e ∙ ap (rows_read row_step_answer fresh_session 2)
+  from_line_2 = reading_by_rows bytes ∙ first_names_read (lines bytes) e
+      ∙ ap (rows_read row_step_answer fresh_session 2)
       (sym (line_passed row_names bytes 0 row_names_free e).rest)
 
   module _ (xs ys : List ℕ) (fresh : xs ≡ fresh_session.rows) (t u : RowsEnd) (m : RowsReadMet bytes 11 xs ys t)

@@ -39,13 +39,14 @@ no_point_with b (point n) f e = absurd f
 no_point_with b (return n) f e =
     let place = place_of (point_names b.points) n in ap (take (place + 1)) e ∙ take-nil (place + 1)
 
-no_point_after : (b : Book) (cs : List Call) → Every SetsNoPoint cs → b.points ≡ [] → (final plain_book b cs).points ≡ []
+no_point_after : (b : Book) (cs : List Call) → Every SetsNoPoint cs → b.points ≡ [] → (final plain_book b cs).points
+    ≡ []
 unfolding final
 no_point_after b [] f e = e
 no_point_after b (c ∷ cs) f e =
-    let next = by_accepted (λ d. d.points ≡ []) (book_answer b c) (book_with b c) b
+    let none_left = by_accepted (λ d. d.points ≡ []) (book_answer b c) (book_with b c) b
     (λ taken. no_point_with b c f.0 e) e in
-    no_point_after _ cs f.1 next
+    no_point_after (next plain_book b c) cs f.1 none_left
 
 -- the session of a book, but for its points, is that of its rows and steps
 pub points_left_out : (b : Book) → without_points (session_of b) ≡ session_of (book b.rows b.steps)

@@ -43,7 +43,8 @@ pub record Kept (s : Session) : Type 0 where
 pub fresh_kept : Kept fresh_session
 fresh_kept =
     record {
-      whole = record { same = fresh_of ∙ ap session_of (sym fresh_view); fits = subst Fits (sym fresh_view) empty_fits };
+      whole = record
+          { same = fresh_of ∙ ap session_of (sym fresh_view); fits = subst Fits (sym fresh_view) empty_fits };
       reachable = subst Reachable (sym fresh_view) first;
     }
 

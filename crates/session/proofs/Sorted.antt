@@ -62,7 +62,8 @@ steps_with_row r b h new (p ∷ ps) taken =
 
 -- the row r is put behind the rows rs
 all_with_row : (r : Row) (b : Book) → Reachable b → (rs : List Row) (ps : List Step)
-    → (term_answer (b.rows ++ rs) r).number ≡ 0 → AllTaken b (calls_of rs ps) → AllTaken b (calls_of (rs ++ (r ∷ [])) ps)
+    → (term_answer (b.rows ++ rs) r).number ≡ 0 → AllTaken b (calls_of rs ps) →
+    AllTaken b (calls_of (rs ++ (r ∷ [])) ps)
 all_with_row r b h [] ps new taken =
     let here = subst (λ qs. (term_answer qs r).number ≡ 0) (append-nil b.rows) new in
     (here, steps_with_row r b h here ps taken)
@@ -172,13 +173,14 @@ row_fits b r h new m =
     subst RowFits last (row_numbers_lem built (length rs) inside room (subst NameFits (sym last) m))
 
 -- rows that are added one after the other, as a text's are
-rows_sorted : (rs : List Row) (b : Book) → AllSorted b → Every NameFits rs → AllSorted (final plain_book b (map term rs))
+rows_sorted : (rs : List Row) (b : Book) → AllSorted b → Every NameFits rs →
+    AllSorted (final plain_book b (map term rs))
 unfolding final
 rows_sorted [] b o m = o
 rows_sorted (r ∷ rs) b o m =
-    let next = by_accepted AllSorted (book_answer b (term r)) (book_with b (term r)) b
+    let kept = by_accepted AllSorted (book_answer b (term r)) (book_with b (term r)) b
     (λ e. term_sorted b r o e (row_fits b r o.reachable e m.0)) o in
-    rows_sorted rs _ next m.1
+    rows_sorted rs _ kept m.1
 
 text_sorted : (b : Book) (names t : Bytes) → AllSorted b → (text_answer b.rows names t).number ≡ 0
     → AllSorted (book_with b (text names t))
@@ -221,8 +223,8 @@ sorted_after : (b : Book) (cs : List Call) → AllSorted b → Every CallFits cs
 unfolding final
 sorted_after b [] o fits = o
 sorted_after b (c ∷ cs) o fits =
-    let next = by_accepted AllSorted (book_answer b c) (book_with b c) b (λ e. sorted_with b c o e fits.0) o in
-    sorted_after _ cs next fits.1
+    let kept = by_accepted AllSorted (book_answer b c) (book_with b c) b (λ e. sorted_with b c o e fits.0) o in
+    sorted_after (next plain_book b c) cs kept fits.1
 
 -- so of what every list of calls leaves
 pub calls_sorted : (cs : List Call) → Every CallFits cs → AllSorted (book_after cs)

@@ -8,6 +8,7 @@ use native.Mathlib.Omega.{arith}
 use lib.Dec.{leb}
 use borrow.Author.Tests.{ne_eqb}
 use denote.Ref.{Bor}
+use denote.MutBor.{MutBor}
 use lib.ListN.{length}
 use Rattle.terms.specs.Row.{row}
 use Rattle.session.specs.declared.session.Session.{Session}
@@ -146,6 +147,9 @@ write_tied s buffer w left (write_called κs a r x m) = m
 abbrev lent : {A : Type 0} → A → Bor A
 lent x = record { ref_ptr = (0, 0); now = x }
 
+abbrev lent_to_write : {A : Type 0} → A → MutBor A
+lent_to_write x = record { ref_ptr = (0, 0); ghost_name = 0; now = x }
+
 -- and no more: a call that meets what they say can be made
 met_called : CallsKept Met Called
 unfolding row_step_answer
@@ -206,8 +210,8 @@ selects_exist s row xs x limit buffer =
     let left = select_buffer (view s).rows row xs x limit buffer in (
       t,
       left,
-      select_called ([], ([], tt)) (s, (row, (lent xs, (x, (limit, (lent buffer, tt))))))
-          t (s, (row, (lent xs, (x, (limit, (lent left, tt)))))) (record { answer = e; bytes = refl }),
+      select_called ([], ([], tt)) (s, (row, (lent xs, (x, (limit, (lent_to_write buffer, tt))))))
+          t (s, (row, (lent xs, (x, (limit, (lent_to_write left, tt)))))) (record { answer = e; bytes = refl }),
     )
 
 read_case : (k n : ℕ) → (o : ReadAnswer) × (read_answer_of o ≡ answer k n) × (is_held o ≡ accepted (answer k n))
@@ -256,8 +260,12 @@ write_case bundle room = by_test (leb (length bundle) room)
 pub writes_exist : (s : Session) (buffer : List ℕ) → (w : WriteAnswer) × (left : List ℕ) × Write s buffer w left
 writes_exist s buffer =
     let (w, e) = write_case (session_text s) (length buffer) in
-    let left = write_buffer (session_text s) buffer in
-    (w, left, write_called ([], tt) (s, (lent buffer, tt)) w (s, (lent left, tt)) (record { answer = e; bytes = refl }))
+    let left = write_buffer (session_text s) buffer in (
+      w,
+      left,
+      write_called ([], tt) (s, (lent_to_write buffer, tt)) w (s, (lent_to_write left, tt))
+          (record { answer = e; bytes = refl }),
+    )
 
 pub read_demand : ReadDemand Selected Called Read Write
 read_demand = read_demand_by Selected Called Read Write select_tied call_tied met_called read_tied write_tied

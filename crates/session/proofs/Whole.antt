@@ -19,7 +19,7 @@ use Rattle.calls.specs.PointCall.{point_names, place_of}
 use Rattle.calls.specs.Calls.{Call, term, step, text, point, return, book_with, row_answer}
 use Rattle.calls.specs.Promises.{row_yielded, row_step_answer}
 use Rattle.calls.specs.code.Tables.{row_width, step_width, steps_of, first_rows, first_steps}
-use Rattle.calls.specs.code.Points.{point_width, counts, no_counts, counts_of_lem, counts_names, point_named, first_points}
+use Rattle.calls.specs.code.Points.{point_width, counts, no_counts, counts_of, counts_names, point_named, first_points}
 use Rattle.calls.specs.code.Points.{cleared}
 use Rattle.session.specs.View.{points_in, point_of, view, fresh_session}
 use Rattle.terms.specs.Row.{row_numbers}
@@ -136,8 +136,8 @@ steps_joined (p ∷ ps) = ap (λ qs. p ∷ qs) (steps_joined ps)
 abbrev counts_in : Point → PointCounts
 counts_in q = counts q.name (length q.rows) (length q.steps)
 
-points_joined : (qs : List Point) → counts_of_lem (joined point_numbers qs) ≡ map counts_in qs
-unfolding counts_of_lem joined
+points_joined : (qs : List Point) → counts_of (joined point_numbers qs) ≡ map counts_in qs
+unfolding counts_of joined
 points_joined [] = refl
 points_joined (q ∷ qs) = ap (λ cs. counts_in q ∷ cs) (points_joined qs)
 
@@ -158,7 +158,7 @@ first_steps_of ps later all e h =
 first_points_of : (qs : List Point) → length qs ≤ max_points
     → first_points (length qs) (filled (point_width * max_points) (joined point_numbers qs)) ≡ map counts_in qs
 first_points_of qs h =
-    ap counts_of_lem (table_first point_width max_points point_numbers (λ q. refl) qs [] qs (sym (append-nil qs)) h)
+    ap counts_of (table_first point_width max_points point_numbers (λ q. refl) qs [] qs (sym (append-nil qs)) h)
     ∙ points_joined qs
 
 one_more : {A : Type 0} (n : ℕ) (xs : List A) (x : A) → length xs < n → min (length xs) n + 1 ≡ length (xs ++ (x ∷ []))
@@ -234,7 +234,8 @@ module _ (b : Book) (fits : Fits b) where
         point_count = (session_of b).point_count;
       }
 
-  with_step_of : (p : Step) → length b.steps < max_steps → with_step (session_of b) p ≡ session_of (book_with b (step p))
+  with_step_of : (p : Step) → length b.steps < max_steps → with_step (session_of b) p
+      ≡ session_of (book_with b (step p))
   unfolding with_step session_of
   with_step_of p room =
       let table = table_more step_width max_steps step_numbers (λ p. refl) b.steps p room in
@@ -278,7 +279,8 @@ module _ (b : Book) (fits : Fits b) where
     there = get_or b.points place no_point
 
     place_of_lem : place_of (counts_names (points_in (session_of b))) n ≡ place
-    place_of_lem = ap (λ cs. place_of (counts_names cs) n) points_in_lem ∙ ap (λ ns. place_of ns n) (names_counted b.points)
+    place_of_lem = ap (λ cs. place_of (counts_names cs) n) points_in_lem
+        ∙ ap (λ ns. place_of ns n) (names_counted b.points)
 
     counts_of_lem : point_named (points_in (session_of b)) n ≡ counts_in there
     counts_of_lem =

@@ -1,4 +1,6 @@
 // A session of terms and steps, the calls on it, and the reading and writing of bundles.
+#![tactic(auto)]
+
 mod counts;
 mod order;
 mod read;

@@ -15,13 +15,13 @@ use bundles::{ROW_NAMES, ROW_NAMES_LENGTH, STEP_NAMES, STEP_NAMES_LENGTH};
 use common::refusal::WRONG_FORM;
 
 // The answer of a read call: how many steps are held, or the number of the refusal and the refused line.
-#[derive(Drop)]
+#[derive(Clone, Copy)]
 pub enum ReadAnswer {
     Held(u16),
     Refused { number: u16, line: usize },
 }
 
-#[derive(Drop)]
+#[derive(Clone, Copy)]
 pub struct ReadResult {
     pub answer: ReadAnswer,
     pub session: Session,

@@ -25,7 +25,7 @@ pub(crate) const POINT_NUMBERS: usize = calls::POINT_WIDTH * calls::MAX_POINTS;
 
 // Rows, four numbers each, steps, five each, and points, three each; of each the first ones are held, as many as the
 // counts say.
-#[derive(Drop)]
+#[derive(Clone, Copy)]
 pub struct Session {
     pub(crate) rows: [u16; ROW_NUMBERS],
     pub(crate) row_count: usize,
@@ -35,7 +35,7 @@ pub struct Session {
     pub(crate) point_count: usize,
 }
 
-#[derive(Drop)]
+#[derive(Clone, Copy)]
 pub struct TermResult {
     pub answer: TermAnswer,
     pub session: Session,
@@ -43,25 +43,25 @@ pub struct TermResult {
 
 // The answer of a text call: 0 and the row of the text's term, or a refusal and its value, which may be a place in a
 // text of any length.
-#[derive(Drop)]
+#[derive(Clone, Copy)]
 pub struct TextAnswer {
     pub number: u16,
     pub value: usize,
 }
 
-#[derive(Drop)]
+#[derive(Clone, Copy)]
 pub struct TextResult {
     pub answer: TextAnswer,
     pub session: Session,
 }
 
-#[derive(Drop)]
+#[derive(Clone, Copy)]
 pub struct StepResult {
     pub answer: StepAnswer,
     pub session: Session,
 }
 
-#[derive(Drop)]
+#[derive(Clone, Copy)]
 pub struct PointResult {
     pub answer: PointAnswer,
     pub session: Session,

@@ -6,7 +6,7 @@ ghost use Rattle.session.specs.WriteCall.{session_text, write_answer_of, WriteMe
 use crate::session::Session;
 
 // The answer of a write call: how many bytes were written, or how many are needed.
-#[derive(Drop)]
+#[derive(Clone, Copy)]
 pub enum WriteAnswer {
     Written(usize),
     ShortBuffer(usize),

@@ -1,5 +1,7 @@
 // Step calls on lent rows and steps: their answers, the step that is put after the others, and how many are held by a
 // rule.
+#![tactic(auto)]
+
 ghost use Rattle.std.specs.Prelude.{◌≡◌, ◌*◌, ◌≤◌, ◌<◌, length};
 ghost use Rattle.std.proofs.lemmas.List.Edits.{sets};
 ghost use Rattle.terms.specs.Row.{row_at, table_of};

@@ -23,7 +23,8 @@ module _ (list : List ℕ) (opened : List Bool) (count : ℕ) (counted : count �
         rw (← counted, first_found (is_bad_name opened) k count h so_far e) (ap (answer bad_name) (add-one k))
 
     pub line_taken : is_bad_name opened k ≡ false → first_below (k + 1) (is_bad_name opened) ≡ none
-    line_taken e = ap (λ n. first_below n (is_bad_name opened)) (add-one k) ∙ first_not_yet (is_bad_name opened) k so_far e
+    line_taken e = ap (λ n. first_below n (is_bad_name opened)) (add-one k)
+        ∙ first_not_yet (is_bad_name opened) k so_far e
 
     pub all_taken : k ≡ count → answer 0 0 ≡ list_answer list opened
     unfolding list_answer Option-elim

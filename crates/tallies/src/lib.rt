@@ -1,4 +1,6 @@
 // The yearly tally: the uses of each rule over bundles, and the total of their steps.
+#![tactic(auto)]
+
 ghost use Rattle.std.specs.Prelude.{◌≡◌, get_or};
 ghost use Rattle.session.specs.View.{view};
 ghost use Rattle.tallies.specs.NameList.{is_bad_name, list_answer, list_answer_of};
@@ -19,21 +21,21 @@ const RULES: usize = matching::MAX_RULE as usize;
 const MAX_COUNT: u64 = 18446744073709551615;
 
 // The answer to a list of file names.
-#[derive(Drop)]
+#[derive(Clone, Copy)]
 pub enum ListAnswer {
     Taken,
     BadName(usize),
 }
 
 // The uses of each rule, from 1 up, and the total of the steps.
-#[derive(Drop)]
+#[derive(Clone, Copy)]
 pub struct Tally {
     uses: [u64; RULES],
     total: u64,
 }
 
 // A line of a tally: a rule and its uses, or 0 and the total.
-#[derive(Drop)]
+#[derive(Clone, Copy)]
 pub struct TallyLine {
     pub rule: u16,
     pub count: u64,

@@ -1,6 +1,11 @@
 // What the program tally prints, of any list of names.
+#![tactic(auto)]
+
 ghost use Rattle.io.specs.Counts.{IsPrefixLen};
 
+use std::fs::File;
+use std::io::Read;
+use std::rt::Files;
 use tallies::Tally;
 
 // The longest name that can be opened.
@@ -12,37 +17,39 @@ pub const LONGEST_LIST: usize = tallies::MAX_FILES * (LONGEST_NAME + 1) + 1;
 
 // The open files, and which of them were opened.
 #[derive(Drop)]
-struct Files {
-    files: [i32; tallies::MAX_FILES],
+struct OpenFiles {
+    files: [Option<File>; tallies::MAX_FILES],
     opened: [bool; tallies::MAX_FILES],
 }
 
-fn open_at(list: &[u8], k: usize) -> i32 {
+const NO_FILE: Option<File> = None;
+
+// The file of that name; none if it can't be opened. A name that is no UTF-8 can't be.
+fn open_at(rt: &impl Files<File = File>, list: &[u8], k: usize) -> Option<File> {
     let name = names::name_at(list, k);
     let start = name.start;
     let end = name.end;
-    os::open_read(&list[start..end])
+    let path = str::from_utf8(&list[start..end]).ok()?;
+    File::open(rt, path).ok()
 }
 
 // Opens the files in order, up to the first that can't be opened.
-fn open_all(list: &[u8]) -> Files {
+fn open_all(rt: &impl Files<File = File>, list: &[u8]) -> OpenFiles {
     let count = names::count(list);
-    let mut files = [0i32; tallies::MAX_FILES];
+    let mut files = [NO_FILE; tallies::MAX_FILES];
     let mut opened = [false; tallies::MAX_FILES];
-    let mut k = 0;
-    while k < tallies::MAX_FILES {
+    for k in 0..tallies::MAX_FILES {
         if count <= k {
-            return Files { files, opened };
+            return OpenFiles { files, opened };
         }
-        let file = open_at(list, k);
-        if file < 0 {
-            return Files { files, opened };
+        let file = open_at(rt, list, k);
+        if file.is_none() {
+            return OpenFiles { files, opened };
         }
         files[k] = file;
         opened[k] = true;
-        k += 1;
     }
-    Files { files, opened }
+    OpenFiles { files, opened }
 }
 
 // How many bytes came of a file, and whether a read failed.
@@ -52,27 +59,27 @@ struct FileRead {
     length: usize,
 }
 
-// Reads the file until the bytes are full, the file ends or a read fails. A read below 0 has failed, 0 is the end.
-fn read_file(file: i32, bytes: &mut [u8]) -> FileRead
+// Reads the file until the bytes are full, the file ends or a read fails.
+fn read_file(file: &mut File, bytes: &mut [u8]) -> FileRead
     ensures { IsPrefixLen result.length bytes.new }
 {
     let mut length = 0;
     while length < bytes.len() {
-        let got = libc::read(file, &mut bytes[length..]);
-        if got < 0 {
-            return FileRead {
-                failed: true,
-                length,
-            };
+        match file.read(&mut bytes[length..]) {
+            Err(_) => {
+                return FileRead {
+                    failed: true,
+                    length,
+                };
+            }
+            Ok(0) => {
+                return FileRead {
+                    failed: false,
+                    length,
+                };
+            }
+            Ok(more) => length += more,
         }
-        let more = io::count(got, &bytes[length..]);
-        if more == 0 {
-            return FileRead {
-                failed: false,
-                length,
-            };
-        }
-        length += more;
     }
     FileRead {
         failed: false,
@@ -80,26 +87,28 @@ fn read_file(file: i32, bytes: &mut [u8]) -> FileRead
     }
 }
 
-fn add_file(tally: Tally, file: i32) -> Tally {
+fn add_file(tally: Tally, mut file: File) -> Tally {
     // One byte more than a bundle has, so that a longer file shows.
     let mut bytes = [0u8; common::MAX_BYTES + 1];
-    let reading = read_file(file, &mut bytes);
+    let reading = read_file(&mut file, &mut bytes);
     let length = reading.length;
     tally.add(reading.failed, &bytes[..length])
 }
 
-fn add_all(files: [i32; tallies::MAX_FILES], count: usize) -> Tally {
+fn add_opened(tally: Tally, file: Option<File>) -> Tally {
+    match file {
+        Some(file) => add_file(tally, file),
+        None => tally,
+    }
+}
+
+fn add_all(mut files: [Option<File>; tallies::MAX_FILES], count: usize) -> Tally {
     let mut tally = Tally::new();
-    let mut k = 0;
-    while k < tallies::MAX_FILES {
+    for k in 0..tallies::MAX_FILES {
         if count <= k {
             return tally;
         }
-        let file = files[k];
-        let next = add_file(tally, file);
-        tally = next;
-        libc::close(file);
-        k += 1;
+        tally = add_opened(tally, files[k].take());
     }
     tally
 }
@@ -113,19 +122,17 @@ fn print_line(first: u64, second: u64) {
 
 fn print_tally(tally: Tally) {
     io::write_all(1, b"rule uses\n");
-    let mut k = 0;
-    while k < tallies::LINES {
+    for k in 0..tallies::LINES {
         let line = tally.line(k);
         print_line(line.rule as u64, line.count);
-        k += 1;
     }
 }
 
 // Prints the tally of the bundles in the files that the list names: under the heading `rule uses` a line for each rule
 // from 1 up, and a last line with 0 and the total; of a list that is refused, `17 LINE` alone. No contract can speak
 // of what is opened, read or printed; the numbers are those of crate tallies.
-pub fn print_list(list: &[u8]) {
-    let all = open_all(list);
+pub fn print_list(rt: &impl Files<File = File>, list: &[u8]) {
+    let all = open_all(rt, list);
     let opened = all.opened;
     let answer = tallies::judge_list(list, &opened);
     let number = answer.number();

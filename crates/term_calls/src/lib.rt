@@ -1,4 +1,6 @@
 // Term calls on lent rows: their answers, and the row that is put after the others.
+#![tactic(auto)]
+
 ghost use Rattle.std.specs.Prelude.{◌≡◌, ◌*◌, ◌≤◌, length};
 ghost use Rattle.terms.specs.Row.{table_of, row_width, max_rows, find};
 ghost use Rattle.terms.specs.Nesting.{nesting};

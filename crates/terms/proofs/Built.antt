@@ -101,7 +101,8 @@ built_row {rs} b i h =
     }
 
 -- the term of a row depends on the terms of its operands alone
-module _ (ts us : List Term) (rs : List Row) (i : ℕ) (same : (j : ℕ) → j < i → get_or ts j no_term ≡ get_or us j no_term)
+module _ (ts us : List Term) (rs : List Row) (i : ℕ)
+    (same : (j : ℕ) → j < i → get_or ts j no_term ≡ get_or us j no_term)
     (x y z : ℕ) where
   term_same : {k : ℕ} → Kind k → FieldLaw rs i (fields_of k).a x y → FieldLaw rs i (fields_of k).b y y →
       term_by ts (row k x y z) ≡ term_by us (row k x y z)
@@ -130,7 +131,8 @@ built_term {rs} b i h =
 
 pub built_kind : {rs : List Row} → Built rs → (i : ℕ) → i < length rs → kind_of (term_at rs i) ≡ (row_at rs i).kind
 built_kind {rs} b i h =
-    ap kind_of (term_at_lem rs i) ∙ term_kind_lem (terms (take i rs)) _ _ _ (kind_of_lem (row_at rs i).kind (built_row b i h).kind)
+    ap kind_of (term_at_lem rs i) ∙ term_kind_lem (terms (take i rs)) _ _ _
+    (kind_of_lem (row_at rs i).kind (built_row b i h).kind)
 
 -- where no two earlier rows have the same term, rows with the same term have the same fields
 module _ (rs : List Row) (i j : ℕ) (distinct : (m n : ℕ) → m < i → n < j → term_at rs m ≡ term_at rs n → m ≡ n) where

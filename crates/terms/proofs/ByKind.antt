@@ -114,7 +114,8 @@ kinds_in_use = 11 ∷ 10 ∷ 9 ∷ 8 ∷ 5 ∷ 4 ∷ 3 ∷ 2 ∷ []
 
 pub fields_rest : (k : ℕ) → NoneOf k kinds_in_use → fields_of k ≡ no_fields
 unfolding fields_of
-fields_rest k n = ⊎_elim (λ h. by (kind_of_lem k h) n) (λ (h : max_kind < k). rw get_or-eq_default) (le_or_lt k max_kind)
+fields_rest k n = ⊎_elim (λ h. by (kind_of_lem k h) n) (λ (h : max_kind < k). rw get_or-eq_default)
+    (le_or_lt k max_kind)
   where
     by : {j : ℕ} → Kind j → NoneOf j kinds_in_use → fields_of j ≡ no_fields
     by void_kind m = refl

@@ -64,7 +64,8 @@ module _ {X : Type 0} (f : List X → Row → X) where
       ∙ ap (λ (l : List X). get_or l i d)
       (sym (entries_take (suc i) rs) ∙ ap (entries_from f []) (take-suc rs i no_row h)
       ∙ entries_snoc (take i rs) (row_at rs i))
-      ∙ get_or_at (entries_from f [] (take i rs)) _ [] d i (length_entries (take i rs) ∙ length-take-le i rs (omega arith))
+      ∙ get_or_at (entries_from f [] (take i rs)) _ [] d i
+      (length_entries (take i rs) ∙ length-take-le i rs (omega arith))
 
   pub entry_past : (d : X) (rs : List Row) (i : ℕ) → length rs ≤ i → get_or (entries_from f [] rs) i d ≡ d
   entry_past d rs i h = get_or-eq_default (entries_from f [] rs) d (omega (arith, length_entries rs))

@@ -41,8 +41,10 @@ term_stays rs ss i h =
 
 -- rows of kind 0 to 5 are paths, of kind 6 to 11 qualifiers
 pub path_term : (rs : List Row) (i : ℕ) → (row_at rs i).kind ≤ 5 → term_at rs i ≡ of_path (path_at rs i)
-path_term rs i h = rw (term_at_lem rs i) (term_path (terms (take i rs)) _ _ _ (kind_of_lem (row_at rs i).kind (omega arith)) h)
+path_term rs i h = rw (term_at_lem rs i)
+    (term_path (terms (take i rs)) _ _ _ (kind_of_lem (row_at rs i).kind (omega arith)) h)
 
 pub qualifier_term : (rs : List Row) (i : ℕ) → 6 ≤ (row_at rs i).kind → (row_at rs i).kind ≤ max_kind →
     term_at rs i ≡ of_qualifier (qualifier_at rs i)
-qualifier_term rs i g h = rw (term_at_lem rs i) (term_qualifier (terms (take i rs)) _ _ _ (kind_of_lem (row_at rs i).kind h) g)
+qualifier_term rs i g h = rw (term_at_lem rs i)
+    (term_qualifier (terms (take i rs)) _ _ _ (kind_of_lem (row_at rs i).kind h) g)

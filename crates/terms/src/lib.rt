@@ -1,5 +1,7 @@
 // Tables of rows lent as 16-bit numbers, four a row: what the fields of a row must be, its nesting, the search for an
 // equal row, and the putting of a row. An incomplete last row is no row. Notes of what a search found of rows.
+#![tactic(auto)]
+
 mod kept;
 
 ghost use Rattle.std.specs.Prelude.{◌≡◌, cond, leb, eqb, suc, ◌+◌, ◌*◌, ◌≤◌, ◌<◌, length, get_or, set, take};
@@ -28,7 +30,7 @@ const FIRST_QUALIFIER: u16 = row_kind::TRUE;
 
 pub const MAX_KIND: u16 = row_kind::INCLUSION;
 
-#[derive(Drop)]
+#[derive(Clone, Copy)]
 pub struct Row {
     pub kind: u16,
     pub a: u16,

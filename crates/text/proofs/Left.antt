@@ -5,7 +5,7 @@ use mathlib.Core.List.{List, [], ◌∷◌, ◌++◌}
 use native.Mathlib.Omega.{arith}
 use lib.ListN.{length, take, drop, length-append, take-append-drop}
 use lib.Seq.{sets, sets-eq, length-take-le, drop_at}
-use Rattle.common.specs.Lists.{joined as numbers_of_lem}
+use Rattle.common.specs.Lists.{joined as numbers_of}
 use Rattle.terms.specs.Row.{Row, table_of, rows_numbers, table_with}
 use Rattle.readings.specs.code.Build.{row_width, row_numbers, Sized, Beyond}
 use Rattle.text.specs.Promises.{held_rows}
@@ -13,28 +13,29 @@ use Rattle.readings.proofs.Built.{table_count}
 
 -- whole rows are their numbers
 numbers_of_lem : (k : ℕ) (zs : List ℕ) → length zs ≡ 4 * k → rows_numbers (table_of zs) ≡ zs
-unfolding table_of numbers_of_lem
+unfolding table_of numbers_of
 numbers_of_lem zero [] e = refl
 numbers_of_lem zero (k ∷ zs) e = absurd (omega arith)
 numbers_of_lem (suc n) [] e = absurd (omega arith)
 numbers_of_lem (suc n) (k ∷ []) e = absurd (omega arith)
 numbers_of_lem (suc n) (k ∷ x ∷ []) e = absurd (omega arith)
 numbers_of_lem (suc n) (k ∷ x ∷ y ∷ []) e = absurd (omega arith)
-numbers_of_lem (suc n) (k ∷ x ∷ y ∷ z ∷ zs) e = ap (λ (q : List ℕ). k ∷ x ∷ y ∷ z ∷ q) (numbers_of_lem n zs (omega arith))
+numbers_of_lem (suc n) (k ∷ x ∷ y ∷ z ∷ zs) e =
+    ap (λ (q : List ℕ). k ∷ x ∷ y ∷ z ∷ q) (numbers_of_lem n zs (omega arith))
 
 numbers_append : (rs ss : List Row) → rows_numbers (rs ++ ss) ≡ rows_numbers rs ++ rows_numbers ss
-unfolding numbers_of_lem
+unfolding numbers_of
 numbers_append [] ss = refl
 numbers_append (r ∷ rs) ss = ap (λ (q : List ℕ). row_numbers r ++ q) (numbers_append rs ss)
 
 pub numbers_length_lem : (rs : List Row) → length (rows_numbers rs) ≡ 4 * length rs
-unfolding numbers_of_lem
+unfolding numbers_of
 numbers_length_lem [] = refl
 numbers_length_lem (r ∷ rs) = let h = numbers_length_lem rs in omega arith
 
 -- and back
 pub rows_of : (rs : List Row) → table_of (rows_numbers rs) ≡ rs
-unfolding table_of numbers_of_lem
+unfolding table_of numbers_of
 rows_of [] = refl
 rows_of (r ∷ rs) = ap (λ (q : List Row). r ∷ q) (rows_of rs)
 
@@ -52,7 +53,8 @@ left_table xs ys n k ss new z w e f b =
     let room : i + length numbers ≤ length xs = omega (arith, numbers_length_lem new, count, w.bound, z.size) in
     let end : i + length numbers ≡ row_width * k = omega (arith, numbers_length_lem new, count) in
     let front : take (row_width * k) ys ≡ take i xs ++ numbers =
-    sym (numbers_of_lem k (take (row_width * k) ys) (length-take-le (row_width * k) ys (omega (arith, w.size, w.bound))))
+    sym (numbers_of_lem k (take (row_width * k) ys)
+    (length-take-le (row_width * k) ys (omega (arith, w.size, w.bound))))
     ∙ ap rows_numbers (e ∙ f) ∙ numbers_append held new
     ∙ ap (λ (q : List ℕ). q ++ numbers)
     (numbers_of_lem n (take i xs) (length-take-le i xs (omega (arith, z.size, z.bound)))) in

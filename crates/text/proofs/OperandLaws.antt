@@ -20,7 +20,8 @@ use Rattle.grammar.specs.Denotes.{unary_of, union_of, or_of, constant_of, unary_
 use Rattle.grammar.specs.Denotes.{put_path, put_qual, nest_path, nest_qual}
 use Rattle.grammar.specs.code.Reader.{State, need, after, const_open, closed, inside, Open, bracket, negate, grouped}
 use Rattle.grammar.specs.code.Reader.{first, begin, Pend, step, finish, follow, run, outcome, bad, room}
-use Rattle.grammar.specs.code.Reader.{room_of, enter, shut, need_byte, lead_byte, group_byte, after_byte, paren_byte_next}
+use Rattle.grammar.specs.code.Reader.{room_of, enter, shut, need_byte, lead_byte, group_byte, after_byte}
+use Rattle.grammar.specs.code.Reader.{paren_byte_next}
 use Rattle.grammar.specs.code.Reader.{call_byte, union_byte, unary_byte}
 use Rattle.grammar.proofs.Basics.{eq_byte}
 use Rattle.readings.specs.declared.Reading.{Reading}

@@ -19,7 +19,8 @@ use Rattle.grammar.specs.Denotes.{Named, every_below, step_of, rel_of, rel_after
 use Rattle.grammar.specs.Denotes.{rel_names, path_names, union_names, unlisted, put_path, nest_path}
 use Rattle.grammar.specs.code.Reader.{need, root1, slash1, after, Ctx, top, inside, Open, bracket, negate}
 use Rattle.grammar.specs.code.Reader.{grouped, Pend, Alt, first, more, Lead, start, after1, after2, begin, Prefix}
-use Rattle.grammar.specs.code.Reader.{bare, at_root, at_any, prefix_of, join, with_prefix, path_to, join_alt, step, follow}
+use Rattle.grammar.specs.code.Reader.{bare, at_root, at_any, prefix_of, join, with_prefix, path_to, join_alt}
+use Rattle.grammar.specs.code.Reader.{step, follow}
 use Rattle.grammar.specs.code.Reader.{finish, run, room, shut, need_byte, lead_byte, lead_end, group_byte}
 use Rattle.grammar.specs.code.Reader.{after_byte, path_byte, union_byte, unary_byte, at_top}
 use Rattle.grammar.proofs.Basics.{eq_byte}
@@ -310,7 +311,8 @@ module _ (s list : Bytes) (left : ℕ) (xs : List ℕ) (x : Reading) (to : ℕ) 
       (p : PutMet (row 1 0 0 0) 1 xs (moved_to x to) ys y) (m : Grown below_of (λ n. suc (max n 1)) ys y zs z)
       (v : Passed is_space s (to + 1 + 1) end) where
     pub leads_any : Leads s list left xs x zs (moved_to z end)
-    unfolding path_of rel_after path_names rel_names spell_path spell_rel prefix_of join with_prefix is_begin put_path nest_path
+    unfolding path_of rel_after path_names rel_names spell_path spell_rel prefix_of join with_prefix is_begin
+        put_path nest_path
         unlisted step lead_byte lead_end
     leads_any =
         let at : x.at + length (q.bytes ++ (47 ∷ 47 ∷ [])) ≡ to + 2 =
@@ -508,7 +510,8 @@ path_more s list left xs x ys y zs z us u vs v ok b p m j got =
     path_joined s list left xs x zs z us u vs v l m j
 
 -- a path ends where no `/` follows
-after_path_lem : (t : Bytes) (c : Ctx) (g : Alt) (l : Lead) (x : LocationStep) (w : Bytes) → is_space (get_or t 0 0) ≡ false
+after_path_lem : (t : Bytes) (c : Ctx) (g : Alt) (l : Lead) (x : LocationStep) (w : Bytes)
+    → is_space (get_or t 0 0) ≡ false
     → eqb (get_or t 0 0) 47 ≡ false → only_in_step (get_or t 0 0) ≡ false
     → run t (after c g l x w) ≡ after_path c g (path_to l x) w t
 unfolding run finish step after_byte after_path only_in_step

@@ -1,6 +1,8 @@
 // Reads a selector typed as text and puts the rows of its term into a lent table. The readers go from left to right,
 // one byte at a time; each takes where the reading stands and gives where it stands afterwards. A refused reading
 // leaves rows of no use in the table that it works on, which is a copy.
+#![tactic(auto)]
+
 ghost use Rattle.std.specs.Prelude.{◌≡◌, true, false, min, ◌≤◌, length};
 ghost use Rattle.terms.specs.Row.{max_rows};
 ghost use Rattle.grammar.specs.Bytes.{is_space, open_bracket};
@@ -40,7 +42,7 @@ struct TextEnd {
 }
 
 // The answer, and the table afterwards, of which the first rows are held, as many as `count` says.
-#[derive(Drop)]
+#[derive(Clone, Copy)]
 pub struct TextResult {
     pub number: u16,
     pub value: usize,

@@ -198,7 +198,8 @@ pub record RegisterTheorems : Type 0 where
       → e ≡ current (records_in r.records) series
   -- the office's listing has all records, a crew's the released ones, and so with a crew's current edition
   pub listing : (r : Register) (l : Records) → register.Listing r l → l ≡ listed (records_in r.records)
-  pub crew_listing_lem : (r : Register) (l : Records) → register.CrewListing r l → l ≡ listed (crew_listing (released_in r))
+  pub crew_listing_lem : (r : Register) (l : Records) → register.CrewListing r l → l
+      ≡ listed (crew_listing (released_in r))
   pub crew_current_lem : (r : Register) (series e : ℕ) → register.CrewCurrent r series e
       → e ≡ crew_current (released_in r) series
   -- select, replace, order, bundle order and write are those of the register's session

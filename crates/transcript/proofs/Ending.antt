@@ -15,7 +15,8 @@ use Rattle.transcript.specs.declared.Style.{Style}
 use Rattle.transcript.specs.Transcript.{word_taken, is_taken, ending_line}
 
 by_first_line : (style : Style) (n : ℕ) (ls : List Line) → ¬ (ls ≡ [])
-    → ending_line style n ls ≡ cond (is_taken style (first_parts command_of ls)) (ending_line style (n + 1) (drop 1 ls)) n
+    → ending_line style n ls ≡ cond (is_taken style (first_parts command_of ls))
+    (ending_line style (n + 1) (drop 1 ls)) n
 unfolding ending_line first_parts
 by_first_line style n [] full = absurd (full refl)
 by_first_line style n (l ∷ ls) full = refl

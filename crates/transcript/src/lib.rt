@@ -1,4 +1,6 @@
 // Makes the calls of a script on a register, a call a line, and prints the answers in one of two styles.
+#![tactic(auto)]
+
 ghost use Rattle.std.specs.Prelude.{◌≡◌, length};
 ghost use Rattle.lines.specs.Line.{lines};
 ghost use Rattle.script.specs.Command.{max_marks, max_room};
@@ -22,14 +24,14 @@ const LINE: usize = 8192;
 // is no call. Other and what is lent print nothing. `Nodes`: the marked nodes of each accepted select, and `refused
 // NUMBER VALUE` for what is refused; `fresh` starts a new register, and `write`, `other`, `order`, `bundle-order` and
 // the listings are no calls.
-#[derive(Drop)]
+#[derive(Clone, Copy)]
 pub enum Style {
     Answers,
     Nodes,
 }
 
 // The numbers of a line: the first `count`.
-#[derive(Drop)]
+#[derive(Clone, Copy)]
 struct NumberList {
     numbers: [u16; script_words::MAX_NUMBERS],
     count: usize,
@@ -37,7 +39,7 @@ struct NumberList {
 
 // What later calls are lent: the document, the old rows and the new rows; the names stand in the script, in the line at
 // `names`.
-#[derive(Drop)]
+#[derive(Clone, Copy)]
 struct Lent {
     document: NumberList,
     old: NumberList,

@@ -9,7 +9,7 @@ use lib.Dec.{eqb}
 use lib.ListN.{length, get_or, set, take, drop, length-set, drop_of_length-le}
 use lib.Seq.{drop-cons, drop-drop, get_or-take, get_or-set_same, get_or-set_other, length-take-le}
 use Rattle.common.proofs.Reflect.{le_or_lt}
-use Rattle.lines.specs.Line.{Line, lines, same_bytes_lem}
+use Rattle.lines.specs.Line.{Line, lines, same_bytes}
 use Rattle.grammar.specs.Bytes.{Bytes, is_word}
 use Rattle.grammar.specs.Words.{find, next, bytes_of, number_of}
 use Rattle.lines.proofs.SameBytes.{same_bytes_lem}
@@ -209,7 +209,7 @@ module _ (list : Bytes) (xs : List ℕ) (n : Bytes) (x : Indexed list xs) where
         go false q = q
         go true q =
             let s = same_bytes_lem n (line_of t)
-            (sym (first_line n (lines t) w ∙ ap (λ (u : Bytes). same_bytes_lem n u) (first_bytes_lem t)) ∙ q) in
+            (sym (first_line n (lines t) w ∙ ap (λ (u : Bytes). same_bytes n u) (first_bytes_lem t)) ∙ q) in
             absurd (h (x.index.signatures k inside ∙ ap (signature_of 0) (sym s) ∙ sym e))
 
 -- search_index

@@ -175,7 +175,8 @@ module _ (list n : Bytes) where
         go false e =
             let z : k + 0 ≡ k = omega arith in
             rw z (g ∙ ap (λ (ls : List Line). numbered_from (suc k) (next (find n (bytes_of ls))))
-            (ap (λ (t : Bytes). drop 1 (lines t)) (cons_at i h) ∙ after_byte_lem (byte_at list i) (drop (i + 1) list) e))
+            (ap (λ (t : Bytes). drop 1 (lines t)) (cons_at i h)
+            ∙ after_byte_lem (byte_at list i) (drop (i + 1) list) e))
         go true e =
             let rest = find n (bytes_of (drop 1 (lines (drop (i + 1) list)))) in
             let z : suc k + 1 ≡ suc (k + 1) = omega arith in

@@ -1,4 +1,6 @@
 // Bytes and words of a selector, words with their numbers, and the numbers that a lent list gives to names.
+#![tactic(auto)]
+
 pub mod bytes;
 pub mod index;
 pub mod list;

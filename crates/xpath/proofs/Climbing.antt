@@ -107,7 +107,8 @@ unfolding climb_met above
 met_on d x y h l =
     rw (lt-ltb x y h, takes_on d x y h l, ← above_parent d (parents_taken d x (parent_at d y)) y)
     (⊎_elim
-    (λ g. rw (takes_none d x (parent_at d y) (inl g), le-ltb x (parent_at d y) g) (sym (or-false (eqb (parent_at d y) x))))
+    (λ g. rw (takes_none d x (parent_at d y) (inl g), le-ltb x (parent_at d y) g)
+    (sym (or-false (eqb (parent_at d y) x))))
     (λ g. rw (lt-ltb x (parent_at d y) g, ne_eqb (parent_at d y) x (λ e. omega arith)))
     (le_or_lt (parent_at d y) x))
 
@@ -160,7 +161,8 @@ pub answers_alike : AnswersAlike
 answers_alike d w x y l = alike_below d (length d) (parent_smaller d w) x y l
 
 -- after sound rows, both climbs judge the next row alike
-row_alike : (d : Document) (n : ℕ) → ((k : ℕ) → k < n → T (row_ok d k)) → row_ok_by climb_met d n ≡ row_ok_by is_ancestor d n
+row_alike : (d : Document) (n : ℕ) → ((k : ℕ) → k < n → T (row_ok d k)) → row_ok_by climb_met d n
+    ≡ row_ok_by is_ancestor d n
 row_alike d zero ok = refl
 row_alike d (suc n) ok =
     rw (alike_below d (suc n) (parents_smaller d (suc n) ok) (parent_at d (suc n)) n (omega arith))

@@ -37,7 +37,8 @@ row_lent : (xs : List ℕ) (n : ℕ) →
     get_or (document_of xs) n root_node ≡ cond (ltb n (length xs / 3)) (lent_node xs n) root_node
 row_lent xs n = by_test (ltb n (length xs / 3)) refl
   where
-    by_test : (b : Bool) → ltb n (length xs / 3) ≡ b → get_or (document_of xs) n root_node ≡ cond b (lent_node xs n) root_node
+    by_test : (b : Bool) → ltb n (length xs / 3) ≡ b → get_or (document_of xs) n root_node
+        ≡ cond b (lent_node xs n) root_node
     by_test true e = whole_row xs n (ltb-true n (length xs / 3) e)
     by_test false e = get_or-eq_default (document_of xs) root_node (rw nodes_lent (ltb-false n (length xs / 3) e))
 

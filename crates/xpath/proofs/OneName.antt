@@ -51,7 +51,8 @@ step_same_elsewhere m d e s a t c x y n = rw (s.size, axis_same m d e s a x y, p
 module _ (m : ℕ) (xs ys : List ℕ) (s : LentSameButName m xs ys) where
   -- the number at a place of row y, which is not that of the name of row m
   lent_same : (y j : ℕ) → ¬ (3 * y + j ≡ 3 * m + 2)
-      → cond (ltb y (length xs / 3)) (get_or xs (3 * y + j) 0) 0 ≡ cond (ltb y (length ys / 3)) (get_or ys (3 * y + j) 0) 0
+      → cond (ltb y (length xs / 3)) (get_or xs (3 * y + j) 0) 0
+      ≡ cond (ltb y (length ys / 3)) (get_or ys (3 * y + j) 0) 0
   lent_same y j n = rw (s.size, s.numbers (3 * y + j) n)
 
 pub lent_documents : LentDocuments

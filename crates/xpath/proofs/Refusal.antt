@@ -39,7 +39,8 @@ module _ (xs : List ℕ) where
   sound_row n l t = rw (le-ltb (length xs) (3 * n + 3) l, (true_iff (row_ok (document_of xs) n)).0 t)
 
   accepted_is : document_refusal xs ≡ none →
-      (length xs ≡ 3 * length (document_of xs)) × (length (document_of xs) ≤ max_nodes) × T (well_formed (document_of xs))
+      (length xs ≡ 3 * length (document_of xs)) × (length (document_of xs) ≤ max_nodes)
+      × T (well_formed (document_of xs))
   unfolding document_refusal bad_row well_formed lent_rows
   accepted_is e =
       let r = no_refusal (eqb (lent_rows xs) 0) (ltb max_nodes (lent_rows xs)) 0 max_nodes

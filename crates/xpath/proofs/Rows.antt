@@ -10,7 +10,8 @@ use lib.Dec.{leb, ltb}
 use lib.ListN.{length, length-set}
 use borrow.Author.Tests.{eq-eqb, ne_eqb, lt-ltb, le-ltb}
 use Rattle.common.specs.Bounded.{first_below}
-use Rattle.xpath.specs.Document.{Document, kind_at, parent_at, name_at, is_attribute, attribute_placed, kind_and_name_ok}
+use Rattle.xpath.specs.Document.{Document, kind_at, parent_at, name_at, is_attribute, attribute_placed}
+use Rattle.xpath.specs.Document.{kind_and_name_ok}
 use Rattle.xpath.specs.Document.{row_ok_by, document_of, lent_rows, bad_row_by, max_nodes, document_refusal}
 use Rattle.xpath.specs.Climb.{above, climb_met}
 use Rattle.xpath.specs.code.Ends.{Filled}

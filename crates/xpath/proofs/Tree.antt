@@ -80,13 +80,14 @@ ancestor_smaller_below {d} {n} {x} {y} f l (above_parent h a) =
 -- the climb meets every ancestor, if it may take enough parents
 yes_climb : {d : Document} {m x y : ℕ} → ParentsSmaller d m → y < m → (n : ℕ) → y ≤ n → Ancestor d x y →
     T (climb_meets n d x y)
-unfolding climb_meets
+unfolding climb_meets parent_at
 yes_climb f l zero h (parent_is p e) = omega arith
 yes_climb {d} {m} {x} {y} f l (suc n) h (parent_is p e) = yes_or (is_child d x y) _ (inl (yes_child d x y (p, e)))
 yes_climb f l zero h (above_parent p a) = omega arith
 yes_climb {d} {m} {x} {y} f l (suc n) h (above_parent p a) =
     let q : parent_at d y < y = f y l p in
-    let t : T (climb_meets n d x (parent_at d y)) = yes_climb {m = m} f (omega arith) n (omega arith) a in
+    let t : T (climb_meets n d x (parent_at d y)) =
+    yes_climb {m = m} {y = parent_at d y} f (omega arith) n (omega arith) a in
     yes_or (is_child d x y) _ (inr (yes_and (not (eqb y 0)) _ (no_eqb {a = y} {b = 0} (λ e. omega arith)) t))
 
 -- what is asked of row n + 1: its parent is row n or an ancestor of it, and is the root or an element; it is no root

@@ -1,5 +1,6 @@
 -- Documents: rows `kind parent name` in document order. Assumes nothing.
-use Rattle.std.specs.Prelude.{ℕ, zero, suc, ◌+◌, ◌-◌, ◌*◌, ◌/◌, Bool, false, not, cond, ◌&&◌, ◌||◌, List, [], ◌∷◌, leb, ltb, eqb, length, get_or}
+use Rattle.std.specs.Prelude.{ℕ, zero, suc, ◌+◌, ◌-◌, ◌*◌, ◌/◌, Bool, false, not, cond, ◌&&◌, ◌||◌, List, [], ◌∷◌}
+use Rattle.std.specs.Prelude.{leb, ltb, eqb, length, get_or}
 use Rattle.std.proofs.Math.Option.{Option, some}
 use Rattle.common.specs.Bounded.{all_below, first_below}
 use Rattle.common.specs.Limits.{max_number}

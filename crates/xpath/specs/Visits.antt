@@ -14,7 +14,8 @@ unfoldable mutual
   visits d Root x = 1
   visits d (AxisStep a t c) x = 1
   visits d (Union p q) x = 1 + (visits d p x + visits d q x)
-  visits d (Composition p q) x = 1 + (visits d p x + sum_below (length d) (λ z. cond (selects d p x z) (visits d q z) 0))
+  visits d (Composition p q) x = 1 +
+      (visits d p x + sum_below (length d) (λ z. cond (selects d p x z) (visits d q z) 0))
   visits d (Filter p f) x =
       1 + (visits d p x + sum_below (length d) (λ z. cond (selects d p x z) (qualifier_visits d f z) 0))
 

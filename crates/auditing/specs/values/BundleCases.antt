@@ -19,7 +19,8 @@ use Rattle.lines.specs.Number.{is_digit, are_digits, is_decimal, append_digits, 
 use Rattle.auditing.specs.declared.Report.{Report}
 use Rattle.calls.specs.Book.{answer}
 use Rattle.calls.specs.TermCall.{term_answer}
-use Rattle.calls.specs.StepCall.{same_sort, bad_side_of, premise_ok, bad_premise_of, claim_of, premises_of, step_answer_by, is_yielded}
+use Rattle.calls.specs.StepCall.{same_sort, bad_side_of, premise_ok, bad_premise_of, claim_of, premises_of}
+use Rattle.calls.specs.StepCall.{step_answer_by, is_yielded}
 use Rattle.calls.specs.StepCall.{step_answer}
 use Rattle.calls.specs.code.Tables.{steps_of}
 use Rattle.session.specs.View.{view, fresh_session, with_row, with_step}
@@ -121,7 +122,8 @@ unfolding ascii report reading lines_read rows_read steps_read row_names step_na
     in_first_line parts in_first_part same_bytes is_line numbers_of numbers_up_to is_decimal are_digits is_digit
     append_digits Option-elim view table_of steps_of fresh_session with_row with_step term_answer bad_place fields_of
     field_ok held_path held_qualifier is_path is_qualifier nesting nestings entries_from nesting_by operand_nesting
-    find same_row step_answer step_answer_by same_sort bad_side_of premise_ok bad_premise_of claim_of premises_of is_yielded
+    find same_row step_answer step_answer_by same_sort bad_side_of premise_ok bad_premise_of claim_of premises_of
+    is_yielded
     says term_at terms term_by as_path as_qualifier premise_count first_count forms_of forms_in rules decide
     yields_dec rule_fits
 reports = refl
@@ -138,11 +140,13 @@ readings :
     ((reading (ascii (rows ++ "12 0 0 0\n"))).session is fresh_session
     ∷ (reading (ascii (example ++ "8 1 0 0 0\n"))).session is fresh_session
     ∷ [])
-unfolding ascii reading lines_read rows_read steps_read row_names step_names row_of_line step_of_line lines in_first_line
+unfolding ascii reading lines_read rows_read steps_read row_names step_names row_of_line step_of_line lines
+    in_first_line
     parts in_first_part same_bytes is_line numbers_of numbers_up_to is_decimal are_digits is_digit append_digits
     Option-elim view table_of steps_of fresh_session with_row with_step term_answer bad_place fields_of field_ok
     held_path held_qualifier is_path is_qualifier nesting nestings entries_from nesting_by operand_nesting find
-    same_row step_answer step_answer_by same_sort bad_side_of premise_ok bad_premise_of claim_of premises_of is_yielded says
+    same_row step_answer step_answer_by same_sort bad_side_of premise_ok bad_premise_of claim_of premises_of
+    is_yielded says
     term_at terms term_by as_path as_qualifier premise_count first_count forms_of forms_in rules decide yields_dec
     rule_fits
 readings = (refl, refl)

@@ -37,7 +37,8 @@ numbers_length (n ∷ ns) = length (decimal n) + 1 + numbers_length ns
 
 -- the bundle of the numbers of rows and of steps
 unfoldable pub tables_text : (xs ys : List ℕ) → List ℕ
-tables_text xs ys = row_names ++ newline ∷ (lines_text row_width xs ++ (step_names ++ newline ∷ lines_text step_width ys))
+tables_text xs ys = row_names ++ newline ∷
+    (lines_text row_width xs ++ (step_names ++ newline ∷ lines_text step_width ys))
 
 -- that of the first n rows and the first m steps of two tables
 abbrev pub held_text : (n : ℕ) → List ℕ → (m : ℕ) → List ℕ → List ℕ

@@ -4,7 +4,8 @@ use Rattle.std.proofs.Math.Bool.{decide}
 use Rattle.std.proofs.Math.Option.{Option-elim}
 use Rattle.common.specs.Bounded.{first_below}
 use Rattle.common.specs.values.Expected.{◌is◌, AllRight}
-use Rattle.xpath.specs.Document.{kind_at, parent_at, name_at, is_child, climb_meets, is_ancestor, kind_and_name_ok, row_ok}
+use Rattle.xpath.specs.Document.{kind_at, parent_at, name_at, is_child, climb_meets, is_ancestor, kind_and_name_ok}
+use Rattle.xpath.specs.Document.{row_ok}
 use Rattle.xpath.specs.Document.{root_node, document_of, lent_rows, bad_row, document_refusal}
 use Rattle.xpath.specs.values.DocumentCases.{lent, texts}
 use Rattle.xpath.specs.Axis.{on_axis, passes}
@@ -305,11 +306,15 @@ record SelectSeen : Type 0 where
 -- a call of a row on lent numbers from node x; to unfold it is to unfold all that it computes with
 unfoldable select_seen : (row : ℕ) → List ℕ → (x limit : ℕ) → List ℕ → SelectSeen
 unfolding
-    select_answer Option-elim document_refusal lent_rows bad_row first_below document_of row_ok kind_and_name_ok kind_at parent_at
+    select_answer Option-elim document_refusal lent_rows bad_row first_below document_of row_ok kind_and_name_ok kind_at
+    parent_at
     name_at is_child climb_meets is_ancestor held_path is_path term_at terms entries_from term_by as_path visits
     select_buffer written selects on_axis passes
 select_seen row xs x limit bytes =
-    record { answer = select_answer held row xs x limit (length bytes); bytes = select_buffer held row xs x limit bytes }
+    record {
+      answer = select_answer held row xs x limit (length bytes);
+      bytes = select_buffer held row xs x limit bytes;
+    }
 
 -- the log document from node x with a buffer of n bytes, each 7
 abbrev on_log : (row x limit n : ℕ) → SelectSeen

@@ -3,7 +3,8 @@ use Rattle.std.specs.Prelude.{ℕ, ◌<◌, ◌≡◌, refl, List, [], ◌∷◌
 use Rattle.std.proofs.Math.Option.{Option-elim}
 use Rattle.std.proofs.Common.{arith}
 use Rattle.common.specs.Bounded.{any_below, sum_below, first_below}
-use Rattle.xpath.specs.Document.{kind_at, parent_at, name_at, is_child, climb_meets, is_ancestor, kind_and_name_ok, row_ok}
+use Rattle.xpath.specs.Document.{kind_at, parent_at, name_at, is_child, climb_meets, is_ancestor, kind_and_name_ok}
+use Rattle.xpath.specs.Document.{row_ok}
 use Rattle.xpath.specs.Document.{document_of, lent_rows, bad_row, document_refusal}
 use Rattle.xpath.specs.Axis.{on_axis, passes}
 use Rattle.xpath.specs.Meaning.{selects}
@@ -61,7 +62,8 @@ pub at_the_bound :
     ∷ [])
 unfolding
     select_answer Option-elim document_refusal lent_rows bad_row first_below document_of row_ok kind_and_name_ok
-    kind_at parent_at name_at is_child climb_meets is_ancestor on_axis passes selects any_below visits qualifier_visits sum_below
+    kind_at parent_at name_at is_child climb_meets is_ancestor on_axis passes selects any_below visits qualifier_visits
+    sum_below
     held_path is_path term_at terms entries_from term_by as_path as_qualifier
 at_the_bound = refl
 

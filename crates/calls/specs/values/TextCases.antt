@@ -60,14 +60,14 @@ calls_made =
     ∷ []
 
 calls_told : map told (shown plain_book empty_book (calls_in calls_made)) ≡ map (λ c. c.expected) calls_made
-unfolding told shown point_answer return_answer place_of text_answer text_reply answered term_answer bad_place fields_of field_ok
-    held_path held_qualifier is_path is_qualifier nesting nestings entries_from nesting_by operand_nesting ascii lines
-    in_first_line same_row find run outcome follow step finish need_byte after_byte path_byte union_byte unary_byte shut
-    group_byte lead_byte call_byte paren_byte_next colon_byte_next keyword_byte lead_end at_top room room_of prefix_of join with_prefix
-    join_alt wrap left_of and_to is_space is_start is_name is_quote same_bytes words.find next axes types is_some
-    instruction_word or_zero bytes_of
-    numbered number_of spell_axis spell_test spell_bool spell_step spell_rel spell_path spell_union spell_unary spell_and
-    spell_or takes_predicate unlisted test_names step_names rel_names path_names union_names unary_names and_names or_names
-    axis_of constant_of test_of step_of rel_of rel_after path_of union_of unary_of and_of or_of put put_path put_qual nest_path
-    nest_qual grammar.term_answer names_answer read_answer grammar.answer
+unfolding told shown point_answer return_answer place_of text_answer text_reply answered term_answer bad_place fields_of
+    field_ok held_path held_qualifier is_path is_qualifier nesting nestings entries_from nesting_by operand_nesting
+    ascii lines in_first_line same_row find run outcome follow step finish need_byte after_byte path_byte union_byte
+    unary_byte shut group_byte lead_byte call_byte paren_byte_next colon_byte_next keyword_byte lead_end at_top room
+    room_of prefix_of join with_prefix join_alt wrap left_of and_to is_space is_start is_name is_quote same_bytes
+    words.find next axes types is_some instruction_word or_zero bytes_of numbered number_of spell_axis spell_test
+    spell_bool spell_step spell_rel spell_path spell_union spell_unary spell_and spell_or takes_predicate unlisted
+    test_names step_names rel_names path_names union_names unary_names and_names or_names axis_of constant_of test_of
+    step_of rel_of rel_after path_of union_of unary_of and_of or_of put put_path put_qual nest_path nest_qual
+    grammar.term_answer names_answer read_answer grammar.answer
 calls_told = refl

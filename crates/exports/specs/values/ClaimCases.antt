@@ -36,7 +36,8 @@ use Rattle.grammar.specs.code.ReaderAnswer as grammar
 use Rattle.grammar.specs.code.ReaderAnswer.{names_answer, read_answer}
 use Rattle.grammar.proofs.Answered.{answered}
 use Rattle.calls.specs.TermCall.{term_answer}
-use Rattle.calls.specs.StepCall.{same_sort, bad_side_of, premise_ok, bad_premise_of, claim_of, premises_of, step_answer_by}
+use Rattle.calls.specs.StepCall.{same_sort, bad_side_of, premise_ok, bad_premise_of, claim_of, premises_of}
+use Rattle.calls.specs.StepCall.{step_answer_by}
 use Rattle.calls.specs.StepCall.{is_yielded, step_answer}
 use Rattle.calls.specs.TextCall.{text_reply, text_answer}
 use Rattle.calls.specs.code.Tables.{steps_of}
@@ -91,19 +92,27 @@ claims :
     ∷ claim one deep "*" is (2 ∷ 3 ∷ 0 ∷ [])
     ∷ claim one "a" deep is (3 ∷ 3 ∷ 0 ∷ [])
     ∷ [])
-unfolding told claim_answer old_claimed new_claimed said_answer step_saying first_below is_replaced is_held_step is_in any_of
-    with_rows table_with joined text_answer text_reply answered run outcome follow step finish need_byte after_byte path_byte
-    union_byte unary_byte shut group_byte lead_byte call_byte paren_byte_next colon_byte_next keyword_byte lead_end at_top room room_of
-    prefix_of join with_prefix join_alt wrap left_of and_to is_space is_start is_name is_quote words.find next axes types
-    is_some instruction_word or_zero bytes_of numbered number_of spell_axis spell_test spell_bool spell_step spell_rel spell_path
-    spell_union spell_unary spell_and spell_or takes_predicate unlisted test_names step_names rel_names path_names union_names
-    unary_names and_names or_names axis_of constant_of test_of step_of rel_of rel_after path_of union_of unary_of and_of or_of put
+unfolding told claim_answer old_claimed new_claimed said_answer step_saying first_below is_replaced is_held_step is_in
+    any_of
+    with_rows table_with joined text_answer text_reply answered run outcome follow step finish need_byte after_byte
+    path_byte
+    union_byte unary_byte shut group_byte lead_byte call_byte paren_byte_next colon_byte_next keyword_byte lead_end
+    at_top room room_of
+    prefix_of join with_prefix join_alt wrap left_of and_to is_space is_start is_name is_quote words.find next axes
+    types
+    is_some instruction_word or_zero bytes_of numbered number_of spell_axis spell_test spell_bool spell_step spell_rel
+    spell_path
+    spell_union spell_unary spell_and spell_or takes_predicate unlisted test_names step_names rel_names path_names
+    union_names
+    unary_names and_names or_names axis_of constant_of test_of step_of rel_of rel_after path_of union_of unary_of
+    and_of or_of put
     put_path put_qual nest_path nest_qual grammar.term_answer names_answer read_answer grammar.answer
     ascii reading lines_read rows_read steps_read row_names bundles.step_names row_of_line step_of_line lines
     in_first_line parts in_first_part same_bytes is_line numbers_of numbers_up_to is_decimal are_digits is_digit
     append_digits Option-elim view table_of steps_of fresh_session with_row with_step term_answer bad_place fields_of
     field_ok held_path held_qualifier is_path is_qualifier nesting nestings entries_from nesting_by operand_nesting
-    find same_row step_answer step_answer_by same_sort bad_side_of premise_ok bad_premise_of claim_of premises_of is_yielded
+    find same_row step_answer step_answer_by same_sort bad_side_of premise_ok bad_premise_of claim_of premises_of
+    is_yielded
     says term_at terms term_by as_path as_qualifier premise_count first_count forms_of forms_in rules decide
     yields_dec rule_fits
 claims = refl

@@ -5,7 +5,8 @@ use Rattle.std.proofs.Math.Option.{Option-elim}
 use Rattle.common.specs.Bounded.{first_below}
 use Rattle.common.specs.Lists.{joined}
 use Rattle.common.specs.values.Expected.{◌is◌, AllRight}
-use Rattle.xpath.specs.Document.{kind_at, parent_at, name_at, is_child, climb_meets, is_ancestor, kind_and_name_ok, row_ok}
+use Rattle.xpath.specs.Document.{kind_at, parent_at, name_at, is_child, climb_meets, is_ancestor, kind_and_name_ok}
+use Rattle.xpath.specs.Document.{row_ok}
 use Rattle.xpath.specs.Document.{document_of, lent_rows, bad_row, document_refusal}
 use Rattle.xpath.specs.Axis.{on_axis, passes}
 use Rattle.xpath.specs.Meaning.{selects}
@@ -67,15 +68,25 @@ selects_made :
     ∷ selected "a]" [] 0 1 buffer is (18 ∷ 1 ∷ 7 ∷ 7 ∷ 7 ∷ [])
     ∷ [])
 unfolding
-    text_select_answer text_select_buffer text-select.read_answer read_rows with_rows table_with joined text_answer text_reply
-    answered run outcome follow step finish need_byte after_byte path_byte union_byte unary_byte shut group_byte lead_byte
-    call_byte paren_byte_next colon_byte_next keyword_byte lead_end at_top room room_of prefix_of join with_prefix join_alt wrap left_of
-    and_to is_space is_start is_name is_quote same_bytes words.find next axes types is_some instruction_word or_zero bytes_of
-    numbered number_of spell_axis spell_test spell_bool spell_step spell_rel spell_path spell_union spell_unary spell_and spell_or
-    takes_predicate unlisted test_names step_names rel_names path_names union_names unary_names and_names or_names axis_of
-    constant_of test_of step_of rel_of rel_after path_of union_of unary_of and_of or_of put put_path put_qual nest_path nest_qual
-    grammar.term_answer names_answer grammar.read_answer grammar.answer ascii lines in_first_line view table_of fresh_session
-    find same_row select_answer Option-elim document_refusal lent_rows bad_row first_below document_of row_ok kind_and_name_ok
-    kind_at parent_at name_at is_child climb_meets is_ancestor held_path is_path term_at terms entries_from term_by as_path visits
+    text_select_answer text_select_buffer text-select.read_answer read_rows with_rows table_with joined text_answer
+    text_reply
+    answered run outcome follow step finish need_byte after_byte path_byte union_byte unary_byte shut group_byte
+    lead_byte
+    call_byte paren_byte_next colon_byte_next keyword_byte lead_end at_top room room_of prefix_of join with_prefix
+    join_alt wrap left_of
+    and_to is_space is_start is_name is_quote same_bytes words.find next axes types is_some instruction_word or_zero
+    bytes_of
+    numbered number_of spell_axis spell_test spell_bool spell_step spell_rel spell_path spell_union spell_unary
+    spell_and spell_or
+    takes_predicate unlisted test_names step_names rel_names path_names union_names unary_names and_names or_names
+    axis_of
+    constant_of test_of step_of rel_of rel_after path_of union_of unary_of and_of or_of put put_path put_qual
+    nest_path nest_qual
+    grammar.term_answer names_answer grammar.read_answer grammar.answer ascii lines in_first_line view table_of
+    fresh_session
+    find same_row select_answer Option-elim document_refusal lent_rows bad_row first_below document_of row_ok
+    kind_and_name_ok
+    kind_at parent_at name_at is_child climb_meets is_ancestor held_path is_path term_at terms entries_from term_by
+    as_path visits
     select_buffer written selects on_axis passes
 selects_made = refl

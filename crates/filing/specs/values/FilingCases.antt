@@ -15,12 +15,15 @@ use Rattle.lines.specs.Written.{digits_of, decimal, line_text}
 use Rattle.grammar.proofs.Answered.{answered}
 use Rattle.grammar.specs.Bytes.{is_space, is_start, is_name, is_quote}
 use Rattle.grammar.specs.Denotes.{or_names, axis_of, constant_of, test_of, step_of, rel_of, rel_after, nest_qual}
-use Rattle.grammar.specs.Denotes.{path_of, union_of, unary_of, and_of, or_of, put, put_path, put_qual, nest_path, unlisted}
+use Rattle.grammar.specs.Denotes.{path_of, union_of, unary_of, and_of, or_of, put, put_path, put_qual, nest_path}
+use Rattle.grammar.specs.Denotes.{unlisted}
 use Rattle.grammar.specs.Denotes.{test_names, step_names, rel_names, path_names, union_names, unary_names, and_names}
 use Rattle.grammar.specs.Grammar.{spell_step, spell_rel, spell_path, spell_union}
 use Rattle.grammar.specs.Grammar.{spell_unary, spell_and, spell_or, takes_predicate, spell_axis, spell_test, spell_bool}
-use Rattle.grammar.specs.code.Reader.{after_byte, path_byte, union_byte, unary_byte, shut, group_byte, lead_byte, call_byte}
-use Rattle.grammar.specs.code.Reader.{colon_byte_next, keyword_byte, lead_end, at_top, room, room_of, prefix_of, join, with_prefix}
+use Rattle.grammar.specs.code.Reader.{after_byte, path_byte, union_byte, unary_byte, shut, group_byte, lead_byte}
+use Rattle.grammar.specs.code.Reader.{call_byte}
+use Rattle.grammar.specs.code.Reader.{colon_byte_next, keyword_byte, lead_end, at_top, room, room_of, prefix_of, join}
+use Rattle.grammar.specs.code.Reader.{with_prefix}
 use Rattle.grammar.specs.code.Reader.{join_alt, wrap, left_of, and_to, run, outcome, follow, step, finish, need_byte}
 use Rattle.grammar.specs.code.Reader.{paren_byte_next}
 use Rattle.grammar.specs.code.ReaderAnswer as grammar
@@ -81,12 +84,16 @@ answers :
     ∷ answered_in 39 "" is (16 ∷ 40 ∷ [])
     ∷ answered_in 0 "term 2 1 0 0\n" is (2 ∷ 1 ∷ [])
     ∷ [])
-unfolding with_rows table_with joined text_answer text_reply answered run outcome follow step finish need_byte after_byte
-    path_byte union_byte unary_byte shut group_byte lead_byte call_byte paren_byte_next colon_byte_next keyword_byte lead_end at_top room
+unfolding with_rows table_with joined text_answer text_reply answered run outcome follow step finish need_byte
+    after_byte
+    path_byte union_byte unary_byte shut group_byte lead_byte call_byte paren_byte_next colon_byte_next keyword_byte
+    lead_end at_top room
     room_of prefix_of join with_prefix join_alt wrap left_of and_to is_space is_start is_name is_quote words.find next
     axes types is_some instruction_word or_zero bytes_of numbered number_of spell_axis spell_test spell_bool spell_step
-    spell_rel spell_path spell_union spell_unary spell_and spell_or takes_predicate unlisted test_names step_names rel_names
-    path_names union_names unary_names and_names or_names axis_of constant_of test_of step_of rel_of rel_after path_of union_of
+    spell_rel spell_path spell_union spell_unary spell_and spell_or takes_predicate unlisted test_names step_names
+    rel_names
+    path_names union_names unary_names and_names or_names axis_of constant_of test_of step_of rel_of rel_after path_of
+    union_of
     unary_of and_of or_of put put_path put_qual nest_path nest_qual grammar.term_answer names_answer read_answer
     grammar.answer ascii row_names bundles.step_names lines in_first_line parts in_first_part same_bytes numbers_up_to
     is_decimal are_digits is_digit append_digits Option-elim view table_of steps_of fresh_session with_row term_answer
@@ -106,12 +113,16 @@ bytes :
     ∷ file_buffer (ascii "term 2 1 0 1\njump\n") (replicate 48 7) is replicate 48 7
     ∷ file_buffer (ascii "term 2 1 0 1\n") (replicate 47 7) is replicate 47 7
     ∷ [])
-unfolding with_rows table_with joined text_answer text_reply answered run outcome follow step finish need_byte after_byte
-    path_byte union_byte unary_byte shut group_byte lead_byte call_byte paren_byte_next colon_byte_next keyword_byte lead_end at_top room
+unfolding with_rows table_with joined text_answer text_reply answered run outcome follow step finish need_byte
+    after_byte
+    path_byte union_byte unary_byte shut group_byte lead_byte call_byte paren_byte_next colon_byte_next keyword_byte
+    lead_end at_top room
     room_of prefix_of join with_prefix join_alt wrap left_of and_to is_space is_start is_name is_quote words.find next
     axes types is_some instruction_word or_zero bytes_of numbered number_of spell_axis spell_test spell_bool spell_step
-    spell_rel spell_path spell_union spell_unary spell_and spell_or takes_predicate unlisted test_names step_names rel_names
-    path_names union_names unary_names and_names or_names axis_of constant_of test_of step_of rel_of rel_after path_of union_of
+    spell_rel spell_path spell_union spell_unary spell_and spell_or takes_predicate unlisted test_names step_names
+    rel_names
+    path_names union_names unary_names and_names or_names axis_of constant_of test_of step_of rel_of rel_after path_of
+    union_of
     unary_of and_of or_of put put_path put_qual nest_path nest_qual grammar.term_answer names_answer read_answer
     grammar.answer ascii row_names bundles.step_names lines in_first_line parts in_first_part same_bytes numbers_up_to
     is_decimal are_digits is_digit append_digits Option-elim view table_of steps_of fresh_session with_row term_answer
@@ -129,6 +140,7 @@ actions :
     ∷ line_action [] (line (ascii "step 3 0 2 1 4") true) is some (makes (Call.step (book.step 3 0 2 1 4)))
     ∷ line_action [] (line (ascii "names  a b ") true) is some (lends (10 ∷ 97 ∷ 10 ∷ 98 ∷ 10 ∷ []))
     ∷ [])
-unfolding line_action lending rest_of names_of script.words shape_of word_for command_by named at_most numbers_up_to parts
+unfolding line_action lending rest_of names_of script.words shape_of word_for command_by named at_most numbers_up_to
+    parts
     in_first_part same_bytes Option-elim is_decimal are_digits is_digit append_digits ascii
 actions = refl

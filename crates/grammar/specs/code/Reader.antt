@@ -186,7 +186,8 @@ call_byte (inside x p) first (start bare) (axis y m z) w n v = none
 
 -- `(` after a step
 unfoldable pub paren_byte_next : Ctx → Alt → Lead → LocationStep → Bytes → Next
-paren_byte_next c g l (test a (called w n)) v = cond (is_type n) (some (type_open c g l a w n v [])) (call_byte c g l a w n v)
+paren_byte_next c g l (test a (called w n)) v = cond (is_type n) (some (type_open c g l a w n v []))
+    (call_byte c g l a w n v)
 paren_byte_next c g l (test a (any w)) v = none
 paren_byte_next c g l (test a (kind w n y u)) v = none
 paren_byte_next c g l (test a (target w y u q m z)) v = none
@@ -223,7 +224,8 @@ keyword_byte x p u w k_an b = cond (eqb b letter_d) (some (keyword x p u w k_and
 keyword_byte x p u w k_and b =
     cond (is_name b) none (need_byte (inside x (both (left_of p) (and_to p u) w)) first begin [] b)
 keyword_byte x p u w k_o b = cond (eqb b letter_r) (some (keyword x p u w k_or)) none
-keyword_byte x p u w k_or b = cond (is_name b) none (need_byte (inside x (plain (either (or_to p u) w))) first begin [] b)
+keyword_byte x p u w k_or b = cond (is_name b) none
+    (need_byte (inside x (plain (either (or_to p u) w))) first begin [] b)
 
 unfoldable pub step : State → ℕ → Next
 step (need c g l w) b = need_byte c g l w b

@@ -25,12 +25,17 @@ use Rattle.grammar.specs.code.ReaderAnswer.{term_answer, names_answer, read_answ
 -- the answer; to unfold it is to unfold all that it computes with
 unfoldable told : Bytes → Bytes → List Row → Reply
 unfolding
-    ascii lines in_first_line same_row find run outcome follow step finish need_byte after_byte path_byte union_byte unary_byte
-    shut group_byte lead_byte call_byte paren_byte_next colon_byte_next keyword_byte lead_end at_top room room_of prefix_of join with_prefix
-    join_alt wrap left_of and_to is_space is_start is_name is_quote same_bytes words.find next axes types is_some instruction_word
+    ascii lines in_first_line same_row find run outcome follow step finish need_byte after_byte path_byte union_byte
+    unary_byte
+    shut group_byte lead_byte call_byte paren_byte_next colon_byte_next keyword_byte lead_end at_top room room_of
+    prefix_of join with_prefix
+    join_alt wrap left_of and_to is_space is_start is_name is_quote same_bytes words.find next axes types is_some
+    instruction_word
     or_zero bytes_of numbered number_of takes_predicate spell_axis spell_test spell_bool spell_step spell_rel spell_path
-    spell_union spell_unary spell_and spell_or unlisted test_names step_names rel_names path_names union_names unary_names
-    and_names or_names axis_of constant_of test_of step_of rel_of rel_after path_of union_of unary_of and_of or_of put put_path
+    spell_union spell_unary spell_and spell_or unlisted test_names step_names rel_names path_names union_names
+    unary_names
+    and_names or_names axis_of constant_of test_of step_of rel_of rel_after path_of union_of unary_of and_of or_of put
+    put_path
     put_qual nest_path nest_qual term_answer names_answer read_answer answer
 told list t rs = answer list t rs
 

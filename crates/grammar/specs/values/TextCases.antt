@@ -14,7 +14,8 @@ use Rattle.grammar.specs.Words.{find, next, axes, types, is_some, instruction_wo
 use Rattle.grammar.specs.Grammar.{takes_predicate}
 use Rattle.grammar.specs.code.Reader.{Outcome, good, bad, run, initial, outcome, follow, step, finish, need_byte}
 use Rattle.grammar.specs.code.Reader.{after_byte, path_byte, union_byte, unary_byte, shut, group_byte, lead_byte}
-use Rattle.grammar.specs.code.Reader.{call_byte, paren_byte_next, colon_byte_next, keyword_byte, lead_end, at_top, room, room_of}
+use Rattle.grammar.specs.code.Reader.{call_byte, paren_byte_next, colon_byte_next, keyword_byte, lead_end, at_top}
+use Rattle.grammar.specs.code.Reader.{room, room_of}
 use Rattle.grammar.specs.code.Reader.{prefix_of, join, with_prefix, join_alt, wrap, left_of, and_to}
 
 abbrev bytes : Bytes
@@ -35,8 +36,10 @@ place (bad k) n = some (n - k)
 -- the place of refusal 18; none of a text of the grammar. To unfold it is to unfold all that it computes with
 unfoldable refused_at : Bytes → Option ℕ
 unfolding
-    run outcome follow step finish need_byte after_byte path_byte union_byte unary_byte shut group_byte lead_byte call_byte
-    paren_byte_next colon_byte_next keyword_byte lead_end at_top room room_of prefix_of join with_prefix join_alt wrap left_of and_to is_space
+    run outcome follow step finish need_byte after_byte path_byte union_byte unary_byte shut group_byte lead_byte
+    call_byte
+    paren_byte_next colon_byte_next keyword_byte lead_end at_top room room_of prefix_of join with_prefix join_alt wrap
+    left_of and_to is_space
     is_start is_name is_quote same_bytes find next axes types is_some instruction_word takes_predicate place
 refused_at t = place (run t initial) (length t)
 

@@ -1,5 +1,6 @@
 -- What the functions that read the head of a step promise, as a run of the grammar's reader. Assumes nothing.
-use Rattle.std.specs.Prelude.{ℕ, suc, ◌+◌, ◌-◌, ◌≤◌, ◌≡◌, Bool, true, false, not, cond, ◌||◌, [], ◌∷◌, ◌++◌, eqb, length, drop, take}
+use Rattle.std.specs.Prelude.{ℕ, suc, ◌+◌, ◌-◌, ◌≤◌, ◌≡◌, Bool, true, false, not, cond, ◌||◌, [], ◌∷◌, ◌++◌}
+use Rattle.std.specs.Prelude.{eqb, length, drop, take}
 use Rattle.std.proofs.Math.Option.{none, some}
 use Rattle.common.specs.NodeTests.{target_test}
 use Rattle.xpath.specs.Term as term
@@ -13,7 +14,8 @@ use Rattle.grammar.specs.Grammar.{test, Spaces, spell_test, spell_step, takes_pr
 use Rattle.grammar.specs.Denotes.{step_of, test_of, step_names, test_names, unlisted}
 use Rattle.grammar.specs.code.Reader.{State, Next, need, name, type_open, quote, after, Ctx, top, inside}
 use Rattle.grammar.specs.code.Reader.{Alt, first, more, Lead, start, bare, at_root, at_any, after1, after2, step}
-use Rattle.grammar.specs.code.Reader.{follow, Outcome, finish, run, bad, paren_byte_next, colon_byte_next, lead_byte, lead_end}
+use Rattle.grammar.specs.code.Reader.{follow, Outcome, finish, run, bad, paren_byte_next, colon_byte_next}
+use Rattle.grammar.specs.code.Reader.{lead_byte, lead_end}
 use Rattle.heads.specs.declared.Head.{Head}
 use Rattle.heads.specs.declared.Opens.{Opens}
 use Rattle.heads.specs.declared.Opens.TheVariants as Opening
@@ -132,8 +134,10 @@ pub record TypeRead (s list : Bytes) (at : ℕ) (n v : Bytes) (h : Head) : Type 
   pub term : (k : ℕ) (w : Bytes) → test_of (number_of list) k (tree w) ≡ term.AxisStep k h.test h.name
   pub names : (w : Bytes) (i : ℕ) → i + length (w ++ (n ++ (v ++ (open_byte ∷ [])))) ≡ at
       → unlisted (number_of list) (test_names i (tree w)) ≡ cond h.listed none (some h.place)
-  pub paren : (c : Ctx) (g : Alt) (l : Lead) (a : Axis) (w : Bytes) → paren_byte_next c g l (test a (tree w)) spaces ≡ none
-  pub colon : (c : Ctx) (g : Alt) (l : Lead) (a : Axis) (w : Bytes) → colon_byte_next c g l (test a (tree w)) spaces ≡ none
+  pub paren : (c : Ctx) (g : Alt) (l : Lead) (a : Axis) (w : Bytes)
+      → paren_byte_next c g l (test a (tree w)) spaces ≡ none
+  pub colon : (c : Ctx) (g : Alt) (l : Lead) (a : Axis) (w : Bytes)
+      → colon_byte_next c g l (test a (tree w)) spaces ≡ none
   pub takes : h.filters ≡ true
   pub size : (w : Bytes) → at + length (spell_test (tree w) ++ spaces)
       ≡ length (w ++ (n ++ (v ++ (open_byte ∷ [])))) + h.at

@@ -5,7 +5,8 @@ use Rattle.rules.specs.Form.{a_below_b, N_below_M, b_from_3_to_10, N_a_name_or_s
 use Rattle.rules.specs.RuleTable.{rules}
 use Rattle.rules.specs.Yields.{first_count}
 use Rattle.matching.specs.code.Pattern.{Pattern, number, letter, row_pattern, ClaimPattern, FormPattern}
-use Rattle.matching.specs.code.Pattern.{path_letter_number, qualifier_letter_number, axis_letter_number, test_letter_number, name_letter}
+use Rattle.matching.specs.code.Pattern.{path_letter_number, qualifier_letter_number, axis_letter_number}
+use Rattle.matching.specs.code.Pattern.{test_letter_number, name_letter}
 use Rattle.matching.specs.code.Pattern.{axis_pattern, test_pattern, name_pattern, path_pattern, claim_pattern}
 use Rattle.matching.specs.code.Pattern.{form_pattern, form_patterns}
 
@@ -117,7 +118,8 @@ first_pattern = first_form + 2 * length (form_patterns rules)
 
 -- the table: the rules by their numbers, the forms, the patterns
 unfoldable pub rule_table : List ℕ
-unfolding rules rule_entries first_count forms_coded premises_coded coded entered place_of conditions_code condition_code
+unfolding rules rule_entries first_count forms_coded premises_coded coded entered place_of conditions_code
+    condition_code
     form_patterns form_pattern claim_pattern path_pattern axis_pattern test_pattern name_pattern
     path_letter_number qualifier_letter_number axis_letter_number test_letter_number name_letter
 rule_table = (entry 0 0 0 0 ∷ rule_entries first_form rules) ++ all_forms.forms ++ all_forms.patterns

@@ -1,5 +1,6 @@
 -- When a rule yields a step, judged on row numbers: no term is expanded. Assumes nothing.
-use Rattle.std.specs.Prelude.{ℕ, Bool, true, false, not, cond, ◌&&◌, ◌||◌, List, [], ◌∷◌, map, ltb, eqb, length, get_or, set, replicate}
+use Rattle.std.specs.Prelude.{ℕ, Bool, true, false, not, cond, ◌&&◌, ◌||◌, List, [], ◌∷◌, map, ltb, eqb, length}
+use Rattle.std.specs.Prelude.{get_or, set, replicate}
 use Rattle.xpath.specs.Term.{Path, Qualifier}
 use Rattle.terms.specs.Row.{Row, row_at}
 use Rattle.terms.specs.Fields.{held_path, held_qualifier}
@@ -9,7 +10,8 @@ use Rattle.rules.specs.Instance.{Letters, meets}
 use Rattle.rules.specs.Yields.{forms_of, way_back_rule}
 use Rattle.matching.specs.code.RowWayBack.{is_with_back}
 use Rattle.matching.specs.code.Pattern.{Pattern, number, letter, row_pattern, letter_count, first_qualifier_letter}
-use Rattle.matching.specs.code.Pattern.{first_axis_letter, axis_letter_number, test_letter_number, name_letter, ClaimPattern}
+use Rattle.matching.specs.code.Pattern.{first_axis_letter, axis_letter_number, test_letter_number, name_letter}
+use Rattle.matching.specs.code.Pattern.{ClaimPattern}
 use Rattle.matching.specs.code.Pattern.{FormPattern, form_pattern}
 
 -- the rows that a step is about

@@ -223,10 +223,11 @@ pub orders_of_bundles :
     ∷ bundle_order_answer (book (row 6 0 0 0 ∷ row 7 0 0 0 ∷ []) (step 2 0 0 0 0 ∷ []))
     (book (row 6 0 0 0 ∷ row 7 0 0 0 ∷ []) (step 2 1 1 0 0 ∷ [])) is answer 0 0
     -- rows that no step uses don't count
-    ∷ bundle_order_answer (book (row 2 1 0 1 ∷ []) (step 2 0 0 0 0 ∷ [])) (book right (step 2 3 3 0 0 ∷ [])) is answer 0 1
+    ∷ bundle_order_answer (book (row 2 1 0 1 ∷ []) (step 2 0 0 0 0 ∷ []))
+    (book right (step 2 3 3 0 0 ∷ [])) is answer 0 1
     ∷ [])
-unfolding bundle_order_answer bundle_order term_steps term_step steps_order step_order term_order row_order row_of_term path_row
-    number_order term_at terms entries_from term_by as_path as_qualifier
+unfolding bundle_order_answer bundle_order term_steps term_step steps_order step_order term_order row_order row_of_term
+    path_row number_order term_at terms entries_from term_by as_path as_qualifier
 orders_of_bundles = refl
 
 -- how often a term is in a list

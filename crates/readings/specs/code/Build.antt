@@ -1,5 +1,6 @@
 -- What the functions that put rows promise. Assumes nothing.
-use Rattle.std.specs.Prelude.{ℕ, suc, ◌*◌, ◌<◌, ◌≤◌, min, max, ◌≡◌, Bool, true, false, cond, ◌||◌, ◌&&◌, List, eqb, length, take, drop}
+use Rattle.std.specs.Prelude.{ℕ, suc, ◌*◌, ◌<◌, ◌≤◌, min, max, ◌≡◌, Bool, true, false, cond, ◌||◌, ◌&&◌, List}
+use Rattle.std.specs.Prelude.{eqb, length, take, drop}
 use Rattle.std.proofs.Math.Option.{Option, none, some}
 use Rattle.grammar.specs.Bytes.{open_byte, colon_byte, open_bracket}
 use Rattle.common.specs.RowKinds.{void_row, step_row, composition_row, not_row, inclusion_row}

@@ -5,7 +5,8 @@ use Rattle.terms.specs.Row.{row}
 use Rattle.grammar.specs.Bytes.{Bytes, is_space}
 use Rattle.grammar.specs.Bytes.{close_byte, slash_byte}
 use Rattle.grammar.specs.Grammar.{Unary}
-use Rattle.grammar.specs.code.Reader.{need, inside, Open, first, begin, either, Pend, plain, both, left_of, and_to, or_to}
+use Rattle.grammar.specs.code.Reader.{need, inside, Open, first, begin, either, Pend, plain, both, left_of}
+use Rattle.grammar.specs.code.Reader.{and_to, or_to}
 use Rattle.grammar.specs.code.Reader.{run, bad, unary_byte}
 use Rattle.words.specs.code.Scan.{byte_at, Passed, begins_step}
 use Rattle.heads.specs.declared.Opens.{Opens}
@@ -86,7 +87,8 @@ pub record BeginPut (s : Bytes) (xs : List ℕ) (r : Reading) (ys : List ℕ) (q
   pub passed : Passed is_space s r.at to
   pub bare : (byte_at s to ≡ slash_byte → ⊥) → (ys ≡ xs) × (q ≡ start_of (moved_to r to) false true)
   pub root : byte_at s to ≡ slash_byte → (byte_at s (to + 1) ≡ slash_byte → ⊥)
-      → (p : Reading) × (end : ℕ) × PutMet (row root_row 0 0 0) 1 xs (moved_to r to) ys p × Passed is_space s (to + 1) end
+      → (p : Reading) × (end : ℕ) × PutMet (row root_row 0 0 0) 1 xs (moved_to r to) ys p
+      × Passed is_space s (to + 1) end
       × (q ≡ root_start s (moved_to p end))
   pub any : byte_at s to ≡ slash_byte → byte_at s (to + 1) ≡ slash_byte
       → (p b : Reading) × (zs : List ℕ) × (end : ℕ) × PutMet (row root_row 0 0 0) 1 xs (moved_to r to) zs p

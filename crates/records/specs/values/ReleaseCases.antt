@@ -1,11 +1,11 @@
 -- Releases, and what the office and a crew see, by computation. Assumes nothing.
-use Rattle.std.specs.Prelude.{ℕ, ◌-◌, refl, List, [], ◌∷◌, ◌++◌, length, take, replicate}
+use Rattle.std.specs.Prelude.{ℕ, refl, List, [], ◌∷◌, ◌++◌, length, take, replicate}
 use Rattle.common.specs.Lists.{all_of}
 use Rattle.common.specs.values.Expected.{◌is◌, AllRight}
 use Rattle.terms.specs.Row.{row}
 use Rattle.terms.specs.Fields.{is_path, held_path}
 use Rattle.records.specs.declared.Record.{Record}
-use Rattle.calls.specs.Book.{Step, step, book, Answer, answer}
+use Rattle.calls.specs.Book.{step, book, answer}
 use Rattle.calls.specs.Runs.{final}
 use Rattle.calls.specs.PointCall.{place_of, point_answer, return_answer}
 use Rattle.calls.specs.Calls.{point, return}
@@ -140,7 +140,8 @@ pub in_turn :
     ∷ seen_after (passed (own e1) ∷ own 1 ∷ passed (passed (point 1)) ∷ passed (passed (return 1)) ∷ []) is (e1 ∷ [])
     ∷ [])
 unfolding
-    final released release_answer record_answer current row_of is_fit_step held_path is_path all_kept all_of place_of point_answer
+    final released release_answer record_answer current row_of is_fit_step held_path is_path all_kept all_of place_of
+    point_answer
     return_answer
 in_turn = refl
 

@@ -52,8 +52,8 @@ pub accepted :
     ∷ replace (replicate 64 0) (1 ∷ []) (replicate 64 1) is answer 0 0
     ∷ replace [] (replicate 64 1) [] is answer 0 0
     ∷ [])
-unfolding replace_answer are_bad_lists first_uncovered first_below is_replaced_at is_replaced is_held_step is_in any_of held_path
-    is_path Option-elim
+unfolding replace_answer are_bad_lists first_uncovered first_below is_replaced_at is_replaced is_held_step is_in any_of
+    held_path is_path Option-elim
 accepted = refl
 
 -- rows past those held are not looked at: a right row that is not held may be in the new list
@@ -61,8 +61,8 @@ pub not_held :
     AllRight
     (replace_answer (book (row 2 1 0 1 ∷ []) (step 8 0 9 0 0 ∷ [])) (0 ∷ []) (9 ∷ []) (1 ∷ []) is answer 0 0
     ∷ [])
-unfolding replace_answer are_bad_lists first_uncovered first_below is_replaced_at is_replaced is_held_step is_in any_of held_path
-    is_path Option-elim
+unfolding replace_answer are_bad_lists first_uncovered first_below is_replaced_at is_replaced is_held_step is_in any_of
+    held_path is_path Option-elim
 not_held = refl
 
 pub bad_lists :
@@ -84,8 +84,8 @@ pub bad_lists :
     ∷ replace (replicate 65 0) (1 ∷ []) (replicate 65 9) is answer 25 0
     ∷ replace (0 ∷ []) (replicate 65 1) (9 ∷ []) is answer 25 0
     ∷ [])
-unfolding replace_answer are_bad_lists first_uncovered first_below is_replaced_at is_replaced is_held_step is_in any_of held_path
-    is_path Option-elim
+unfolding replace_answer are_bad_lists first_uncovered first_below is_replaced_at is_replaced is_held_step is_in any_of
+    held_path is_path Option-elim
 bad_lists = refl
 
 pub not_covered :
@@ -110,8 +110,8 @@ pub not_covered :
     ∷ replace (replicate 64 0) (1 ∷ []) (replicate 64 2) is answer 26 1
     ∷ replace (replicate 64 0) (1 ∷ []) (replicate 63 1 ++ (2 ∷ [])) is answer 26 64
     ∷ [])
-unfolding replace_answer are_bad_lists first_uncovered first_below is_replaced_at is_replaced is_held_step is_in any_of held_path
-    is_path Option-elim
+unfolding replace_answer are_bad_lists first_uncovered first_below is_replaced_at is_replaced is_held_step is_in any_of
+    held_path is_path Option-elim
 not_covered = refl
 
 -- covered lists: none, and more rows than the call takes; a later step that isn't so, a step too few, a step too many

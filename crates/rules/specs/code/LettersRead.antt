@@ -114,7 +114,8 @@ unfoldable mutual
   read_qualifier QualifierForm.True t e = e
   read_qualifier QualifierForm.False t e = e
   read_qualifier (Not u) t e = read_qualifier u (qualifier_parts t).left e
-  read_qualifier (u And v) t e = read_qualifier v (qualifier_parts t).right (read_qualifier u (qualifier_parts t).left e)
+  read_qualifier (u And v) t e = read_qualifier v (qualifier_parts t).right
+      (read_qualifier u (qualifier_parts t).left e)
   read_qualifier (u Or v) t e = read_qualifier v (qualifier_parts t).right (read_qualifier u (qualifier_parts t).left e)
   read_qualifier (u In v) t e = read_path v (qualifier_parts t).object (read_path u (qualifier_parts t).subject e)
 

@@ -36,7 +36,8 @@ fits cs w =
 
 -- the test of the table's rules: a form of rule n fits; to unfold it is to unfold all that it computes with
 unfoldable pub some_form_fits : ℕ → Claim → List Claim → Bool
-unfolding any_of fits same_claims read_claims read_claim read_path forms_of forms_in rules all_of meets axis_below is_pair
+unfolding any_of fits same_claims read_claims read_claim read_path forms_of forms_in rules all_of meets axis_below
+    is_pair
     axis_pairs test_below claim_for path_for axis_for test_for ℕ_discrete
 some_form_fits n c cs = any_of (fits (c ∷ cs)) (forms_of n)
 
@@ -79,7 +80,8 @@ equal_at f g (v ∷ ws) q m =
 recovered : (n : ℕ) {w : Form} → Memᴰ w (forms_of n) → (e : Letters) → form_read e w ≡ form_for e w
 unfolding forms_of
 recovered n m e =
-    equal_at (form_read e) (form_for e) (forms_of n) (recovered_in (form_read e) (form_for e) rules (table_recovered e) n) m
+    equal_at (form_read e) (form_for e) (forms_of n)
+    (recovered_in (form_read e) (form_for e) rules (table_recovered e) n) m
 
 -- choices for which a form says the same meet its conditions alike
 pub settled : (n : ℕ) {w : Form} → Memᴰ w (forms_of n) → (e e₁ : Letters) → map (claim_for e) (claim_forms w)

@@ -3,7 +3,8 @@
 use Rattle.std.specs.Prelude.{ℕ, [], ◌∷◌}
 use Rattle.std.proofs.Common.{arith}
 use Rattle.common.specs.Bounded.{any_below, all_below}
-use Rattle.xpath.specs.Document.{Document, node, root_node, kind_at, parent_at, name_at, is_child, climb_meets, is_ancestor}
+use Rattle.xpath.specs.Document.{Document, node, root_node, kind_at, parent_at, name_at, is_child, climb_meets}
+use Rattle.xpath.specs.Document.{is_ancestor}
 use Rattle.xpath.specs.Document.{are_siblings, kind_and_name_ok, row_ok, well_formed}
 use Rattle.common.specs.Axes.{self, child, parent, descendant, descendant_or_self, ancestor_or_self}
 use Rattle.common.specs.Axes.{following_sibling, preceding_sibling, following, attribute}
@@ -16,7 +17,8 @@ use Rattle.rules.specs.Claim.{Containment, Implication, TrueOn, IsTrue}
 
 -- not A; to unfold it is to unfold what computes on a document
 unfoldable pub IsFalse : Type 0 → Type 0
-unfolding IsTrue TrueOn selects on_axis passes kind_at parent_at name_at is_child climb_meets is_ancestor are_siblings any_below
+unfolding IsTrue TrueOn selects on_axis passes kind_at parent_at name_at is_child climb_meets is_ancestor are_siblings
+    any_below
     all_below well_formed row_ok kind_and_name_ok
 IsFalse A = ¬ A
 
@@ -28,7 +30,8 @@ two_children = root_node ∷ node 1 0 1 ∷ node 1 0 2 ∷ []
 pub r3r_false :
     IsFalse ((p q r : Path) → IsTrue (Implication (In p (Union q r)) (Or (In p q) (In p r))))
 unfolding IsFalse
-r3r_false rule = rule (AxisStep child star_test 0) (AxisStep child name_test 1) (AxisStep child name_test 2) two_children
+r3r_false rule = rule (AxisStep child star_test 0) (AxisStep child name_test 1) (AxisStep child name_test 2)
+    two_children
     tt 0 (omega arith) tt
 
 -- f3 orders the paths backwards

@@ -279,7 +279,8 @@ unfoldable mutual
   qualifier_renamings True = []
   qualifier_renamings False = []
   qualifier_renamings (Not x) = inside Not (qualifier_renamings x)
-  qualifier_renamings (And x y) = inside (λ x. And x y) (qualifier_renamings x) ++ inside (And x) (qualifier_renamings y)
+  qualifier_renamings (And x y) = inside (λ x. And x y) (qualifier_renamings x)
+      ++ inside (And x) (qualifier_renamings y)
   qualifier_renamings (Or x y) = inside (λ x. Or x y) (qualifier_renamings x) ++ inside (Or x) (qualifier_renamings y)
   qualifier_renamings (In x y) = inside (λ x. In x y) (renamings x) ++ inside (In x) (renamings y)
 
@@ -309,5 +310,6 @@ letters_compared x =
     (sample_renamings x)
 
 pub letters_compared_lem : T (all_of letters_compared accepted)
-unfolding letters_compared occurrences sample_renamings premise_renamings claim_renamings renamings accepted all_of rule_fits
+unfolding letters_compared occurrences sample_renamings premise_renamings claim_renamings renamings accepted all_of
+    rule_fits
 letters_compared_lem = tt

@@ -1,5 +1,6 @@
 -- What the functions that read a line promise. Assumes nothing.
-use Rattle.std.specs.Prelude.{ℕ, ◌+◌, ◌≤◌, min, ◌≡◌, Bool, true, false, List, [], ◌++◌, eqb, length, get_or, drop, replicate}
+use Rattle.std.specs.Prelude.{ℕ, ◌+◌, ◌≤◌, min, ◌≡◌, Bool, true, false, List, [], ◌++◌, eqb, length, get_or, drop}
+use Rattle.std.specs.Prelude.{replicate}
 use Rattle.std.proofs.Math.Option.{Option, Option-elim}
 use Rattle.lines.specs.Line.{lines}
 use Rattle.lines.specs.code.NumbersRead.{first_parts}
@@ -22,7 +23,15 @@ size_only n = record { a = 0; b = 0; c = 0; d = 0; e = 0; limit = 0; size = n }
 -- the values of the numbers after a word
 abbrev pub values_of : Shape → List ℕ → Values
 values_of (Counted n) ns =
-    record { a = get_or ns 0 0; b = get_or ns 1 0; c = get_or ns 2 0; d = get_or ns 3 0; e = get_or ns 4 0; limit = 0; size = 0 }
+    record {
+      a = get_or ns 0 0;
+      b = get_or ns 1 0;
+      c = get_or ns 2 0;
+      d = get_or ns 3 0;
+      e = get_or ns 4 0;
+      limit = 0;
+      size = 0;
+    }
 values_of (Listed most) ns = size_only (length ns)
 values_of Selection ns =
     record { a = get_or ns 0 0; b = get_or ns 1 0; c = 0; d = 0; e = 0; limit = get_or ns 2 0; size = get_or ns 3 0 }

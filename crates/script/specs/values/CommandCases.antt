@@ -52,7 +52,8 @@ pub commands :
     ∷ first "released\n" is some (command Released [])
     ∷ first "crew-current 7\n" is some (command CrewCurrent (7 ∷ []))
     ∷ [])
-unfolding ascii words word_for shape_of command_by named at_most first_parts lines in_first_line parts in_first_part same_bytes
+unfolding ascii words word_for shape_of command_by named at_most first_parts lines in_first_line parts in_first_part
+    same_bytes
     numbers_up_to Option-elim is_decimal are_digits is_digit append_digits
 commands = refl
 
@@ -143,7 +144,8 @@ pub no_commands :
     ∷ first "crew-current 7 7\n" is none
     ∷ first "crew\n" is none
     ∷ [])
-unfolding ascii words word_for shape_of command_by named at_most first_parts lines in_first_line parts in_first_part same_bytes
+unfolding ascii words word_for shape_of command_by named at_most first_parts lines in_first_line parts in_first_part
+    same_bytes
     numbers_up_to Option-elim is_decimal are_digits is_digit append_digits
 no_commands = refl
 
@@ -163,6 +165,7 @@ pub longest_lists :
     ∷ command_of (zeros "replace" 100) is some (command Replace (replicate 100 0))
     ∷ command_of (zeros "replace" 101) is none
     ∷ [])
-unfolding ascii words word_for shape_of command_by named at_most same_bytes numbers_up_to Option-elim is_decimal is_digit
+unfolding ascii words word_for shape_of command_by named at_most same_bytes numbers_up_to Option-elim is_decimal
+    is_digit
     append_digits
 longest_lists = refl

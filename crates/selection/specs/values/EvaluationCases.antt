@@ -38,8 +38,8 @@ pub evaluations :
     ∷ on_log 3 1 8 is outcome (selected 1) (0 ∷ 0 ∷ 0 ∷ 0 ∷ 0 ∷ 0 ∷ 0 ∷ 7 ∷ [])
     ∷ on_log 4 1 8 is outcome (selected 1) (0 ∷ 0 ∷ 0 ∷ 0 ∷ 0 ∷ 0 ∷ 0 ∷ 7 ∷ [])
     ∷ [])
-unfolding path_evaluated written selects visits on_axis passes document_of kind_at parent_at name_at is_child any_below sum_below
-    table_of entries_from as_path term_by terms term_at
+unfolding path_evaluated written selects visits on_axis passes document_of kind_at parent_at name_at is_child any_below
+    sum_below table_of entries_from as_path term_by terms term_at
 evaluations = refl
 
 -- the void path on so many rows

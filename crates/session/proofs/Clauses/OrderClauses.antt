@@ -47,7 +47,8 @@ module _ (s₀ t₀ s t : Session) (cs ds : List Call) (os us : List CallSeen) (
 
   -- order calls of a session say that row i is at most row j; that each row of a list is at most the next one
   abbrev AtMost : Session → (i j : ℕ) → Type 0
-  AtMost u i j = (r : OrderAnswer) × Ordered u i u j r × ((order_answer_of r).number ≡ 0) × ((order_answer_of r).value ≤ 1)
+  AtMost u i j = (r : OrderAnswer) × Ordered u i u j r × ((order_answer_of r).number ≡ 0)
+      × ((order_answer_of r).value ≤ 1)
 
   abbrev InOrder : Session → List ℕ → Type 0
   InOrder u [] = Unit {0}

@@ -63,7 +63,8 @@ module _ (s₀ s : Session) (cs : List Call) (os : List CallSeen) (is-new : New 
       pub answered : replace_answer_of t ≡ replace_answer held old new by
       answered = met.answers old new by t replaced
 
-      pub accepts : ((replace_answer_of t).number ≡ 0) ↔ ((are_bad_lists old new by ≡ false) × T (is_covered held old new by))
+      pub accepts : ((replace_answer_of t).number ≡ 0) ↔
+          ((are_bad_lists old new by ≡ false) × T (is_covered held old new by))
       accepts = met.accepts old new by t replaced
 
       pub none_lost_by_it : (replace_answer_of t).number ≡ 0

@@ -23,7 +23,8 @@ use Rattle.calls.proofs.PointJudged.{point_accepted}
 use Rattle.session.proofs.Views.{names_viewed}
 
 -- the place of a name is at most the limit
-pub few_places : (s : Session) (name place : ℕ) → place ≡ place_of (counts_names (points_in s)) name → place ≤ max_points
+pub few_places : (s : Session) (name place : ℕ) → place ≡ place_of (counts_names (points_in s)) name →
+    place ≤ max_points
 few_places s name place e =
     omega (
       arith,
@@ -87,7 +88,8 @@ module _ (s : Session) (name : ℕ) (t : PointAnswer) where
     return_judged : point_answer_of t ≡ return_answer (point_names (view s).points) name
     return_judged = answered ∙ ap (λ ns. return_answer ns name) (sym (names_viewed s))
 
-    pub return_made_held : (point_answer_of t).number ≡ 0 → (place : ℕ) → place ≡ place_of (counts_names (points_in s)) name
+    pub return_made_held : (point_answer_of t).number ≡ 0 → (place : ℕ) → place
+        ≡ place_of (counts_names (points_in s)) name
         → (c : PointCounts) → c ≡ point_named (points_in s) name
         → (n m : ℕ) → n ≡ c.rows → m ≡ c.steps
         → (xs ys zs : List ℕ) → xs ≡ cleared (row_width * n) s.rows → ys ≡ cleared (step_width * m) s.steps

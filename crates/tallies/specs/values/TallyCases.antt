@@ -1,5 +1,6 @@
 -- Values of the definitions, by computation. Assumes nothing.
-use Rattle.std.specs.Prelude.{ℕ, zero, suc, ◌≤◌, ◌<◌, ◌≡◌, refl, Bool, true, false, cond, List, [], ◌∷◌, map, length, get_or, replicate, set}
+use Rattle.std.specs.Prelude.{ℕ, zero, suc, ◌≤◌, ◌<◌, ◌≡◌, refl, Bool, true, false, cond, List, [], ◌∷◌, map, length}
+use Rattle.std.specs.Prelude.{get_or, replicate, set}
 use Prim.Native.String.{String, ◌++◌}
 use Rattle.std.proofs.Math.Bool.{decide}
 use Rattle.std.proofs.Math.Option.{Option-elim}
@@ -120,7 +121,8 @@ counts :
     ∷ counted (file false [] ∷ one ∷ []) is (1 ∷ 0 ∷ 0 ∷ 0 ∷ 0 ∷ 1 ∷ 0 ∷ 0 ∷ 0 ∷ [])
     ∷ [])
 unfolding counted one three twice refused failed bundle uses total uses_of counted_steps is_accepted ascii reading
-    lines_read rows_read steps_read row_names step_names row_of_line step_of_line lines in_first_line parts in_first_part
+    lines_read rows_read steps_read row_names step_names row_of_line step_of_line lines in_first_line parts
+    in_first_part
     same_bytes is_line numbers_of numbers_up_to is_decimal are_digits is_digit append_digits Option-elim view table_of
     steps_of fresh_session with_row with_step term_answer bad_place fields_of field_ok held_path held_qualifier is_path
     is_qualifier nesting nestings entries_from nesting_by operand_nesting find same_row step_answer step_answer_by
@@ -162,7 +164,8 @@ entries_of_lem :
     ∷ file_line 58 is entry 59 0 ∷ file_line 59 is entry 0 4
     ∷ [])
 unfolding entries entries_by rule_entries each_from one three bundle uses total uses_of counted_steps is_accepted ascii
-    reading lines_read rows_read steps_read row_names step_names row_of_line step_of_line lines in_first_line parts in_first_part
+    reading lines_read rows_read steps_read row_names step_names row_of_line step_of_line lines in_first_line parts
+    in_first_part
     same_bytes is_line numbers_of numbers_up_to is_decimal are_digits is_digit append_digits Option-elim view table_of
     steps_of fresh_session with_row with_step term_answer bad_place fields_of field_ok held_path held_qualifier is_path
     is_qualifier nesting nestings entries_from nesting_by operand_nesting find same_row step_answer step_answer_by
@@ -192,5 +195,6 @@ not_from_the_column :
     (total_of rule_8 is 1 ∷ column_of_lem rule_8 is 1
     ∷ total_of other_rules is 2 ∷ column_of_lem other_rules is 0
     ∷ [])
-unfolding total_of column_of_lem rule_8 other_rules with_steps fresh_tally plus_each plus column_of each_from uses_of sum
+unfolding total_of column_of_lem rule_8 other_rules with_steps fresh_tally plus_each plus column_of each_from uses_of
+    sum
 not_from_the_column = refl

@@ -1,6 +1,7 @@
 -- What the readers promise: a run of the grammar's reader from one place is one from another, and the rows, the
 -- nesting and the first unlisted name are those of the tree that was read. Assumes nothing.
-use Rattle.std.specs.Prelude.{ℕ, suc, ◌+◌, ◌-◌, ◌<◌, ◌≤◌, max, ◌≡◌, true, false, List, [], ◌∷◌, ◌++◌, eqb, length, drop}
+use Rattle.std.specs.Prelude.{ℕ, suc, ◌+◌, ◌-◌, ◌<◌, ◌≤◌, max, ◌≡◌, true, false, List, [], ◌∷◌, ◌++◌, eqb}
+use Rattle.std.specs.Prelude.{length, drop}
 use Rattle.std.proofs.Math.Option.{Option, none, some}
 use Rattle.xpath.specs.Term as term
 use Rattle.common.specs.RowKinds.{filter_row}

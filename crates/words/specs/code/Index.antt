@@ -1,5 +1,6 @@
 -- What the functions on the index of the lent list promise. Assumes nothing.
-use Rattle.std.specs.Prelude.{ℕ, ◌+◌, ◌*◌, ◌%◌, ◌<◌, ◌≤◌, ◌≡◌, Bool, true, false, cond, List, [], ◌∷◌, eqb, leb, length, get_or, drop}
+use Rattle.std.specs.Prelude.{ℕ, ◌+◌, ◌*◌, ◌%◌, ◌<◌, ◌≤◌, ◌≡◌, Bool, true, false, cond, List, [], ◌∷◌, eqb}
+use Rattle.std.specs.Prelude.{leb, length, get_or, drop}
 use Rattle.lines.specs.Line.{newline, lines}
 use Rattle.lines.specs.Number.{max_number}
 use Rattle.grammar.specs.Bytes.{Bytes}
@@ -47,7 +48,8 @@ pub record LineAt (list : Bytes) (k at : ℕ) : Type 0 where
 -- the index of the first n lines: two numbers for each, and where the other lines begin
 pub record IndexOf (list : Bytes) (xs : List ℕ) (n : ℕ) : Type 0 where
   pub places : (k : ℕ) → k ≤ n → LineAt list k (get_or xs (2 * k) 0)
-  pub signatures : (k : ℕ) → k < n → get_or xs (2 * k + 1) 0 ≡ signature_of 0 (line_of (drop (get_or xs (2 * k) 0) list))
+  pub signatures : (k : ℕ) → k < n
+      → get_or xs (2 * k + 1) 0 ≡ signature_of 0 (line_of (drop (get_or xs (2 * k) 0) list))
 
 pub record Indexed (list : Bytes) (xs : List ℕ) : Type 0 where
   pub count : ℕ

@@ -48,7 +48,8 @@ pub axes_from_an_attribute :
     ∷ nodes attributed (preceding ::node) 6 is (3 ∷ [])
     ∷ nodes attributed (attribute ::node) 6 is []
     ∷ [])
-unfolding nodes list_below selects on_axis passes kind_at parent_at name_at is_child climb_meets is_ancestor are_siblings
+unfolding nodes list_below selects on_axis passes kind_at parent_at name_at is_child climb_meets is_ancestor
+    are_siblings
 axes_from_an_attribute = refl
 
 -- all axes from an element that has attributes
@@ -67,7 +68,8 @@ pub axes_from_an_owner :
     ∷ nodes attributed (preceding ::node) 5 is (3 ∷ [])
     ∷ nodes attributed (attribute ::node) 5 is (6 ∷ 7 ∷ [])
     ∷ [])
-unfolding nodes list_below selects on_axis passes kind_at parent_at name_at is_child climb_meets is_ancestor are_siblings
+unfolding nodes list_below selects on_axis passes kind_at parent_at name_at is_child climb_meets is_ancestor
+    are_siblings
 axes_from_an_owner = refl
 
 -- all axes from the first child of such an element: no attribute is its sibling or precedes it
@@ -86,7 +88,8 @@ pub axes_from_a_first_child :
     ∷ nodes attributed (preceding ::node) 8 is (3 ∷ [])
     ∷ nodes attributed (attribute ::node) 8 is []
     ∷ [])
-unfolding nodes list_below selects on_axis passes kind_at parent_at name_at is_child climb_meets is_ancestor are_siblings
+unfolding nodes list_below selects on_axis passes kind_at parent_at name_at is_child climb_meets is_ancestor
+    are_siblings
 axes_from_a_first_child = refl
 
 -- all axes from the root: no attribute is below it
@@ -105,7 +108,8 @@ pub axes_from_the_root :
     ∷ nodes attributed (preceding ::node) 0 is []
     ∷ nodes attributed (attribute ::node) 0 is []
     ∷ [])
-unfolding nodes list_below selects on_axis passes kind_at parent_at name_at is_child climb_meets is_ancestor are_siblings
+unfolding nodes list_below selects on_axis passes kind_at parent_at name_at is_child climb_meets is_ancestor
+    are_siblings
 axes_from_the_root = refl
 
 -- the axes from further nodes: the last attribute of its owner, an attribute whose owner has no children, the first
@@ -133,7 +137,8 @@ pub axes_from_further_nodes :
     ∷ nodes attributed (attribute ::node) 10 is []
     ∷ nodes attributed (Composition (descendant ::node) (attribute :: 3)) 0 is (4 ∷ 7 ∷ [])
     ∷ [])
-unfolding nodes list_below selects on_axis passes kind_at parent_at name_at is_child climb_meets is_ancestor are_siblings
+unfolding nodes list_below selects on_axis passes kind_at parent_at name_at is_child climb_meets is_ancestor
+    are_siblings
     any_below
 axes_from_further_nodes = refl
 
@@ -151,7 +156,8 @@ pub tests_on_the_attribute_axis :
     ∷ nodes attributed (AxisStep attribute 6 2) 5 is []
     ∷ nodes attributed (AxisStep attribute 7 0) 5 is []
     ∷ [])
-unfolding nodes list_below selects on_axis passes kind_at parent_at name_at is_child climb_meets is_ancestor are_siblings
+unfolding nodes list_below selects on_axis passes kind_at parent_at name_at is_child climb_meets is_ancestor
+    are_siblings
 tests_on_the_attribute_axis = refl
 
 -- on every other axis a name or `*` selects elements, and only node() selects an attribute
@@ -178,5 +184,6 @@ pub tests_on_other_axes :
     ∷ nodes attributed (AxisStep following star_test 0) 6 is (9 ∷ [])
     ∷ nodes attributed (AxisStep preceding star_test 0) 10 is (3 ∷ 5 ∷ 9 ∷ [])
     ∷ [])
-unfolding nodes list_below selects on_axis passes kind_at parent_at name_at is_child climb_meets is_ancestor are_siblings
+unfolding nodes list_below selects on_axis passes kind_at parent_at name_at is_child climb_meets is_ancestor
+    are_siblings
 tests_on_other_axes = refl

@@ -136,5 +136,6 @@ pub bound_passed :
     ∷ visits sample (Composition every (Filter every True)) 0 is 72
     ∷ visits sample (Filter (Composition every every) True) 0 is 31
     ∷ [])
-unfolding visits qualifier_visits sum_below selects on_axis passes kind_at parent_at is_child climb_meets is_ancestor any_below
+unfolding visits qualifier_visits sum_below selects on_axis passes kind_at parent_at is_child climb_meets is_ancestor
+    any_below
 bound_passed = refl

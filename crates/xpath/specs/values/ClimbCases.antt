@@ -143,7 +143,8 @@ pub refused_alike :
     ∷ document_refusal_by (λ d x y. false) (lent nested) is some 4
     ∷ document_refusal_by (λ d x y. true) (lent later) is none
     ∷ [])
-unfolding document_refusal lent_rows bad_row first_below Option-elim document_of row_ok kind_and_name_ok kind_at parent_at name_at
+unfolding document_refusal lent_rows bad_row first_below Option-elim document_of row_ok kind_and_name_ok kind_at
+    parent_at name_at
     is_child climb_meets is_ancestor climb_met parents_taken climb_takes above
 refused_alike = refl
 

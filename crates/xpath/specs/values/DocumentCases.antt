@@ -44,7 +44,8 @@ pub documents_accepted :
     ∷ document_refusal (lent
     (root_node ∷ node 1 0 1 ∷ node 1 1 1 ∷ node 1 2 1 ∷ node 1 3 1 ∷ node 2 1 0 ∷ node 2 0 0 ∷ [])) is none
     ∷ [])
-unfolding document_refusal lent_rows bad_row first_below Option-elim document_of row_ok kind_and_name_ok kind_at parent_at name_at
+unfolding document_refusal lent_rows bad_row first_below Option-elim document_of row_ok kind_and_name_ok kind_at
+    parent_at name_at
     is_child climb_meets is_ancestor
 documents_accepted = refl
 
@@ -109,7 +110,8 @@ pub documents_refused :
     ∷ document_refusal (lent (root_node ∷ node 1 0 1 ∷ node 1 0 0 ∷ node 6 0 0 ∷ [])) is some 2
     ∷ document_refusal (lent (root_node ∷ node 6 0 0 ∷ []) ++ (2 ∷ 0 ∷ [])) is some 1
     ∷ [])
-unfolding document_refusal lent_rows bad_row first_below Option-elim document_of row_ok kind_and_name_ok kind_at parent_at name_at
+unfolding document_refusal lent_rows bad_row first_below Option-elim document_of row_ok kind_and_name_ok kind_at
+    parent_at name_at
     is_child climb_meets is_ancestor
 documents_refused = refl
 
@@ -123,6 +125,7 @@ pub most_nodes :
     ∷ document_refusal (lent (root_node ∷ texts 511) ++ (2 ∷ [])) is some 512
     ∷ document_refusal (lent (texts 513)) is some 512
     ∷ [])
-unfolding document_refusal lent_rows bad_row first_below Option-elim document_of row_ok kind_and_name_ok kind_at parent_at name_at
+unfolding document_refusal lent_rows bad_row first_below Option-elim document_of row_ok kind_and_name_ok kind_at
+    parent_at name_at
     is_child climb_meets is_ancestor
 most_nodes = refl

@@ -58,7 +58,8 @@ rows_ok : (n m : ℕ) → m ≤ suc n → T (all_below m (row_ok (sized n)))
 unfolding all_below
 rows_ok n zero l = tt
 rows_ok n (suc m) l =
-    yes_and (all_below m (row_ok (sized n))) (row_ok (sized n) m) (rows_ok n m (omega arith)) (row_ok_lem n m (omega arith))
+    yes_and (all_below m (row_ok (sized n))) (row_ok (sized n) m) (rows_ok n m (omega arith))
+    (row_ok_lem n m (omega arith))
 
 pub any_size : (n : ℕ) → length (sized n) ≡ n + 1 × T (well_formed (sized n))
 unfolding well_formed

@@ -42,7 +42,8 @@ log_document = document_of log_numbers
 
 -- calls take it: refusal 8 does not apply
 pub log_accepted : document_refusal log_numbers ≡ none
-unfolding document_refusal lent_rows bad_row first_below Option-elim document_of row_ok kind_and_name_ok kind_at parent_at name_at
+unfolding document_refusal lent_rows bad_row first_below Option-elim document_of row_ok kind_and_name_ok kind_at
+    parent_at name_at
     is_child climb_meets is_ancestor
 log_accepted = refl
 

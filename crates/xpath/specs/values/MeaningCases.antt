@@ -54,7 +54,8 @@ pub axes_from_inner_node :
     ∷ nodes sample (attribute ::node) 6 is []
     ∷ nodes sample (12 ::node) 6 is []
     ∷ [])
-unfolding nodes list_below selects on_axis passes kind_at parent_at name_at is_child climb_meets is_ancestor are_siblings
+unfolding nodes list_below selects on_axis passes kind_at parent_at name_at is_child climb_meets is_ancestor
+    are_siblings
 axes_from_inner_node = refl
 
 -- the root has no parent, no sibling, and nothing before or after it
@@ -73,7 +74,8 @@ pub axes_from_root :
     ∷ nodes sample (preceding ::node) 0 is []
     ∷ nodes sample (attribute ::node) 0 is []
     ∷ [])
-unfolding nodes list_below selects on_axis passes kind_at parent_at name_at is_child climb_meets is_ancestor are_siblings
+unfolding nodes list_below selects on_axis passes kind_at parent_at name_at is_child climb_meets is_ancestor
+    are_siblings
 axes_from_root = refl
 
 -- children of the root have the root for a parent and no sibling in it; the axes of the first and of the last row
@@ -90,7 +92,8 @@ pub axes_at_the_edges :
     ∷ nodes sample (following ::node) 13 is []
     ∷ nodes sample (preceding ::node) 13 is (1 ∷ 2 ∷ 3 ∷ 4 ∷ 5 ∷ 6 ∷ 7 ∷ 8 ∷ 9 ∷ 10 ∷ 11 ∷ 12 ∷ [])
     ∷ [])
-unfolding nodes list_below selects on_axis passes kind_at parent_at name_at is_child climb_meets is_ancestor are_siblings
+unfolding nodes list_below selects on_axis passes kind_at parent_at name_at is_child climb_meets is_ancestor
+    are_siblings
 axes_at_the_edges = refl
 
 -- each test; a name or `*` selects elements only, also the name 0 that other nodes have; no instruction here has a
@@ -111,7 +114,8 @@ pub nodes_of_each_test :
     ∷ nodes sample (AxisStep descendant_or_self 6 1) 0 is []
     ∷ nodes sample (AxisStep descendant_or_self 7 0) 0 is []
     ∷ [])
-unfolding nodes list_below selects on_axis passes kind_at parent_at name_at is_child climb_meets is_ancestor are_siblings
+unfolding nodes list_below selects on_axis passes kind_at parent_at name_at is_child climb_meets is_ancestor
+    are_siblings
 nodes_of_each_test = refl
 
 -- each kind of path
@@ -134,7 +138,8 @@ pub nodes_of_each_path :
     ∷ nodes sample (Filter (child ::node) (some_of (child ::node))) 6 is (7 ∷ [])
     ∷ nodes sample (Filter (descendant ::node) (some_of (following_sibling ::node))) 6 is (7 ∷ [])
     ∷ [])
-unfolding nodes list_below selects on_axis passes kind_at parent_at name_at is_child climb_meets is_ancestor are_siblings
+unfolding nodes list_below selects on_axis passes kind_at parent_at name_at is_child climb_meets is_ancestor
+    are_siblings
     any_below all_below
 nodes_of_each_path = refl
 
@@ -164,7 +169,8 @@ pub truth_of_each_qualifier :
     ∷ holds sample (some_of (child ::node)) 8 is false
     ∷ holds sample (some_of Root) 0 is true
     ∷ [])
-unfolding selects on_axis passes kind_at parent_at name_at is_child climb_meets is_ancestor are_siblings any_below all_below
+unfolding selects on_axis passes kind_at parent_at name_at is_child climb_meets is_ancestor are_siblings any_below
+    all_below
 truth_of_each_qualifier = refl
 
 -- no number beyond the document is selected, though past its end the rows read as `0 0 0`

@@ -51,7 +51,8 @@ pub each_test :
     ∷ nodes targeted (AxisStep 3 7 0) 0 is []
     ∷ nodes targeted (AxisStep 3 7 1) 0 is []
     ∷ [])
-unfolding nodes list_below selects on_axis passes kind_at parent_at name_at is_child climb_meets is_ancestor are_siblings
+unfolding nodes list_below selects on_axis passes kind_at parent_at name_at is_child climb_meets is_ancestor
+    are_siblings
 each_test = refl
 
 -- test 6 on each axis, axis 11 with an attribute of that name, and in longer paths
@@ -98,5 +99,6 @@ pub one_target_changed :
     ∷ nodes (retargeted 0) (AxisStep 3 6 2) 0 is (5 ∷ [])
     ∷ nodes (retargeted 0) (AxisStep 3 5 0) 0 is (1 ∷ 2 ∷ 5 ∷ 7 ∷ 10 ∷ 11 ∷ 12 ∷ [])
     ∷ [])
-unfolding nodes list_below selects on_axis passes kind_at parent_at name_at is_child climb_meets is_ancestor are_siblings
+unfolding nodes list_below selects on_axis passes kind_at parent_at name_at is_child climb_meets is_ancestor
+    are_siblings
 one_target_changed = refl

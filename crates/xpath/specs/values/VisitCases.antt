@@ -32,7 +32,8 @@ pub path_visits :
     ∷ visits sample (Filter (Union Void Root) (Not False)) 6 is 6
     ∷ visits sample (Filter (child ::node) (Not True)) 8 is 2
     ∷ [])
-unfolding visits sum_below selects on_axis passes kind_at parent_at name_at is_child climb_meets is_ancestor are_siblings
+unfolding visits sum_below selects on_axis passes kind_at parent_at name_at is_child climb_meets is_ancestor
+    are_siblings
     any_below all_below
 path_visits = refl
 
@@ -55,6 +56,7 @@ pub qualifier_visits_lem :
     ∷ qualifier_visits sample (In (Composition (child ::node) Root) Void) 7 is 5
     ∷ qualifier_visits sample (some_of (child ::node)) 6 is 4
     ∷ [])
-unfolding visits sum_below selects on_axis passes kind_at parent_at name_at is_child climb_meets is_ancestor are_siblings
+unfolding visits sum_below selects on_axis passes kind_at parent_at name_at is_child climb_meets is_ancestor
+    are_siblings
     any_below all_below
 qualifier_visits_lem = refl

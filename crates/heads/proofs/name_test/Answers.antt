@@ -1,0 +1,93 @@
+use mathlib.Core.Path.{refl, sym, ◌∙◌}
+use native.Mathlib.Omega.{arith}
+use Rattle.heads.proofs.Headed.{name_plain, name_call, name_type, type_none, type_some, byte_there}
+use Rattle.heads.proofs.Ran.{part_is}
+use Rattle.heads.proofs.name_test.Goals as goal
+
+-- src/head.rt:171:9
+pub named_head-requires : goal.named_head-requires
+named_head-requires c = record {
+  from_le_to = (
+    omega (arith, c.requires.name_at.names.from),
+    omega (arith, c.requires.name_at.spaces.from, c.requires.name_at.spaces.fits),
+  );
+  to_value = part_is c.args.s.now c.args.at c.args.end c.requires.name_at.begins
+      c.requires.name_at.names;
+  indexed = c.requires.indexed;
+}
+
+-- src/head.rt:171:9
+pub returns-then-byte_at-ne-OPEN : goal.returns-then-byte_at-ne-OPEN
+returns-then-byte_at-ne-OPEN c =
+    rw c.named_head.ensures
+    (name_plain c.args.s.now c.args.names.now c.args.at c.args.end
+    c.args.to c.args.axis c.requires.name_at
+    (λ e. c.if-byte_at-ne-OPEN.true (c.byte_at.ensures ∙ e)))
+
+-- src/head.rt:173:31
+pub slice_bounds-type_of-count : goal.slice_bounds-type_of-count
+slice_bounds-type_of-count c = omega (arith, c.requires.name_at.names.from)
+
+-- src/head.rt:173:31
+pub slice_bounds-type_of-start : goal.slice_bounds-type_of-start
+slice_bounds-type_of-start c = omega (arith, c.requires.name_at.names.from)
+
+-- src/head.rt:173:31
+pub slice_bounds-type_of-end : goal.slice_bounds-type_of-end
+slice_bounds-type_of-end c =
+    omega (
+      arith,
+      c.requires.name_at.spaces.from,
+      c.requires.name_at.spaces.fits,
+      c.requires.name_at.names.from,
+    )
+
+-- src/head.rt:175:9
+pub named_head-requires-then-test-eq-NO_TYPE : goal.named_head-requires-then-test-eq-NO_TYPE
+named_head-requires-then-test-eq-NO_TYPE c = record {
+  from_le_to = (
+    omega (arith, c.requires.name_at.names.from),
+    omega (arith, c.requires.name_at.spaces.from, c.requires.name_at.spaces.fits),
+  );
+  to_value = part_is c.args.s.now c.args.at c.args.end c.requires.name_at.begins
+      c.requires.name_at.names;
+  indexed = c.requires.indexed;
+}
+
+-- src/head.rt:175:9
+pub returns-then-test-eq-NO_TYPE : goal.returns-then-test-eq-NO_TYPE
+returns-then-test-eq-NO_TYPE c =
+    rw c.named_head-then-test-eq-NO_TYPE.ensures
+    (name_call c.args.s.now c.args.names.now c.args.at c.args.end
+    c.args.to c.args.axis c.requires.name_at
+    (sym c.byte_at.ensures ∙ c.if-byte_at-ne-OPEN.false)
+    (type_none _ _ c.type_of-test.ensures c.if-test-eq-NO_TYPE.true))
+
+-- src/head.rt:177:25
+pub overflow_add-to : goal.overflow_add-to
+overflow_add-to c =
+    omega (
+      arith,
+      byte_there c.args.s.now c.args.to 40 refl
+          (sym c.byte_at.ensures ∙ c.if-byte_at-ne-OPEN.false),
+    )
+
+-- src/head.rt:177:5
+pub type_head-requires : goal.type_head-requires
+type_head-requires c = record {
+  at_in_bounds = omega (
+    arith,
+    byte_there c.args.s.now c.args.to 40 refl
+        (sym c.byte_at.ensures ∙ c.if-byte_at-ne-OPEN.false),
+  );
+  indexed = c.requires.indexed;
+}
+
+-- src/head.rt:166:1
+pub returns : goal.returns
+returns c =
+    let z = type_some _ _ c.type_of-test.ensures c.if-test-eq-NO_TYPE.false in name_type
+    c.args.s.now c.args.names.now c.args.at c.args.end c.args.to
+    c.args.axis c.requires.name_at _ _
+    (sym c.byte_at.ensures ∙ c.if-byte_at-ne-OPEN.false) z.0 z.1
+    c.type_head.ensures

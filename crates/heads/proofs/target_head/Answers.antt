@@ -1,0 +1,129 @@
+use mathlib.Core.Path.{refl, sym, ◌∙◌}
+use mathlib.Core.Bool.{true, false}
+use native.Mathlib.Omega.{arith}
+use Prim.Native.Nat.{◌+◌}
+use borrow.Author.Tests.{not-true, not-false}
+use Rattle.heads.proofs.Headed.{target_none, target_open, target_unclosed, target_read, byte_there, start_there}
+use Rattle.heads.proofs.Headed.{quote_there}
+use Rattle.heads.proofs.Ran.{part_is}
+use Rattle.heads.proofs.target_head.Goals as goal
+
+-- src/head.rt:131:16
+pub overflow_add-from : goal.overflow_add-from
+overflow_add-from c =
+    omega (
+      arith,
+      quote_there c.args.s.now c.args.at
+          c.requires.at_value,
+    )
+
+-- src/head.rt:133:9
+pub returns-then-not-is_start : goal.returns-then-not-is_start
+returns-then-not-is_start c =
+    rw c.no_head.ensures
+    (target_none c.args.s.now c.args.names.now c.args.at c.args.axis
+    c.requires.at_value (rw c.byte_at.ensures at
+    (sym c.is_start.ensures ∙ not-true _ c.if-not-is_start.true-raw)))
+
+-- src/head.rt:135:27
+pub overflow_add-from-2 : goal.overflow_add-from-2
+overflow_add-from-2 c =
+    omega (
+      arith,
+      start_there c.args.s.now (c.args.at + 1)
+          (rw c.byte_at.ensures at
+          (sym c.is_start.ensures ∙ not-false _ c.if-not-is_start.false-raw)),
+    )
+
+-- src/head.rt:135:9
+pub name_end-end-requires : goal.name_end-end-requires
+name_end-end-requires c =
+    omega (
+      arith,
+      start_there c.args.s.now (c.args.at + 1)
+          (rw c.byte_at.ensures at
+          (sym c.is_start.ensures ∙ not-false _ c.if-not-is_start.false-raw)),
+    )
+
+-- src/head.rt:137:9
+pub returns-then-byte_at-quote : goal.returns-then-byte_at-quote
+returns-then-byte_at-quote c =
+    rw c.no_head-then-byte_at-quote.ensures
+    (target_open c.args.s.now c.args.names.now c.args.at c.args.axis
+    c.requires.at_value (rw c.byte_at.ensures at
+    (sym c.is_start.ensures ∙ not-false _ c.if-not-is_start.false-raw)) _
+    c.name_end-end.ensures
+    (λ e. c.if-byte_at-quote.true
+    (c.byte_at-2.ensures ∙ e ∙ sym c.byte_at-quote.ensures)))
+
+-- src/head.rt:139:25
+pub overflow_add-end : goal.overflow_add-end
+overflow_add-end c =
+    omega (
+      arith,
+      quote_there c.args.s.now c.name_end-end.result
+          (rw (sym c.byte_at-2.ensures ∙ c.if-byte_at-quote.false ∙ c.byte_at-quote.ensures) c.requires.at_value),
+    )
+
+-- src/head.rt:139:9
+pub skip-close-requires : goal.skip-close-requires
+skip-close-requires c =
+    omega (
+      arith,
+      quote_there c.args.s.now c.name_end-end.result
+          (rw (sym c.byte_at-2.ensures ∙ c.if-byte_at-quote.false ∙ c.byte_at-quote.ensures) c.requires.at_value),
+    )
+
+-- src/head.rt:141:9
+pub returns-then-byte_at-ne-CLOSE : goal.returns-then-byte_at-ne-CLOSE
+returns-then-byte_at-ne-CLOSE c =
+    rw c.no_head-then-byte_at-ne-CLOSE.ensures
+    (target_unclosed c.args.s.now c.args.names.now c.args.at c.args.axis
+    c.requires.at_value (rw c.byte_at.ensures at
+    (sym c.is_start.ensures ∙ not-false _ c.if-not-is_start.false-raw)) _
+    c.name_end-end.ensures
+    (sym c.byte_at-2.ensures ∙ c.if-byte_at-quote.false
+    ∙ c.byte_at-quote.ensures) _ c.skip-close.ensures
+    (λ e. c.if-byte_at-ne-CLOSE.true (c.byte_at-3.ensures ∙ e)))
+
+-- src/head.rt:143:45
+pub overflow_add-close : goal.overflow_add-close
+overflow_add-close c =
+    omega (
+      arith,
+      byte_there c.args.s.now c.skip-close.result 41 refl
+          (sym c.byte_at-3.ensures ∙ c.if-byte_at-ne-CLOSE.false),
+    )
+
+-- src/head.rt:143:37
+pub skip-requires : goal.skip-requires
+skip-requires c =
+    omega (
+      arith,
+      byte_there c.args.s.now c.skip-close.result 41 refl
+          (sym c.byte_at-3.ensures ∙ c.if-byte_at-ne-CLOSE.false),
+    )
+
+-- src/head.rt:143:5
+pub named_head-requires : goal.named_head-requires
+named_head-requires c = record {
+  from_le_to = (omega (arith, c.name_end-end.ensures.from), c.name_end-end.ensures.fits);
+  to_value = part_is c.args.s.now (c.args.at + 1) _
+      (rw c.byte_at.ensures at
+      (sym c.is_start.ensures ∙ not-false _ c.if-not-is_start.false-raw))
+      c.name_end-end.ensures;
+  indexed = c.requires.indexed;
+}
+
+-- src/head.rt:126:1
+pub returns : goal.returns
+returns c =
+    rw c.named_head.ensures
+    (target_read c.args.s.now c.args.names.now c.args.at c.args.axis
+    c.requires.at_value (rw c.byte_at.ensures at
+    (sym c.is_start.ensures ∙ not-false _ c.if-not-is_start.false-raw)) _
+    c.name_end-end.ensures
+    (sym c.byte_at-2.ensures ∙ c.if-byte_at-quote.false ∙ c.byte_at-quote.ensures) _
+    c.skip-close.ensures _
+    (sym c.byte_at-3.ensures ∙ c.if-byte_at-ne-CLOSE.false)
+    c.skip.ensures)

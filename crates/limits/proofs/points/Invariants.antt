@@ -1,0 +1,10 @@
+-- `points` is safe and ends: the loop counts. Assumes nothing.
+use Prim.Native.Nat.{suc, ◌≤◌, ◌-◌}
+use Rattle.calls.specs.Book.{max_points}
+use Rattle.limits.proofs.points.Given as goal
+
+abbrev pub invariant-loop-i : goal.invariant-loop-i
+invariant-loop-i l = l.i ≤ suc max_points
+
+abbrev pub decreases-loop-i : goal.decreases-loop-i
+decreases-loop-i l = suc max_points - l.i

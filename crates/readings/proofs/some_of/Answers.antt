@@ -1,0 +1,8 @@
+use Rattle.readings.proofs.Built.{some_grown}
+use Rattle.readings.proofs.some_of.Goals as goal
+
+-- src/build.rt:367:1
+pub returns : goal.returns
+returns c =
+    some_grown _ _ _ _ _ _ _ _ c.put_leaf-void.ensures c.join-inclusion.ensures
+    c.put_over.ensures

@@ -1,0 +1,20 @@
+-- `Records::listing` meets its contract: all are released. Assumes nothing.
+use Prim.Native.Nat.{◌≤◌}
+use mathlib.Core.Path.{ap, ◌∙◌}
+use native.Mathlib.Omega.{arith}
+use lib.ListN.{length, length-take}
+use Rattle.records.specs.Records.{max_records}
+use Rattle.records.specs.code.Held.{size_of, records_in}
+use Rattle.records.specs.Releases.{released}
+use Rattle.records.specs.code.Listed.{listed}
+use Rattle.records.specs.code.Promises.{all_releases}
+use Rattle.records.proofs.Released.{every_released}
+use Rattle.records.proofs.Records.listing.Goals as goal
+
+pub returns : goal.returns
+unfolding all_releases
+returns c =
+    let s = c.args.self in
+    let few : length (records_in s) ≤ max_records = omega (arith, length-take (size_of s) s.held) in
+    c.released.ensures ∙ ap (λ e. listed (released (records_in s) e.flags)) c.all-all.ensures
+    ∙ ap listed (every_released (records_in s) max_records few)

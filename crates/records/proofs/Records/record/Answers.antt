@@ -1,0 +1,40 @@
+-- `Records::record` meets its contract: the record is put just where it is accepted. Assumes nothing.
+use mathlib.Core.Path.{◌≡◌, sym, ap, ◌∙◌}
+use native.Mathlib.Omega.{arith}
+use lib.ListN.{length}
+use lib.Seq.{length-take-le}
+use Rattle.calls.proofs.Accepted.{if_accepted, if_refused}
+use Rattle.records.specs.Records.{max_records}
+use Rattle.records.specs.code.Held.{size_of, records_in, with_record}
+use Rattle.records.proofs.Searches.{length_mapped}
+use Rattle.records.proofs.Judged.{record_accepted}
+use borrow.Author.Rules.{rules}
+use Rattle.records.proofs.Records.record.Goals as goal
+
+pub put-records-requires : goal.put-records-requires
+put-records-requires c =
+    let s = c.args.self in
+    let size : length s.held ≡ max_records = search (rules, length_mapped) in
+    let count = length-take-le (size_of s) s.held (omega arith) in
+    let accepted = sym (ap (λ a. a.number) c.judge-answer.ensures) ∙ sym c.number.ensures
+    ∙ c.if-number-eq0.true in
+    omega (arith, count, (record_accepted _ _ (records_in s) _ accepted).room)
+
+pub returns-then-number-eq0 : goal.returns-then-number-eq0
+returns-then-number-eq0 c =
+    let s = c.args.self in
+    let told = c.judge-answer.ensures in
+    record {
+      answer = told;
+      left = c.put-records.ensures ∙ if_accepted _ _ told (with_record s _) s (sym c.number.ensures
+          ∙ c.if-number-eq0.true);
+    }
+
+pub returns : goal.returns
+returns c =
+    let s = c.args.self in
+    let told = c.judge-answer.ensures in
+    record {
+      answer = told;
+      left = if_refused _ _ told (with_record s _) s (λ e. c.if-number-eq0.false (c.number.ensures ∙ e));
+    }

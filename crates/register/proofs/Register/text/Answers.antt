@@ -1,0 +1,7 @@
+-- `Register::text` meets its contract: the session's. Assumes nothing.
+use mathlib.Core.Path.{refl}
+use Rattle.register.proofs.Calls.{on_made}
+use Rattle.register.proofs.Register.text.Goals as goal
+
+pub returns : goal.returns
+returns c = on_made c.args.self _ _ _ c.text-made.ensures refl

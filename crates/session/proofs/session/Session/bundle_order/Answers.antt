@@ -1,0 +1,16 @@
+-- `Session::bundle_order` meets its contract: the rows and steps held are those of the views. Assumes nothing.
+use Rattle.ordering.specs.BundleOrder.{term_steps, bundle_order}
+use Rattle.ordering.specs.OrderCall.{bundle_order_answer}
+use Rattle.session.specs.View.{view}
+use Rattle.session.proofs.session.Session.bundle_order.Goals as goal
+
+pub returns : goal.returns
+unfolding view bundle_order_answer bundle_order term_steps
+returns c =
+    rw (
+      ← c.first_rows-left.ensures,
+      ← c.first_steps-left_steps.ensures,
+      ← c.first_rows-right.ensures,
+      ← c.first_steps-right_steps.ensures,
+    )
+    c.bundle_order_on.ensures

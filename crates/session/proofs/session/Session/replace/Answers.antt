@@ -1,0 +1,9 @@
+-- `Session::replace` meets its contract: the rows and steps held are those of the view. Assumes nothing.
+use Rattle.replacing.specs.Covered.{is_replaced, is_replaced_at}
+use Rattle.replacing.specs.ReplaceCall.{first_uncovered, replace_answer}
+use Rattle.session.specs.View.{view}
+use Rattle.session.proofs.session.Session.replace.Goals as goal
+
+pub returns : goal.returns
+unfolding view replace_answer first_uncovered is_replaced_at is_replaced
+returns c = rw (← c.first_steps-steps.ensures, ← c.first_rows-rows.ensures) c.replace_on.ensures

@@ -1,0 +1,8 @@
+-- `Session::step_saying` meets its contract: the rows and steps held are those of the view. Assumes nothing.
+use Rattle.replacing.specs.Covered.{is_replaced, step_saying}
+use Rattle.session.specs.View.{view}
+use Rattle.session.proofs.session.Session.step_saying.Goals as goal
+
+pub returns : goal.returns
+unfolding view step_saying is_replaced
+returns c = c.step_saying.ensures

@@ -1,0 +1,43 @@
+-- `fill_nestings` meets its contract. The invariant: the table's first i numbers are the nestings of the first i
+-- rows. Assumes nothing.
+use mathlib.Core.Path.{◌≡◌, refl, sym, ◌∙◌, ap}
+use native.Mathlib.Omega.{arith}
+use lib.ListN.{length, take, length-take}
+use lib.Seq.{take-length, length-take-le}
+use Rattle.terms.specs.Row.{table_of, entries_from}
+use Rattle.terms.specs.Nesting.{nestings}
+use Rattle.terms.proofs.Nesting.{nesting_from, deeper_le, nestings_put}
+use borrow.Author.Rules.{rules}
+use Rattle.terms.proofs.fill_nestings.Goals as goal
+
+pub loop-i-init : goal.loop-i-init
+unfolding nestings entries_from
+loop-i-init c = (search rules, search rules, refl)
+
+pub slice_bounds-deeper_operand-end-in-loop-i : goal.slice_bounds-deeper_operand-end-in-loop-i
+slice_bounds-deeper_operand-end-in-loop-i c = sym (length-take-le c.loop-i.i c.loop-i.table (omega arith))
+
+pub overflow_add-table : goal.overflow_add-table
+overflow_add-table c =
+    let rs = table_of c.args.rows.now in
+    let t = c.loop-i in
+    let l =
+    deeper_le (take t.i rs) (take t.i t.table) _ _ _ t.invariant.2 c.row_at.ensures
+    c.deeper_operand-deeper.ensures in
+    omega (arith, length-take t.i rs, l)
+
+pub loop-i-preserved : goal.loop-i-preserved
+loop-i-preserved c =
+    let rs = table_of c.args.rows.now in
+    let t = c.loop-i in
+    let e =
+    nesting_from (take t.i rs) (take t.i t.table) _ _ _ t.invariant.2 c.row_at.ensures
+    c.deeper_operand-deeper.ensures in
+    (search rules, search rules, nestings_put rs t.table t.i _ (omega arith) (omega arith) t.invariant.2 e)
+
+pub returns : goal.returns
+returns c =
+    let rs = table_of c.args.rows.now in
+    let t = c.loop-i in
+    let e : t.i ≡ length rs = omega arith in
+    (rw e at t.invariant.2) ∙ ap nestings (take-length rs)

@@ -1,0 +1,7 @@
+-- `read_indexed` meets its contract. Assumes nothing.
+use mathlib.Core.Path.{sym}
+use lib.Seq.{length-take-le}
+use Rattle.text.proofs.read_indexed.Goals as goal
+
+pub slice_bounds-read_in-end : goal.slice_bounds-read_in-end
+slice_bounds-read_in-end c = sym (length-take-le _ _ c.index_lines-size.ensures.0)

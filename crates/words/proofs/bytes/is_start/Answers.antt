@@ -1,0 +1,10 @@
+use mathlib.Core.Path.{refl, ◌∙◌}
+use Rattle.grammar.specs.Bytes.{is_start}
+use Rattle.words.proofs.bytes.is_start.Goals as goal
+
+-- src/lib.rt:40:1
+pub returns : goal.returns
+unfolding is_start
+returns c =
+    c.or-2.ensures
+    ∙ rw (c.or.ensures, c.and-2.ensures, c.and.ensures) refl

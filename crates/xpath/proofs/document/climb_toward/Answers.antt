@@ -1,0 +1,47 @@
+-- `climb_toward` meets its contract: what is left of the climb has the rest of its parents to take. Assumes nothing.
+use mathlib.Core.Path.{refl}
+use mathlib.Core.Logic.{inl}
+use native.Mathlib.Omega.{arith}
+use Rattle.xpath.proofs.Climbing.{way_starts, way_on, way_over, way_stuck}
+use borrow.Author.Rules.{rules}
+use Rattle.xpath.proofs.document.climb_toward.Goals as goal
+
+pub loop-at-init : goal.loop-at-init
+loop-at-init c = way_starts _ _ _ _ _
+
+pub parent_of-parent-requires : goal.parent_of-parent-requires
+parent_of-parent-requires c = let r = c.loop-at.invariant.room in omega arith
+
+pub shape_of-ends-then-at-parent : goal.shape_of-ends-then-at-parent
+shape_of-ends-then-at-parent c = c.loop-at.invariant.size
+
+pub returns-then-at-parent : goal.returns-then-at-parent
+returns-then-at-parent c =
+    let u = c.parent_of-parent.ensures in
+    way_stuck _ _ _ _ _ _ _ _ c.loop-at.invariant c.loop-at-test.true (omega arith)
+
+pub offset_bounds-ends-at : goal.offset_bounds-ends-at
+offset_bounds-ends-at c = let i = c.loop-at.invariant in omega (arith, i.room, i.size)
+
+pub bounds-ends-at : goal.bounds-ends-at
+bounds-ends-at c = let i = c.loop-at.invariant in omega (arith, i.room, i.size)
+
+pub overflow_add-parents : goal.overflow_add-parents
+overflow_add-parents c = let r = c.loop-at.invariant.room in search rules
+
+pub loop-at-smaller : goal.loop-at-smaller
+loop-at-smaller c = omega arith
+
+pub loop-at-preserved : goal.loop-at-preserved
+loop-at-preserved c =
+    way_on _ _ _ _ _ _ _ _ c.loop-at.invariant _ _ c.parent_of-parent.ensures refl
+    c.loop-at-test.true c.if-at-parent.false
+
+pub and-requires : goal.and-requires
+and-requires c = tt
+
+pub shape_of-ends : goal.shape_of-ends
+shape_of-ends c = c.loop-at.invariant.size
+
+pub returns : goal.returns
+returns c = way_over _ _ _ _ _ _ _ _ c.loop-at.invariant _ (inl c.loop-at-test.false) c.and.ensures
