@@ -19,7 +19,7 @@ fi
 programs='audit replay tally limits audit_cases engine_cases text_cases'
 for program in $programs; do
     # shellcheck disable=SC2086
-    [ -x target/bin/$program ] || rt check $programs
+    [ -x target/bin/$program ] || tools/programs.sh $programs
 done
 
 out=$PWD/target/host_tests

@@ -46,9 +46,9 @@ def table(first):
 
 
 def numbered(crate, file, ending=''):
-    """The names of a file of numbers, without their ending, with those numbers."""
-    found = re.findall(r'^([a-z-]+) = (\d+)$', text_of('crates/%s/specs/%s.antt' % (crate, file)), re.M)
-    return [(int(number), re.sub(ending + '$', '', name)) for name, number in found]
+    """The names of a file of numbers, without their ending and with dashes, with those numbers."""
+    found = re.findall(r'^([a-z_]+) = (\d+)$', text_of('crates/%s/specs/%s.antt' % (crate, file)), re.M)
+    return [(int(number), re.sub(ending + '$', '', name.replace('_', '-'))) for name, number in found]
 
 
 def constant(path, name):
@@ -64,8 +64,8 @@ def kinds():
     page = table('kind | name | a')
     same('kinds of rows', [(int(row[0]), row[1]) for row in page], numbered('common', 'RowKinds', '-row'))
     fields = text_of('crates/terms/specs/Fields.antt')
-    wanted = [[number, name] + (['unused'] * 3 if whole == 'noFields' else [a, b, c]) for whole, a, b, c, number, name
-              in re.findall(r'(noFields|fields (\w+) (\w+) (\w+))  -- (\d+) (\w+)', fields)]
+    wanted = [[number, name] + (['unused'] * 3 if whole == 'no_fields' else [a, b, c]) for whole, a, b, c, number, name
+              in re.findall(r'(no_fields|fields (\w+) (\w+) (\w+))  -- (\d+) (\w+)', fields)]
     same('fields', [row[:5] for row in page], wanted)
     enum = re.search(r'enum \{\s*(VOID_ROW.*?)\}', text_of('host/bundle.h'), re.S).group(1)
     words = [word.strip().lower().replace('_row', '') for word in enum.split(',')]
@@ -105,7 +105,7 @@ STAR = ' if N is a name or *'
 
 def forms_of(rule, form):
     if form.endswith(STAR):
-        return [(n, c, ps, ['N-a-name-or-star']) for n, c, ps, _ in rule_table.forms_of(rule, form[:-len(STAR)], None)]
+        return [(n, c, ps, ['N_a_name_or_star']) for n, c, ps, _ in rule_table.forms_of(rule, form[:-len(STAR)], None)]
     return rule_table.forms_of(rule, form, None)
 
 
@@ -137,10 +137,10 @@ def refusals():
 
 
 def limits():
-    places = [('terms/specs/Row.antt', 'maxRows'), ('calls/specs/Book.antt', 'maxSteps'),
-              ('terms/specs/Nesting.antt', 'maxNesting'), ('xpath/specs/Document.antt', 'maxNodes'),
-              ('common/src/lib.rt', 'MAX_BYTES'), ('common/specs/Limits.antt', 'maxNumber'),
-              ('rules/specs/Yields.antt', 'wayBackRule')]
+    places = [('terms/specs/Row.antt', 'max_rows'), ('calls/specs/Book.antt', 'max_steps'),
+              ('terms/specs/Nesting.antt', 'max_nesting'), ('xpath/specs/Document.antt', 'max_nodes'),
+              ('common/src/lib.rt', 'MAX_BYTES'), ('common/specs/Limits.antt', 'max_number'),
+              ('rules/specs/Yields.antt', 'way_back_rule')]
     specified = [constant('crates/' + path, name) for path, name in places]
     same('limits', [int(row[1]) for row in table('what | most')], specified)
     header = [header_number(name) for name in ('ROWS', 'STEPS', 'NODES', 'BYTES', 'NUMBER', 'RULE')]

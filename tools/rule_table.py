@@ -28,11 +28,11 @@ import re, sys
 
 AXES = ['self', 'child', 'parent', 'descendant', 'ancestor', 'descendant-or-self', 'ancestor-or-self', 'following-sibling',
         'preceding-sibling', 'following', 'preceding']  # 01's
-TESTS = {'*': 1, 'node()': 2, 'star-test': 1, 'node-test': 2}
+TESTS = {'*': 1, 'node()': 2, 'star_test': 1, 'node_test': 2}
 KINDS = ['void', 'root', 'step', 'union', 'composition', 'filter', 'true', 'false', 'not', 'and', 'or', 'in']
 LETTERS = ['p', 'q', 'r', 's', 'f', 'g', 'h', 'a', 'b', 'N', 'name of N', 'M', 'name of M']
 # the condition that a digit of a form's entry stands for
-CONDITIONS = [None, 'a-below-b', 'N-below-M', 'b-from-3-to-10', 'N-a-name-or-star', 'N-not-node', 'a-not-attribute']
+CONDITIONS = [None, 'a_below_b', 'N_below_M', 'b_from_3_to_10', 'N_a_name_or_star', 'N_not_node', 'a_not_attribute']
 FIRST_LETTER, FIRST_ROW = 32, 64  # the first pattern that is a letter, and that is a row
 
 
@@ -151,9 +151,9 @@ def is_path(term):
 
 
 # the phrases that are side conditions
-PHRASES = [(' if a is below b, N below M', ['a-below-b', 'N-below-M']), (', b from 3 to 10,', ['b-from-3-to-10']),
-           (" if N is below M, N isn't node() and a isn't 11", ['N-below-M', 'N-not-node', 'a-not-attribute']),
-           (" if N is below M and N isn't node()", ['N-below-M', 'N-not-node']), (" if a isn't 11", ['a-not-attribute'])]
+PHRASES = [(' if a is below b, N below M', ['a_below_b', 'N_below_M']), (', b from 3 to 10,', ['b_from_3_to_10']),
+           (" if N is below M, N isn't node() and a isn't 11", ['N_below_M', 'N_not_node', 'a_not_attribute']),
+           (" if N is below M and N isn't node()", ['N_below_M', 'N_not_node']), (" if a isn't 11", ['a_not_attribute'])]
 
 # the sentences that refer to others, written out
 WRITTEN_OUT = {
@@ -191,7 +191,7 @@ REFERRING = {3: 'p <= r from p <= q, q <= r; so for =>', 53: 'so for ancestors',
 
 def two_cases(rule, near, far):
     text = '(%s::%s in V) => (%s::N in V)'
-    return [(rule, claim(text % (near, 'node()', far)), [], []), (rule, claim(text % (near, '*', far)), [], ['N-a-name-or-star'])]
+    return [(rule, claim(text % (near, 'node()', far)), [], []), (rule, claim(text % (near, '*', far)), [], ['N_a_name_or_star'])]
 
 
 def forms_of(rule, text, before):
@@ -277,8 +277,8 @@ def fixities(*paths):
         for line in open(path, encoding='utf-8'):
             match = re.match(r'infix([lr]?) (\d+) (.*)', line)
             for name in match.group(3).split() if match else []:
-                parts = [x for x in name.split('_') if x]
-                found[parts[0]] = (int(match.group(2)), match.group(1) if name.startswith('_') else 'p')
+                parts = [x for x in name.split('◌') if x]
+                found[parts[0]] = (int(match.group(2)), match.group(1) if name.startswith('◌') else 'p')
     return found
 
 
@@ -302,7 +302,7 @@ class Antt:
             self.take()
         elif self.operators.get(word, (0, ''))[1] == 'p':
             left = (word, self.term(self.operators[word][0] + 1))
-        elif word == 'some-of':
+        elif word == 'some_of':
             left = (word, self.term(1000))
         else:
             left = (word,)
@@ -321,12 +321,17 @@ NAMES = {'Void': 'void', 'Root': 'root', 'True': 'true', 'False': 'false', 'Not'
          '¦': 'union', '∕': 'composition', '⟦': 'filter'}
 
 
+def axis_number(name):
+    """The number of an axis by its name in the specification or in the code."""
+    return AXES.index(name.lower().replace('_', '-'))
+
+
 def as_term(tree):
     head = tree[0]
     if head == '::':
         axis, test = tree[1][0], tree[2][0]
-        return ('step', AXES.index(axis) if axis in AXES else axis, TESTS.get(test, test))
-    if head == 'some-of':
+        return ('step', axis if axis in LETTERS else axis_number(axis), TESTS.get(test, test))
+    if head == 'some_of':
         return some(as_term(tree[1]))
     if len(tree) == 1 and head in LETTERS[:7]:
         return ('letter', head)
@@ -365,9 +370,9 @@ def specification(folder):
     return forms
 
 
-def specification_axes(folder, file='Order', name='axisPairs'):
+def specification_axes(folder, file='Order', name='axis_pairs'):
     text = open('%s/%s.antt' % (folder, file), encoding='utf-8').read().split(name + ' =')[1].split('[]')[0]
-    return [(AXES.index(a), AXES.index(b)) for a, b in re.findall(r'\(([a-z-]+), ([a-z-]+)\)', text)]
+    return [(axis_number(a), axis_number(b)) for a, b in re.findall(r'\(([a-z_]+), ([a-z_]+)\)', text)]
 
 
 # 3. src/tables.rt.
@@ -380,8 +385,7 @@ def entries(path, name):
 def pairs_of(path, name):
     """Pairs of axes by their names."""
     text = open(path, encoding='utf-8').read().split('const %s:' % name)[1].split('= [', 1)[1].split('];')[0]
-    number = lambda word: AXES.index(word.lower().replace('_', '-'))
-    return [(number(a), number(b)) for a, b in re.findall(r'\[axis::(\w+), axis::(\w+)\]', text)]
+    return [(axis_number(a), axis_number(b)) for a, b in re.findall(r'\[axis::(\w+), axis::(\w+)\]', text)]
 
 
 def fours_of(path, name):

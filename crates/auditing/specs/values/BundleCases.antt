@@ -115,6 +115,8 @@ reports :
     ∷ audited (row_lines ++ "12 0 0 0\nx\n") is report_by 1 2 0 0 0
     ∷ audited (row_lines ++ "x\n12 0 0 0\n") is report_by 10 2 0 0 0
     ∷ audited (example ++ "8 1 0 0 0\nx\n") is report_by 7 6 0 0 0
+    ∷ audited (example ++ "x\n8 1 0 0 0\n") is report_by 10 6 0 0 0
+    ∷ audited (example ++ row_lines) is report_by 10 6 0 0 0
     -- the rows are those of the last step
     ∷ audited (example ++ "2 1 1 0 0\n") is report_by 0 0 2 1 1
     ∷ [])
@@ -139,6 +141,8 @@ readings :
     × AllRight
     ((reading (ascii (rows ++ "12 0 0 0\n"))).session is fresh_session
     ∷ (reading (ascii (example ++ "8 1 0 0 0\n"))).session is fresh_session
+    ∷ (reading (ascii (example ++ "x\n"))).session is fresh_session
+    ∷ (reading (ascii rows)).session is fresh_session
     ∷ [])
 unfolding ascii reading lines_read rows_read steps_read row_names step_names row_of_line step_of_line lines
     in_first_line

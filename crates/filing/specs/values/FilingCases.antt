@@ -65,7 +65,10 @@ answers :
     ∷ answered_in 65536 "term 2 1 0 1\nselect 0 0 1 1\n" is (10 ∷ 2 ∷ [])
     ∷ answered_in 65536 "term 2 1 0 1" is (10 ∷ 1 ∷ [])
     ∷ answered_in 65536 "term 2 1 0 1\n\n" is (10 ∷ 2 ∷ [])
-    -- names are lent until others are, and points don't keep them
+    -- none are lent before the first line; they are lent until others are, and points don't keep them
+    ∷ answered_in 65536 "text a\n" is (19 ∷ 1 ∷ [])
+    ∷ answered_in 65536 "names a b\ntext a\ntext b\n" is (0 ∷ 56 ∷ [])
+    ∷ answered_in 65536 "jump\nterm 12 0 0 0\n" is (10 ∷ 1 ∷ [])
     ∷ answered_in 65536 "names a\nnames\ntext a\n" is (19 ∷ 3 ∷ [])
     ∷ answered_in 65536 "names a\npoint 1\nnames b\nreturn 1\ntext b\n" is (0 ∷ 48 ∷ [])
     ∷ answered_in 65536 "names\n" is (0 ∷ 40 ∷ [])
