@@ -1,9 +1,10 @@
--- What the proof of `append` has at exit of its `Writer`, which was passed by value.
---     slots            the struct's fields, as places of a signature of one lifetime
---     held, held-goes  of a choice for each field: what is had of the struct at exit (`Denote/Triple/Walked.antt`'s
--- `Stay`), and the law for it, from the fields' laws
---     writer-gave      the body has given the borrow up for good, as by passing it on to a callee, and has only what
--- says its last list.        writer-gave-goes      the law for it
+-- What a walk over the steps of a function that takes a `Writer` by value has of it at exit.
+--     slots             the struct's fields, as places of a signature of one lifetime
+--     held, held_goes   of a choice for each field: what is had of the struct at exit (`Stay` of
+--                       `denote.Triple.Walked`), and the law for it, from the fields' laws
+--     writer_gave       the body has given the borrow up for good, as by passing it on to a callee, and has only what
+--                       says its last list
+--     writer_gave_goes  the law for it
 -- The laws take `Logic`. The rest assumes nothing.
 use mathlib.Core.Path.{refl}
 use mathlib.Core.List.{List, [], ◌∷◌}

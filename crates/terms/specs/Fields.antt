@@ -23,7 +23,7 @@ no_fields = fields unused unused unused
 abbrev pub max_kind : ℕ
 max_kind = inclusion_row
 
--- a line for each kind from void-row to inclusion-row
+-- a line for each kind from void_row to inclusion_row
 unfoldable pub fields_of : ℕ → Fields
 fields_of kind =
     get_or
