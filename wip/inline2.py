@@ -8,7 +8,7 @@ for f in glob.glob('crates/*/src/**/*.rt', recursive=True):
     s = open(f).read()
     for m in re.finditer(r'fn (\w+)[^{;]*?\n\s+requires', s): asks.add(m.group(1).replace('_', '-'))
 forced = set()
-if os.path.exists('/work/wip/lam.txt'): forced = set(tuple(l.split()) for l in open('/work/wip/lam.txt'))
+if os.path.exists('../wip/lam.txt'): forced = set(tuple(l.split()) for l in open('../wip/lam.txt'))
 def do(base, f):
     s = subprocess.run(['git', 'show', f'{base}:{f}'], capture_output=True, text=True).stdout
     if not s: return 0

@@ -1,5 +1,5 @@
 import sys,glob,os,re,shutil
-sys.path.insert(0,'/work/wip')
+sys.path.insert(0,'../wip')
 from uses import fix_uses
 def rd(f): return open(f,encoding='utf8').read()
 def wr(f,s):

@@ -1,5 +1,5 @@
 #!/usr/bin/env python3
-"""Spells the definitions and lemmas of the crates in snake case, after /opt/rattle/port/port.py has run.
+"""Spells the definitions and lemmas of the crates in snake case, after the kit's port/port.py has run.
 
 usage: python3 tools/port/spell.py [--list]      at the top of the repository
 

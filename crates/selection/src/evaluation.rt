@@ -115,7 +115,7 @@ fn qualifier_stopped() -> QualifierResult
 }
 
 // Marks what the path in row r, of the first `top` rows, selects from x; a row past them is read as the void path.
-#[cycle(eval_composition_eval_filter_eval_inclusion_eval_path_eval_path_operands_eval_qualifier_eval_qualifier_operands_eval_second_operand_eval_union)]
+#[cycle(evaluation)]
 pub fn eval_path(
     rows: &[u16],
     d: &[u16],
@@ -156,7 +156,7 @@ pub fn eval_path(
 }
 
 // The operands of a union, a composition or a filter: all its visits but the first.
-#[cycle(eval_composition_eval_filter_eval_inclusion_eval_path_eval_path_operands_eval_qualifier_eval_qualifier_operands_eval_second_operand_eval_union)]
+#[cycle(evaluation)]
 fn eval_path_operands(
     rows: &[u16],
     d: &[u16],
@@ -193,7 +193,7 @@ fn eval_path_operands(
 }
 
 // Marks what the paths in rows a and b select from x.
-#[cycle(eval_composition_eval_filter_eval_inclusion_eval_path_eval_path_operands_eval_qualifier_eval_qualifier_operands_eval_second_operand_eval_union)]
+#[cycle(evaluation)]
 fn eval_union(
     rows: &[u16],
     d: &[u16],
@@ -225,7 +225,7 @@ fn eval_union(
 }
 
 // The second operand of a composition or a filter, at the nodes marked in `first`.
-#[cycle(eval_composition_eval_filter_eval_inclusion_eval_path_eval_path_operands_eval_qualifier_eval_qualifier_operands_eval_second_operand_eval_union)]
+#[cycle(evaluation)]
 fn eval_second_operand(
     rows: &[u16],
     d: &[u16],
@@ -248,7 +248,7 @@ fn eval_second_operand(
 }
 
 // Marks what the path in row b selects from the nodes marked in `first`.
-#[cycle(eval_composition_eval_filter_eval_inclusion_eval_path_eval_path_operands_eval_qualifier_eval_qualifier_operands_eval_second_operand_eval_union)]
+#[cycle(evaluation)]
 fn eval_composition(
     rows: &[u16],
     d: &[u16],
@@ -284,7 +284,7 @@ fn eval_composition(
 }
 
 // Marks the nodes marked in `first` at which the qualifier in row b is true.
-#[cycle(eval_composition_eval_filter_eval_inclusion_eval_path_eval_path_operands_eval_qualifier_eval_qualifier_operands_eval_second_operand_eval_union)]
+#[cycle(evaluation)]
 fn eval_filter(
     rows: &[u16],
     d: &[u16],
@@ -323,7 +323,7 @@ fn eval_filter(
 }
 
 // Whether the qualifier in row r, of the first `top` rows, is true at x; a row past them is read as false.
-#[cycle(eval_composition_eval_filter_eval_inclusion_eval_path_eval_path_operands_eval_qualifier_eval_qualifier_operands_eval_second_operand_eval_union)]
+#[cycle(evaluation)]
 fn eval_qualifier(
     rows: &[u16],
     d: &[u16],
@@ -365,7 +365,7 @@ fn eval_qualifier(
 }
 
 // The operands of a not, an and, an or or an inclusion: all its visits but the first.
-#[cycle(eval_composition_eval_filter_eval_inclusion_eval_path_eval_path_operands_eval_qualifier_eval_qualifier_operands_eval_second_operand_eval_union)]
+#[cycle(evaluation)]
 fn eval_qualifier_operands(
     rows: &[u16],
     d: &[u16],
@@ -408,7 +408,7 @@ fn eval_qualifier_operands(
 }
 
 // Whether all that the path in row a selects from x is selected by the path in row b.
-#[cycle(eval_composition_eval_filter_eval_inclusion_eval_path_eval_path_operands_eval_qualifier_eval_qualifier_operands_eval_second_operand_eval_union)]
+#[cycle(evaluation)]
 fn eval_inclusion(
     rows: &[u16],
     d: &[u16],

@@ -51,7 +51,7 @@ pub struct TextResult {
 }
 
 // A predicate whose `[` is where `from`, the step so far, ends.
-#[cycle(read_and_read_operand_read_or_read_path_read_predicate_read_step_read_union)]
+#[cycle(expression)]
 fn read_predicate(
     s: &[u8],
     names: &[u8],
@@ -83,7 +83,7 @@ fn read_predicate(
 }
 
 // A step that begins at a place without whitespace: its head and predicates.
-#[cycle(read_and_read_operand_read_or_read_path_read_predicate_read_step_read_union)]
+#[cycle(expression)]
 fn read_step(
     s: &[u8],
     names: &[u8],
@@ -111,7 +111,7 @@ fn read_step(
 }
 
 // Steps joined by `/` and `//`, which may stand in front of them too; or `/` alone.
-#[cycle(read_and_read_operand_read_or_read_path_read_predicate_read_step_read_union)]
+#[cycle(expression)]
 fn read_path(
     s: &[u8],
     names: &[u8],
@@ -142,7 +142,7 @@ fn read_path(
 }
 
 // Paths joined by `|`.
-#[cycle(read_and_read_operand_read_or_read_path_read_predicate_read_step_read_union)]
+#[cycle(expression)]
 fn read_union(
     s: &[u8],
     names: &[u8],
@@ -168,7 +168,7 @@ fn read_union(
 
 // An operand of `and` or `or`: paths, of which there must be some; an expression in `( )` or `not ( )`; `true ( )` or
 // `false ( )`.
-#[cycle(read_and_read_operand_read_or_read_path_read_predicate_read_step_read_union)]
+#[cycle(expression)]
 fn read_operand(
     s: &[u8],
     names: &[u8],
@@ -216,7 +216,7 @@ fn read_operand(
 }
 
 // Operands joined by `and`.
-#[cycle(read_and_read_operand_read_or_read_path_read_predicate_read_step_read_union)]
+#[cycle(expression)]
 fn read_and(
     s: &[u8],
     names: &[u8],
@@ -243,7 +243,7 @@ fn read_and(
 }
 
 // Those joined by `or`.
-#[cycle(read_and_read_operand_read_or_read_path_read_predicate_read_step_read_union)]
+#[cycle(expression)]
 fn read_or(
     s: &[u8],
     names: &[u8],

@@ -1,18 +1,16 @@
+-- `axis_head` meets its contract. Assumes nothing.
 use mathlib.Core.Path.{refl, sym, ◌∙◌}
 use native.Mathlib.Omega.{arith}
 use Prim.Native.Nat.{◌+◌}
 use Rattle.heads.proofs.Headed.{axis_no, axis_one, axis_two, axis_none, axis_some, byte_there}
 use Rattle.heads.proofs.axis_head.Goals as goal
 
--- src/head.rt:203:31
 pub slice_bounds-axis_of-count : goal.slice_bounds-axis_of-count
 slice_bounds-axis_of-count c = omega (arith, c.requires.name_at.names.from)
 
--- src/head.rt:203:31
 pub slice_bounds-axis_of-start : goal.slice_bounds-axis_of-start
 slice_bounds-axis_of-start c = omega (arith, c.requires.name_at.names.from)
 
--- src/head.rt:203:31
 pub slice_bounds-axis_of-end : goal.slice_bounds-axis_of-end
 slice_bounds-axis_of-end c =
     omega (
@@ -22,7 +20,6 @@ slice_bounds-axis_of-end c =
       c.requires.name_at.names.from,
     )
 
--- src/head.rt:205:9
 pub returns-then-axis-eq-NO_AXIS : goal.returns-then-axis-eq-NO_AXIS
 returns-then-axis-eq-NO_AXIS c =
     rw c.no_head.ensures
@@ -30,11 +27,9 @@ returns-then-axis-eq-NO_AXIS c =
     c.args.colon c.requires.name_at c.requires.colon_value
     (axis_none _ _ c.axis_of-axis.ensures c.if-axis-eq-NO_AXIS.true))
 
--- src/head.rt:207:18
 pub overflow_add-second : goal.overflow_add-second
 overflow_add-second c = omega (arith, byte_there c.args.s.now c.args.colon 58 refl c.requires.colon_value)
 
--- src/head.rt:209:9
 pub returns-then-byte_at-ne-COLON : goal.returns-then-byte_at-ne-COLON
 returns-then-byte_at-ne-COLON c =
     rw c.no_head-then-byte_at-ne-COLON.ensures
@@ -44,7 +39,6 @@ returns-then-byte_at-ne-COLON c =
     c.if-axis-eq-NO_AXIS.false).0
     (λ e. c.if-byte_at-ne-COLON.true (c.byte_at.ensures ∙ e)))
 
--- src/head.rt:211:33
 pub overflow_add-second-2 : goal.overflow_add-second-2
 overflow_add-second-2 c =
     omega (
@@ -53,7 +47,6 @@ overflow_add-second-2 c =
           (sym c.byte_at.ensures ∙ c.if-byte_at-ne-COLON.false),
     )
 
--- src/head.rt:211:25
 pub skip-requires : goal.skip-requires
 skip-requires c =
     omega (
@@ -62,11 +55,9 @@ skip-requires c =
           (sym c.byte_at.ensures ∙ c.if-byte_at-ne-COLON.false),
     )
 
--- src/head.rt:211:5
 pub test_head-requires : goal.test_head-requires
 test_head-requires c = record { at_in_bounds = c.skip.ensures.fits; indexed = c.requires.indexed }
 
--- src/head.rt:198:1
 pub returns : goal.returns
 returns c =
     let z = axis_some _ _ c.axis_of-axis.ensures c.if-axis-eq-NO_AXIS.false in axis_two

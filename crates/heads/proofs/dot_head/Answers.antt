@@ -1,14 +1,13 @@
+-- `dot_head` meets its contract. Assumes nothing.
 use mathlib.Core.Path.{refl, sym, ◌∙◌}
 use native.Mathlib.Omega.{arith}
 use Prim.Native.Nat.{◌+◌}
 use Rattle.heads.proofs.Headed.{dot_two, dot_one, byte_there}
 use Rattle.heads.proofs.dot_head.Goals as goal
 
--- src/head.rt:118:16
 pub overflow_add-next : goal.overflow_add-next
 overflow_add-next c = omega (arith, byte_there c.args.s.now c.args.at 46 refl c.requires)
 
--- src/head.rt:120:35
 pub overflow_add-next-then-byte_at-eq-DOT : goal.overflow_add-next-then-byte_at-eq-DOT
 overflow_add-next-then-byte_at-eq-DOT c =
     omega (
@@ -17,7 +16,6 @@ overflow_add-next-then-byte_at-eq-DOT c =
           (sym c.byte_at.ensures ∙ c.if-byte_at-eq-DOT.true),
     )
 
--- src/head.rt:120:27
 pub skip-requires : goal.skip-requires
 skip-requires c =
     omega (
@@ -26,7 +24,6 @@ skip-requires c =
           (sym c.byte_at.ensures ∙ c.if-byte_at-eq-DOT.true),
     )
 
--- src/head.rt:120:9
 pub returns-then-byte_at-eq-DOT : goal.returns-then-byte_at-eq-DOT
 returns-then-byte_at-eq-DOT c =
     rw c.plain_head.ensures
@@ -34,7 +31,6 @@ returns-then-byte_at-eq-DOT c =
     (sym c.byte_at.ensures ∙ c.if-byte_at-eq-DOT.true)
     c.skip.ensures)
 
--- src/head.rt:122:16
 pub skip-requires-2 : goal.skip-requires-2
 skip-requires-2 c =
     omega (
@@ -43,7 +39,6 @@ skip-requires-2 c =
           c.requires,
     )
 
--- src/head.rt:114:1
 pub returns : goal.returns
 returns c =
     rw c.plain_head-2.ensures

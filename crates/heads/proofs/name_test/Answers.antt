@@ -1,10 +1,10 @@
+-- `name_test` meets its contract. Assumes nothing.
 use mathlib.Core.Path.{refl, sym, ◌∙◌}
 use native.Mathlib.Omega.{arith}
 use Rattle.heads.proofs.Headed.{name_plain, name_call, name_type, type_none, type_some, byte_there}
 use Rattle.heads.proofs.Ran.{part_is}
 use Rattle.heads.proofs.name_test.Goals as goal
 
--- src/head.rt:171:9
 pub named_head-requires : goal.named_head-requires
 named_head-requires c = record {
   from_le_to = (
@@ -16,7 +16,6 @@ named_head-requires c = record {
   indexed = c.requires.indexed;
 }
 
--- src/head.rt:171:9
 pub returns-then-byte_at-ne-OPEN : goal.returns-then-byte_at-ne-OPEN
 returns-then-byte_at-ne-OPEN c =
     rw c.named_head.ensures
@@ -24,15 +23,12 @@ returns-then-byte_at-ne-OPEN c =
     c.args.to c.args.axis c.requires.name_at
     (λ e. c.if-byte_at-ne-OPEN.true (c.byte_at.ensures ∙ e)))
 
--- src/head.rt:173:31
 pub slice_bounds-type_of-count : goal.slice_bounds-type_of-count
 slice_bounds-type_of-count c = omega (arith, c.requires.name_at.names.from)
 
--- src/head.rt:173:31
 pub slice_bounds-type_of-start : goal.slice_bounds-type_of-start
 slice_bounds-type_of-start c = omega (arith, c.requires.name_at.names.from)
 
--- src/head.rt:173:31
 pub slice_bounds-type_of-end : goal.slice_bounds-type_of-end
 slice_bounds-type_of-end c =
     omega (
@@ -42,7 +38,6 @@ slice_bounds-type_of-end c =
       c.requires.name_at.names.from,
     )
 
--- src/head.rt:175:9
 pub named_head-requires-then-test-eq-NO_TYPE : goal.named_head-requires-then-test-eq-NO_TYPE
 named_head-requires-then-test-eq-NO_TYPE c = record {
   from_le_to = (
@@ -54,7 +49,6 @@ named_head-requires-then-test-eq-NO_TYPE c = record {
   indexed = c.requires.indexed;
 }
 
--- src/head.rt:175:9
 pub returns-then-test-eq-NO_TYPE : goal.returns-then-test-eq-NO_TYPE
 returns-then-test-eq-NO_TYPE c =
     rw c.named_head-then-test-eq-NO_TYPE.ensures
@@ -63,7 +57,6 @@ returns-then-test-eq-NO_TYPE c =
     (sym c.byte_at.ensures ∙ c.if-byte_at-ne-OPEN.false)
     (type_none _ _ c.type_of-test.ensures c.if-test-eq-NO_TYPE.true))
 
--- src/head.rt:177:25
 pub overflow_add-to : goal.overflow_add-to
 overflow_add-to c =
     omega (
@@ -72,7 +65,6 @@ overflow_add-to c =
           (sym c.byte_at.ensures ∙ c.if-byte_at-ne-OPEN.false),
     )
 
--- src/head.rt:177:5
 pub type_head-requires : goal.type_head-requires
 type_head-requires c = record {
   at_in_bounds = omega (
@@ -83,7 +75,6 @@ type_head-requires c = record {
   indexed = c.requires.indexed;
 }
 
--- src/head.rt:166:1
 pub returns : goal.returns
 returns c =
     let z = type_some _ _ c.type_of-test.ensures c.if-test-eq-NO_TYPE.false in name_type

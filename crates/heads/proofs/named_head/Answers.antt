@@ -1,6 +1,6 @@
+-- `named_head` meets its contract. Assumes nothing.
 use mathlib.Core.Path.{refl}
 use Rattle.heads.proofs.named_head.Goals as goal
 
--- src/head.rt:89:1
 pub returns : goal.returns
 returns c = rw c.number_of-name.ensures refl

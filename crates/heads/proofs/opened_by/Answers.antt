@@ -1,13 +1,12 @@
+-- `opened_by` meets its contract. Assumes nothing.
 use mathlib.Core.Path.{refl, sym, ◌∙◌}
 use Rattle.lines.specs.Ascii.{ascii}
 use Rattle.heads.proofs.opened_by.Goals as goal
 
--- src/head.rt:253:9
 pub returns-then-same : goal.returns-then-same
 unfolding ascii
 returns-then-same c = sym (rw (sym c.same.ensures ∙ c.if-same.true) refl)
 
--- src/head.rt:256:9
 pub returns-then-same-2 : goal.returns-then-same-2
 unfolding ascii
 returns-then-same-2 c =
@@ -16,7 +15,6 @@ returns-then-same-2 c =
       sym c.same-2.ensures ∙ c.if-same-2.true,
     ) refl)
 
--- src/head.rt:259:9
 pub returns-then-same-3 : goal.returns-then-same-3
 unfolding ascii
 returns-then-same-3 c =
@@ -27,7 +25,6 @@ returns-then-same-3 c =
       sym c.same-3.ensures ∙ c.if-same-3.true,
     ) refl)
 
--- src/head.rt:249:1
 pub returns : goal.returns
 unfolding ascii
 returns c =

@@ -1,3 +1,4 @@
+-- `operand_at` meets its contract. Assumes nothing.
 use mathlib.Core.Path.{sym, ◌∙◌}
 use mathlib.Core.Bool.{true, false}
 use native.Mathlib.Omega.{arith}
@@ -5,13 +6,11 @@ use borrow.Author.Tests.{not-true, not-false}
 use Rattle.heads.proofs.Headed.{operand_group, operand_other, operand_named, operand_opened, start_there}
 use Rattle.heads.proofs.operand_at.Goals as goal
 
--- src/head.rt:271:9
 pub returns-then-b-eq-OPEN : goal.returns-then-b-eq-OPEN
 returns-then-b-eq-OPEN c =
     operand_group c.args.s.now c.args.at
     (sym c.byte_at-b.ensures ∙ c.if-b-eq-OPEN.true)
 
--- src/head.rt:277:9
 pub returns-then-not-is_start : goal.returns-then-not-is_start
 returns-then-not-is_start c =
     operand_other c.args.s.now c.args.at
@@ -19,7 +18,6 @@ returns-then-not-is_start c =
     (rw c.byte_at-b.ensures at
     (sym c.is_start.ensures ∙ not-true _ c.if-not-is_start.true-raw))
 
--- src/head.rt:282:27
 pub overflow_add-at : goal.overflow_add-at
 overflow_add-at c =
     omega (
@@ -29,7 +27,6 @@ overflow_add-at c =
           (sym c.is_start.ensures ∙ not-false _ c.if-not-is_start.false-raw)),
     )
 
--- src/head.rt:282:9
 pub name_end-end-requires : goal.name_end-end-requires
 name_end-end-requires c =
     omega (
@@ -39,11 +36,9 @@ name_end-end-requires c =
           (sym c.is_start.ensures ∙ not-false _ c.if-not-is_start.false-raw)),
     )
 
--- src/head.rt:283:9
 pub skip-paren-requires : goal.skip-paren-requires
 skip-paren-requires c = c.name_end-end.ensures.fits
 
--- src/head.rt:285:9
 pub returns-then-byte_at-ne-OPEN : goal.returns-then-byte_at-ne-OPEN
 returns-then-byte_at-ne-OPEN c =
     operand_named c.args.s.now c.args.at _ _
@@ -55,15 +50,12 @@ returns-then-byte_at-ne-OPEN c =
     })
     (λ e. c.if-byte_at-ne-OPEN.true (c.byte_at.ensures ∙ e))
 
--- src/head.rt:291:26
 pub slice_bounds-opened_by-count : goal.slice_bounds-opened_by-count
 slice_bounds-opened_by-count c = omega (arith, c.name_end-end.ensures.from)
 
--- src/head.rt:291:26
 pub slice_bounds-opened_by-start : goal.slice_bounds-opened_by-start
 slice_bounds-opened_by-start c = omega (arith, c.name_end-end.ensures.from)
 
--- src/head.rt:291:26
 pub slice_bounds-opened_by-end : goal.slice_bounds-opened_by-end
 slice_bounds-opened_by-end c =
     omega (
@@ -72,7 +64,6 @@ slice_bounds-opened_by-end c =
       c.name_end-end.ensures.fits,
     )
 
--- src/head.rt:265:1
 pub returns : goal.returns
 returns c =
     operand_opened c.args.s.now c.args.at _ _

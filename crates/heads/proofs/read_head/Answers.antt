@@ -1,3 +1,4 @@
+-- `read_head` meets its contract. Assumes nothing.
 use mathlib.Core.Path.{refl, sym, ◌∙◌}
 use mathlib.Core.Bool.{true, false}
 use native.Mathlib.Omega.{arith}
@@ -5,15 +6,12 @@ use borrow.Author.Tests.{not-true, not-false}
 use Rattle.heads.proofs.Headed.{head_dot, head_at, head_test, byte_there, start_there}
 use Rattle.heads.proofs.read_head.Goals as goal
 
--- src/head.rt:222:9
 pub dot_head-requires : goal.dot_head-requires
 dot_head-requires c = sym c.byte_at-b.ensures ∙ c.if-b-eq-DOT.true
 
--- src/head.rt:222:9
 pub returns-then-b-eq-DOT : goal.returns-then-b-eq-DOT
 returns-then-b-eq-DOT c = head_dot c.args.s.now c.args.names.now c.args.at _ c.dot_head.ensures
 
--- src/head.rt:225:44
 pub overflow_add-at : goal.overflow_add-at
 overflow_add-at c =
     omega (
@@ -22,7 +20,6 @@ overflow_add-at c =
           (sym c.byte_at-b.ensures ∙ c.if-b-eq-AT.true),
     )
 
--- src/head.rt:225:36
 pub skip-requires : goal.skip-requires
 skip-requires c =
     omega (
@@ -31,22 +28,18 @@ skip-requires c =
           (sym c.byte_at-b.ensures ∙ c.if-b-eq-AT.true),
     )
 
--- src/head.rt:225:9
 pub test_head-requires : goal.test_head-requires
 test_head-requires c = record { at_in_bounds = c.skip.ensures.fits; indexed = c.requires.indexed }
 
--- src/head.rt:225:9
 pub returns-then-b-eq-AT : goal.returns-then-b-eq-AT
 returns-then-b-eq-AT c =
     head_at c.args.s.now c.args.names.now c.args.at _ _ _
     (sym c.byte_at-b.ensures ∙ c.if-b-eq-AT.true)
     c.skip.ensures c.test_head.ensures
 
--- src/head.rt:228:9
 pub test_head-requires-then-not-is_start : goal.test_head-requires-then-not-is_start
 test_head-requires-then-not-is_start c = record { at_in_bounds = c.requires.at_in_bounds; indexed = c.requires.indexed }
 
--- src/head.rt:228:9
 pub returns-then-not-is_start : goal.returns-then-not-is_start
 returns-then-not-is_start c =
     head_test c.args.s.now c.args.names.now c.args.at c.requires.at_value
@@ -56,7 +49,6 @@ returns-then-not-is_start c =
     (sym c.is_start.ensures ∙ not-true _ c.if-not-is_start.true-raw))
     c.test_head-then-not-is_start.ensures
 
--- src/head.rt:230:27
 pub overflow_add-at-2 : goal.overflow_add-at-2
 overflow_add-at-2 c =
     omega (
@@ -66,7 +58,6 @@ overflow_add-at-2 c =
           (sym c.is_start.ensures ∙ not-false _ c.if-not-is_start.false-raw)),
     )
 
--- src/head.rt:230:9
 pub name_end-end-requires : goal.name_end-end-requires
 name_end-end-requires c =
     omega (
@@ -76,11 +67,9 @@ name_end-end-requires c =
           (sym c.is_start.ensures ∙ not-false _ c.if-not-is_start.false-raw)),
     )
 
--- src/head.rt:231:9
 pub skip-to-requires : goal.skip-to-requires
 skip-to-requires c = c.name_end-end.ensures.fits
 
--- src/head.rt:233:9
 pub axis_head-requires : goal.axis_head-requires
 axis_head-requires c = record {
   name_at = record {
@@ -94,11 +83,9 @@ axis_head-requires c = record {
   indexed = c.requires.indexed;
 }
 
--- src/head.rt:233:9
 pub returns-then-byte_at-eq-COLON : goal.returns-then-byte_at-eq-COLON
 returns-then-byte_at-eq-COLON c = c.axis_head.ensures
 
--- src/head.rt:235:5
 pub name_test-requires : goal.name_test-requires
 name_test-requires c = record {
   name_at = record {
@@ -110,7 +97,6 @@ name_test-requires c = record {
   indexed = c.requires.indexed;
 }
 
--- src/head.rt:215:1
 pub returns : goal.returns
 returns c =
     head_test c.args.s.now c.args.names.now c.args.at c.requires.at_value

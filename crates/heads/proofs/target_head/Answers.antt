@@ -1,3 +1,4 @@
+-- `target_head` meets its contract. Assumes nothing.
 use mathlib.Core.Path.{refl, sym, ◌∙◌}
 use mathlib.Core.Bool.{true, false}
 use native.Mathlib.Omega.{arith}
@@ -8,7 +9,6 @@ use Rattle.heads.proofs.Headed.{quote_there}
 use Rattle.heads.proofs.Ran.{part_is}
 use Rattle.heads.proofs.target_head.Goals as goal
 
--- src/head.rt:131:16
 pub overflow_add-from : goal.overflow_add-from
 overflow_add-from c =
     omega (
@@ -17,7 +17,6 @@ overflow_add-from c =
           c.requires.at_value,
     )
 
--- src/head.rt:133:9
 pub returns-then-not-is_start : goal.returns-then-not-is_start
 returns-then-not-is_start c =
     rw c.no_head.ensures
@@ -25,7 +24,6 @@ returns-then-not-is_start c =
     c.requires.at_value (rw c.byte_at.ensures at
     (sym c.is_start.ensures ∙ not-true _ c.if-not-is_start.true-raw)))
 
--- src/head.rt:135:27
 pub overflow_add-from-2 : goal.overflow_add-from-2
 overflow_add-from-2 c =
     omega (
@@ -35,7 +33,6 @@ overflow_add-from-2 c =
           (sym c.is_start.ensures ∙ not-false _ c.if-not-is_start.false-raw)),
     )
 
--- src/head.rt:135:9
 pub name_end-end-requires : goal.name_end-end-requires
 name_end-end-requires c =
     omega (
@@ -45,7 +42,6 @@ name_end-end-requires c =
           (sym c.is_start.ensures ∙ not-false _ c.if-not-is_start.false-raw)),
     )
 
--- src/head.rt:137:9
 pub returns-then-byte_at-quote : goal.returns-then-byte_at-quote
 returns-then-byte_at-quote c =
     rw c.no_head-then-byte_at-quote.ensures
@@ -56,7 +52,6 @@ returns-then-byte_at-quote c =
     (λ e. c.if-byte_at-quote.true
     (c.byte_at-2.ensures ∙ e ∙ sym c.byte_at-quote.ensures)))
 
--- src/head.rt:139:25
 pub overflow_add-end : goal.overflow_add-end
 overflow_add-end c =
     omega (
@@ -65,7 +60,6 @@ overflow_add-end c =
           (rw (sym c.byte_at-2.ensures ∙ c.if-byte_at-quote.false ∙ c.byte_at-quote.ensures) c.requires.at_value),
     )
 
--- src/head.rt:139:9
 pub skip-close-requires : goal.skip-close-requires
 skip-close-requires c =
     omega (
@@ -74,7 +68,6 @@ skip-close-requires c =
           (rw (sym c.byte_at-2.ensures ∙ c.if-byte_at-quote.false ∙ c.byte_at-quote.ensures) c.requires.at_value),
     )
 
--- src/head.rt:141:9
 pub returns-then-byte_at-ne-CLOSE : goal.returns-then-byte_at-ne-CLOSE
 returns-then-byte_at-ne-CLOSE c =
     rw c.no_head-then-byte_at-ne-CLOSE.ensures
@@ -86,7 +79,6 @@ returns-then-byte_at-ne-CLOSE c =
     ∙ c.byte_at-quote.ensures) _ c.skip-close.ensures
     (λ e. c.if-byte_at-ne-CLOSE.true (c.byte_at-3.ensures ∙ e)))
 
--- src/head.rt:143:45
 pub overflow_add-close : goal.overflow_add-close
 overflow_add-close c =
     omega (
@@ -95,7 +87,6 @@ overflow_add-close c =
           (sym c.byte_at-3.ensures ∙ c.if-byte_at-ne-CLOSE.false),
     )
 
--- src/head.rt:143:37
 pub skip-requires : goal.skip-requires
 skip-requires c =
     omega (
@@ -104,7 +95,6 @@ skip-requires c =
           (sym c.byte_at-3.ensures ∙ c.if-byte_at-ne-CLOSE.false),
     )
 
--- src/head.rt:143:5
 pub named_head-requires : goal.named_head-requires
 named_head-requires c = record {
   from_le_to = (omega (arith, c.name_end-end.ensures.from), c.name_end-end.ensures.fits);
@@ -115,7 +105,6 @@ named_head-requires c = record {
   indexed = c.requires.indexed;
 }
 
--- src/head.rt:126:1
 pub returns : goal.returns
 returns c =
     rw c.named_head.ensures

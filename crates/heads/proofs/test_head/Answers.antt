@@ -1,3 +1,4 @@
+-- `test_head` meets its contract. Assumes nothing.
 use mathlib.Core.Path.{refl, sym, ◌∙◌}
 use mathlib.Core.Bool.{true, false}
 use native.Mathlib.Omega.{arith}
@@ -5,7 +6,6 @@ use borrow.Author.Tests.{not-true, not-false}
 use Rattle.heads.proofs.Headed.{test_star, test_none, test_name, byte_there, start_there}
 use Rattle.heads.proofs.test_head.Goals as goal
 
--- src/head.rt:187:35
 pub overflow_add-at : goal.overflow_add-at
 overflow_add-at c =
     omega (
@@ -14,7 +14,6 @@ overflow_add-at c =
           (sym c.byte_at-b.ensures ∙ c.if-b-eq-STAR.true),
     )
 
--- src/head.rt:187:27
 pub skip-requires : goal.skip-requires
 skip-requires c =
     omega (
@@ -23,7 +22,6 @@ skip-requires c =
           c.args.at 42 refl (sym c.byte_at-b.ensures ∙ c.if-b-eq-STAR.true),
     )
 
--- src/head.rt:187:9
 pub returns-then-b-eq-STAR : goal.returns-then-b-eq-STAR
 returns-then-b-eq-STAR c =
     rw c.plain_head.ensures
@@ -31,7 +29,6 @@ returns-then-b-eq-STAR c =
     (sym c.byte_at-b.ensures ∙ c.if-b-eq-STAR.true)
     c.skip.ensures)
 
--- src/head.rt:190:9
 pub returns-then-not-is_start : goal.returns-then-not-is_start
 returns-then-not-is_start c =
     rw c.no_head.ensures
@@ -40,7 +37,6 @@ returns-then-not-is_start c =
     (rw c.byte_at-b.ensures at
     (sym c.is_start.ensures ∙ not-true _ c.if-not-is_start.true-raw)))
 
--- src/head.rt:192:27
 pub overflow_add-at-2 : goal.overflow_add-at-2
 overflow_add-at-2 c =
     omega (
@@ -50,7 +46,6 @@ overflow_add-at-2 c =
           (sym c.is_start.ensures ∙ not-false _ c.if-not-is_start.false-raw)),
     )
 
--- src/head.rt:192:9
 pub name_end-end-requires : goal.name_end-end-requires
 name_end-end-requires c =
     omega (
@@ -60,11 +55,9 @@ name_end-end-requires c =
           (sym c.is_start.ensures ∙ not-false _ c.if-not-is_start.false-raw)),
     )
 
--- src/head.rt:193:9
 pub skip-to-requires : goal.skip-to-requires
 skip-to-requires c = c.name_end-end.ensures.fits
 
--- src/head.rt:194:5
 pub name_test-requires : goal.name_test-requires
 name_test-requires c = record {
   name_at = record {
@@ -76,7 +69,6 @@ name_test-requires c = record {
   indexed = c.requires.indexed;
 }
 
--- src/head.rt:181:1
 pub returns : goal.returns
 returns c =
     test_name c.args.s.now c.args.names.now c.args.at c.args.axis _ _

@@ -1,3 +1,4 @@
+-- `type_head` meets its contract. Assumes nothing.
 use mathlib.Core.Path.{refl, sym, ◌∙◌}
 use mathlib.Core.Bool.{true, false}
 use native.Mathlib.Omega.{arith}
@@ -5,7 +6,6 @@ use borrow.Author.Tests.{not-true, not-false}
 use Rattle.heads.proofs.Headed.{type_close, type_plain, type_unquoted, type_target, byte_there}
 use Rattle.heads.proofs.type_head.Goals as goal
 
--- src/head.rt:154:35
 pub overflow_add-inner : goal.overflow_add-inner
 overflow_add-inner c =
     omega (
@@ -14,7 +14,6 @@ overflow_add-inner c =
           (sym c.byte_at-b.ensures ∙ c.if-b-eq-CLOSE.true),
     )
 
--- src/head.rt:154:27
 pub skip-requires : goal.skip-requires
 skip-requires c =
     omega (
@@ -23,7 +22,6 @@ skip-requires c =
           (sym c.byte_at-b.ensures ∙ c.if-b-eq-CLOSE.true),
     )
 
--- src/head.rt:154:9
 pub returns-then-b-eq-CLOSE : goal.returns-then-b-eq-CLOSE
 returns-then-b-eq-CLOSE c =
     rw c.plain_head.ensures
@@ -32,7 +30,6 @@ returns-then-b-eq-CLOSE c =
     (sym c.byte_at-b.ensures ∙ c.if-b-eq-CLOSE.true)
     c.skip.ensures)
 
--- src/head.rt:157:9
 pub returns-then-test-ne-INSTRUCTION : goal.returns-then-test-ne-INSTRUCTION
 returns-then-test-ne-INSTRUCTION c =
     rw c.no_head.ensures
@@ -41,7 +38,6 @@ returns-then-test-ne-INSTRUCTION c =
     (λ e. c.if-b-eq-CLOSE.false (c.byte_at-b.ensures ∙ e))
     c.if-test-ne-INSTRUCTION.true)
 
--- src/head.rt:160:9
 pub returns-then-not-is_quote : goal.returns-then-not-is_quote
 returns-then-not-is_quote c =
     rw c.no_head-then-not-is_quote.ensures
@@ -51,7 +47,6 @@ returns-then-not-is_quote c =
     (rw c.byte_at-b.ensures at
     (sym c.is_quote.ensures ∙ not-true _ c.if-not-is_quote.true-raw)))
 
--- src/head.rt:162:5
 pub target_head-requires : goal.target_head-requires
 target_head-requires c = record {
   at_value = rw c.byte_at-b.ensures at
@@ -59,7 +54,6 @@ target_head-requires c = record {
   indexed = c.requires.indexed;
 }
 
--- src/head.rt:147:1
 pub returns : goal.returns
 returns c =
     type_target c.args.s.now c.args.names.now c.args.at c.args.axis

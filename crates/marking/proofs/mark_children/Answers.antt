@@ -1,13 +1,12 @@
 -- `marking::mark_children` meets its contract: the end of a child's subtree is the next child. Assumes nothing.
 use Prim.Native.Nat.{ℕ, ◌<◌}
 use mathlib.Core.Path.{◌≡◌, refl, sym, ◌∙◌}
-use mathlib.Core.Bool.{Bool}
 use mathlib.Core.List.{List}
 use native.Mathlib.Omega.{arith}
 use lib.ListN.{length, get_or}
 use Rattle.xpath.specs.Document.{document_of, max_nodes}
 use Rattle.xpath.specs.code.Ends.{Prepared}
-use Rattle.marking.specs.code.Added.{candidate, ChildrenFrom}
+use Rattle.marking.specs.code.Added.{ChildrenFrom}
 use Rattle.marking.proofs.Walks.{ChildrenBelow, AtChild, at_child, children_start, children_end}
 use Rattle.marking.proofs.mark_children.Invariants.{passing}
 use Rattle.marking.proofs.mark_children.Goals as goal

@@ -1,3 +1,4 @@
+-- `begin_path` meets its contract. Assumes nothing.
 use mathlib.Core.Path.{refl, sym, ◌∙◌}
 use native.Mathlib.Omega.{arith}
 use Prim.Native.Nat.{◌+◌}
@@ -5,18 +6,15 @@ use Rattle.readings.proofs.Worded.{begin_bare, begin_root, begin_any}
 use Rattle.heads.proofs.Headed.{byte_there}
 use Rattle.readings.proofs.begin_path.Goals as goal
 
--- src/build.rt:359:9
 pub returns-then-byte_at-ne-SLASH : goal.returns-then-byte_at-ne-SLASH
 returns-then-byte_at-ne-SLASH c =
     rw c.moved.ensures
     (begin_bare c.args.s.now _ c.args.from _ c.skip-at.ensures
     (λ e. c.if-byte_at-ne-SLASH.true (c.byte_at.ensures ∙ e)))
 
--- src/build.rt:365:9
 pub put_leaf-root-requires : goal.put_leaf-root-requires
 put_leaf-root-requires c = rw c.moved-2.ensures c.requires.sized
 
--- src/build.rt:366:16
 pub overflow_add-next : goal.overflow_add-next
 overflow_add-next c =
     omega (
@@ -25,7 +23,6 @@ overflow_add-next c =
           (sym c.byte_at.ensures ∙ c.if-byte_at-ne-SLASH.false),
     )
 
--- src/build.rt:368:42
 pub skip-requires : goal.skip-requires
 skip-requires c =
     omega (
@@ -34,7 +31,6 @@ skip-requires c =
           (sym c.byte_at.ensures ∙ c.if-byte_at-ne-SLASH.false),
     )
 
--- src/build.rt:368:9
 pub returns-then-byte_at-ne-SLASH-2 : goal.returns-then-byte_at-ne-SLASH-2
 returns-then-byte_at-ne-SLASH-2 c =
     begin_root c.args.s.now _ c.args.from _ c.skip-at.ensures _
@@ -46,7 +42,6 @@ returns-then-byte_at-ne-SLASH-2 c =
     c.skip.ensures
     (rw c.moved-then-byte_at-ne-SLASH-2.ensures at c.begin_root.ensures)
 
--- src/build.rt:370:25
 pub overflow_add-next-2 : goal.overflow_add-next-2
 overflow_add-next-2 c =
     omega (
@@ -55,7 +50,6 @@ overflow_add-next-2 c =
           (sym c.byte_at-2.ensures ∙ c.if-byte_at-ne-SLASH-2.false),
     )
 
--- src/build.rt:370:9
 pub skip-place-requires : goal.skip-place-requires
 skip-place-requires c =
     omega (
@@ -64,7 +58,6 @@ skip-place-requires c =
           (sym c.byte_at-2.ensures ∙ c.if-byte_at-ne-SLASH-2.false),
     )
 
--- src/build.rt:352:1
 pub returns : goal.returns
 returns c =
     rw c.moved-3.ensures

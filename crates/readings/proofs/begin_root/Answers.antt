@@ -1,15 +1,14 @@
+-- `begin_root` meets its contract. Assumes nothing.
 use mathlib.Core.Path.{sym, ◌∙◌}
 use Rattle.readings.proofs.Worded.{root_step, root_slash, root_alone}
 use Rattle.readings.proofs.begin_root.Goals as goal
 
--- src/build.rt:331:9
 pub returns-then-begins_step : goal.returns-then-begins_step
 returns-then-begins_step c =
     root_step c.args.s.now
     c.args.root
     (rw c.byte_at-b.ensures at (sym c.begins_step.ensures ∙ c.if-begins_step.true))
 
--- src/build.rt:338:9
 pub returns-then-b-eq-SLASH : goal.returns-then-b-eq-SLASH
 returns-then-b-eq-SLASH c =
     rw c.fail.ensures
@@ -18,7 +17,6 @@ returns-then-b-eq-SLASH c =
     (sym c.begins_step.ensures ∙ c.if-begins_step.false))
     (sym c.byte_at-b.ensures ∙ c.if-b-eq-SLASH.true))
 
--- src/build.rt:325:1
 pub returns : goal.returns
 returns c =
     root_alone c.args.s.now c.args.root

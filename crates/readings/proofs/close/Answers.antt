@@ -1,3 +1,4 @@
+-- `close` meets its contract. Assumes nothing.
 use mathlib.Core.Path.{sym, ◌∙◌}
 use mathlib.Core.Bool.{true, false}
 use native.Mathlib.Omega.{arith}
@@ -6,13 +7,11 @@ use Rattle.readings.proofs.Worded.{close_kept, close_wrong, close_right}
 use Rattle.heads.proofs.Headed.{byte_there}
 use Rattle.readings.proofs.close.Goals as goal
 
--- src/build.rt:280:9
 pub returns-then-not-r : goal.returns-then-not-r
 returns-then-not-r c =
     close_kept c.args.s.now c.args.r
     c.args.b (not-true _ c.if-not-r.true)
 
--- src/build.rt:284:9
 pub returns-then-byte_at-b : goal.returns-then-byte_at-b
 returns-then-byte_at-b c =
     rw c.fail.ensures
@@ -20,7 +19,6 @@ returns-then-byte_at-b c =
     (not-false _ c.if-not-r.false)
     (λ e. c.if-byte_at-b.true (c.byte_at.ensures ∙ e)))
 
--- src/build.rt:286:22
 pub overflow_add-at : goal.overflow_add-at
 overflow_add-at c =
     omega (
@@ -29,7 +27,6 @@ overflow_add-at c =
           (sym c.byte_at.ensures ∙ c.if-byte_at-b.false),
     )
 
--- src/build.rt:286:14
 pub skip-requires : goal.skip-requires
 skip-requires c =
     omega (
@@ -38,7 +35,6 @@ skip-requires c =
           (sym c.byte_at.ensures ∙ c.if-byte_at-b.false),
     )
 
--- src/build.rt:275:1
 pub returns : goal.returns
 returns c =
     rw c.moved.ensures

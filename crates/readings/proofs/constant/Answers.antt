@@ -1,7 +1,7 @@
+-- `constant` meets its contract. Assumes nothing.
 use native.Mathlib.Omega.{arith}
 use Rattle.readings.proofs.constant.Goals as goal
 
--- src/build.rt:411:5
 pub put_leaf-requires : goal.put_leaf-requires
 put_leaf-requires c = record {
   size = c.requires.sized.size;
@@ -12,7 +12,6 @@ put_leaf-requires c = record {
   );
 }
 
--- src/build.rt:404:1
 pub returns : goal.returns
 returns c = record {
   to = c.skip.result;

@@ -1,3 +1,4 @@
+-- `pass_and` meets its contract. Assumes nothing.
 use mathlib.Core.Path.{refl, sym, ◌∙◌}
 use native.Mathlib.Omega.{arith}
 use Prim.Native.Nat.{◌+◌}
@@ -5,7 +6,6 @@ use Rattle.readings.proofs.Worded.{and_second, and_third, and_touch, and_read}
 use Rattle.heads.proofs.Headed.{byte_there}
 use Rattle.readings.proofs.pass_and.Goals as goal
 
--- src/build.rt:399:18
 pub overflow_add-second : goal.overflow_add-second
 overflow_add-second c =
     omega (
@@ -13,14 +13,12 @@ overflow_add-second c =
       byte_there c.args.s.now c.args.r.at 97 refl c.requires.1,
     )
 
--- src/build.rt:401:9
 pub returns-then-byte_at-ne-LETTER_N : goal.returns-then-byte_at-ne-LETTER_N
 returns-then-byte_at-ne-LETTER_N c =
     rw c.fail.ensures
     (and_second c.args.s.now c.args.r c.requires.1
     (λ e. c.if-byte_at-ne-LETTER_N.true (c.byte_at.ensures ∙ e)))
 
--- src/build.rt:403:17
 pub overflow_add-third : goal.overflow_add-third
 overflow_add-third c =
     omega (
@@ -30,7 +28,6 @@ overflow_add-third c =
           (sym c.byte_at.ensures ∙ c.if-byte_at-ne-LETTER_N.false),
     )
 
--- src/build.rt:405:9
 pub returns-then-byte_at-ne-LETTER_D : goal.returns-then-byte_at-ne-LETTER_D
 returns-then-byte_at-ne-LETTER_D c =
     rw c.fail-then-byte_at-ne-LETTER_D.ensures
@@ -38,7 +35,6 @@ returns-then-byte_at-ne-LETTER_D c =
     (sym c.byte_at.ensures ∙ c.if-byte_at-ne-LETTER_N.false)
     (λ e. c.if-byte_at-ne-LETTER_D.true (c.byte_at-2.ensures ∙ e)))
 
--- src/build.rt:407:16
 pub overflow_add-next : goal.overflow_add-next
 overflow_add-next c =
     omega (
@@ -47,7 +43,6 @@ overflow_add-next c =
           (sym c.byte_at-2.ensures ∙ c.if-byte_at-ne-LETTER_D.false),
     )
 
--- src/build.rt:409:9
 pub returns-then-is_name : goal.returns-then-is_name
 returns-then-is_name c =
     rw c.fail-then-is_name.ensures
@@ -57,7 +52,6 @@ returns-then-is_name c =
     (rw c.byte_at-3.ensures at
     (sym c.is_name.ensures ∙ c.if-is_name.true)))
 
--- src/build.rt:395:1
 pub returns : goal.returns
 returns c =
     rw c.moved.ensures

@@ -1,3 +1,4 @@
+-- `pass_or` meets its contract. Assumes nothing.
 use mathlib.Core.Path.{refl, sym, ◌∙◌}
 use native.Mathlib.Omega.{arith}
 use Prim.Native.Nat.{◌+◌}
@@ -5,7 +6,6 @@ use Rattle.readings.proofs.Worded.{or_second, or_touch, or_read}
 use Rattle.heads.proofs.Headed.{byte_there}
 use Rattle.readings.proofs.pass_or.Goals as goal
 
--- src/build.rt:419:18
 pub overflow_add-second : goal.overflow_add-second
 overflow_add-second c =
     omega (
@@ -14,14 +14,12 @@ overflow_add-second c =
           c.requires.1,
     )
 
--- src/build.rt:421:9
 pub returns-then-byte_at-ne-LETTER_R : goal.returns-then-byte_at-ne-LETTER_R
 returns-then-byte_at-ne-LETTER_R c =
     rw c.fail.ensures
     (or_second c.args.s.now c.args.r c.requires.1
     (λ e. c.if-byte_at-ne-LETTER_R.true (c.byte_at.ensures ∙ e)))
 
--- src/build.rt:423:16
 pub overflow_add-next : goal.overflow_add-next
 overflow_add-next c =
     omega (
@@ -31,7 +29,6 @@ overflow_add-next c =
           (sym c.byte_at.ensures ∙ c.if-byte_at-ne-LETTER_R.false),
     )
 
--- src/build.rt:425:9
 pub returns-then-is_name : goal.returns-then-is_name
 returns-then-is_name c =
     rw c.fail-then-is_name.ensures
@@ -40,7 +37,6 @@ returns-then-is_name c =
     (rw c.byte_at-2.ensures at
     (sym c.is_name.ensures ∙ c.if-is_name.true)))
 
--- src/build.rt:415:1
 pub returns : goal.returns
 returns c =
     rw c.moved.ensures

@@ -1,3 +1,4 @@
+-- `pass_slash` meets its contract. Assumes nothing.
 use mathlib.Core.Path.{refl, sym, ◌∙◌}
 use native.Mathlib.Omega.{arith}
 use Prim.Native.Nat.{◌+◌}
@@ -5,7 +6,6 @@ use Rattle.readings.proofs.Worded.{slash_two, slash_one}
 use Rattle.heads.proofs.Headed.{byte_there}
 use Rattle.readings.proofs.pass_slash.Goals as goal
 
--- src/build.rt:316:16
 pub overflow_add-next : goal.overflow_add-next
 overflow_add-next c =
     omega (
@@ -14,7 +14,6 @@ overflow_add-next c =
           c.requires.0,
     )
 
--- src/build.rt:319:37
 pub overflow_add-next-then-byte_at-eq-SLASH : goal.overflow_add-next-then-byte_at-eq-SLASH
 overflow_add-next-then-byte_at-eq-SLASH c =
     omega (
@@ -23,7 +22,6 @@ overflow_add-next-then-byte_at-eq-SLASH c =
           (sym c.byte_at.ensures ∙ c.if-byte_at-eq-SLASH.true),
     )
 
--- src/build.rt:319:29
 pub skip-requires : goal.skip-requires
 skip-requires c =
     omega (
@@ -32,7 +30,6 @@ skip-requires c =
           (sym c.byte_at.ensures ∙ c.if-byte_at-eq-SLASH.true),
     )
 
--- src/build.rt:319:9
 pub returns-then-byte_at-eq-SLASH : goal.returns-then-byte_at-eq-SLASH
 returns-then-byte_at-eq-SLASH c =
     rw c.moved.ensures
@@ -41,11 +38,9 @@ returns-then-byte_at-eq-SLASH c =
     (sym c.byte_at.ensures ∙ c.if-byte_at-eq-SLASH.true) c.skip.ensures
     c.every_below-below.ensures)
 
--- src/build.rt:321:17
 pub skip-requires-2 : goal.skip-requires-2
 skip-requires-2 c = omega (arith, byte_there c.args.s.now c.args.path.at 47 refl c.requires.0)
 
--- src/build.rt:312:1
 pub returns : goal.returns
 returns c =
     rw c.moved-2.ensures

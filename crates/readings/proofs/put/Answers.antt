@@ -1,3 +1,4 @@
+-- `put` meets its contract. Assumes nothing.
 use mathlib.Core.Path.{sym}
 use mathlib.Core.Bool.{true, false}
 use native.Mathlib.Omega.{arith}
@@ -8,7 +9,6 @@ use Rattle.readings.proofs.Built.{put_none, put_found, put_full, put_added}
 use Rattle.terms.specs.code.RowTypes.{row_of}
 use Rattle.readings.proofs.put.Goals as goal
 
--- src/build.rt:153:9
 pub returns-then-not-r : goal.returns-then-not-r
 returns-then-not-r c =
     rw c.no_row.ensures
@@ -17,7 +17,6 @@ returns-then-not-r c =
     c.args.r c.requires
     (not-true _ c.if-not-r.true))
 
--- src/build.rt:157:33
 pub slice_bounds-find_row-end-2 : goal.slice_bounds-find_row-end-2
 slice_bounds-find_row-end-2 c =
     sym (length-take-le (4 * c.args.r.count)
@@ -28,7 +27,6 @@ slice_bounds-find_row-end-2 c =
       c.requires.bound,
     )))
 
--- src/build.rt:159:9
 pub returns-then-found-count : goal.returns-then-found-count
 returns-then-found-count c =
     rw c.at_row.ensures
@@ -36,7 +34,6 @@ returns-then-found-count c =
     c.requires (not-false _ c.if-not-r.false) _
     c.find_row-found.ensures c.if-found-count.true)
 
--- src/build.rt:162:9
 pub returns-then-count-ge-MAX_ROWS : goal.returns-then-count-ge-MAX_ROWS
 returns-then-count-ge-MAX_ROWS c =
     rw c.no_row-then-count-ge-MAX_ROWS.ensures
@@ -44,7 +41,6 @@ returns-then-count-ge-MAX_ROWS c =
     c.requires (not-false _ c.if-not-r.false) _ c.find_row-found.ensures
     (omega arith) c.if-count-ge-MAX_ROWS.true)
 
--- src/build.rt:148:1
 pub returns : goal.returns
 returns c =
     rw c.at_row-2.ensures

@@ -1,9 +1,9 @@
+-- `put_head` meets its contract. Assumes nothing.
 use mathlib.Core.Bool.{true, false}
 use borrow.Author.Tests.{not-true, not-false}
 use Rattle.readings.proofs.Built.{head_none, head_listed, head_unlisted}
 use Rattle.readings.proofs.put_head.Goals as goal
 
--- src/build.rt:248:9
 pub returns-then-not-head : goal.returns-then-not-head
 returns-then-not-head c =
     rw c.fail.ensures
@@ -11,18 +11,15 @@ returns-then-not-head c =
     c.args.head c.requires
     (not-true _ c.if-not-head.true))
 
--- src/build.rt:256:9
 pub put-step-requires : goal.put-step-requires
 put-step-requires c = rw c.moved.ensures c.requires
 
--- src/build.rt:258:9
 pub returns-then-head : goal.returns-then-head
 returns-then-head c =
     head_listed c.args.rows.now c.args.from c.args.head _ _ (not-false _ c.if-not-head.false)
     (rw c.moved.ensures at c.put-step.ensures)
     c.if-head.true
 
--- src/build.rt:243:1
 pub returns : goal.returns
 returns c =
     rw c.unlisted.ensures

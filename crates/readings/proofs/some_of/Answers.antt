@@ -1,7 +1,7 @@
+-- `some_of` meets its contract. Assumes nothing.
 use Rattle.readings.proofs.Built.{some_grown}
 use Rattle.readings.proofs.some_of.Goals as goal
 
--- src/build.rt:367:1
 pub returns : goal.returns
 returns c =
     some_grown _ _ _ _ _ _ _ _ c.put_leaf-void.ensures c.join-inclusion.ensures

@@ -1,14 +1,13 @@
+-- `step_end` meets its contract. Assumes nothing.
 use mathlib.Core.Path.{refl, sym, ◌∙◌}
 use mathlib.Core.Bool.{true, false}
 use borrow.Author.Tests.{not-true, not-false}
 use Rattle.readings.specs.code.Build.{only_in_step}
 use Rattle.readings.proofs.step_end.Goals as goal
 
--- src/build.rt:261:9
 pub returns-then-not-r : goal.returns-then-not-r
 returns-then-not-r c = sym (rw (not-true c.args.r.ok c.if-not-r.true) refl)
 
--- src/build.rt:269:9
 pub returns-then-or : goal.returns-then-or
 unfolding only_in_step
 returns-then-or c =
@@ -19,7 +18,6 @@ returns-then-or c =
           (sym c.or-2.ensures ∙ c.if-or.true),
     ) refl)
 
--- src/build.rt:257:1
 pub returns : goal.returns
 unfolding only_in_step
 returns c =

@@ -1,8 +1,8 @@
+-- `axis_of` meets its contract. Assumes nothing.
 use Rattle.words.proofs.Named.{pick_step, pick_none}
 use Rattle.grammar.specs.Words.{axes}
 use Rattle.words.proofs.axis_of.Goals as goal
 
--- src/words.rt:39:1
 pub returns : goal.returns
 unfolding axes
 returns c =

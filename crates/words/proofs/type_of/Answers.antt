@@ -1,8 +1,8 @@
+-- `type_of` meets its contract. Assumes nothing.
 use Rattle.words.proofs.Named.{pick_step, pick_none}
 use Rattle.grammar.specs.Words.{types}
 use Rattle.words.proofs.type_of.Goals as goal
 
--- src/words.rt:57:1
 pub returns : goal.returns
 unfolding types
 returns c =

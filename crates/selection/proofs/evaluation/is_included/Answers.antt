@@ -1,11 +1,7 @@
 -- `selection::is_included` meets its contract. Assumes nothing.
-use Prim.Native.Nat.{ℕ}
 use mathlib.Core.Path.{◌≡◌, refl, sym, ◌∙◌}
-use mathlib.Core.Bool.{Bool, not, ◌||◌}
-use mathlib.Core.List.{List}
 use native.Mathlib.Omega.{arith}
 use Rattle.common.specs.Bounded.{all_below}
-use Rattle.marking.specs.code.Added.{marked}
 use Rattle.selection.proofs.Folds.{all_more}
 use Rattle.selection.proofs.evaluation.is_included.Invariants.{included}
 use Rattle.selection.proofs.evaluation.is_included.Goals as goal

@@ -1,8 +1,8 @@
+-- `is_start` meets its contract. Assumes nothing.
 use mathlib.Core.Path.{refl, ◌∙◌}
 use Rattle.grammar.specs.Bytes.{is_start}
 use Rattle.words.proofs.bytes.is_start.Goals as goal
 
--- src/lib.rt:40:1
 pub returns : goal.returns
 unfolding is_start
 returns c =

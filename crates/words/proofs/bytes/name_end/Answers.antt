@@ -1,3 +1,4 @@
+-- `name_end` meets its contract. Assumes nothing.
 use Rattle.words.proofs.Scanned.{is_name_there, pass_none, pass_one, pass_done}
 use mathlib.Core.Path.{sym, ◌∙◌}
 use native.Mathlib.Omega.{arith}
@@ -5,11 +6,9 @@ use Rattle.grammar.specs.Bytes.{is_name}
 use Rattle.words.proofs.Scanned.{is_name_there, pass_none, pass_one, pass_done}
 use Rattle.words.proofs.bytes.name_end.Goals as goal
 
--- src/lib.rt:70:5
 pub loop-i-init : goal.loop-i-init
 loop-i-init c = pass_none is_name c.args.s.now c.args.at (omega arith)
 
--- src/lib.rt:71:9
 pub overflow_add-i : goal.overflow_add-i
 overflow_add-i c =
     omega (
@@ -18,7 +17,6 @@ overflow_add-i c =
           (rw c.byte_at.ensures at (sym c.is_name.ensures ∙ c.loop-i-test.true)),
     )
 
--- src/lib.rt:70:5
 pub loop-i-smaller : goal.loop-i-smaller
 loop-i-smaller c =
     omega (
@@ -27,7 +25,6 @@ loop-i-smaller c =
           (rw c.byte_at.ensures at (sym c.is_name.ensures ∙ c.loop-i-test.true)),
     )
 
--- src/lib.rt:70:5
 pub loop-i-preserved : goal.loop-i-preserved
 loop-i-preserved c =
     pass_one is_name c.args.s.now c.args.at c.loop-i.i
@@ -36,7 +33,6 @@ loop-i-preserved c =
     (rw c.byte_at.ensures at (sym c.is_name.ensures ∙ c.loop-i-test.true)))
     (rw c.byte_at.ensures at (sym c.is_name.ensures ∙ c.loop-i-test.true))
 
--- src/lib.rt:65:1
 pub returns : goal.returns
 returns c =
     pass_done is_name c.args.s.now c.args.at c.loop-i.i

@@ -1,3 +1,4 @@
+-- `skip` meets its contract. Assumes nothing.
 use Rattle.words.proofs.Scanned.{is_space_there, pass_none, pass_one, pass_done}
 use mathlib.Core.Path.{sym, ◌∙◌}
 use native.Mathlib.Omega.{arith}
@@ -5,11 +6,9 @@ use Rattle.grammar.specs.Bytes.{is_space}
 use Rattle.words.proofs.Scanned.{is_space_there, pass_none, pass_one, pass_done}
 use Rattle.words.proofs.bytes.skip.Goals as goal
 
--- src/lib.rt:58:5
 pub loop-i-init : goal.loop-i-init
 loop-i-init c = pass_none is_space c.args.s.now c.args.at (omega arith)
 
--- src/lib.rt:59:9
 pub overflow_add-i : goal.overflow_add-i
 overflow_add-i c =
     omega (
@@ -18,7 +17,6 @@ overflow_add-i c =
           (rw c.byte_at.ensures at (sym c.is_space.ensures ∙ c.loop-i-test.true)),
     )
 
--- src/lib.rt:58:5
 pub loop-i-smaller : goal.loop-i-smaller
 loop-i-smaller c =
     omega (
@@ -27,7 +25,6 @@ loop-i-smaller c =
           (rw c.byte_at.ensures at (sym c.is_space.ensures ∙ c.loop-i-test.true)),
     )
 
--- src/lib.rt:58:5
 pub loop-i-preserved : goal.loop-i-preserved
 loop-i-preserved c =
     pass_one is_space c.args.s.now c.args.at c.loop-i.i
@@ -36,7 +33,6 @@ loop-i-preserved c =
     (rw c.byte_at.ensures at (sym c.is_space.ensures ∙ c.loop-i-test.true)))
     (rw c.byte_at.ensures at (sym c.is_space.ensures ∙ c.loop-i-test.true))
 
--- src/lib.rt:53:1
 pub returns : goal.returns
 returns c =
     pass_done is_space c.args.s.now c.args.at c.loop-i.i

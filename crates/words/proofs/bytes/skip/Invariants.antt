@@ -1,3 +1,4 @@
+-- What the loop of `skip` keeps, and what falls. Assumes nothing.
 use Rattle.words.proofs.Scanned.{So-far}
 use Prim.Native.Nat.{◌-◌}
 use lib.ListN.{length}

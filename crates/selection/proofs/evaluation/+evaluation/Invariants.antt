@@ -1,24 +1,17 @@
-use Prim.Native.Nat.{◌+◌, ◌*◌}
-use Prim.Native.Nat.{◌-◌}
+-- What falls from call to call of the functions that evaluate a row, and what their loops keep. Assumes nothing.
+use Prim.Native.Nat.{◌+◌, ◌*◌, ◌-◌}
 use lib.ListN.{length}
 use Rattle.xpath.specs.Document.{document_of}
 use Rattle.xpath.specs.Meaning.{selects, holds}
-use Rattle.xpath.specs.Visits.{visits}
-use Rattle.terms.specs.Terms.{path_in}
+use Rattle.xpath.specs.Visits.{visits, qualifier_visits}
+use Rattle.terms.specs.Terms.{path_in, qualifier_in}
 use Rattle.marking.specs.code.Added.{marked, Added}
 use Rattle.selection.specs.code.Parts.{terms_below}
 use Rattle.selection.proofs.Marks.{joined_below}
 use Rattle.selection.proofs.Limits.{Visited}
-use Prim.Native.Nat.{◌+◌, ◌-◌}
 use mathlib.Core.Bool.{◌&&◌}
-use Rattle.xpath.specs.Meaning.{holds}
-use Rattle.xpath.specs.Visits.{qualifier_visits}
-use Rattle.terms.specs.Terms.{qualifier_in}
 use Rattle.marking.proofs.Added.{between}
-use Rattle.xpath.specs.Visits.{visits, qualifier_visits}
-use Rattle.marking.specs.code.Added.{marked}
-use Rattle.xpath.specs.Meaning.{selects}
-use Rattle.selection.proofs.evaluation.+eval_composition_eval_filter_eval_inclusion_eval_path_eval_path_operands_eval_qualifier_eval_qualifier_operands_eval_second_operand_eval_union.Given as goal
+use Rattle.selection.proofs.evaluation.+evaluation.Given as goal
 
 -- operands are among fewer rows; among the functions on the same rows, the added number falls
 abbrev pub decreases-eval_composition : goal.decreases-eval_composition

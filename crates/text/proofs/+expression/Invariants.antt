@@ -1,14 +1,12 @@
+-- What falls from call to call of the functions that read an expression, and what their loops keep. Assumes nothing.
 use mathlib.Core.Bool.{true}
 use Prim.Native.Nat.{◌+◌, ◌-◌, ◌*◌}
 use lib.ListN.{length}
-use Rattle.text.proofs.LoopLaws.{Carried}
-use Rattle.text.proofs.LoopLaws.{leftover}
+use Rattle.text.proofs.LoopLaws.{Carried, leftover}
 use Rattle.text.proofs.StepLaws.{StepGot}
-use Rattle.text.proofs.PathLaws.{PathGot}
-use Rattle.text.proofs.PathLaws.{UnionGot}
-use Rattle.text.proofs.ExpressionLaws.{AndGot}
-use Rattle.text.proofs.ExpressionLaws.{OrGot}
-use Rattle.text.proofs.+read_and_read_operand_read_or_read_path_read_predicate_read_step_read_union.Given as goal
+use Rattle.text.proofs.PathLaws.{PathGot, UnionGot}
+use Rattle.text.proofs.ExpressionLaws.{AndGot, OrGot}
+use Rattle.text.proofs.+expression.Given as goal
 
 abbrev pub decreases-read_and : goal.decreases-read_and
 decreases-read_and l = 8 * l.left + 5

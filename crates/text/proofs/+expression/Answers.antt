@@ -1,3 +1,5 @@
+-- The functions that read an expression meet their contracts: what each reads is what the laws of StepLaws, PathLaws,
+-- OperandLaws and ExpressionLaws say, and a loop carries its reading on by those of LoopLaws. Assumes nothing.
 use mathlib.Core.Path.{refl}
 use mathlib.Core.Bool.{true, false}
 use native.Mathlib.Omega.{arith}
@@ -8,27 +10,20 @@ use Rattle.readings.specs.code.Build.{moved_to}
 use Rattle.readings.specs.code.Passing.{after_and, after_or}
 use Rattle.readings.proofs.Built.{refuse}
 use Rattle.heads.proofs.Headed.{byte_there}
-use Rattle.text.proofs.LoopLaws.{carried_none, carried_on, next_taken, next_left, next_ready}
-use Rattle.text.proofs.LoopLaws.{close_sized, after_slash, predicate_falls}
-use Rattle.text.proofs.StepLaws.{enclosed, predicate_full, predicate_joined}
-use Rattle.text.proofs.StepLaws.{StepGot, step_head, step_filter, step_ends}
-use Rattle.text.proofs.PathLaws.{PathGot, begun, path_more, path_ends}
-use Rattle.text.proofs.PathLaws.{UnionGot, union_first, union_more, union_ends}
-use Rattle.text.proofs.OperandLaws.{unary_paths, unary_true, unary_false}
-use Rattle.text.proofs.OperandLaws.{Encloses, enclosing_there, unary_full, unary_enclosed}
-use Rattle.text.proofs.ExpressionLaws.{word_ready, AndGot, and_first, and_refused, and_more, and_ends}
-use Rattle.text.proofs.ExpressionLaws.{OrGot, or_first, or_refused, or_more, or_ends}
-use Rattle.text.proofs.+read_and_read_operand_read_or_read_path_read_predicate_read_step_read_union.Goals as goal
-use Rattle.text.proofs.+read_and_read_operand_read_or_read_path_read_predicate_read_step_read_union.Goals.{
-  read_operand-in-Group,
-  read_operand-in-Not,
-}
+use Rattle.text.proofs.LoopLaws.{carried_none, carried_on, next_taken, next_left, next_ready, close_sized, after_slash}
+use Rattle.text.proofs.LoopLaws.{predicate_falls}
+use Rattle.text.proofs.StepLaws.{enclosed, predicate_full, predicate_joined, StepGot, step_head, step_filter, step_ends}
+use Rattle.text.proofs.PathLaws.{PathGot, begun, path_more, path_ends, UnionGot, union_first, union_more, union_ends}
+use Rattle.text.proofs.OperandLaws.{unary_paths, unary_true, unary_false, Encloses, enclosing_there, unary_full}
+use Rattle.text.proofs.OperandLaws.{unary_enclosed}
+use Rattle.text.proofs.ExpressionLaws.{word_ready, AndGot, and_first, and_refused, and_more, and_ends, OrGot, or_first}
+use Rattle.text.proofs.ExpressionLaws.{or_refused, or_more, or_ends}
+use Rattle.text.proofs.+expression.Goals as goal
+use Rattle.text.proofs.+expression.Goals.{read_operand-in-Group, read_operand-in-Not}
 
--- src/lib.rt:148:9
 pub read_and-read_operand-got-requires : goal.read_and-read_operand-got-requires
 read_and-read_operand-got-requires t c = (omega (arith, c.requires.ready), (c.requires.ready, c.requires.indexed))
 
--- src/lib.rt:149:5
 pub read_and-loop-word-init : goal.read_and-loop-word-init
 read_and-loop-word-init t c =
     let names = c.args.names.now in
@@ -37,18 +32,15 @@ read_and-loop-word-init t c =
     carried_none s (AndGot s names left) _ _ _
     c.read_operand-got.ensures.reached
 
--- src/lib.rt:150:13
 pub read_and-pass_and-word-requires : goal.read_and-pass_and-word-requires
 read_and-pass_and-word-requires t c =
     let y = c.loop-word.got in
     next_taken y.ok (byte_at c.args.s.now y.at) 97 _ c.next_is.ensures c.loop-word-test.true
 
--- src/lib.rt:152:13
 pub read_and-shape_of-rows-then-not-word : goal.read_and-shape_of-rows-then-not-word
 read_and-shape_of-rows-then-not-word t c =
     omega (arith, c.loop-word.invariant.reached.sized.size, c.requires.ready.sized.size)
 
--- src/lib.rt:152:13
 pub read_and-returns-then-not-word : goal.read_and-returns-then-not-word
 read_and-returns-then-not-word t c =
     let names = c.args.names.now in
@@ -62,7 +54,6 @@ read_and-returns-then-not-word t c =
     c.pass_and-word.ensures (not-true _ c.if-not-word.true) (c.loop-word.invariant.on _ from (and_first s
     names left _ from _ c.read_operand-got.result c.read_operand-got.ensures))
 
--- src/lib.rt:154:13
 pub read_and-read_operand-right-requires : goal.read_and-read_operand-right-requires
 read_and-read_operand-right-requires t c =
     let word = c.pass_and-word.ensures in (
@@ -75,11 +66,9 @@ read_and-read_operand-right-requires t c =
       ),
     )
 
--- src/lib.rt:155:13
 pub read_and-join-next-requires : goal.read_and-join-next-requires
 read_and-join-next-requires t c = c.read_operand-right.ensures.reached.sized
 
--- src/lib.rt:149:5
 pub read_and-loop-word-smaller : goal.read_and-loop-word-smaller
 read_and-loop-word-smaller t c =
     let to = c.read_operand-right.ensures.reached in
@@ -91,7 +80,6 @@ read_and-loop-word-smaller t c =
       c.join-next.ensures.text.at,
     )
 
--- src/lib.rt:149:5
 pub read_and-loop-word-preserved : goal.read_and-loop-word-preserved
 read_and-loop-word-preserved t c =
     let names = c.args.names.now in
@@ -111,11 +99,9 @@ read_and-loop-word-preserved t c =
     _ c.read_operand-right.result _ c.join-next.result (not-false _ c.if-not-word.false)
     c.read_operand-right.ensures put h)
 
--- src/lib.rt:142:1
 pub read_and-shape_of-rows : goal.read_and-shape_of-rows
 read_and-shape_of-rows t c = omega (arith, c.loop-word.invariant.reached.sized.size, c.requires.ready.sized.size)
 
--- src/lib.rt:142:1
 pub read_and-returns : goal.read_and-returns
 read_and-returns t c =
     let names = c.args.names.now in
@@ -128,27 +114,21 @@ read_and-returns t c =
     (c.loop-word.invariant.on _ from (and_first s names left _ from _
     c.read_operand-got.result c.read_operand-got.ensures))
 
--- src/lib.rt:115:36
 pub read_operand-skip-requires : goal.read_operand-skip-requires
 read_operand-skip-requires t c = c.requires.ready.fits
 
--- src/lib.rt:116:9
 pub read_operand-operand_at-operand-requires : goal.read_operand-operand_at-operand-requires
 read_operand-operand_at-operand-requires t c = rw c.moved-start.ensures c.skip.ensures.fits
 
--- src/lib.rt:121:17
 pub read_operand-read_union-paths-requires : goal.read_operand-read_union-paths-requires
 read_operand-read_union-paths-requires t c = (omega (arith, c.requires.ready), (c.requires.ready, c.requires.indexed))
 
--- src/lib.rt:122:13
 pub read_operand-some_of-requires : goal.read_operand-some_of-requires
 read_operand-some_of-requires t c = c.read_union-paths.ensures.reached.sized
 
--- src/lib.rt:122:13
 pub read_operand-shape_of-rows-in-Paths : goal.read_operand-shape_of-rows-in-Paths
 read_operand-shape_of-rows-in-Paths t c = omega (arith, c.some_of.ensures.sized.size, c.requires.ready.sized.size)
 
--- src/lib.rt:122:13
 pub read_operand-returns-in-Paths : goal.read_operand-returns-in-Paths
 read_operand-returns-in-Paths t c =
     let names = c.args.names.now in
@@ -160,7 +140,6 @@ read_operand-returns-in-Paths t c =
     (rw (c.moved-start.ensures, c.in-Paths.is) at c.operand_at-operand.ensures)
     c.read_union-paths.ensures c.some_of.ensures
 
--- src/lib.rt:125:65
 pub read_operand-overflow_add-paren : goal.read_operand-overflow_add-paren
 read_operand-overflow_add-paren t c =
     let call = rw (c.moved-start.ensures, c.in-True.is) at
@@ -171,7 +150,6 @@ read_operand-overflow_add-paren t c =
           call.byte,
     )
 
--- src/lib.rt:125:13
 pub read_operand-constant-requires : goal.read_operand-constant-requires
 read_operand-constant-requires t c =
     let call = rw (c.moved-start.ensures, c.in-True.is) at
@@ -183,12 +161,10 @@ read_operand-constant-requires t c =
       sized = rw (c.moved.ensures, c.moved-start.ensures) c.requires.ready.sized;
     }
 
--- src/lib.rt:125:13
 pub read_operand-shape_of-rows-in-True : goal.read_operand-shape_of-rows-in-True
 read_operand-shape_of-rows-in-True t c =
     omega (arith, c.constant.ensures.puts.sized.size, c.requires.ready.sized.size)
 
--- src/lib.rt:125:13
 pub read_operand-returns-in-True : goal.read_operand-returns-in-True
 read_operand-returns-in-True t c =
     let names = c.args.names.now in
@@ -203,7 +179,6 @@ read_operand-returns-in-True t c =
     (rw (c.moved.ensures, c.moved-start.ensures) at
     c.constant.ensures)
 
--- src/lib.rt:128:65
 pub read_operand-overflow_add-paren-in-False : goal.read_operand-overflow_add-paren-in-False
 read_operand-overflow_add-paren-in-False t c =
     let call = rw (c.moved-start.ensures, c.in-False.is) at
@@ -214,7 +189,6 @@ read_operand-overflow_add-paren-in-False t c =
           call.byte,
     )
 
--- src/lib.rt:128:13
 pub read_operand-constant-requires-in-False : goal.read_operand-constant-requires-in-False
 read_operand-constant-requires-in-False t c =
     let call = rw (c.moved-start.ensures, c.in-False.is) at
@@ -226,12 +200,10 @@ read_operand-constant-requires-in-False t c =
       sized = rw (c.moved-in-False.ensures, c.moved-start.ensures) c.requires.ready.sized;
     }
 
--- src/lib.rt:128:13
 pub read_operand-shape_of-rows-in-False : goal.read_operand-shape_of-rows-in-False
 read_operand-shape_of-rows-in-False t c =
     omega (arith, c.constant-in-False.ensures.puts.sized.size, c.requires.ready.sized.size)
 
--- src/lib.rt:128:13
 pub read_operand-returns-in-False : goal.read_operand-returns-in-False
 read_operand-returns-in-False t c =
     let names = c.args.names.now in
@@ -246,7 +218,6 @@ read_operand-returns-in-False t c =
     (rw (c.moved-in-False.ensures, c.moved-start.ensures) at
     c.constant-in-False.ensures)
 
--- src/lib.rt:134:9
 pub read_operand-returns-then-left-eq0 : goal.read_operand-returns-then-left-eq0
 read_operand-returns-then-left-eq0 t c =
     let names = c.args.names.now in
@@ -266,7 +237,6 @@ read_operand-returns-then-left-eq0 t c =
     c.operand_at-operand.result.paren inner met
     c.if-left-eq0.true c.requires.ready.sized)
 
--- src/lib.rt:136:61
 pub read_operand-overflow_add-paren-2 : goal.read_operand-overflow_add-paren-2
 read_operand-overflow_add-paren-2 t c =
     let names = c.args.names.now in
@@ -289,11 +259,9 @@ read_operand-overflow_add-paren-2 t c =
           met).1,
     )
 
--- src/lib.rt:136:73
 pub read_operand-overflow_sub-left : goal.read_operand-overflow_sub-left
 read_operand-overflow_sub-left t c = omega (arith, c.if-left-eq0.false)
 
--- src/lib.rt:136:9
 pub read_operand-read_or-inner-requires : goal.read_operand-read_or-inner-requires
 read_operand-read_or-inner-requires t c =
     let names = c.args.names.now in
@@ -318,18 +286,15 @@ read_operand-read_or-inner-requires t c =
       ),
     )
 
--- src/lib.rt:137:9
 pub read_operand-close-shut-requires : goal.read_operand-close-shut-requires
 read_operand-close-shut-requires t c = refl
 
--- src/lib.rt:138:5
 pub read_operand-negate_if-requires : goal.read_operand-negate_if-requires
 read_operand-negate_if-requires t c =
     close_sized c.args.s.now c.read_or-inner.result 41
     c.close-shut.result _ c.close-shut.ensures
     c.read_or-inner.ensures.reached.sized
 
--- src/lib.rt:109:1
 pub read_operand-shape_of-rows : goal.read_operand-shape_of-rows
 read_operand-shape_of-rows t c =
     let names = c.args.names.now in
@@ -354,7 +319,6 @@ read_operand-shape_of-rows t c =
     c.close-shut.ensures) c.negate_if.ensures in
     omega (arith, whole.reached.sized.size, c.requires.ready.sized.size)
 
--- src/lib.rt:109:1
 pub read_operand-returns : goal.read_operand-returns
 read_operand-returns t c =
     let names = c.args.names.now in
@@ -378,11 +342,9 @@ read_operand-returns t c =
     (rw (c.moved-2.ensures, c.moved-start.ensures) at c.read_or-inner.ensures)
     c.close-shut.ensures) c.negate_if.ensures
 
--- src/lib.rt:168:9
 pub read_or-read_and-got-requires : goal.read_or-read_and-got-requires
 read_or-read_and-got-requires t c = (omega (arith, c.requires.ready), (c.requires.ready, c.requires.indexed))
 
--- src/lib.rt:169:5
 pub read_or-loop-word-init : goal.read_or-loop-word-init
 read_or-loop-word-init t c =
     let names = c.args.names.now in
@@ -391,18 +353,15 @@ read_or-loop-word-init t c =
     carried_none s (OrGot s names left) _ _ _
     c.read_and-got.ensures.reached
 
--- src/lib.rt:170:13
 pub read_or-pass_or-word-requires : goal.read_or-pass_or-word-requires
 read_or-pass_or-word-requires t c =
     let y = c.loop-word.got in
     next_taken y.ok (byte_at c.args.s.now y.at) 111 _ c.next_is.ensures c.loop-word-test.true
 
--- src/lib.rt:172:13
 pub read_or-shape_of-rows-then-not-word : goal.read_or-shape_of-rows-then-not-word
 read_or-shape_of-rows-then-not-word t c =
     omega (arith, c.loop-word.invariant.reached.sized.size, c.requires.ready.sized.size)
 
--- src/lib.rt:172:13
 pub read_or-returns-then-not-word : goal.read_or-returns-then-not-word
 read_or-returns-then-not-word t c =
     let names = c.args.names.now in
@@ -416,7 +375,6 @@ read_or-returns-then-not-word t c =
     c.pass_or-word.ensures (not-true _ c.if-not-word.true) (c.loop-word.invariant.on _ from (or_first s
     names left _ from _ c.read_and-got.result c.read_and-got.ensures))
 
--- src/lib.rt:174:13
 pub read_or-read_and-right-requires : goal.read_or-read_and-right-requires
 read_or-read_and-right-requires t c =
     let word = c.pass_or-word.ensures in (
@@ -429,11 +387,9 @@ read_or-read_and-right-requires t c =
       ),
     )
 
--- src/lib.rt:175:13
 pub read_or-join-next-requires : goal.read_or-join-next-requires
 read_or-join-next-requires t c = c.read_and-right.ensures.reached.sized
 
--- src/lib.rt:169:5
 pub read_or-loop-word-smaller : goal.read_or-loop-word-smaller
 read_or-loop-word-smaller t c =
     let to = c.read_and-right.ensures.reached in
@@ -445,7 +401,6 @@ read_or-loop-word-smaller t c =
       c.join-next.ensures.text.at,
     )
 
--- src/lib.rt:169:5
 pub read_or-loop-word-preserved : goal.read_or-loop-word-preserved
 read_or-loop-word-preserved t c =
     let names = c.args.names.now in
@@ -465,11 +420,9 @@ read_or-loop-word-preserved t c =
     _ c.read_and-right.result _ c.join-next.result (not-false _ c.if-not-word.false)
     c.read_and-right.ensures put h)
 
--- src/lib.rt:162:1
 pub read_or-shape_of-rows : goal.read_or-shape_of-rows
 read_or-shape_of-rows t c = omega (arith, c.loop-word.invariant.reached.sized.size, c.requires.ready.sized.size)
 
--- src/lib.rt:162:1
 pub read_or-returns : goal.read_or-returns
 read_or-returns t c =
     let names = c.args.names.now in
@@ -482,12 +435,10 @@ read_or-returns t c =
     (c.loop-word.invariant.on _ from (or_first s names left _ from _
     c.read_and-got.result c.read_and-got.ensures))
 
--- src/lib.rt:75:9
 pub read_path-begin_path-start-requires : goal.read_path-begin_path-start-requires
 read_path-begin_path-start-requires t c =
     record { at_in_bounds = c.requires.ready.fits; sized = c.requires.ready.sized }
 
--- src/lib.rt:78:9
 pub read_path-shape_of-rows-then-not-start : goal.read_path-shape_of-rows-then-not-start
 read_path-shape_of-rows-then-not-start t c =
     let names = c.args.names.now in
@@ -498,7 +449,6 @@ read_path-shape_of-rows-then-not-start t c =
     c.begin_path-start.ensures).alone (not-true _ c.if-not-start.true) in
     omega (arith, all.reached.sized.size, c.requires.ready.sized.size)
 
--- src/lib.rt:78:9
 pub read_path-returns-then-not-start : goal.read_path-returns-then-not-start
 read_path-returns-then-not-start t c =
     let names = c.args.names.now in
@@ -508,7 +458,6 @@ read_path-returns-then-not-start t c =
     (begun s names left _ from c.requires.ready _ c.begin_path-start.result
     c.begin_path-start.ensures).alone (not-true _ c.if-not-start.true)
 
--- src/lib.rt:80:9
 pub read_path-read_step-first-requires : goal.read_path-read_step-first-requires
 read_path-read_step-first-requires t c =
     let names = c.args.names.now in
@@ -524,11 +473,9 @@ read_path-read_step-first-requires t c =
       ),
     )
 
--- src/lib.rt:81:9
 pub read_path-first_step-got-requires : goal.read_path-first_step-got-requires
 read_path-first_step-got-requires t c = c.read_step-first.ensures.reached.sized
 
--- src/lib.rt:82:5
 pub read_path-loop-rows-init : goal.read_path-loop-rows-init
 read_path-loop-rows-init t c =
     let names = c.args.names.now in
@@ -542,7 +489,6 @@ read_path-loop-rows-init t c =
     c.first_step-got.result c.read_step-first.ensures
     c.first_step-got.ensures).reached
 
--- src/lib.rt:83:13
 pub read_path-pass_slash-before-requires : goal.read_path-pass_slash-before-requires
 read_path-pass_slash-before-requires t c =
     let y = c.loop-rows.got in
@@ -550,7 +496,6 @@ read_path-pass_slash-before-requires t c =
     c.loop-rows-test.true in
     (next.1, c.loop-rows.invariant.reached.sized)
 
--- src/lib.rt:84:13
 pub read_path-read_step-step-requires : goal.read_path-read_step-step-requires
 read_path-read_step-step-requires t c =
     let s = c.args.s.now in
@@ -560,11 +505,9 @@ read_path-read_step-step-requires t c =
     c.pass_slash-before.ensures in
     (omega (arith, c.requires.ready), (after.ready, (after.space, c.requires.indexed)))
 
--- src/lib.rt:85:13
 pub read_path-join-next-requires : goal.read_path-join-next-requires
 read_path-join-next-requires t c = c.read_step-step.ensures.reached.sized
 
--- src/lib.rt:82:5
 pub read_path-loop-rows-smaller : goal.read_path-loop-rows-smaller
 read_path-loop-rows-smaller t c =
     let s = c.args.s.now in
@@ -575,7 +518,6 @@ read_path-loop-rows-smaller t c =
     let to = c.read_step-step.ensures.reached in
     omega (arith, after.from, to.from, to.fits, c.join-next.ensures.text.at)
 
--- src/lib.rt:82:5
 pub read_path-loop-rows-preserved : goal.read_path-loop-rows-preserved
 read_path-loop-rows-preserved t c =
     let names = c.args.names.now in
@@ -598,11 +540,9 @@ read_path-loop-rows-preserved t c =
     c.read_step-step.result _ c.join-next.result next.0 next.1
     c.pass_slash-before.ensures c.read_step-step.ensures put h)
 
--- src/lib.rt:69:1
 pub read_path-shape_of-rows : goal.read_path-shape_of-rows
 read_path-shape_of-rows t c = omega (arith, c.loop-rows.invariant.reached.sized.size, c.requires.ready.sized.size)
 
--- src/lib.rt:69:1
 pub read_path-returns : goal.read_path-returns
 read_path-returns t c =
     let names = c.args.names.now in
@@ -618,7 +558,6 @@ read_path-returns t c =
     (λ e. next_left y.ok (byte_at s y.at) 47 _ c.next_is.ensures c.loop-rows-test.false e)
     (c.loop-rows.invariant.on _ from one)
 
--- src/lib.rt:41:9
 pub read_predicate-returns-then-left-eq0 : goal.read_predicate-returns-then-left-eq0
 read_predicate-returns-then-left-eq0 t c =
     let names = c.args.names.now in
@@ -628,18 +567,15 @@ read_predicate-returns-then-left-eq0 t c =
     rw c.fail.ensures (predicate_full s names left _ from
     c.requires.ready c.requires.at_value c.if-left-eq0.true)
 
--- src/lib.rt:43:60
 pub read_predicate-overflow_add-open : goal.read_predicate-overflow_add-open
 read_predicate-overflow_add-open t c =
     let s = c.args.s.now in
     let from = c.args.from in
     omega (arith, byte_there s from.at 91 refl c.requires.at_value)
 
--- src/lib.rt:43:71
 pub read_predicate-overflow_sub-left : goal.read_predicate-overflow_sub-left
 read_predicate-overflow_sub-left t c = omega (arith, c.if-left-eq0.false)
 
--- src/lib.rt:43:9
 pub read_predicate-read_or-inner-requires : goal.read_predicate-read_or-inner-requires
 read_predicate-read_or-inner-requires t c =
     let s = c.args.s.now in
@@ -652,22 +588,18 @@ read_predicate-read_or-inner-requires t c =
       ),
     )
 
--- src/lib.rt:44:9
 pub read_predicate-close-shut-requires : goal.read_predicate-close-shut-requires
 read_predicate-close-shut-requires t c = refl
 
--- src/lib.rt:45:5
 pub read_predicate-join-requires : goal.read_predicate-join-requires
 read_predicate-join-requires t c =
     close_sized c.args.s.now c.read_or-inner.result 93
     c.close-shut.result _ c.close-shut.ensures
     c.read_or-inner.ensures.reached.sized
 
--- src/lib.rt:32:1
 pub read_predicate-shape_of-rows : goal.read_predicate-shape_of-rows
 read_predicate-shape_of-rows t c = omega (arith, c.join.ensures.sized.size, c.requires.ready.sized.size)
 
--- src/lib.rt:32:1
 pub read_predicate-returns : goal.read_predicate-returns
 read_predicate-returns t c =
     let names = c.args.names.now in
@@ -681,24 +613,17 @@ read_predicate-returns t c =
     (rw c.moved.ensures at c.read_or-inner.ensures)
     c.close-shut.ensures) c.join.ensures
 
--- src/lib.rt:56:9
 pub read_step-read_head-head-requires : goal.read_step-read_head-head-requires
-read_step-read_head-head-requires t c = record {
-  at_in_bounds = c.requires.ready.fits;
-  at_value = c.requires.at_value;
-  indexed = c.requires.indexed;
-}
+read_step-read_head-head-requires t c = record
+    { at_in_bounds = c.requires.ready.fits; at_value = c.requires.at_value; indexed = c.requires.indexed }
 
--- src/lib.rt:57:9
 pub read_step-put_head-got-requires : goal.read_step-put_head-got-requires
 read_step-put_head-got-requires t c = c.requires.ready.sized
 
--- src/lib.rt:59:9
 pub read_step-shape_of-rows-then-not-head : goal.read_step-shape_of-rows-then-not-head
 read_step-shape_of-rows-then-not-head t c =
     omega (arith, c.put_head-got.ensures.sized.size, c.requires.ready.sized.size)
 
--- src/lib.rt:59:9
 pub read_step-returns-then-not-head : goal.read_step-returns-then-not-head
 read_step-returns-then-not-head t c =
     let names = c.args.names.now in
@@ -711,7 +636,6 @@ read_step-returns-then-not-head t c =
     c.read_head-head.ensures c.put_head-got.ensures)
     (λ e. refuse false e refl))
 
--- src/lib.rt:61:5
 pub read_step-loop-rows-init : goal.read_step-loop-rows-init
 read_step-loop-rows-init t c =
     let names = c.args.names.now in
@@ -724,7 +648,6 @@ read_step-loop-rows-init t c =
     c.read_head-head.result true (not-false _ c.if-not-head.false) c.requires.ready
     c.read_head-head.ensures c.put_head-got.ensures).reached
 
--- src/lib.rt:62:13
 pub read_step-read_predicate-next-requires : goal.read_step-read_predicate-next-requires
 read_step-read_predicate-next-requires t c =
     let y = c.loop-rows.got in
@@ -741,7 +664,6 @@ read_step-read_predicate-next-requires t c =
       ),
     )
 
--- src/lib.rt:61:5
 pub read_step-loop-rows-smaller : goal.read_step-loop-rows-smaller
 read_step-loop-rows-smaller t c =
     let names = c.args.names.now in
@@ -752,7 +674,6 @@ read_step-loop-rows-smaller t c =
     c.loop-rows-test.true in
     predicate_falls s names left _ y _ _ next.0 c.read_predicate-next.ensures
 
--- src/lib.rt:61:5
 pub read_step-loop-rows-preserved : goal.read_step-loop-rows-preserved
 read_step-loop-rows-preserved t c =
     let names = c.args.names.now in
@@ -765,11 +686,9 @@ read_step-loop-rows-preserved t c =
     c.read_predicate-next.ensures.reached (λ xs x h. step_filter s names left xs x _ y _ _
     next.0 c.read_predicate-next.ensures h)
 
--- src/lib.rt:49:1
 pub read_step-shape_of-rows : goal.read_step-shape_of-rows
 read_step-shape_of-rows t c = omega (arith, c.loop-rows.invariant.reached.sized.size, c.requires.ready.sized.size)
 
--- src/lib.rt:49:1
 pub read_step-returns : goal.read_step-returns
 read_step-returns t c =
     let names = c.args.names.now in
@@ -784,11 +703,9 @@ read_step-returns t c =
     (c.loop-rows.invariant.on _ from head)
     (λ _ e. next_left y.ok (byte_at s y.at) 91 _ c.next_is.ensures c.loop-rows-test.false e))
 
--- src/lib.rt:98:9
 pub read_union-read_path-got-requires : goal.read_union-read_path-got-requires
 read_union-read_path-got-requires t c = (omega (arith, c.requires.ready), (c.requires.ready, c.requires.indexed))
 
--- src/lib.rt:99:5
 pub read_union-loop-bar-init : goal.read_union-loop-bar-init
 read_union-loop-bar-init t c =
     let names = c.args.names.now in
@@ -797,7 +714,6 @@ read_union-loop-bar-init t c =
     carried_none s (UnionGot s names left) _ _ _
     c.read_path-got.ensures.reached
 
--- src/lib.rt:101:64
 pub read_union-overflow_add-bar : goal.read_union-overflow_add-bar
 read_union-overflow_add-bar t c =
     let s = c.args.s.now in
@@ -806,7 +722,6 @@ read_union-overflow_add-bar t c =
     c.loop-bar-test.true in
     omega (arith, byte_there s y.at 124 refl next.1)
 
--- src/lib.rt:101:13
 pub read_union-read_path-path-requires : goal.read_union-read_path-path-requires
 read_union-read_path-path-requires t c =
     let s = c.args.s.now in
@@ -821,17 +736,14 @@ read_union-read_path-path-requires t c =
       ),
     )
 
--- src/lib.rt:102:13
 pub read_union-join-next-requires : goal.read_union-join-next-requires
 read_union-join-next-requires t c = c.read_path-path.ensures.reached.sized
 
--- src/lib.rt:99:5
 pub read_union-loop-bar-smaller : goal.read_union-loop-bar-smaller
 read_union-loop-bar-smaller t c =
     let to = rw c.moved.ensures at c.read_path-path.ensures.reached.from in
     omega (arith, to, c.read_path-path.ensures.reached.fits, c.join-next.ensures.text.at)
 
--- src/lib.rt:99:5
 pub read_union-loop-bar-preserved : goal.read_union-loop-bar-preserved
 read_union-loop-bar-preserved t c =
     let names = c.args.names.now in
@@ -849,11 +761,9 @@ read_union-loop-bar-preserved t c =
     } (λ xs x h. union_more s names left xs x _ y _ c.read_path-path.result _
     c.join-next.result next.0 next.1 path put h)
 
--- src/lib.rt:92:1
 pub read_union-shape_of-rows : goal.read_union-shape_of-rows
 read_union-shape_of-rows t c = omega (arith, c.loop-bar.invariant.reached.sized.size, c.requires.ready.sized.size)
 
--- src/lib.rt:92:1
 pub read_union-returns : goal.read_union-returns
 read_union-returns t c =
     let names = c.args.names.now in

@@ -1,50 +1,29 @@
+-- The functions that evaluate a row meet their contracts. Assumes nothing.
 use Prim.Native.Nat.{◌+◌}
-use mathlib.Core.Path.{◌∙◌}
+use mathlib.Core.Path.{◌∙◌, sym, refl, ap}
 use native.Mathlib.Omega.{arith}
-use borrow.Author.Tests.{eq-eqb, ne_eqb, not-true, not-false}
+use borrow.Author.Tests.{eq-eqb, ne_eqb, not-true, not-false, lt-ltb, le-leb}
 use Rattle.xpath.specs.Document.{document_of}
 use Rattle.xpath.specs.Meaning.{selects, holds}
-use Rattle.xpath.specs.Visits.{visits}
-use Rattle.terms.specs.Terms.{path_in}
+use Rattle.xpath.specs.Visits.{visits, qualifier_visits}
+use Rattle.terms.specs.Terms.{path_in, qualifier_in, term_by, as_path, as_qualifier}
 use Rattle.marking.specs.code.Added.{marked}
 use Rattle.selection.specs.code.Parts.{terms_below}
 use Rattle.selection.proofs.Marks.{none_joined, joined_skipped, joined_next, all_joined}
-use Rattle.selection.proofs.Limits.{none_visited, all_visited, skipped, visited_next, stopped_at}
-use Prim.Native.Nat.{◌+◌}
-use mathlib.Core.Path.{sym, ◌∙◌}
-use mathlib.Core.Bool.{◌&&◌}
-use borrow.Author.Tests.{eq-eqb, ne_eqb, not-true, not-false, lt-ltb, le-leb}
-use Rattle.xpath.specs.Meaning.{holds}
-use Rattle.xpath.specs.Visits.{qualifier_visits}
-use Rattle.terms.specs.Terms.{qualifier_in}
+use Rattle.selection.proofs.Limits.{none_visited, all_visited, skipped, visited_next, stopped_at, first_stopped}
+use Rattle.selection.proofs.Limits.{both_found, resumed, over_limit, recounted}
+use mathlib.Core.Bool.{◌&&◌, not}
 use Rattle.marking.proofs.Added.{up_start, up_marked, up_left, added_cong}
-use mathlib.Core.Path.{refl, ◌∙◌}
-use borrow.Author.Tests.{not-true, not-false}
-use Rattle.xpath.specs.Visits.{visits, qualifier_visits}
 use Rattle.selection.proofs.Folds.{all_cong}
-use Rattle.selection.proofs.Limits.{first_stopped, both_found}
-use Rattle.selection.proofs.Parts.{fresh_marks}
-use Rattle.terms.specs.Terms.{term_by, as_path}
+use Rattle.selection.proofs.Parts.{fresh_marks, second_found, void_found, leaf_found, path_found, false_found}
+use Rattle.selection.proofs.Parts.{leaf_qualifier_found, qualifier_found}
 use Rattle.terms.specs.code.RowTypes.{row_of}
-use Rattle.marking.specs.code.Added.{marked}
-use Rattle.selection.proofs.Limits.{first_stopped, resumed}
-use Rattle.selection.proofs.Parts.{fresh_marks, second_found}
-use Rattle.selection.proofs.Rows.{first_path_visits}
-use native.Mathlib.Nat.{pos_of_ne-zero}
-use Rattle.selection.proofs.Limits.{over_limit}
-use Rattle.selection.proofs.Parts.{void_found, leaf_found, path_found}
-use Rattle.selection.proofs.Rows.{visits_positive}
-use mathlib.Core.Path.{ap, ◌∙◌}
-use mathlib.Core.Bool.{not}
-use Rattle.terms.specs.Terms.{term_by, as_qualifier}
-use Rattle.selection.proofs.Limits.{recounted, first_stopped, both_found}
-use Rattle.selection.proofs.Rows.{and_or_visits, and_or_holds}
+use Rattle.selection.proofs.Rows.{first_path_visits, visits_positive, and_or_visits, and_or_holds}
 use Rattle.selection.proofs.Rows.{qualifier_visits_positive}
-use Rattle.selection.proofs.Parts.{false_found, leaf_qualifier_found, qualifier_found}
-use Rattle.xpath.specs.Meaning.{selects}
+use native.Mathlib.Nat.{pos_of_ne-zero}
 use Rattle.marking.proofs.Steps.{added_twice}
 use borrow.Author.Rules.{rules}
-use Rattle.selection.proofs.evaluation.+eval_composition_eval_filter_eval_inclusion_eval_path_eval_path_operands_eval_qualifier_eval_qualifier_operands_eval_second_operand_eval_union.Goals as goal
+use Rattle.selection.proofs.evaluation.+evaluation.Goals as goal
 
 pub eval_composition-loop-z-init : goal.eval_composition-loop-z-init
 eval_composition-loop-z-init t c =
