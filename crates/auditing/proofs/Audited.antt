@@ -7,7 +7,7 @@ use lib.ListN.{length}
 use borrow.Author.Tests.{lt-ltb, le-ltb}
 use Rattle.common.specs.Limits.{max_bytes}
 use Rattle.matching.specs.code.RowYields.{Sides}
-use Rattle.session.specs.declared.read.ReadResult.{ReadResult}
+use Rattle.session.specs.code.Results.{ReadResult}
 use Rattle.calls.specs.Book.{answer, accepted}
 use Rattle.calls.specs.StepCall.{step_numbered}
 use Rattle.session.specs.View.{view}

@@ -39,16 +39,12 @@ pub fn audit(bytes: &[u8]) -> Report
         };
     }
     let read = Session::read(bytes);
-    let answer = read.answer;
-    let session = read.session;
-    let number = answer.number();
-    let line = refused_line(number, answer.value());
-    let steps = session.steps_held();
-    let last = session.last_step();
+    let number = read.answer.number();
+    let last = read.session.last_step();
     Report {
         answer: number,
-        line,
-        steps,
+        line: refused_line(number, read.answer.value()),
+        steps: read.session.steps_held(),
         left: last.left,
         right: last.right,
     }

@@ -78,6 +78,8 @@ const TABLE_SIZE: usize = terms::ROW_WIDTH * terms::MAX_ROWS;
 pub extern "C" fn bench_text(names: &[u8], selector: &[u8]) -> u16
     ensures { result ≡ (text_reply names.now selector.now []).number }
 {
-    let read = text::read_text(selector, names, [0u16; TABLE_SIZE], 0);
-    read.number
+    match text::read_text(selector, names, [0u16; TABLE_SIZE], 0) {
+        Ok(_) => 0,
+        Err(refused) => refused.number(),
+    }
 }

@@ -1,15 +1,22 @@
 -- Texts put one behind the other. Assumes nothing.
-use Prim.Native.Nat.{ℕ, zero, suc, ◌+◌, ◌-◌, ◌≤◌, ◌<◌}
+use Prim.Native.Nat.{ℕ, zero, suc, ◌+◌, ◌-◌, ◌*◌, ◌%◌, ◌≤◌, ◌<◌}
 use mathlib.Core.Path.{◌≡◌, refl, sym, ap, subst, ◌∙◌}
-use mathlib.Core.List.{List, [], ◌∷◌, ◌++◌}
+use mathlib.Core.List.{List, [], ◌∷◌, ◌++◌, append_assoc}
 use native.Mathlib.Numerals.{add-one}
 use native.Mathlib.Omega.{arith}
-use lib.ListN.{length, get_or, set, drop, length-append, drop_of_length-le}
-use lib.Seq.{sets, length-sets, drop-cons}
+use native.Mathlib.Decide.{dec_lt}
+use Rattle.std.proofs.Math.Nat.{mod-eq_of_lt, mod-lt, mod_self, suc-mod}
+use Rattle.std.proofs.lemmas.Grind.{common_steps}
+use Rattle.bundles.proofs.Decimals.{digits_5}
+use lib.ListN.{length, get_or, set, take, drop, length-append, drop_of_length-le}
+use Rattle.std.proofs.Common.{sum_by}
+use lib.Seq.{sets, length-sets, drop-cons, drop-drop}
+use borrow.Rule.Slice.PartMut.{put_mid}
+use Rattle.std.proofs.lemmas.List.Edits.{sets-eq}
 use borrow.Author.Tests.{le-leb, lt-leb}
 use Rattle.lines.specs.Line.{newline, space}
 use Rattle.lines.specs.Written.{decimal}
-use Rattle.bundles.specs.code.TextPut.{Put, behind, left_next, numbers_text, numbers_length, TextWritten}
+use Rattle.bundles.specs.code.TextPut.{Put, behind, left_next, left_at, numbers_text, numbers_length, TextWritten}
 
 sets_append : (us vs xs : List ℕ) (at : ℕ) → sets xs at (us ++ vs) ≡ sets (sets xs at us) (at + length us) vs
 sets_append [] vs xs at = let e : at ≡ at + 0 = omega arith in ap (λ k. sets xs k vs) e
@@ -31,6 +38,15 @@ put_both {xs} {at = at} {us = us} {vs = vs} p q =
 pub put_as : {xs ys us vs : List ℕ} {at n : ℕ} → us ≡ vs → Put xs at us n ys → Put xs at vs n ys
 put_as {xs} {ys} {at = at} {n = n} e p = subst (λ w. Put xs at w n ys) e p
 
+-- a text put over a part of the bytes
+pub put_part : (xs us : List ℕ) (at k : ℕ) → at + length us ≤ length xs → length us ≡ k
+    → Put xs at us (at + length us) (put_mid at k xs us)
+put_part xs us at k h e = record {
+  position = refl;
+  bytes = sym (rw (sets-eq us xs at h, drop-drop, ← e)
+      (append_assoc (take at xs) us (drop (at + length us) xs)));
+}
+
 pub put_keeps : {xs ys us : List ℕ} {at n : ℕ} → Put xs at us n ys → length ys ≡ length xs
 put_keeps {xs} {us = us} {at = at} p = ap length p.bytes ∙ length-sets xs at us
 
@@ -46,20 +62,6 @@ module _ {xs whole : List ℕ} {at : ℕ} where
 
   pub rest_done : {ys : List ℕ} {end : ℕ} → Rest xs at whole ys end [] → Put xs at whole end ys
   rest_done {ys} {end} rest = rest end ys (put_none ys end)
-
-  -- one byte of the names, with a text behind them
-  pub names_further : {ys zs : List ℕ} {end n : ℕ} (names tail : List ℕ) (i : ℕ) → i < length names
-      → Rest xs at whole ys end (drop i names ++ tail) → Put ys end (get_or names i 0 ∷ []) n zs
-      → Rest xs at whole zs n (drop (i + 1) names ++ tail)
-  names_further {ys} {end = end} names tail i h rest p =
-      let e : drop i names ≡ get_or names i 0 ∷ drop (i + 1) names = drop-cons names i 0 h ∙ rw add-one in
-      rest_further (subst (λ w. Rest xs at whole ys end (w ++ tail)) e rest) p
-
-  -- all of them are put
-  pub names_done : {ys : List ℕ} {end : ℕ} (names tail : List ℕ) (i : ℕ) → length names ≤ i
-      → Rest xs at whole ys end (drop i names ++ tail) → Rest xs at whole ys end tail
-  names_done {ys} {end} names tail i h rest =
-      subst (λ w. Rest xs at whole ys end (w ++ tail)) (drop_of_length-le names h) rest
 
   -- one number of a table, and the byte behind it
   pub numbers_further : {ys us zs : List ℕ} {end n m : ℕ} (width left : ℕ) (ns : List ℕ) (i : ℕ) → i < length ns
@@ -84,10 +86,6 @@ unfolding numbers_length
 length_further ns i h =
     let e : drop i ns ≡ get_or ns i 0 ∷ drop (i + 1) ns = drop-cons ns i 0 h ∙ rw add-one in
     ap numbers_length e
-
-pub length_done : (ns : List ℕ) (i : ℕ) → length ns ≤ i → numbers_length (drop i ns) ≡ 0
-unfolding numbers_length
-length_done ns i h = ap numbers_length (drop_of_length-le ns h)
 
 pub numbers_length_lem : (width left : ℕ) (ns : List ℕ) → length (numbers_text width left ns) ≡ numbers_length ns
 unfolding numbers_text numbers_length
@@ -114,6 +112,39 @@ pub same_line : (width left : ℕ) → ¬ (left ≡ 0) → left - 1 ≡ left_nex
 unfolding left_next
 same_line width zero f = absurd (f refl)
 same_line width (suc left) f = omega arith
+
+-- the number after one, in its line or in the next
+pub left_after : (width i : ℕ) → 0 < width → left_next width (left_at width i) ≡ left_at width (i + 1)
+left_after width i h = by_test (dec_lt (suc (i % width)) width)
+  where
+    next : (i + 1) % width ≡ suc (i % width) % width
+    next = rw add-one (suc-mod i width)
+
+    few : i % width < width
+    few = mod-lt i h
+
+    by_test : Dec (suc (i % width) < width) → left_next width (left_at width i) ≡ left_at width (i + 1)
+    by_test (yes g) =
+        sym (same_line width (left_at width i) (λ e. omega arith))
+        ∙ omega (arith, next, mod-eq_of_lt g)
+    by_test (no g) =
+        let e : suc (i % width) ≡ width = omega arith in
+        let f : suc (i % width) % width ≡ 0 = rw e (mod_self width) in
+        sym (next_line width (left_at width i) (omega arith)) ∙ omega (arith, next, f)
+
+-- by induction: the length is the sum over the numbers
+pub numbers_sum : (ns : List ℕ) → numbers_length ns ≡ sum_by (λ n. length (decimal n) + 1) ns
+unfolding numbers_length
+numbers_sum [] = refl
+numbers_sum (n ∷ ns) = grind (arith, common_steps, numbers_sum ns)
+
+-- the bound of their length
+pub numbers_short : (ns : List ℕ) → ((k : ℕ) → get_or ns k 0 < 65536) → numbers_length ns ≤ 6 * length ns
+unfolding numbers_length
+numbers_short [] h = omega arith
+numbers_short (n ∷ ns) h =
+    let few : n < 100000 = omega (arith, h 0) in
+    omega (arith, digits_5 n few, numbers_short ns (λ k. h (suc k)))
 
 -- no room, and room, for a text w that is the text asked for
 pub written_not : {buffer w text : List ℕ} {at size : ℕ} → w ≡ text → size ≡ length w → length buffer < at + size

@@ -10,29 +10,22 @@ ghost use Rattle.calls.specs.Book.{max_steps};
 ghost use Rattle.calls.specs.code.Tables.{row_width, step_width};
 ghost use Rattle.calls.specs.code.Answers.{step_of};
 ghost use Rattle.bundles.specs.Bundle.{row_of_numbers, step_of_numbers};
-ghost use Rattle.bundles.specs.code.TextPut.{Put, behind, left_next, lines_text, numbers_length};
+ghost use Rattle.bundles.specs.code.TextPut.{Put, behind, left_at, lines_text, numbers_length};
 ghost use Rattle.bundles.specs.code.TextPut.{tables_text, held_text, TextWritten};
 
 use calls::Step;
 use terms::Row;
 
 // The names lines of a bundle.
-pub const ROW_NAMES: [u8; ROW_NAMES_LENGTH] = *b"kind a b c";
+pub const ROW_NAMES: &[u8] = b"kind a b c";
 
-pub const ROW_NAMES_LENGTH: usize = 10;
-
-pub const STEP_NAMES: [u8; STEP_NAMES_LENGTH] = *b"rule left right first second";
-
-pub const STEP_NAMES_LENGTH: usize = 28;
+pub const STEP_NAMES: &[u8] = b"rule left right first second";
 
 // The row of a term line's numbers.
 pub fn row_of_numbers(numbers: [u16; lines::MAX_COUNT]) -> Row
     ensures { row_of result ≡ row_of_numbers numbers }
 {
-    let kind = numbers[0];
-    let a = numbers[1];
-    let b = numbers[2];
-    let c = numbers[3];
+    let [kind, a, b, c, _] = numbers;
     Row { kind, a, b, c }
 }
 
@@ -40,11 +33,7 @@ pub fn row_of_numbers(numbers: [u16; lines::MAX_COUNT]) -> Row
 pub fn step_of_numbers(numbers: [u16; lines::MAX_COUNT]) -> Step
     ensures { step_of result ≡ step_of_numbers numbers }
 {
-    let rule = numbers[0];
-    let left = numbers[1];
-    let right = numbers[2];
-    let first = numbers[3];
-    let second = numbers[4];
+    let [rule, left, right, first, second] = numbers;
     Step {
         rule,
         left,
@@ -69,13 +58,7 @@ fn lines_length(numbers: &[u16]) -> usize
     requires { length numbers.now ≤ step_width * max_steps }
     ensures { (result ≡ numbers_length numbers.now) × (result ≤ 6 * (step_width * max_steps)) }
 {
-    let mut size = 0;
-    let mut i = 0;
-    while i < numbers.len() {
-        size += digits(numbers[i]) + 1;
-        i += 1;
-    }
-    size
+    numbers.iter().map(|n| digits(*n) + 1).sum()
 }
 
 // Puts a byte at `at`. It gives the position after what it puts, and so do `put_number`, `put_lines`, `put_names` and
@@ -99,25 +82,16 @@ fn put_number(out: &mut [u8], at: usize, n: u16) -> usize
     put_byte(out, last, lines::DIGIT_0 + ((n % 10) as u8))
 }
 
-// What stands behind a number with `left` more in its line.
-fn byte_behind(left: usize) -> u8
-    ensures { result ≡ behind left }
-{
-    if left == 0 {
-        return lines::NEWLINE;
-    }
-    lines::SPACE
-}
-
-// How many are left behind the next number.
-fn left_next(width: usize, left: usize) -> usize
+// What stands behind the number at i of a table with `width` numbers a line.
+fn byte_behind(width: usize, i: usize) -> u8
     requires { 0 < width }
-    ensures { result ≡ left_next width left }
+    ensures { result ≡ behind (left_at width i) }
 {
-    if left == 0 {
-        return width - 1;
+    if i % width == width - 1 {
+        lines::NEWLINE
+    } else {
+        lines::SPACE
     }
-    left - 1
 }
 
 // Puts the lines of a table, `width` numbers a line.
@@ -126,14 +100,9 @@ fn put_lines(out: &mut [u8], at: usize, numbers: &[u16], width: usize) -> usize
     ensures { Put out.old at (lines_text width numbers.now) result out.new }
 {
     let mut end = at;
-    let mut left = width - 1;
-    let mut i = 0;
-    while i < numbers.len() {
-        let after = put_number(out, end, numbers[i]);
-        let next = put_byte(out, after, byte_behind(left));
-        end = next;
-        left = left_next(width, left);
-        i += 1;
+    for (i, n) in numbers.iter().enumerate() {
+        let after = put_number(out, end, *n);
+        end = put_byte(out, after, byte_behind(width, i));
     }
     end
 }
@@ -143,13 +112,8 @@ fn put_names(out: &mut [u8], at: usize, names: &[u8]) -> usize
     requires { at + length names.now + 1 ≤ length out.old }
     ensures { Put out.old at (names.now ++ newline ∷ []) result out.new }
 {
-    let mut end = at;
-    let mut i = 0;
-    while i < names.len() {
-        let next = put_byte(out, end, names[i]);
-        end = next;
-        i += 1;
-    }
+    let end = at + names.len();
+    out[at..end].copy_from_slice(names);
     put_byte(out, end, lines::NEWLINE)
 }
 
@@ -158,9 +122,9 @@ fn put_bundle(out: &mut [u8], at: usize, rows: &[u16], steps: &[u16]) -> usize
     ensures { Put out.old at (tables_text rows.now steps.now) result
         out.new }
 {
-    let names = put_names(out, at, &ROW_NAMES);
+    let names = put_names(out, at, ROW_NAMES);
     let rows_end = put_lines(out, names, rows, terms::ROW_WIDTH);
-    let more_names = put_names(out, rows_end, &STEP_NAMES);
+    let more_names = put_names(out, rows_end, STEP_NAMES);
     put_lines(out, more_names, steps, calls::STEP_WIDTH)
 }
 
@@ -168,7 +132,7 @@ fn bundle_length(rows: &[u16], steps: &[u16]) -> usize
     requires { (length rows.now ≤ row_width * max_rows) × (length steps.now ≤ step_width * max_steps) }
     ensures { result ≡ length (tables_text rows.now steps.now) }
 {
-    let names = ROW_NAMES_LENGTH + 1 + (STEP_NAMES_LENGTH + 1);
+    let names = ROW_NAMES.len() + 1 + (STEP_NAMES.len() + 1);
     names + lines_length(rows) + lines_length(steps)
 }
 
@@ -188,12 +152,8 @@ pub fn write_tables<'a>(
     let held_rows = calls::first_rows(rows, n);
     let held_steps = calls::first_steps(steps, m);
     let size = bundle_length(held_rows, held_steps);
-    if out.len() < at {
-        return size;
+    if at <= out.len() && size <= out.len() - at {
+        put_bundle(out, at, held_rows, held_steps);
     }
-    if out.len() - at < size {
-        return size;
-    }
-    put_bundle(out, at, held_rows, held_steps);
     size
 }

@@ -1,43 +1,22 @@
--- The answers of point and return, test by test. Assumes nothing.
+-- What the answers of point and return tell. Assumes nothing.
 use Prim.Native.Nat.{ℕ, ◌≤◌, ◌<◌}
-use mathlib.Core.Path.{◌≡◌, sym, ◌∙◌}
+use mathlib.Core.Path.{◌≡◌, sym}
 use mathlib.Core.Bool.{Bool, true, false, ◌||◌, false≢true}
 use mathlib.Core.List.{List}
 use native.Mathlib.Omega.{arith}
 use lib.Dec.{leb, ltb, eqb}
 use lib.ListN.{length}
-use borrow.Author.Tests.{le-leb, lt-leb, leb-false, ltb-false}
+use borrow.Author.Tests.{lt-leb, leb-false, ltb-false}
 use Rattle.calls.specs.Book.{max_points, answer}
 use Rattle.common.specs.Refusals as refusals
 use Rattle.calls.specs.PointCall.{place_of, point_answer, return_answer}
 use Rattle.calls.proofs.Accepted.{test_failed}
 
--- i is the place of the name among k names
-module _ (names : List ℕ) (name i k : ℕ) (is-i : i ≡ place_of names name) (is-k : k ≡ length names) where
-  module _ (bad : Bool) (is-bad : bad ≡ (eqb name 0 || ltb i k)) where
-    test : (eqb name 0 || ltb (place_of names name) (length names)) ≡ bad
-    test = rw (← is-i, ← is-k) (sym is-bad)
-
-    pub bad_point : bad ≡ true → answer refusals.bad_point name ≡ point_answer names name
-    unfolding point_answer
-    bad_point e = rw (test ∙ e)
-
-    module _ (good : bad ≡ false) where
-      pub points_full : max_points ≤ k → answer refusals.points_full 0 ≡ point_answer names name
-      unfolding point_answer
-      points_full h = rw (test ∙ good, ← is-k, le-leb max_points k h)
-
-      pub point_set : k < max_points → answer 0 0 ≡ point_answer names name
-      unfolding point_answer
-      point_set h = rw (test ∙ good, ← is-k, lt-leb max_points k h)
-
-  pub no_such_point : k ≤ i → answer refusals.bad_point name ≡ return_answer names name
-  unfolding return_answer
-  no_such_point h = rw (← is-i, ← is-k, le-leb k i h)
-
-  pub returns_there : i < k → answer 0 0 ≡ return_answer names name
-  unfolding return_answer
-  returns_there h = rw (← is-i, ← is-k, lt-leb k i h)
+-- a name that some point has can be returned to
+pub returns_there : (names : List ℕ) (name : ℕ) → place_of names name < length names
+    → answer 0 0 ≡ return_answer names name
+unfolding return_answer
+returns_there names name h = rw (lt-leb (length names) (place_of names name) h)
 
 -- what accepted calls tell
 pub record PointAccepted (names : List ℕ) (n : ℕ) : Type 0 where

@@ -251,7 +251,7 @@ module _ (b : Book) (n : ℕ) (taken : (book_answer b (point n)).number ≡ 0) w
         let place = place_set in
         let more : length d.points ≡ length b.points + suc (length w.later) =
         ap length w.points ∙ length-append b.points (set ∷ w.later) in
-        returns_there (point_names d.points) n _ _ refl refl (omega (arith, point_names_lem d.points))
+        returns_there (point_names d.points) n (omega (arith, point_names_lem d.points))
 
     restored : return_book d n ≡ point_book b n
     restored =

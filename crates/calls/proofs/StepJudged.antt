@@ -1,46 +1,15 @@
--- The answer of a step call, test by test. Assumes nothing.
-use Prim.Native.Nat.{ℕ, ◌+◌, ◌≤◌, ◌<◌}
+-- What holds of a step that a step call takes. Assumes nothing.
+use Prim.Native.Nat.{◌≤◌, ◌<◌}
 use mathlib.Core.Path.{◌≡◌, refl, sym}
 use mathlib.Core.Bool.{Bool, true, false, not, ◌||◌, false≢true}
 use native.Mathlib.Omega.{arith}
 use lib.Dec.{leb, ltb, eqb}
 use lib.ListN.{length}
-use borrow.Author.Tests.{lt-ltb, le-ltb, le-leb, lt-leb, ltb-false, leb-false, eqb-false, not-false}
+use borrow.Author.Tests.{ltb-false, leb-false, eqb-false, not-false}
 use Rattle.rules.specs.Yields.{max_rule}
-use Rattle.calls.specs.Book.{Step, max_steps, Book, answer}
-use Rattle.common.specs.Refusals as refusals
+use Rattle.calls.specs.Book.{Step, max_steps, Book}
 use Rattle.calls.specs.StepCall.{bad_side_of, bad_premise_of, step_answer_by}
 use Rattle.calls.proofs.Accepted.{test_failed}
-
-module _ (y : Bool) (b : Book) (p : Step) where
-  pub no_rule : (eqb p.rule 0 || ltb max_rule p.rule) ≡ true → answer refusals.no_rule 0 ≡ step_answer_by y b p
-  unfolding step_answer_by
-  no_rule h = rw h
-
-  module _ (rule : (eqb p.rule 0 || ltb max_rule p.rule) ≡ false) (i : ℕ) (is-i : i ≡ bad_side_of b.rows p) where
-    pub bad_side : 0 < i → answer refusals.bad_side i ≡ step_answer_by y b p
-    unfolding step_answer_by
-    bad_side h = rw (rule, ← is-i, lt-ltb 0 i h)
-
-    module _ (sides : i ≤ 0) (n : ℕ) (is-n : n ≡ length b.steps) (j : ℕ) (is-j : j ≡ bad_premise_of n p) where
-      pub bad_premise : 0 < j → answer refusals.bad_premise j ≡ step_answer_by y b p
-      unfolding step_answer_by
-      bad_premise h = rw (rule, ← is-i, le-ltb 0 i sides, ← is-n, ← is-j, lt-ltb 0 j h)
-
-      module _ (premises : j ≤ 0) where
-        pub not_yielded : y ≡ false → answer refusals.not_yielded 0 ≡ step_answer_by y b p
-        unfolding step_answer_by
-        not_yielded h = rw (rule, ← is-i, le-ltb 0 i sides, ← is-n, ← is-j, le-ltb 0 j premises, h)
-
-        pub steps_full : y ≡ true → max_steps ≤ n → answer refusals.steps_full 0 ≡ step_answer_by y b p
-        unfolding step_answer_by
-        steps_full h l =
-            rw (rule, ← is-i, le-ltb 0 i sides, ← is-n, ← is-j, le-ltb 0 j premises, h, le-leb max_steps n l)
-
-        pub step_held : y ≡ true → n < max_steps → answer 0 (n + 1) ≡ step_answer_by y b p
-        unfolding step_answer_by
-        step_held h l =
-            rw (rule, ← is-i, le-ltb 0 i sides, ← is-n, ← is-j, le-ltb 0 j premises, h, lt-leb max_steps n l)
 
 pub neither : (a b : Bool) → (a || b) ≡ false → (a ≡ false) × (b ≡ false)
 neither true b e = absurd (false≢true (sym e))

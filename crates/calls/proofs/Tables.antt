@@ -5,19 +5,13 @@ use mathlib.Core.List.{List, [], ◌∷◌, ◌++◌}
 use native.Mathlib.Omega.{arith}
 use lib.ListN.{length, get_or, take, length-take, get_or-eq_default}
 use lib.Seq.{length-take-le}
+use Rattle.std.proofs.Common.{map}
+use Rattle.std.specs.Simd.{first_chunks}
 use Rattle.terms.specs.Row.{table_of, max_rows}
 use Rattle.terms.proofs.LentRows.{rows_lent}
+pub use Rattle.terms.proofs.LentRows.{copied}
 use Rattle.calls.specs.Book.{Step, step, no_step, max_steps}
-use Rattle.calls.specs.code.Tables.{row_width, step_width, steps_of, first_row_numbers, first_step_numbers}
-
--- the first numbers, as many as asked for, or all
-pub take_clamped : (n k : ℕ) (xs : List ℕ) → n ≡ min k (length xs) → take n xs ≡ take k xs
-take_clamped zero zero xs e = refl
-take_clamped zero (suc k) [] e = refl
-take_clamped zero (suc k) (x ∷ xs) e = absurd (omega arith)
-take_clamped (suc n) zero xs e = absurd (omega arith)
-take_clamped (suc n) (suc k) [] e = refl
-take_clamped (suc n) (suc k) (x ∷ xs) e = ap (λ (ys : List ℕ). x ∷ ys) (take_clamped n k xs (omega arith))
+use Rattle.calls.specs.code.Tables.{row_width, step_width, step_in, steps_of, first_row_numbers, first_step_numbers}
 
 -- the first of the rows that a session has room for
 module _ (xs : List ℕ) (n : ℕ) (few : n ≤ max_rows) (size : length xs ≡ row_width * max_rows) where
@@ -57,6 +51,23 @@ steps_lent (k ∷ l ∷ []) = refl
 steps_lent (k ∷ l ∷ r ∷ []) = refl
 steps_lent (k ∷ l ∷ r ∷ i ∷ []) = refl
 steps_lent (k ∷ l ∷ r ∷ i ∷ j ∷ xs) = let h = steps_lent xs in omega arith
+
+-- the steps are the numbers five by five
+pub steps_by_five : (n : ℕ) (xs : List ℕ) → n ≡ length xs / 5 → map step_in (first_chunks 5 n xs) ≡ steps_of xs
+unfolding steps_of
+steps_by_five zero [] e = refl
+steps_by_five (suc n) [] e = absurd (omega arith)
+steps_by_five zero (k ∷ []) e = refl
+steps_by_five (suc n) (k ∷ []) e = absurd (omega arith)
+steps_by_five zero (k ∷ l ∷ []) e = refl
+steps_by_five (suc n) (k ∷ l ∷ []) e = absurd (omega arith)
+steps_by_five zero (k ∷ l ∷ r ∷ []) e = refl
+steps_by_five (suc n) (k ∷ l ∷ r ∷ []) e = absurd (omega arith)
+steps_by_five zero (k ∷ l ∷ r ∷ i ∷ []) e = refl
+steps_by_five (suc n) (k ∷ l ∷ r ∷ i ∷ []) e = absurd (omega arith)
+steps_by_five zero (k ∷ l ∷ r ∷ i ∷ j ∷ xs) e = absurd (omega arith)
+steps_by_five (suc n) (k ∷ l ∷ r ∷ i ∷ j ∷ xs) e =
+    ap (λ (ps : List Step). step k l r i j ∷ ps) (steps_by_five n xs (omega arith))
 
 -- step i is the five numbers at its place
 pub step_lent : (xs : List ℕ) (i : ℕ) → i < length xs / 5 →

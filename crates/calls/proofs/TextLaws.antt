@@ -7,9 +7,7 @@ use lib.ListN.{length, take, drop, length-append}
 use lib.Seq.{drop-append_seam, take-append_seam, get_or-append_seam}
 use Rattle.common.specs.Lists.{Every}
 use Rattle.common.proofs.Reflect.{facts}
-use Rattle.terms.specs.Row.{Row, no_row, row_at, max_rows, find}
-use Rattle.terms.specs.Fields.{bad_place}
-use Rattle.terms.specs.Nesting.{nesting}
+use Rattle.terms.specs.Row.{Row, no_row, row_at, max_rows}
 use Rattle.terms.specs.Terms.{of_path}
 use Rattle.terms.specs.AcceptedRows.{is_well_formed, is_new, Built}
 use Rattle.terms.proofs.Built.{built_at, Accepted}
@@ -46,9 +44,13 @@ unfolding is_well_formed is_new
 row_accepted rs r (ok, new) room =
     let u = simp facts at ok in
     let e = simp facts at new in
-    sym (row_held rs r u.0.0 (bad_place rs r) refl (omega (arith, u.0.1)) (nesting rs r) refl u.1
-    (find rs r) refl
-    (length rs) refl (omega (arith, e)) room)
+    sym (row_held rs r (record {
+      kind = u.0.0;
+      fields = omega (arith, u.0.1);
+      nesting = u.1;
+      new = omega (arith, e);
+      room = omega arith;
+    }))
 
 -- rows that keep a table accepted, added one after the other
 rows_accepted : (rs new : List Row) (ps : List Step) (points : List Point) → Built (rs ++ new)

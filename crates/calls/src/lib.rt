@@ -11,7 +11,7 @@ ghost use Rattle.calls.specs.code.Answers.{term_answer_of, step_answer_of, selec
 
 use common::refusal;
 pub use points::{MAX_POINTS, POINT_WIDTH, PointAnswer, PointCounts};
-pub use step::{MAX_STEPS, STEP_WIDTH, Step, sides_of, step_count};
+pub use step::{MAX_STEPS, STEP_WIDTH, Step, sides_of, step_count, whole_steps};
 
 // The answer of a term call.
 #[derive(Clone, Copy)]
@@ -49,29 +49,28 @@ pub enum SelectAnswer {
 pub fn clamp(count: usize, limit: usize) -> usize
     ensures { result ≡ min count limit }
 {
-    if count <= limit { count } else { limit }
+    count.min(limit)
 }
 
 // The first numbers, as many as `count` says, or all.
 pub fn front(numbers: &[u16], count: usize) -> &[u16]
     ensures { result.now ≡ take count numbers.now }
 {
-    let end = clamp(count, numbers.len());
-    &numbers[..end]
+    numbers.get(..count).unwrap_or(numbers)
 }
 
 // The numbers of the first n rows.
 pub fn first_rows(rows: &[u16], n: usize) -> &[u16]
     ensures { result.now ≡ first_row_numbers n rows.now }
 {
-    front(rows, terms::ROW_WIDTH * clamp(n, terms::MAX_ROWS))
+    front(rows, terms::ROW_WIDTH * n.min(terms::MAX_ROWS))
 }
 
 // The numbers of the first m steps.
 pub fn first_steps(steps: &[u16], m: usize) -> &[u16]
     ensures { result.now ≡ first_step_numbers m steps.now }
 {
-    front(steps, STEP_WIDTH * clamp(m, MAX_STEPS))
+    front(steps, STEP_WIDTH * m.min(MAX_STEPS))
 }
 
 impl TermAnswer {

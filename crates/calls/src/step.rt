@@ -1,8 +1,8 @@
 // Steps on lent numbers, five a step.
-ghost use Rattle.std.specs.Prelude.{◌≡◌, ◌-◌, length};
+ghost use Rattle.std.specs.Prelude.{◌≡◌, ◌-◌, map, length};
 ghost use Rattle.matching.specs.code.MatchTypes.{sides_in};
 ghost use Rattle.calls.specs.StepCall.{step_numbered};
-ghost use Rattle.calls.specs.code.Tables.{steps_of};
+ghost use Rattle.calls.specs.code.Tables.{step_in, steps_of};
 ghost use Rattle.calls.specs.Promises.{sides_of};
 
 use matching::Sides;
@@ -29,26 +29,20 @@ pub fn step_count(steps: &[u16]) -> usize
     steps.len() / STEP_WIDTH
 }
 
-// The place of step i, counted from 1, among the steps; of 0, the first one.
-fn place_of(i: u16) -> usize
-    ensures { result ≡ i - 1 }
+// The steps, each as its numbers.
+pub fn whole_steps(steps: &[u16]) -> &[[u16; STEP_WIDTH]]
+    ensures { map step_in result.now ≡ steps_of steps.now }
 {
-    if i == 0 {
-        return 0;
-    }
-    common::wide(i) - 1
+    steps.as_chunks().0
 }
 
 // The rows of step i, counted from 1, and of 0 those of step 1; zeros where there is no such step.
+#[tactic(auto, unfolding(crate::specs::Promises::sides_of))]
 pub fn sides_of(steps: &[u16], i: u16) -> Sides
     ensures { sides_in result ≡ sides_of (step_numbered (steps_of steps.now) i) }
 {
-    let n = place_of(i);
-    if n < step_count(steps) {
-        let at = STEP_WIDTH * n;
-        let left = steps[at + 1];
-        let right = steps[at + 2];
-        return Sides { left, right };
+    match whole_steps(steps).get(usize::from(i).saturating_sub(1)) {
+        Some(&[_, left, right, ..]) => Sides { left, right },
+        None => Sides { left: 0, right: 0 },
     }
-    Sides { left: 0, right: 0 }
 }

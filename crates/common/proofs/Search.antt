@@ -16,6 +16,14 @@ neither none true n e = let z : ◌≡◌ {A = ℕ} 0 1 = cc in absurd (omega ar
 neither none false n e = (refl, refl)
 neither (some m) b n e = let z : ◌≡◌ {A = ℕ} 0 1 = cc in absurd (omega arith)
 
+-- of two places to look, one has it
+next_below : (o : Option ℕ) (b : Bool) (n k : ℕ) → (some k ≡ o → k < n) →
+    some k ≡ Option-elim o (cond b (some n) none) some → k < suc n
+unfolding Option-elim
+next_below none true n k g e = let z : k ≡ n = cc in omega arith
+next_below none false n k g e = let z : ◌≡◌ {A = ℕ} 0 1 = cc in absurd (omega arith)
+next_below (some m) b n k g e = let z : k < n = g e in omega arith
+
 module _ (f : ℕ → Bool) where
   pub first_not_yet : (i : ℕ) → first_below i f ≡ none → f i ≡ false → first_below (suc i) f ≡ none
   unfolding first_below Option-elim
@@ -38,6 +46,12 @@ module _ (f : ℕ → Bool) where
   unfolding first_below Option-elim
   none_found zero g = refl
   none_found (suc n) g = rw (none_found n (λ k l. g k (omega arith)), g n (omega arith))
+
+  -- what is found is below the bound
+  pub found_below : (n k : ℕ) → some k ≡ first_below n f → k < n
+  unfolding first_below
+  found_below zero k e = let z : ◌≡◌ {A = ℕ} 0 1 = cc in absurd (omega arith)
+  found_below (suc n) k e = next_below (first_below n f) (f n) n k (found_below n k) e
 
   pub none_iff : (n : ℕ) → (first_below n f ≡ none) ↔ ((k : ℕ) → k < n → f k ≡ false)
   none_iff n = (none_passes n, none_found n)

@@ -6,4 +6,5 @@ pub mod NodeTests
 pub mod RowKinds
 pub mod Refusals
 pub mod Limits
+pub mod code
 pub mod values

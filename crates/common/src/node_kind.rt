@@ -1,12 +1,52 @@
-// The kinds of nodes, as a document's rows have them.
-pub const ROOT: usize = 0;
+// The kinds of nodes, and their numbers, as a document's rows have them.
+ghost use Rattle.std.specs.Prelude.{◌≡◌};
+ghost use Rattle.common.specs.code.Numbers.{kind_number, ReadsKind};
 
-pub const ELEMENT: usize = 1;
+#[derive(Clone, Copy, Debug, PartialEq, Eq)]
+pub enum NodeKind {
+    Root,
+    Element,
+    Text,
+    Comment,
+    Instruction,
+    Attribute,
+}
 
-pub const TEXT: usize = 2;
+impl From<NodeKind> for u16 {
+    ghost from_gives = { λ kind number. number ≡ kind_number kind };
 
-pub const COMMENT: usize = 3;
+    fn from(kind: NodeKind) -> u16 {
+        kind as u16
+    }
+}
 
-pub const INSTRUCTION: usize = 4;
+// The error is the number, which no kind has.
+impl TryFrom<u16> for NodeKind {
+    type Error = u16;
 
-pub const ATTRIBUTE: usize = 5;
+    ghost try_from_gives = { ReadsKind };
+
+    fn try_from(number: u16) -> Result<NodeKind, u16> {
+        match number {
+            ROOT => Ok(NodeKind::Root),
+            ELEMENT => Ok(NodeKind::Element),
+            TEXT => Ok(NodeKind::Text),
+            COMMENT => Ok(NodeKind::Comment),
+            INSTRUCTION => Ok(NodeKind::Instruction),
+            ATTRIBUTE => Ok(NodeKind::Attribute),
+            _ => Err(number),
+        }
+    }
+}
+
+pub const ROOT: u16 = 0;
+
+pub const ELEMENT: u16 = 1;
+
+pub const TEXT: u16 = 2;
+
+pub const COMMENT: u16 = 3;
+
+pub const INSTRUCTION: u16 = 4;
+
+pub const ATTRIBUTE: u16 = 5;

@@ -32,7 +32,7 @@ use Rattle.replacing.specs.Covered.{is_replaced, step_saying}
 use Rattle.replacing.proofs.NoneLost.{covered_none_lost}
 use Rattle.session.specs.declared.session.Session.{Session}
 use Rattle.session.specs.View.{view}
-use Rattle.session.specs.Promises.{session, session_answer, session_with}
+use Rattle.session.specs.Promises.{session_answer, session_with}
 use Rattle.session.specs.Reading.{reading}
 use Rattle.session.proofs.Simulation.{Kept, fresh_kept, session_as_book}
 use Rattle.session.proofs.Source.{call_tied, read_tied, reads_exist, read_demand}

@@ -17,7 +17,6 @@ use Rattle.grammar.specs.Denotes.{union_of}
 use Rattle.calls.specs.Book.{Answer, answer}
 use Rattle.calls.specs.Calls.{text, CallSeen}
 use Rattle.replacing.specs.NoneLost.{StepSays}
-use Rattle.session.specs.declared.session.Session.{Session}
 use Rattle.session.specs.View.{view, fresh_session}
 use Rattle.session.specs.Promises.{session_answer, session_with, CallsMade}
 use Rattle.session.specs.Reading.{reading}

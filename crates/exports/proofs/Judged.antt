@@ -1,23 +1,20 @@
 -- The answers of the exports, by the answers of the session's calls that they make. Assumes nothing.
 use Prim.Native.Nat.{ℕ, ◌<◌}
 use mathlib.Core.Path.{◌≡◌, refl, sym, ap, subst, ◌∙◌}
-use mathlib.Core.Bool.{Bool, cond}
+use mathlib.Core.Bool.{cond}
 use mathlib.Core.List.{List}
 use lib.ListN.{length}
-use borrow.Author.Tests.{eq-eqb, ne_eqb}
 use Rattle.terms.specs.Row.{max_rows}
 use Rattle.grammar.specs.Bytes.{Bytes}
 use Rattle.calls.specs.declared.SelectAnswer.{SelectAnswer}
-use Rattle.calls.specs.Book.{Book, Answer, answer, accepted}
-use Rattle.common.specs.Refusals.{not_covered}
+use Rattle.calls.specs.Book.{Answer, answer, accepted}
 use Rattle.calls.specs.Calls.{Call, text}
 use Rattle.calls.specs.Promises.{SelectMade}
 use Rattle.calls.specs.SelectCall.{select_answer, select_buffer}
 use Rattle.calls.specs.code.Answers.{select_answer_of}
 use Rattle.calls.proofs.Accepted.{if_accepted, if_refused}
-use Rattle.replacing.specs.Covered.{step_saying}
 use Rattle.session.specs.declared.session.Session.{Session}
-use Rattle.session.specs.declared.read.ReadResult.{ReadResult}
+use Rattle.session.specs.code.Results.{ReadResult}
 use Rattle.session.specs.View.{view, fresh_session}
 use Rattle.session.specs.Promises.{session_answer, session_with, Met}
 use Rattle.session.specs.Reading.{reading}
@@ -52,21 +49,6 @@ row_fits s names t k v u m e =
     let value : v ≡ (session_answer s (text names t)).value = ap (λ (a : Answer). a.value) m.answer in
     let number : (session_answer s (text names t)).number ≡ 0 = sym (ap (λ (a : Answer). a.number) m.answer) ∙ e in
     subst (λ (z : ℕ). z < max_rows) (sym value) (row_inside names t (view s).rows number)
-
--- a step that says so, or none
-pub none_said : (b : Book) (old new n : ℕ) → n ≡ step_saying b old new → n ≡ 0
-    → claimed the_claim (answer not_covered 1) ≡ claimed the_claim (said_answer b old new)
-unfolding said_answer
-none_said b old new n e z = rw (eq-eqb (step_saying b old new) 0 (sym e ∙ z))
-
-pub step_said : (b : Book) (old new n w : ℕ) → n ≡ step_saying b old new → ¬ (n ≡ 0) → w ≡ n
-    → claimed the_claim (answer 0 w) ≡ claimed the_claim (said_answer b old new)
-unfolding said_answer
-step_said b old new n w e f q =
-    ap (λ (z : ℕ). claimed the_claim (answer 0 z)) (q ∙ e)
-    ∙ ap (λ (z : Answer). claimed the_claim z)
-    (sym (ap (λ (z : Bool). cond z (answer not_covered 1) (answer 0 (step_saying b old new)))
-    (ne_eqb (step_saying b old new) 0 (λ z. f (e ∙ z)))))
 
 module _ (s : Session) (names t : Bytes) (k v : ℕ) (u : Session) (m : Met s (text names t) (answer k v) u) where
   pub new_refused : (old : ℕ) → ¬ (k ≡ 0) → claimed new_selector (answer k v) ≡ new_claimed s names old t

@@ -2,96 +2,110 @@
 ghost use Rattle.std.specs.Prelude.{◌≡◌};
 ghost use Rattle.calls.specs.Book.{answer};
 ghost use Rattle.session.specs.View.{view};
-ghost use Rattle.exports.specs.ClaimCall.{claimed, said_answer, new_claimed, old_claimed, claim_answer};
+ghost use Rattle.exports.specs.ClaimCall.{claimed, said_answer, old_claimed, claim_answer};
 ghost use Rattle.exports.specs.ClaimCall.{the_claim};
-ghost use Rattle.exports.specs.code.ClaimTypes.{claimed_of};
+ghost use Rattle.exports.specs.code.ClaimTypes.{part_of, claimed_of, SelectorRead};
 
-use session::Session;
+use session::{Answered, Session};
 
 // What an answer is about.
-const THE_CLAIM: usize = 0;
+#[derive(Clone, Copy)]
+enum Part {
+    Claim,
+    Bundle,
+    OldSelector,
+    NewSelector,
+}
 
-const THE_BUNDLE: usize = 1;
+impl Part {
+    // Its number for a host.
+    fn number(self) -> usize
+        ensures { result ≡ part_of self }
+    {
+        match self {
+            Part::Claim => 0,
+            Part::Bundle => 1,
+            Part::OldSelector => 2,
+            Part::NewSelector => 3,
+        }
+    }
+}
 
-const OLD_SELECTOR: usize = 2;
-
-const NEW_SELECTOR: usize = 3;
-
-// An answer, and what it is about.
-#[derive(Drop)]
-struct ClaimAnswer {
-    part: usize,
+// A refusal, and what it is about.
+#[derive(Clone, Copy)]
+struct ClaimRefusal {
+    part: Part,
     number: u16,
     value: usize,
 }
 
-// Whether a step of the session says that row `old` is contained in row `new`.
-fn claim_rows(session: Session, old: u16, new: u16) -> ClaimAnswer
+// The step of the session that says that row `old` is contained in row `new`.
+#[tactic(auto, unfolding(crate::specs::ClaimCall::said_answer))]
+fn claim_rows(session: Session, old: u16, new: u16) -> Result<usize, ClaimRefusal>
     ensures { claimed_of result ≡ claimed the_claim (said_answer (view session) old new) }
 {
-    let step = session.step_saying(old, new);
-    if step == 0 {
-        return ClaimAnswer {
-            part: THE_CLAIM,
+    let Some(step) = session.step_saying(old, new) else {
+        return Err(ClaimRefusal {
+            part: Part::Claim,
             number: common::refusal::NOT_COVERED,
             value: 1,
-        };
-    }
-    ClaimAnswer {
-        part: THE_CLAIM,
-        number: 0,
-        value: common::wide(step),
-    }
+        });
+    };
+    Ok(usize::from(step))
 }
 
-// The same with the second selector as text.
-fn claim_new(session: Session, names: &[u8], old: u16, new: &[u8]) -> ClaimAnswer
-    ensures { claimed_of result ≡ new_claimed session names.now old new.now }
+// The row of a selector as text, and the session with it.
+fn read_selector(
+    session: Session,
+    names: &[u8],
+    selector: &[u8],
+    part: Part,
+) -> Result<Answered<u16>, ClaimRefusal>
+    ensures { SelectorRead session names.now selector.now part result }
 {
-    let read = session.text(names, new);
+    let read = session.text(names, selector);
     let number = read.answer.number;
     let value = read.answer.value;
     if number != 0 {
-        return ClaimAnswer {
-            part: NEW_SELECTOR,
+        return Err(ClaimRefusal {
+            part,
             number,
             value,
-        };
+        });
     }
-    claim_rows(read.session, old, value as u16)
+    Ok(Answered {
+        answer: value as u16,
+        session: read.session,
+    })
 }
 
-// The same with both as text.
-fn claim_texts(session: Session, names: &[u8], old: &[u8], new: &[u8]) -> ClaimAnswer
+// The step that says so of two selectors as text.
+fn claim_texts(
+    session: Session,
+    names: &[u8],
+    old: &[u8],
+    new: &[u8],
+) -> Result<usize, ClaimRefusal>
     ensures { claimed_of result ≡ old_claimed session names.now old.now new.now }
 {
-    let read = session.text(names, old);
-    let number = read.answer.number;
-    let value = read.answer.value;
-    if number != 0 {
-        return ClaimAnswer {
-            part: OLD_SELECTOR,
-            number,
-            value,
-        };
-    }
-    claim_new(read.session, names, value as u16, new)
+    let first = read_selector(session, names, old, Part::OldSelector)?;
+    let second = read_selector(first.session, names, new, Part::NewSelector)?;
+    claim_rows(second.session, first.answer, second.answer)
 }
 
 // The same of a bundle's steps.
-fn claim_in(bundle: &[u8], names: &[u8], old: &[u8], new: &[u8]) -> ClaimAnswer
+fn claim_in(bundle: &[u8], names: &[u8], old: &[u8], new: &[u8]) -> Result<usize, ClaimRefusal>
     ensures { claimed_of result
         ≡ claim_answer bundle.now names.now old.now new.now }
 {
     let read = Session::read(bundle);
-    let answer = read.answer;
-    let number = answer.number();
+    let number = read.answer.number();
     if number != 0 {
-        return ClaimAnswer {
-            part: THE_BUNDLE,
+        return Err(ClaimRefusal {
+            part: Part::Bundle,
             number,
-            value: answer.value(),
-        };
+            value: read.answer.value(),
+        });
     }
     claim_texts(read.session, names, old, new)
 }
@@ -108,8 +122,16 @@ pub fn spinebriar_claim(
     ensures { claimed part.new (answer result value.new)
         ≡ claim_answer bundle.now names.now old.now new.now }
 {
-    let told = claim_in(bundle, names, old, new);
-    *value = told.value;
-    *part = told.part;
-    told.number
+    match claim_in(bundle, names, old, new) {
+        Ok(step) => {
+            *value = step;
+            *part = Part::Claim.number();
+            0
+        }
+        Err(refusal) => {
+            *value = refusal.value;
+            *part = refusal.part.number();
+            refusal.number
+        }
+    }
 }

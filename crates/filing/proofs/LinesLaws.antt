@@ -1,12 +1,14 @@
 -- The lines of a script: what the first one does, and what is filed from there on. Assumes nothing.
+use Rattle.std.specs.Prelude.{Ok, Err}
 use Prim.Native.Nat.{ℕ, ◌+◌, ◌≤◌, ◌<◌}
 use mathlib.Core.Path.{◌≡◌, refl, sym, ap, ◌∙◌}
-use mathlib.Core.Bool.{Bool, true, false, cond, false≢true}
+use mathlib.Core.Bool.{Bool, true, false, cond}
 use mathlib.Core.List.{List, [], ◌∷◌}
-use mathlib.Core.Option.{Option, none, some, Option-elim}
+use mathlib.Core.Option.{Option, none, some, Option-elim, some-injective, none-ne-some, some-ne-none}
+use native.Mathlib.Omega.{arith}
 use lib.Dec.{eqb, leb}
 use lib.ListN.{length, drop}
-use borrow.Author.Tests.{eq-eqb, ne_eqb, leb-true}
+use borrow.Author.Tests.{ne_eqb, leb-true}
 use Rattle.common.specs.Limits.{max_bytes}
 use Rattle.lines.specs.Line.{Line, lines, parts_read}
 use Rattle.lines.specs.code.NumbersRead.{first_parts}
@@ -23,7 +25,7 @@ use Rattle.script.specs.declared.CallLine.{CallLine}
 use Rattle.script.specs.Command.{Command, command_of}
 use Rattle.script_words.specs.Words.{shape_of}
 use Rattle.script.specs.Rest.{rest_of, names_of, first_bytes}
-use Rattle.script.specs.code.CommandRead.{values_of, no_call, call_line, CallMet}
+use Rattle.script.specs.code.CommandRead.{values_of, call_line, CallMet}
 use Rattle.filing.specs.Filing.{Action, lends, lending, action_of, line_action, line_number, line_session}
 use Rattle.filing.specs.Filing.{line_names, lines_filed}
 use Rattle.filing.specs.declared.LineMade.{LineMade}
@@ -81,53 +83,45 @@ word_laws Records ns names rest = record { same = refl; list = refl; few = λ h.
 word_laws Released ns names rest = record { same = refl; list = refl; few = λ h. h }
 word_laws CrewCurrent ns names rest = record { same = refl; list = refl; few = λ h. h }
 
+-- a line that is no call does nothing
+pub no_action : (script : Bytes) (at : ℕ) (names : Bytes) → none ≡ first_parts command_of (lines (drop at script))
+    → first_action names (lines (drop at script)) ≡ none
+unfolding Option-elim first_parts line_action
+no_action script at names e = by_lines (lines (drop at script)) e
+  where
+    by_command : (l : Line) (o : Option Command) → none ≡ o
+        → Option-elim o none (λ c. action_of c.word c.numbers names (rest_of l.bytes)) ≡ none
+    by_command l none t = refl
+    by_command l (some k) t = absurd (none-ne-some _ t)
+
+    by_lines : (ls : List Line) → none ≡ first_parts command_of ls → first_action names ls ≡ none
+    by_lines [] t = refl
+    by_lines (l ∷ ls) t = by_command l (parts_read command_of l) t
+
 -- a line that was read
 module _ (script : Bytes) (at : ℕ) (names : Bytes) (r : CallLine) (m : CallMet command_of script at r) where
-  pub no_action : r.ok ≡ false → first_action names (lines (drop at script)) ≡ none
-  unfolding Option-elim call_line first_parts line_action
-  no_action e = by_lines (lines (drop at script)) m.line
-    where
-      by_command : (l : Line) (o : Option Command) → r ≡ Option-elim o (no_call (length script)) (call_line r.next)
-          → Option-elim o none (λ c. action_of c.word c.numbers names (rest_of l.bytes)) ≡ none
-      by_command l none t = refl
-      by_command l (some k) t = absurd (false≢true (sym e ∙ ap (λ q. q.ok) t))
-
-      by_lines : (ls : List Line)
-          → r ≡ Option-elim (first_parts command_of ls) (no_call (length script)) (call_line r.next)
-          → first_action names ls ≡ none
-      by_lines [] t = refl
-      by_lines (l ∷ ls) t = by_command l (parts_read command_of l) t
-
   abbrev done : Option Action
   done = action_of r.word (counted r.values) names (rest_at script at)
 
-  pub read_action : r.ok ≡ true → first_action names (lines (drop at script)) ≡ done
+  pub read_action : first_action names (lines (drop at script)) ≡ done
   unfolding Option-elim call_line first_parts line_action first_bytes
-  read_action e = by_lines (lines (drop at script)) m.line
+  read_action = by_lines (lines (drop at script)) m.line
     where
       by_command : (bytes : List ℕ) (o : Option Command)
-          → r ≡ Option-elim o (no_call (length script)) (call_line r.next)
+          → some r ≡ Option-elim o none (λ k. some (call_line r.next k))
           → Option-elim o none (λ c. action_of c.word c.numbers names (rest_of bytes))
           ≡ action_of r.word (counted r.values) names (rest_of bytes)
-      by_command bytes none t = absurd (false≢true (sym (ap (λ q. q.ok) t) ∙ e))
+      by_command bytes none t = absurd (some-ne-none _ t)
       by_command bytes (some k) t =
           sym (word_laws k.word k.numbers names (rest_of bytes)).same
-          ∙ ap (λ (q : CallLine). action_of q.word (counted q.values) names (rest_of bytes)) (sym t)
+          ∙ ap (λ (q : CallLine). action_of q.word (counted q.values) names (rest_of bytes)) (sym
+          (some-injective _ _ t))
 
       by_lines : (ls : List Line)
-          → r ≡ Option-elim (first_parts command_of ls) (no_call (length script)) (call_line r.next)
+          → some r ≡ Option-elim (first_parts command_of ls) none (λ k. some (call_line r.next k))
           → first_action names ls ≡ action_of r.word (counted r.values) names (rest_of (first_bytes ls))
       by_lines [] t = by_command [] none t
       by_lines (l ∷ ls) t = by_command l.bytes (parts_read command_of l) t
-
-  pub rest_read : r.ok ≡ true → lines (drop r.next script) ≡ drop 1 (lines (drop at script))
-  unfolding Option-elim
-  rest_read e = m.rest ∙ by_command (first_parts command_of (lines (drop at script))) m.line
-    where
-      by_command : (o : Option Command) → r ≡ Option-elim o (no_call (length script)) (call_line r.next)
-          → Option-elim o [] (λ c. drop 1 (lines (drop at script))) ≡ drop 1 (lines (drop at script))
-      by_command none t = absurd (false≢true (sym (ap (λ q. q.ok) t) ∙ e))
-      by_command (some k) t = refl
 
 -- the lines from a place on, by what the first of them does
 abbrev pub filed_from : Session → (script names : Bytes) (n at : ℕ) → Reading
@@ -147,17 +141,16 @@ pub nothing_left : (s : Session) (script names : Bytes) (n at : ℕ) → length 
 unfolding lines_filed
 nothing_left s script names n at h = rw (no_lines script at h)
 
-module _ (s : Session) (script : Bytes) (names at : ℕ) (inside : at < length script) (r : LineMade)
-    (m : LineMet s script names at r) (n : ℕ)
-  where
-    pub line_refused : ¬ (r.number ≡ 0) → refused_at r.number n ≡ filed_from s script (names_at script names) n at
-    line_refused f =
-        sym (by_first s (names_at script names) n _ (some_line script at inside)
-        ∙ rw (sym m.number, ne_eqb r.number 0 f))
+module _ (s : Session) (script : Bytes) (names at : ℕ) (inside : at < length script) (n : ℕ) where
+  pub line_refused : (k : ℕ) → LineMet s script names at (Err k)
+      → refused_at k n ≡ filed_from s script (names_at script names) n at
+  line_refused k m =
+      sym (by_first s (names_at script names) n _ (some_line script at inside)
+      ∙ rw (sym m.number, ne_eqb k 0 (λ e. omega (arith, m.refused))))
 
-    pub line_taken : r.number ≡ 0
-        → filed_from s script (names_at script names) n at
-        ≡ filed_from r.session script (names_at script r.names) (n + 1) r.next
-    line_taken e =
-        by_first s (names_at script names) n _ (some_line script at inside)
-        ∙ rw (sym m.number, eq-eqb r.number 0 e, m.session, m.list e, m.rest e)
+  pub line_taken : (r : LineMade) → LineMet s script names at (Ok r)
+      → filed_from s script (names_at script names) n at
+      ≡ filed_from r.session script (names_at script r.names) (n + 1) r.next
+  line_taken r m =
+      by_first s (names_at script names) n _ (some_line script at inside)
+      ∙ rw (m.number, m.session, m.list, m.rest)

@@ -1,14 +1,14 @@
 -- One law for each way through the functions that read a step's head. Assumes nothing.
-use Prim.Native.Nat.{ℕ, suc, ◌+◌, ◌-◌, ◌<◌, ◌≤◌}
+use Prim.Native.Nat.{ℕ, zero, suc, ◌+◌, ◌-◌, ◌<◌, ◌≤◌}
 use mathlib.Core.Path.{◌≡◌, refl, sym, ap, ◌∙◌, subst}
-use mathlib.Core.Bool.{Bool, true, false, not, cond, ◌&&◌, ◌||◌}
+use mathlib.Core.Bool.{Bool, true, false, cond, ◌&&◌, ◌||◌}
 use mathlib.Core.List.{List, [], ◌∷◌, ◌++◌, append_assoc}
 use mathlib.Core.Option.{Option, none, some}
 use native.Mathlib.Omega.{arith}
-use lib.Dec.{T, eqb, eqb_refl}
-use lib.ListN.{length, get_or, take, drop, length-drop, length-append}
+use lib.Dec.{eqb, eqb_refl}
+use lib.ListN.{length, get_or, drop, length-drop, length-append}
 use lib.Seq.{drop-cons}
-use Rattle.common.specs.Axes.{max_axis}
+use Rattle.std.specs.Prelude.{Option as Maybe, Some, None, Result, Ok, Err}
 use Rattle.common.specs.NodeTests.{node_test}
 use Rattle.xpath.specs.Term as term
 use Rattle.lines.specs.Ascii.{ascii}
@@ -17,7 +17,7 @@ use Rattle.grammar.specs.Bytes.{Bytes, is_space, is_start, is_name, is_quote, ev
 use Rattle.grammar.specs.Bytes.{true_word, false_word}
 use Rattle.grammar.specs.Words.{find, next, types, axes, is_some, or_zero, is_type, type_code, is_axis, axis_code}
 use Rattle.grammar.specs.Words.{instruction_word, number_of}
-use Rattle.grammar.specs.Grammar.{Axis, implied, attribute, axis, Test, any, called, kind, target, LocationStep, dot}
+use Rattle.grammar.specs.Grammar.{Axis, implied, attribute, axis, Test, any, called, kind, target, dot}
 use Rattle.grammar.specs.Grammar.{dots, test, Spaces, spell_axis, spell_test, spell_step, takes_predicate}
 use Rattle.grammar.specs.Denotes.{step_of, test_of, axis_of, step_names, test_names, unlisted}
 use Rattle.grammar.specs.code.Reader.{State, need, name, testing, colon, type_open, quote, quoted, unquoted}
@@ -25,28 +25,22 @@ use Rattle.grammar.specs.code.Reader.{after, dot1, Ctx, top, inside, Alt, first,
 use Rattle.grammar.specs.code.Reader.{at_any, after1, after2, step, follow, finish, run, bad}
 use Rattle.grammar.specs.code.Reader.{need_byte, after_byte, paren_byte_next, colon_byte_next, call_byte}
 use Rattle.lines.proofs.SameBytes.{same_bytes_lem}
-use Rattle.grammar.proofs.Basics.{so, never, is_true, and_out, and_in, eq_byte, start_name, space_name}
+use Rattle.grammar.proofs.Basics.{never, is_true, and_out, and_in, start_name, space_name}
 use Rattle.grammar.proofs.Forward.{quote_cases}
 use Rattle.heads.specs.declared.Head.{Head}
 use Rattle.heads.specs.declared.Opens.{Opens}
 use Rattle.heads.specs.declared.Opens.TheVariants as Opening
-use Rattle.words.specs.code.Names.{pick_from}
+use Rattle.words.specs.code.Names.{pick_from, given}
 use Rattle.words.specs.code.Scan.{byte_at, Passed, begins_step}
-use Rattle.heads.specs.code.Head.{part, no_head, plain_head, named_head, Between, NameAt, callable, is_implied}
+use Rattle.heads.specs.code.Head.{part, plain_head, named_head, place_of, Between, NameAt, callable, is_implied}
 use Rattle.heads.specs.code.Head.{opens_call, NoCall, Begins, Stuck, TestMet}
 use Rattle.heads.specs.code.Head.{TypeMet, TargetMet, HeadMet, DotMet, CallAt}
 use Rattle.heads.specs.code.Head.{OperandMet, opened_by, proceed}
 use Rattle.words.proofs.Scanned.{there, head_drop}
+pub use Rattle.words.proofs.Listed.{differs}
 use Rattle.heads.proofs.Ran.{on_here, on_pass, on_stop, after_over, testing_over, type_over}
 use Rattle.heads.proofs.Ran.{unquoted_over, quoted_over, word_of, name_there, word_split, word_length}
 use Rattle.heads.proofs.Ran.{word_part, word_is, word_runs}
-
-pub differs : (b c : ℕ) → (b ≡ c → ⊥) → eqb b c ≡ false
-differs b c h = go (eqb b c) refl
-  where
-    go : (x : Bool) → eqb b c ≡ x → eqb b c ≡ false
-    go true e = absurd (h (eq_byte b c e))
-    go false e = e
 
 pub byte_there : (s : Bytes) (at b : ℕ) → eqb 0 b ≡ false → byte_at s at ≡ b → at < length s
 byte_there s at b h e = there (λ c. eqb c b) s at h (rw e (eqb_self b))
@@ -93,7 +87,6 @@ module _ (s : Bytes) (at : ℕ) (b : byte_at s at ≡ 46) where
   unfolding step step_of step_names unlisted paren_byte_next colon_byte_next takes_predicate spell_step
   dot_two to e q =
       record {
-        ok = refl;
         between = record { from = omega (arith, q.from); fits = q.fits };
         read = λ list. record {
           tree = λ w. dots w;
@@ -116,7 +109,6 @@ module _ (s : Bytes) (at : ℕ) (b : byte_at s at ≡ 46) where
   unfolding step step_of step_names unlisted paren_byte_next colon_byte_next takes_predicate spell_step
   dot_one to e q =
       record {
-        ok = refl;
         between = record { from = omega (arith, q.from); fits = q.fits };
         read = λ list. record {
           tree = λ w. dot w;
@@ -134,21 +126,44 @@ module _ (s : Bytes) (at : ℕ) (b : byte_at s at ≡ 46) where
         };
       }
 
+-- named_head, by the number that the list gives to the name
+module _ (i a t p : ℕ) where
+  pub named_some : (n k : ℕ) → Some k ≡ given n
+      → ◌≡◌ {A = Head} (record { at = i; axis = a; test = t; name = k; filters = true; unlisted = None })
+      (named_head i a t n p)
+  named_some zero k e = absurd (apart e)
+    where
+      apart : ◌≡◌ {A = Maybe ℕ} (Some k) None → ⊥
+      apart q = cc
+  named_some (suc n) k e =
+      let q : k ≡ suc n = cc in
+      let z : eqb (suc n) 0 ≡ false = differs (suc n) 0 (λ x. omega (arith, x)) in
+      rw (q, z) refl
+
+  pub named_none : (n : ℕ) → None ≡ given n
+      → ◌≡◌ {A = Head} (record { at = i; axis = a; test = t; name = 0; filters = true; unlisted = Some p })
+      (named_head i a t n p)
+  named_none zero e = refl
+  named_none (suc n) e = absurd (apart e)
+    where
+      apart : ◌≡◌ {A = Maybe ℕ} None (Some (suc n)) → ⊥
+      apart q = cc
+
 -- a target
 pub quote_there : (s : Bytes) (at : ℕ) → is_quote (byte_at s at) ≡ true → at < length s
 unfolding is_quote
 quote_there s at h = there is_quote s at refl h
 
 module _ (s list : Bytes) (at ax : ℕ) (k : is_quote (byte_at s at) ≡ true) where
-  pub target_none : is_start (byte_at s (at + 1)) ≡ false → TargetMet s list at ax (no_head (at + 1))
+  pub target_none : is_start (byte_at s (at + 1)) ≡ false → TargetMet s list at ax (Err (at + 1))
   unfolding step finish
   target_none h =
       let i = quote_there s at k in
       record {
         between = record { from = omega arith; fits = omega (arith, i) };
-        axis = λ e. no e;
-        read = λ e. no e;
-        failed = λ e c g l a w v u. on_stop s (at + 1) (quote c g l a w v u (byte_at s at)) (omega (arith, i))
+        axis = tt;
+        read = tt;
+        failed = λ c g l a w v u. on_stop s (at + 1) (quote c g l a w v u (byte_at s at)) (omega (arith, i))
             (rw h refl) refl;
       }
 
@@ -162,14 +177,14 @@ module _ (s list : Bytes) (at ax : ℕ) (k : is_quote (byte_at s at) ≡ true) w
         (quoted c g l a w v u (byte_at s at) (byte_at s (at + 1) ∷ [])) (name_there s (at + 1) end h q) (rw h refl)
         ∙ quoted_over s (at + 1 + 1) end q c g l a w v u (byte_at s at) (byte_at s (at + 1) ∷ [])
 
-    pub target_open : (byte_at s end ≡ byte_at s at → ⊥) → TargetMet s list at ax (no_head end)
+    pub target_open : (byte_at s end ≡ byte_at s at → ⊥) → TargetMet s list at ax (Err end)
     unfolding step finish
     target_open e =
         record {
           between = record { from = omega (arith, q.from); fits = q.fits };
-          axis = λ f. no f;
-          read = λ f. no f;
-          failed = λ f c g l a w v u. target_word c g l a w v u
+          axis = tt;
+          read = tt;
+          failed = λ c g l a w v u. target_word c g l a w v u
               ∙ on_stop s end (quoted c g l a w v u (byte_at s at) (word_of s (at + 1) end h q)) q.fits
               (rw (q.stops, differs (byte_at s end) (byte_at s at) e) refl) refl;
         }
@@ -189,26 +204,26 @@ module _ (s list : Bytes) (at ax : ℕ) (k : is_quote (byte_at s at) ≡ true) w
           (rw (q.stops, e, is_true (eqb (byte_at s at) (byte_at s at)) (eqb_refl (byte_at s at))) refl)
           ∙ unquoted_over s (end + 1) close z c g l a w v u (byte_at s at) (word_of s (at + 1) end h q)
 
-      pub target_unclosed : (byte_at s close ≡ 41 → ⊥) → TargetMet s list at ax (no_head close)
+      pub target_unclosed : (byte_at s close ≡ 41 → ⊥) → TargetMet s list at ax (Err close)
       unfolding step finish
       target_unclosed f =
           record {
             between = record { from = omega (arith, q.from, z.from); fits = z.fits };
-            axis = λ n. no n;
-            read = λ n. no n;
-            failed = λ n c g l a w v u. target_inner c g l a w v u
+            axis = tt;
+            read = tt;
+            failed = λ c g l a w v u. target_inner c g l a w v u
                 ∙ on_stop s close (unquoted c g l a w v u (byte_at s at) (word_of s (at + 1) end h q) z.bytes)
                 z.fits (rw (z.stops, differs (byte_at s close) 41 f) refl) refl;
           }
 
       pub target_read : (to : ℕ) → byte_at s close ≡ 41 → Passed is_space s (close + 1) to
-          → TargetMet s list at ax (named_head to ax 6 (number_of list (part s (at + 1) end)) (at + 1))
+          → TargetMet s list at ax (Ok (named_head to ax 6 (number_of list (part s (at + 1) end)) (at + 1)))
       unfolding step
       target_read to f y =
           record {
             between = record { from = omega (arith, q.from, z.from, y.from); fits = y.fits };
-            axis = λ n. refl;
-            read = λ n. record {
+            axis = refl;
+            read = record {
               word = word_of s (at + 1) end h q;
               inner = z.bytes;
               spaces = y.bytes;
@@ -220,8 +235,8 @@ module _ (s list : Bytes) (at ax : ℕ) (k : is_quote (byte_at s at) ≡ true) w
                   (test a (target w v u (byte_at s at) (word_of s (at + 1) end h q) z.bytes));
               test = refl;
               name = ap (number_of list) (word_part s (at + 1) end h q);
-              listed = ap (λ (m : Bytes). not (eqb (number_of list m) 0)) (word_part s (at + 1) end h q);
-              place = refl;
+              place = ap (λ (m : Bytes). cond (eqb (number_of list m) 0) (Some (at + 1)) None)
+                  (word_part s (at + 1) end h q);
               takes = refl;
               size = omega (
                 arith,
@@ -234,87 +249,64 @@ module _ (s list : Bytes) (at ax : ℕ) (k : is_quote (byte_at s at) ≡ true) w
               );
               stops = y.stops;
             };
-            failed = λ n. yes_no n;
+            failed = tt;
           }
 
--- the number that a word was given, and its place in its list
-unfoldable from_some : ℕ → ℕ → Option ℕ → ℕ
-from_some o i none = o
-from_some o i (some k) = i + k
+-- the number that a table gives to a word, and the word's place in its list
+unfoldable counted : ℕ → Option ℕ → Maybe ℕ
+counted i none = None
+counted i (some k) = Some (i + k)
 
-from_next : (o i : ℕ) (x : Option ℕ) → from_some o (suc i) x ≡ from_some o i (next x)
-unfolding from_some next
-from_next o i none = refl
-from_next o i (some k) = omega arith
+counted_next : (i : ℕ) (x : Option ℕ) → counted (suc i) x ≡ counted i (next x)
+unfolding counted next
+counted_next i none = refl
+counted_next i (some k) = let e : suc i + k ≡ i + suc k = omega arith in ap (λ (n : ℕ). Some n) e
 
-picked : (o i : ℕ) (ms : List Bytes) (n : Bytes) → pick_from o i ms n ≡ from_some o i (find n ms)
-unfolding pick_from find from_some
-picked o i [] n = refl
-picked o i (m ∷ ms) n = go (same_bytes n m) refl (picked o (suc i) ms n)
+picked : (i : ℕ) (ms : List Bytes) (n : Bytes) → pick_from i ms n ≡ counted i (find n ms)
+unfolding pick_from find counted
+picked i [] n = refl
+picked i (m ∷ ms) n = go (same_bytes n m) refl (picked (suc i) ms n)
   where
-    go : (b : Bool) → same_bytes n m ≡ b → pick_from o (suc i) ms n ≡ from_some o (suc i) (find n ms)
-        → cond (same_bytes n m) i (pick_from o (suc i) ms n)
-        ≡ from_some o i (cond (same_bytes n m) (some 0) (next (find n ms)))
-    go true e k = rw e (omega arith)
-    go false e k = rw e (k ∙ from_next o i (find n ms))
+    go : (b : Bool) → same_bytes n m ≡ b → pick_from (suc i) ms n ≡ counted (suc i) (find n ms)
+        → cond (same_bytes n m) (Some i) (pick_from (suc i) ms n)
+        ≡ counted i (cond (same_bytes n m) (some 0) (next (find n ms)))
+    go true e k = let z : i ≡ i + 0 = omega arith in rw e (ap (λ (n : ℕ). Some n) z)
+    go false e k = rw e (k ∙ counted_next i (find n ms))
 
-pub type_none : (n : Bytes) (t : ℕ) → t ≡ pick_from 0 node_test types n → t ≡ 0 → is_type n ≡ false
-unfolding is_some from_some
-type_none n t e f = go (find n types) (sym f ∙ e ∙ picked 0 2 types n)
+picked_none : (i : ℕ) (ms : List Bytes) (n : Bytes) → None ≡ pick_from i ms n → is_some (find n ms) ≡ false
+unfolding is_some counted
+picked_none i ms n e = go (find n ms) (e ∙ picked i ms n)
   where
-    go : (x : Option ℕ) → 0 ≡ from_some 0 2 x → is_some x ≡ false
+    go : (x : Option ℕ) → None ≡ counted i x → is_some x ≡ false
     go none h = refl
-    go (some k) h = absurd (omega (arith, h))
+    go (some k) h = absurd (apart h)
+      where
+        apart : ◌≡◌ {A = Maybe ℕ} None (Some (i + k)) → ⊥
+        apart q = cc
 
-pub type_some : (n : Bytes) (t : ℕ) → t ≡ pick_from 0 node_test types n → (t ≡ 0 → ⊥)
-    → (is_type n ≡ true) × (t ≡ type_code n)
-unfolding is_some from_some or_zero
-type_some n t e f = go (find n types) (e ∙ picked 0 2 types n)
+picked_some : (i : ℕ) (ms : List Bytes) (n : Bytes) (t : ℕ) → Some t ≡ pick_from i ms n
+    → (is_some (find n ms) ≡ true) × (t ≡ i + or_zero (find n ms))
+unfolding is_some counted or_zero
+picked_some i ms n t e = go (find n ms) (e ∙ picked i ms n)
   where
-    go : (x : Option ℕ) → t ≡ from_some 0 2 x → (is_some x ≡ true) × (t ≡ 2 + or_zero x)
-    go none h = absurd (f h)
-    go (some k) h = (refl, h)
+    go : (x : Option ℕ) → Some t ≡ counted i x → (is_some x ≡ true) × (t ≡ i + or_zero x)
+    go none h = absurd (apart h)
+      where
+        apart : ◌≡◌ {A = Maybe ℕ} (Some t) None → ⊥
+        apart q = cc
+    go (some k) h = (refl, cc)
 
-some_same : (i j : ℕ) → ◌≡◌ {A = Option ℕ} (some i) (some j) → i ≡ j
-some_same i j e = cc
+pub type_none : (n : Bytes) → None ≡ pick_from node_test types n → is_type n ≡ false
+type_none n e = picked_none 2 types n e
 
-none_some : (j : ℕ) → ◌≡◌ {A = Option ℕ} none (some j) → ⊥
-none_some j e = let q : ◌≡◌ {A = ℕ} 0 1 = cc in omega arith
+pub type_some : (n : Bytes) (t : ℕ) → Some t ≡ pick_from node_test types n → (is_type n ≡ true) × (t ≡ type_code n)
+type_some n t e = picked_some 2 types n t e
 
-less_next : (x : Option ℕ) (m k : ℕ) → ((i : ℕ) → x ≡ some i → i < m) → next x ≡ some k → k < suc m
-unfolding next
-less_next none m k h e = absurd (none_some k e)
-less_next (some i) m k h e = omega (arith, some_same (suc i) k e, h i refl)
+pub axis_none : (n : Bytes) → None ≡ pick_from 0 axes n → is_axis n ≡ false
+axis_none n e = picked_none 0 axes n e
 
-find_less : (n : Bytes) (ms : List Bytes) (k : ℕ) → find n ms ≡ some k → k < length ms
-unfolding find
-find_less n [] k e = absurd (none_some k e)
-find_less n (m ∷ ms) k e = go (same_bytes n m) refl (λ i f. find_less n ms i f)
-  where
-    go : (b : Bool) → same_bytes n m ≡ b → ((i : ℕ) → find n ms ≡ some i → i < length ms) → k < suc (length ms)
-    go true f h = omega (arith, some_same 0 k (rw f at e))
-    go false f h = less_next (find n ms) (length ms) k h (rw f at e)
-
-axes_length : length axes ≡ 12
-unfolding axes
-axes_length = refl
-
-pub axis_none : (n : Bytes) (t : ℕ) → t ≡ pick_from (max_axis + 1) 0 axes n → t ≡ max_axis + 1 → is_axis n ≡ false
-unfolding is_some from_some
-axis_none n t e f = go (find n axes) refl (sym f ∙ e ∙ picked 12 0 axes n)
-  where
-    go : (x : Option ℕ) → find n axes ≡ x → 12 ≡ from_some 12 0 x → is_some x ≡ false
-    go none g h = refl
-    go (some k) g h = absurd (omega (arith, h, find_less n axes k g, axes_length))
-
-pub axis_some : (n : Bytes) (t : ℕ) → t ≡ pick_from (max_axis + 1) 0 axes n → (t ≡ max_axis + 1 → ⊥)
-    → (is_axis n ≡ true) × (t ≡ axis_code n)
-unfolding is_some from_some or_zero
-axis_some n t e f = go (find n axes) (e ∙ picked 12 0 axes n)
-  where
-    go : (x : Option ℕ) → t ≡ from_some 12 0 x → (is_some x ≡ true) × (t ≡ or_zero x)
-    go none h = absurd (f h)
-    go (some k) h = (refl, h ∙ omega arith)
+pub axis_some : (n : Bytes) (t : ℕ) → Some t ≡ pick_from 0 axes n → (is_axis n ≡ true) × (t ≡ axis_code n)
+axis_some n t e = let u = picked_some 0 axes n t e in (u.0, u.1 ∙ omega arith)
 
 -- node types
 instruction_code : type_code instruction_word ≡ 5
@@ -342,23 +334,23 @@ is_instruction n h e = go _ _ _ _ refl refl refl refl
     go false false false false i j k l = no (rw (i, j, k, l) at h)
 
 -- the place of a name is told where it isn't listed
-one_name : (k p q : ℕ) → p ≡ q → cond (eqb k 0) (some p) none ≡ cond (not (eqb k 0)) none (some q)
+one_name : (k p q : ℕ) → p ≡ q → cond (eqb k 0) (some p) none ≡ place_of (cond (eqb k 0) (Some q) None)
 one_name k p q e = go (eqb k 0)
   where
-    go : (b : Bool) → cond b (some p) none ≡ cond (not b) none (some q)
+    go : (b : Bool) → cond b (some p) none ≡ place_of (cond b (Some q) None)
     go true = ap some e
     go false = refl
 
 -- after a node type and `(`
 module _ (s list : Bytes) (at ax t inner : ℕ) (q : Passed is_space s at inner) where
   pub type_close : (to : ℕ) → byte_at s inner ≡ 41 → Passed is_space s (inner + 1) to
-      → TypeMet s list at ax t (plain_head to ax t true)
+      → TypeMet s list at ax t (Ok (plain_head to ax t true))
   unfolding step is_space test_of test_names unlisted paren_byte_next colon_byte_next spell_test
   type_close to b z =
       record {
         between = record { from = omega (arith, q.from, z.from); fits = z.fits };
-        axis = λ e. refl;
-        read = λ e n v i j. record {
+        axis = refl;
+        read = λ n v i j. record {
           tree = λ w. kind w n v q.bytes;
           spaces = z.bytes;
           runs = λ c g l a w. type_over s at inner q c g l a w n v
@@ -380,7 +372,7 @@ module _ (s list : Bytes) (at ax t inner : ℕ) (q : Passed is_space s at inner)
               ));
           stops = z.stops;
         };
-        failed = λ e. yes_no e;
+        failed = tt;
       }
     where
       colon_kind : (c : Ctx) (g : Alt) (l : Lead) (a : Axis) (w n v u y : Bytes)
@@ -392,14 +384,14 @@ module _ (s list : Bytes) (at ax t inner : ℕ) (q : Passed is_space s at inner)
   type_fails : (byte_at s inner ≡ 41 → ⊥)
       → ((n : Bytes) → is_type n ≡ true → t ≡ type_code n
       → (is_quote (byte_at s inner) && same_bytes n instruction_word) ≡ false)
-      → TypeMet s list at ax t (no_head inner)
+      → TypeMet s list at ax t (Err inner)
   unfolding step finish
   type_fails b f =
       record {
         between = record { from = q.from; fits = q.fits };
-        axis = λ e. no e;
-        read = λ e. no e;
-        failed = λ e n v i j c g l a w. type_over s at inner q c g l a w n v
+        axis = tt;
+        read = tt;
+        failed = λ n v i j c g l a w. type_over s at inner q c g l a w n v
             ∙ on_stop s inner (type_open c g l a w n v q.bytes) q.fits
             (rw (q.stops, differs (byte_at s inner) 41 b, f n i j) refl) refl;
       }
@@ -408,36 +400,17 @@ module _ (s list : Bytes) (at ax t inner : ℕ) (q : Passed is_space s at inner)
   and_no true = refl
   and_no false = refl
 
-  pub type_plain : (byte_at s inner ≡ 41 → ⊥) → (t ≡ 5 → ⊥) → TypeMet s list at ax t (no_head inner)
+  pub type_plain : (byte_at s inner ≡ 41 → ⊥) → (t ≡ 5 → ⊥) → TypeMet s list at ax t (Err inner)
   type_plain b f = type_fails b (λ n i j. rw (not_instruction n t j f) (and_no (is_quote (byte_at s inner))))
 
   pub type_unquoted : (byte_at s inner ≡ 41 → ⊥) → is_quote (byte_at s inner) ≡ false
-      → TypeMet s list at ax t (no_head inner)
+      → TypeMet s list at ax t (Err inner)
   type_unquoted b f = type_fails b (λ n i j. rw f refl)
 
-  pub type_target : (h : Head) → t ≡ 5 → is_quote (byte_at s inner) ≡ true → TargetMet s list inner ax h
-      → TypeMet s list at ax t h
+  pub type_target : (o : Result Head ℕ) → t ≡ 5 → is_quote (byte_at s inner) ≡ true → TargetMet s list inner ax o
+      → TypeMet s list at ax t o
   unfolding step is_space is_quote test_of test_names unlisted paren_byte_next colon_byte_next spell_test
-  type_target h f k m =
-      record {
-        between = record { from = omega (arith, q.from, m.between.from); fits = m.between.fits };
-        axis = m.axis;
-        read = λ e n v i j. let r = m.read e in record {
-          tree = λ w. target w v q.bytes (byte_at s inner) r.word r.inner;
-          spaces = r.spaces;
-          runs = λ c g l a w. opens c g l a w n v i j ∙ r.runs c g l a w v q.bytes;
-          term = λ x w. λ y. term.AxisStep x (sym r.test y) (sym r.name y);
-          names = λ w x g. one_name (number_of list r.word) _ (inner + 1) (place w n v x i j g)
-              ∙ sym (rw (r.listed, r.place) refl);
-          paren = λ c g l a w. refl;
-          colon = λ c g l a w. colon_target c g l a w v q.bytes (byte_at s inner) r.word r.inner r.spaces;
-          takes = r.takes;
-          size = λ w. rw (same_bytes_lem n instruction_word (is_instruction n i (sym f ∙ j))) (simp length-append
-              (omega (arith, r.size, passed_length is_space s at inner q, q.from)));
-          stops = r.stops;
-        };
-        failed = λ e n v i j c g l a w. opens c g l a w n v i j ∙ m.failed e c g l a w v q.bytes;
-      }
+  type_target o f k m = go o m
     where
       not_close : eqb (byte_at s inner) 41 ≡ false
       not_close = quote_cases (λ c. eqb c 41 ≡ false) (byte_at s inner) k refl refl
@@ -479,6 +452,36 @@ module _ (s list : Bytes) (at ax t inner : ℕ) (q : Passed is_space s at inner)
       colon_target c g l implied w v u b m y z = refl
       colon_target c g l (attribute x) w v u b m y z = refl
       colon_target c g l (axis x n o) w v u b m y z = refl
+
+      go : (o : Result Head ℕ) → TargetMet s list inner ax o → TypeMet s list at ax t o
+      go (Ok h) m =
+          let r = m.read in
+          record {
+            between = record { from = omega (arith, q.from, m.between.from); fits = m.between.fits };
+            axis = m.axis;
+            read = λ n v i j. record {
+              tree = λ w. target w v q.bytes (byte_at s inner) r.word r.inner;
+              spaces = r.spaces;
+              runs = λ c g l a w. opens c g l a w n v i j ∙ r.runs c g l a w v q.bytes;
+              term = λ x w. λ y. term.AxisStep x (sym r.test y) (sym r.name y);
+              names = λ w x g. one_name (number_of list r.word) _ (inner + 1) (place w n v x i j g)
+                  ∙ sym (rw r.place refl);
+              paren = λ c g l a w. refl;
+              colon = λ c g l a w. colon_target c g l a w v q.bytes (byte_at s inner) r.word r.inner r.spaces;
+              takes = r.takes;
+              size = λ w. rw (same_bytes_lem n instruction_word (is_instruction n i (sym f ∙ j))) (simp length-append
+                  (omega (arith, r.size, passed_length is_space s at inner q, q.from)));
+              stops = r.stops;
+            };
+            failed = tt;
+          }
+      go (Err e) m =
+          record {
+            between = record { from = omega (arith, q.from, m.between.from); fits = m.between.fits };
+            axis = tt;
+            read = tt;
+            failed = λ n v i j c g l a w. opens c g l a w n v i j ∙ m.failed c g l a w v q.bytes;
+          }
 
 -- a call is due only where an operand begins
 call_none : (c : Ctx) (g : Alt) (l : Lead) (a : Axis) (w n v : Bytes)
@@ -529,13 +532,13 @@ module _ (s list : Bytes) (at end to ax : ℕ) (m : NameAt s at end to) where
   name_as : ((c : Ctx) (g : Alt) (l : Lead) (a : Axis) (w : Bytes)
       → (is_implied a ≡ true → callable c g l ≡ true → NoCall s at) → byte_at s to ≡ 40
       → paren_byte_next c g l (test a (called w named_word)) m.spaces.bytes ≡ none)
-      → TestMet s list at ax (byte_at s to ≡ 58 → ⊥) (named_head to ax 0 (number_of list (part s at end)) at)
+      → TestMet s list at ax (byte_at s to ≡ 58 → ⊥) (Ok (named_head to ax 0 (number_of list (part s at end)) at))
   unfolding test_of test_names unlisted spell_test
   name_as f =
       record {
         between = name_between;
-        axis = λ e. refl;
-        read = λ e. record {
+        axis = refl;
+        read = record {
           tree = λ w. called w named_word;
           spaces = m.spaces.bytes;
           runs = named_runs;
@@ -557,7 +560,7 @@ module _ (s list : Bytes) (at end to ax : ℕ) (m : NameAt s at end to) where
             stops = m.spaces.stops;
           };
         };
-        failed = λ e. yes_no e;
+        failed = tt;
       }
     where
       implied_colon : (a : Axis) → (is_implied a ≡ true → ⊥) → (c : Ctx) (g : Alt) (l : Lead) (w : Bytes)
@@ -570,11 +573,11 @@ module _ (s list : Bytes) (at end to ax : ℕ) (m : NameAt s at end to) where
           go false e = colon_axis c g l a (called w named_word) m.spaces.bytes e
 
   pub name_plain : (byte_at s to ≡ 40 → ⊥)
-      → TestMet s list at ax (byte_at s to ≡ 58 → ⊥) (named_head to ax 0 (number_of list (part s at end)) at)
+      → TestMet s list at ax (byte_at s to ≡ 58 → ⊥) (Ok (named_head to ax 0 (number_of list (part s at end)) at))
   name_plain e = name_as (λ c g l a w h b. absurd (e b))
 
   pub name_call : byte_at s to ≡ 40 → is_type (part s at end) ≡ false
-      → TestMet s list at ax (byte_at s to ≡ 58 → ⊥) (named_head to ax 0 (number_of list (part s at end)) at)
+      → TestMet s list at ax (byte_at s to ≡ 58 → ⊥) (Ok (named_head to ax 0 (number_of list (part s at end)) at))
   unfolding paren_byte_next
   name_call e f =
       let split : drop at s ≡ named_word ++ (m.spaces.bytes ++ (40 ∷ drop (suc to) s)) =
@@ -588,48 +591,25 @@ module _ (s list : Bytes) (at end to ax : ℕ) (m : NameAt s at end to) where
       (λ i j. h i j named_word m.spaces.bytes (drop (suc to) s) (word_is s at end m.begins m.names)
       m.spaces.all split)))
 
-  pub name_type : (t : ℕ) (h : Head) → byte_at s to ≡ 40 → is_type (part s at end) ≡ true
+  pub name_type : (t : ℕ) (o : Result Head ℕ) → byte_at s to ≡ 40 → is_type (part s at end) ≡ true
       → t ≡ type_code (part s at end)
-      → TypeMet s list (to + 1) ax t h → TestMet s list at ax (byte_at s to ≡ 58 → ⊥) h
+      → TypeMet s list (to + 1) ax t o → TestMet s list at ax (byte_at s to ≡ 58 → ⊥) o
   unfolding step after_byte paren_byte_next is_space
-  name_type t h e f k x =
-      let i : is_type named_word ≡ true = rw (word_part s at end m.begins m.names) at f in
-      let j : t ≡ type_code named_word = rw (word_part s at end m.begins m.names) at k in
-      let opened : (st : State) (c : Ctx) (g : Alt) (l : Lead) (a : Axis) (w : Bytes)
-      → Begins st c g l a w (byte_at s at) → run (drop at s) st
-      ≡ run (drop (to + 1) s) (type_open c g l a w named_word m.spaces.bytes []) =
-      λ st c g l a w b. named_runs st c g l a w b
-      ∙ on_pass s to (after c g l (test a (called w named_word)) m.spaces.bytes)
-      (type_open c g l a w named_word m.spaces.bytes []) (byte_there s to 40 refl e) (rw (e, i) refl) in
-      record {
-        between = record { from = omega (arith, name_between.from, x.between.from); fits = x.between.fits };
-        axis = x.axis;
-        read = λ n. let r = x.read n named_word m.spaces.bytes i j in record {
-          tree = r.tree;
-          spaces = r.spaces;
-          runs = λ st c g l a w b. opened st c g l a w b ∙ r.runs c g l a w;
-          told = record {
-            term = r.term;
-            names = λ w y z. r.names w y (places w y z);
-            paren = λ c g l a w _ _. r.paren c g l a w;
-            colon = λ c g l a w _ _. r.colon c g l a w;
-            takes = r.takes;
-            size = λ w. omega (
-              arith,
-              r.size w,
-              lengths w named_word m.spaces.bytes,
-              word_length s at end m.begins m.names,
-              passed_length is_space s end to m.spaces,
-              m.names.from,
-              m.spaces.from,
-            );
-            stops = r.stops;
-          };
-        };
-        failed = λ n st c g l a w b _. opened st c g l a w b
-            ∙ x.failed n named_word m.spaces.bytes i j c g l a w;
-      }
+  name_type t o e f k x = go o x
     where
+      i : is_type named_word ≡ true
+      i = rw (word_part s at end m.begins m.names) at f
+
+      j : t ≡ type_code named_word
+      j = rw (word_part s at end m.begins m.names) at k
+
+      opened : (st : State) (c : Ctx) (g : Alt) (l : Lead) (a : Axis) (w : Bytes)
+          → Begins st c g l a w (byte_at s at) → run (drop at s) st
+          ≡ run (drop (to + 1) s) (type_open c g l a w named_word m.spaces.bytes [])
+      opened st c g l a w b = named_runs st c g l a w b
+          ∙ on_pass s to (after c g l (test a (called w named_word)) m.spaces.bytes)
+          (type_open c g l a w named_word m.spaces.bytes []) (byte_there s to 40 refl e) (rw (e, i) refl)
+
       lengths : (w n v : Bytes) → length (w ++ (n ++ (v ++ (40 ∷ [])))) ≡ length w + length n + length v + 1
       lengths w n v = rw (length-append, length-append, length-append) (omega arith)
 
@@ -645,6 +625,44 @@ module _ (s list : Bytes) (at end to ax : ℕ) (m : NameAt s at end to) where
         z,
       )
 
+      go : (o : Result Head ℕ) → TypeMet s list (to + 1) ax t o → TestMet s list at ax (byte_at s to ≡ 58 → ⊥) o
+      go (Ok h) x =
+          record {
+            between = record { from = omega (arith, name_between.from, x.between.from); fits = x.between.fits };
+            axis = x.axis;
+            read = let r = x.read named_word m.spaces.bytes i j in record {
+              tree = r.tree;
+              spaces = r.spaces;
+              runs = λ st c g l a w b. opened st c g l a w b ∙ r.runs c g l a w;
+              told = record {
+                term = r.term;
+                names = λ w y z. r.names w y (places w y z);
+                paren = λ c g l a w _ _. r.paren c g l a w;
+                colon = λ c g l a w _ _. r.colon c g l a w;
+                takes = r.takes;
+                size = λ w. omega (
+                  arith,
+                  r.size w,
+                  lengths w named_word m.spaces.bytes,
+                  word_length s at end m.begins m.names,
+                  passed_length is_space s end to m.spaces,
+                  m.names.from,
+                  m.spaces.from,
+                );
+                stops = r.stops;
+              };
+            };
+            failed = tt;
+          }
+      go (Err y) x =
+          record {
+            between = record { from = omega (arith, name_between.from, x.between.from); fits = x.between.fits };
+            axis = tt;
+            read = tt;
+            failed = λ st c g l a w b _. opened st c g l a w b
+                ∙ x.failed named_word m.spaces.bytes i j c g l a w;
+          }
+
 colon_any : (c : Ctx) (g : Alt) (l : Lead) (a : Axis) (w v : Bytes) → colon_byte_next c g l (test a (any w)) v ≡ none
 unfolding colon_byte_next
 colon_any c g l implied w v = refl
@@ -654,13 +672,13 @@ colon_any c g l (axis x n o) w v = refl
 -- a node test
 module _ (s list : Bytes) (at ax : ℕ) where
   pub test_star : (to : ℕ) → byte_at s at ≡ 42 → Passed is_space s (at + 1) to
-      → TestMet s list at ax (is_start (byte_at s at) ≡ false) (plain_head to ax 1 true)
+      → TestMet s list at ax (is_start (byte_at s at) ≡ false) (Ok (plain_head to ax 1 true))
   unfolding test_of test_names unlisted paren_byte_next spell_test
   test_star to b q =
       record {
         between = record { from = omega (arith, q.from); fits = q.fits };
-        axis = λ e. refl;
-        read = λ e. record {
+        axis = refl;
+        read = record {
           tree = λ w. any w;
           spaces = q.bytes;
           runs = λ st c g l a w n. on_pass s at st (after c g l (test a (any w)) []) (byte_there s at 42 refl b)
@@ -675,26 +693,28 @@ module _ (s list : Bytes) (at ax : ℕ) where
             stops = q.stops;
           };
         };
-        failed = λ e. yes_no e;
+        failed = tt;
       }
 
   pub test_none : at ≤ length s → (byte_at s at ≡ 42 → ⊥) → is_start (byte_at s at) ≡ false
-      → TestMet s list at ax (is_start (byte_at s at) ≡ false) (no_head at)
+      → TestMet s list at ax (is_start (byte_at s at) ≡ false) (Err at)
   test_none i b h =
       record {
         between = record { from = omega arith; fits = i };
-        axis = λ e. no e;
-        read = λ e. no e;
-        failed = λ e st c g l a w n z. let u = z h (differs (byte_at s at) 42 b) in on_stop s at st i u.0 u.1;
+        axis = tt;
+        read = tt;
+        failed = λ st c g l a w n z. let u = z h (differs (byte_at s at) 42 b) in on_stop s at st i u.0 u.1;
       }
 
-  pub test_name : (Q : Type 0) (h : Head) → is_start (byte_at s at) ≡ true → TestMet s list at ax Q h
-      → TestMet s list at ax (is_start (byte_at s at) ≡ false) h
-  test_name Q h b m =
+  pub test_name : (Q : Type 0) (o : Result Head ℕ) → is_start (byte_at s at) ≡ true → TestMet s list at ax Q o
+      → TestMet s list at ax (is_start (byte_at s at) ≡ false) o
+  test_name Q (Ok h) b m =
+      let r = m.read in
+      let t = r.told in
       record {
         between = m.between;
         axis = m.axis;
-        read = λ e. let r = m.read e in let t = r.told in record {
+        read = record {
           tree = r.tree;
           spaces = r.spaces;
           runs = r.runs;
@@ -708,8 +728,9 @@ module _ (s list : Bytes) (at ax : ℕ) where
             stops = t.stops;
           };
         };
-        failed = m.failed;
+        failed = tt;
       }
+  test_name Q (Err i) b m = record { between = m.between; axis = tt; read = tt; failed = m.failed }
 
 pub start_there : (s : Bytes) (at : ℕ) → is_start (byte_at s at) ≡ true → at < length s
 unfolding is_start
@@ -727,46 +748,59 @@ unfolding step finish
 testing_stuck c g l a w b h i j = (rw (i, h, j) refl, refl)
 
 -- the axis is spelt up to the place `from` of whitespace, and the test begins at `to`
-module _ (s list : Bytes) (at from to ax : ℕ) (Q : Type 0) (h : Head) (i : at ≤ from) (q : Passed is_space s from to)
-    (m : TestMet s list to ax Q h)
+module _ (s list : Bytes) (at from to ax : ℕ) (Q : Type 0) (o : Result Head ℕ) (i : at ≤ from)
+    (q : Passed is_space s from to)
+    (m : TestMet s list to ax Q o)
     (a : Bytes → Axis) (k : (w : Bytes) → is_implied (a w) ≡ false) (n : (w : Bytes) → axis_of (a w) ≡ ax)
     (y : (w : Bytes) → length (spell_axis (a w)) ≡ length w + (from - at))
     (r : (c : Ctx) (g : Alt) (l : Lead) (w : Bytes) → run (drop at s) (need c g l w)
     ≡ run (drop from s) (testing c g l (a w) [])) where
-  pub head_axis : HeadMet s list at h
+  pub head_axis : HeadMet s list at o
   unfolding step_of step_names takes_predicate spell_step
-  head_axis =
-      record {
-        between = record { from = omega (arith, i, q.from, m.between.from); fits = m.between.fits };
-        read = λ e. let t = m.read e in let x = t.told in record {
-          tree = λ w. test (a w) (t.tree q.bytes);
-          spaces = t.spaces;
-          runs = λ c g l w. r c g l w ∙ testing_over s from to q c g l (a w)
-              ∙ t.runs (testing c g l (a w) q.bytes) c g l (a w) q.bytes
-              (testing_begins c g l (a w) q.bytes (byte_at s to) q.stops);
-          term = λ w. x.term (axis_of (a w)) q.bytes
-              ∙ ap (λ (z : ℕ). term.AxisStep z h.test h.name) (n w ∙ sym (m.axis e));
-          names = λ w j f. x.names q.bytes (j + length (spell_axis (a w)))
-              (omega (arith, f, y w, i, passed_length is_space s from to q, q.from));
-          paren = λ c g l w f b. x.paren c g l (a w) q.bytes (λ z. yes_no (sym z ∙ k w)) b;
-          colon = λ c g l w b. x.colon c g l (a w) q.bytes (λ z. yes_no (sym z ∙ k w)) b;
-          takes = λ w. sym x.takes;
-          size = λ w. rw append_assoc
-              (rw (length-append (spell_axis (a w)) (spell_test (t.tree q.bytes) ++ t.spaces))
-              (omega (arith, x.size q.bytes, y w, i, passed_length is_space s from to q, q.from)));
-          stops = x.stops;
-        };
-        failed = λ e c g l w d. r c g l w ∙ testing_over s from to q c g l (a w)
-            ∙ m.failed e (testing c g l (a w) q.bytes) c g l (a w) q.bytes
-            (testing_begins c g l (a w) q.bytes (byte_at s to) q.stops)
-            (testing_stuck c g l (a w) q.bytes (byte_at s to) q.stops);
-      }
+  head_axis = go o m
+    where
+      go : (o : Result Head ℕ) → TestMet s list to ax Q o → HeadMet s list at o
+      go (Ok h) m =
+          let t = m.read in
+          let x = t.told in
+          record {
+            between = record { from = omega (arith, i, q.from, m.between.from); fits = m.between.fits };
+            read = record {
+              tree = λ w. test (a w) (t.tree q.bytes);
+              spaces = t.spaces;
+              runs = λ c g l w. r c g l w ∙ testing_over s from to q c g l (a w)
+                  ∙ t.runs (testing c g l (a w) q.bytes) c g l (a w) q.bytes
+                  (testing_begins c g l (a w) q.bytes (byte_at s to) q.stops);
+              term = λ w. x.term (axis_of (a w)) q.bytes
+                  ∙ ap (λ (z : ℕ). term.AxisStep z h.test h.name) (n w ∙ sym m.axis);
+              names = λ w j f. x.names q.bytes (j + length (spell_axis (a w)))
+                  (omega (arith, f, y w, i, passed_length is_space s from to q, q.from));
+              paren = λ c g l w f b. x.paren c g l (a w) q.bytes (λ z. yes_no (sym z ∙ k w)) b;
+              colon = λ c g l w b. x.colon c g l (a w) q.bytes (λ z. yes_no (sym z ∙ k w)) b;
+              takes = λ w. sym x.takes;
+              size = λ w. rw append_assoc
+                  (rw (length-append (spell_axis (a w)) (spell_test (t.tree q.bytes) ++ t.spaces))
+                  (omega (arith, x.size q.bytes, y w, i, passed_length is_space s from to q, q.from)));
+              stops = x.stops;
+            };
+            failed = tt;
+          }
+      go (Err e) m =
+          record {
+            between = record { from = omega (arith, i, q.from, m.between.from); fits = m.between.fits };
+            read = tt;
+            failed = λ c g l w d. r c g l w ∙ testing_over s from to q c g l (a w)
+                ∙ m.failed (testing c g l (a w) q.bytes) c g l (a w) q.bytes
+                (testing_begins c g l (a w) q.bytes (byte_at s to) q.stops)
+                (testing_stuck c g l (a w) q.bytes (byte_at s to) q.stops);
+          }
 
-pub head_at : (s list : Bytes) (at to : ℕ) (Q : Type 0) (h : Head) → byte_at s at ≡ 64 → Passed is_space s (at + 1) to
-    → TestMet s list to 11 Q h → HeadMet s list at h
+pub head_at : (s list : Bytes) (at to : ℕ) (Q : Type 0) (o : Result Head ℕ) → byte_at s at ≡ 64
+    → Passed is_space s (at + 1) to
+    → TestMet s list to 11 Q o → HeadMet s list at o
 unfolding is_implied axis_of spell_axis step need_byte is_start is_space
-head_at s list at to Q h b q m =
-    head_axis s list at (at + 1) to 11 Q h (omega arith) q m (λ w. attribute w) (λ w. refl) (λ w. refl)
+head_at s list at to Q o b q m =
+    head_axis s list at (at + 1) to 11 Q o (omega arith) q m (λ w. attribute w) (λ w. refl) (λ w. refl)
     (λ w. length-append w (64 ∷ []) ∙ omega arith)
     (λ c g l w. on_pass s at (need c g l w) (testing c g l (attribute w) []) (byte_there s at 64 refl b) (rw b refl))
 
@@ -779,15 +813,15 @@ module _ (s list : Bytes) (at end to : ℕ) (m : NameAt s at end to) (b : byte_a
   colon_there : to < length s
   colon_there = byte_there s to 58 refl b
 
-  pub axis_no : is_axis (part s at end) ≡ false → HeadMet s list at (no_head to)
+  pub axis_no : is_axis (part s at end) ≡ false → HeadMet s list at (Err to)
   unfolding step after_byte colon_byte_next is_space
   axis_no f =
       let g : is_axis (named_word s list at end to 0 m) ≡ false =
       rw (word_part s at end m.begins m.names) at f in
       record {
         between = name_between s list at end to 0 m;
-        read = λ e. no e;
-        failed = λ e c g' l w d. named_runs s list at end to 0 m (need c g' l w) c g' l implied w
+        read = tt;
+        failed = λ c g' l w d. named_runs s list at end to 0 m (need c g' l w) c g' l implied w
             (need_begins c g' l w (byte_at s at))
             ∙ on_fail s to (after c g' l (test implied (called w (named_word s list at end to 0 m)))
             m.spaces.bytes) colon_there (rw (b, g) refl);
@@ -804,7 +838,7 @@ module _ (s list : Bytes) (at end to : ℕ) (m : NameAt s at end to) (b : byte_a
         ∙ on_pass s to (after c g l (test implied (called w (named_word s list at end to 0 m))) m.spaces.bytes)
         (colon c g l w (named_word s list at end to 0 m) m.spaces.bytes) colon_there (rw (b, h) refl)
 
-    pub axis_one : (byte_at s (to + 1) ≡ 58 → ⊥) → HeadMet s list at (no_head (to + 1))
+    pub axis_one : (byte_at s (to + 1) ≡ 58 → ⊥) → HeadMet s list at (Err (to + 1))
     unfolding step finish
     axis_one h =
         record {
@@ -812,17 +846,18 @@ module _ (s list : Bytes) (at end to : ℕ) (m : NameAt s at end to) (b : byte_a
             from = omega (arith, (name_between s list at end to 0 m).from);
             fits = omega (arith, colon_there);
           };
-          read = λ e. no e;
-          failed = λ e c g l w d. axis_runs c g l w
+          read = tt;
+          failed = λ c g l w d. axis_runs c g l w
               ∙ on_stop s (to + 1) (colon c g l w (named_word s list at end to 0 m) m.spaces.bytes)
               (omega (arith, colon_there)) (rw (differs (byte_at s (to + 1)) 58 h) refl) refl;
         }
 
-    pub axis_two : (ax from : ℕ) (Q : Type 0) (h : Head) → ax ≡ axis_code (part s at end) → byte_at s (to + 1) ≡ 58
-        → Passed is_space s (to + 1 + 1) from → TestMet s list from ax Q h → HeadMet s list at h
+    pub axis_two : (ax from : ℕ) (Q : Type 0) (o : Result Head ℕ) → ax ≡ axis_code (part s at end)
+        → byte_at s (to + 1) ≡ 58 → Passed is_space s (to + 1 + 1) from → TestMet s list from ax Q o
+        → HeadMet s list at o
     unfolding is_implied axis_of spell_axis step
-    axis_two ax from Q h x d q t =
-        head_axis s list at (to + 1 + 1) from ax Q h (omega (arith, (name_between s list at end to 0 m).from)) q t
+    axis_two ax from Q o x d q t =
+        head_axis s list at (to + 1 + 1) from ax Q o (omega (arith, (name_between s list at end to 0 m).from)) q t
         (λ w. axis w (named_word s list at end to 0 m) m.spaces.bytes) (λ w. refl)
         (λ w. sym (x ∙ ap axis_code (word_part s at end m.begins m.names)))
         (λ w. lengths w (named_word s list at end to 0 m) m.spaces.bytes
@@ -844,16 +879,18 @@ module _ (s list : Bytes) (at end to : ℕ) (m : NameAt s at end to) (b : byte_a
 -- the head without an axis
 module _ (s list : Bytes) (at : ℕ) (sp : is_space (byte_at s at) ≡ false) (b : byte_at s at ≡ 46 → ⊥)
     (d : byte_at s at ≡ 64 → ⊥) where
-  pub head_test : (Q : Type 0) (h : Head) → Q → TestMet s list at 1 Q h → HeadMet s list at h
+  pub head_test : (Q : Type 0) (o : Result Head ℕ) → Q → TestMet s list at 1 Q o → HeadMet s list at o
   unfolding step_of step_names takes_predicate axis_of spell_axis spell_step step need_byte finish begins_step
-  head_test Q h z m =
+  head_test Q (Ok h) z m =
+      let t = m.read in
+      let x = t.told in
       record {
         between = m.between;
-        read = λ e. let t = m.read e in let x = t.told in record {
+        read = record {
           tree = λ w. test implied (t.tree w);
           spaces = t.spaces;
           runs = λ c g l w. t.runs (need c g l w) c g l implied w (need_begins c g l w (byte_at s at));
-          term = λ w. x.term 1 w ∙ ap (λ (y : ℕ). term.AxisStep y h.test h.name) (sym (m.axis e));
+          term = λ w. x.term 1 w ∙ ap (λ (y : ℕ). term.AxisStep y h.test h.name) (sym m.axis);
           names = λ w i f. x.names w (i + 0) (omega (arith, f));
           paren = λ c g l w f k. x.paren c g l implied w (λ _. f) k;
           colon = λ c g l w k. x.colon c g l implied w (λ _. z) k;
@@ -861,14 +898,19 @@ module _ (s list : Bytes) (at : ℕ) (sp : is_space (byte_at s at) ≡ false) (b
           size = x.size;
           stops = x.stops;
         };
-        failed = λ e c g l w u. m.failed e (need c g l w) c g l implied w (need_begins c g l w (byte_at s at))
+        failed = tt;
+      }
+  head_test Q (Err e) z m =
+      record {
+        between = m.between;
+        read = tt;
+        failed = λ c g l w u. m.failed (need c g l w) c g l implied w (need_begins c g l w (byte_at s at))
             (λ i j. let n = u.lead (rw (i, j, differs (byte_at s at) 64 d, differs (byte_at s at) 46 b) refl) in
             (rw (i, sp, j, differs (byte_at s at) 64 d, differs (byte_at s at) 46 b) n.0, n.1));
       }
 
-pub head_dot : (s list : Bytes) (at : ℕ) (h : Head) → DotMet s at h → HeadMet s list at h
-head_dot s list at h m =
-    record { between = m.between; read = λ e. m.read list; failed = λ e. yes_no (sym m.ok ∙ e) }
+pub head_dot : (s list : Bytes) (at : ℕ) (h : Head) → DotMet s at h → HeadMet s list at (Ok h)
+head_dot s list at h m = record { between = m.between; read = m.read list; failed = tt }
 
 -- the longest run of bytes that pass a test is one
 module _ (p : ℕ → Bool) where

@@ -7,12 +7,12 @@ use mathlib.Core.Option.{none, some}
 use native.Mathlib.Omega.{arith}
 use native.Mathlib.Decide.{dec_lt}
 use native.Mathlib.Numerals.{add-one}
-use lib.ListN.{length, get_or, take, drop, length-drop, length-append, drop_of_length-le}
+use lib.ListN.{length, get_or, drop, length-drop, length-append, drop_of_length-le}
 use lib.Seq.{drop-cons, take_at}
 use Rattle.grammar.specs.Bytes.{Bytes, is_space, is_start, is_name, every, is_word}
 use Rattle.grammar.specs.Grammar.{Axis, called, LocationStep, test}
-use Rattle.grammar.specs.code.Reader.{State, need, name, testing, type_open, quote, quoted, unquoted, after}
-use Rattle.grammar.specs.code.Reader.{closed, Ctx, top, Open, Pend, Alt, Lead, step, follow}
+use Rattle.grammar.specs.code.Reader.{State, need, name, testing, type_open, quoted, unquoted, after}
+use Rattle.grammar.specs.code.Reader.{closed, Ctx, Open, Pend, Alt, Lead, step, follow}
 use Rattle.grammar.specs.code.Reader.{finish, run, outcome, bad, need_byte, after_byte}
 use Rattle.grammar.proofs.Basics.{and_out, space_start}
 use Rattle.words.specs.code.Scan.{byte_at, Passed}

@@ -6,3 +6,4 @@ pub mod LineRead
 pub mod Start
 pub mod Written
 pub mod SameBytes
+pub mod First

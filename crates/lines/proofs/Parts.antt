@@ -10,7 +10,6 @@ use mathlib.Core.Option.{some-ne-none}
 use native.Mathlib.Omega.{arith}
 use lib.Dec.{leb, eqb}
 use lib.ListN.{length, drop}
-use lib.Seq.{drop-length}
 use borrow.Author.Tests.{ne_eqb}
 use Rattle.lines.specs.Line.{newline, space, Line, lines, parts}
 use Rattle.lines.specs.Number.{digit0, is_digit, are_digits, is_decimal, append_digits, number_up_to}
@@ -246,65 +245,79 @@ nothing_read most read others reads xs last before = by_part (first_part xs) las
         rw t (before_space read w r f g) ∙ first_none (λ ws. read (w ∷ ws)) (λ p ps. then_none w (p ∷ ps) (n p ps))
         (lines r)
 
--- the line that starts at `at`, read by its parts: whether it has what `read` takes, which numbers, and where the next
+-- numbers before the others
+abbrev pub appended : List ℕ → Option (List ℕ) → Option (List ℕ)
+appended ns o = Option-elim o none (λ ms. some (ns ++ ms))
+
+appended_none : (o : Option (List ℕ)) → o ≡ appended [] o
+unfolding Option-elim
+appended_none none = refl
+appended_none (some ms) = refl
+
+appended_one : (ns : List ℕ) (v : ℕ) (o : Option (List ℕ)) → appended ns (prepended v o) ≡ appended (ns ++ v ∷ []) o
+unfolding Option-elim
+appended_one ns v none = refl
+appended_one ns v (some ms) = ap some (sym (append_assoc ns (v ∷ []) ms))
+
+-- the line that starts at `at`, read by its parts: it has what `read` takes, these are its numbers, and there the next
 -- line starts
-pub record PartsMet (read : List (List ℕ) → Option (List ℕ)) (xs : List ℕ) (at : ℕ) (ok : Bool) (ns : List ℕ)
-    (next : ℕ) : Type 0 where
-  pub numbers : cond ok (some ns) none ≡ first_parts read (lines (drop at xs))
-  pub rest : ok ≡ true → lines (drop next xs) ≡ drop 1 (lines (drop at xs))
-  pub right : ok ≡ true → (at < next) × (next ≤ length xs)
+pub record PartsMet (read : List (List ℕ) → Option (List ℕ)) (xs : List ℕ) (at : ℕ) (ns : List ℕ) (next : ℕ) : Type 0
+  where
+    pub numbers : some ns ≡ first_parts read (lines (drop at xs))
+    pub rest : lines (drop next xs) ≡ drop 1 (lines (drop at xs))
+    pub right : (at < next) × (next ≤ length xs)
 
-not_met : (read : List (List ℕ) → Option (List ℕ)) (xs : List ℕ) (at : ℕ) (ok : Bool) (ns : List ℕ) (next : ℕ)
-    → ok ≡ false → first_parts read (lines (drop at xs)) ≡ none
-    → PartsMet read xs at ok ns next
-not_met read xs at ok ns next e n =
-    record {
-      numbers = rw e (sym n);
-      rest = λ t. absurd (false≢true (sym e ∙ t));
-      right = λ t. absurd (false≢true (sym e ∙ t));
-    }
+-- the line at `at` starts with the numbers ns, and goes on at `from` with what `those` takes
+pub record GoesOn (read those : List (List ℕ) → Option (List ℕ)) (xs : List ℕ) (at from : ℕ) (ns : List ℕ) : Type 0
+  where
+    pub numbers : first_parts read (lines (drop at xs)) ≡ appended ns (first_parts those (lines (drop from xs)))
+    pub next : drop 1 (lines (drop at xs)) ≡ drop 1 (lines (drop from xs))
+    pub onward : at ≤ from
 
-not_read : (b : Bool) (ns : List ℕ) → cond b (some ns) none ≡ none → b ≡ false
-not_read true ns e = absurd (some-ne-none _ e)
-not_read false ns e = refl
+pub starts_there : (read : List (List ℕ) → Option (List ℕ)) (xs : List ℕ) (at : ℕ) → GoesOn read read xs at at []
+starts_there read xs at = record { numbers = appended_none _; next = refl; onward = omega arith }
 
-module _ (most : ℕ) (read others : List (List ℕ) → Option (List ℕ)) (reads : Reads most read others) (xs : List ℕ)
-    (at : ℕ) where
-  pub last_part : others [] ≡ some [] → ((w : List ℕ) (ws : List (List ℕ)) → others (w ∷ ws) ≡ none)
-      → (ok : Bool) (v next : ℕ) → NumberMet most newline xs at ok v next → PartsMet read xs at ok (v ∷ []) next
+module _ (read those : List (List ℕ) → Option (List ℕ)) (xs : List ℕ) (at from : ℕ) (ns : List ℕ)
+    (so_far : GoesOn read those xs at from ns) where
+  -- nothing stands there
+  pub nothing_more : none ≡ first_parts those (lines (drop from xs)) → none ≡ first_parts read (lines (drop at xs))
   unfolding Option-elim
-  last_part ends no_more true v next m =
-      let found = number_found most newline (drop at xs) v (drop next xs) m.number in
-      record {
-        numbers = rw found.text
-            (sym (number_before_newline most v found.bytes (drop next xs) found.is_number read others reads
-            ∙ ap (prepended v) ends));
-        rest = λ t. rw (
-          found.text,
-          lines_at found.bytes (drop next xs) (no_newline_in most v found.bytes
-              (drop next xs) found.is_number),
-        );
-        right = m.right;
-      }
-  last_part ends no_more false v next m =
-      not_met read xs at false (v ∷ []) next refl
-      (nothing_read most read others reads (drop at xs) (inl (sym m.number)) (inr no_more))
+  nothing_more e = sym (so_far.numbers ∙ ap (appended ns) (sym e))
 
-  pub part_and_others : others [] ≡ none → (found : Bool) (v middle : ℕ) → NumberMet most space xs at found v middle
-      → (ok : Bool) (ns : List ℕ) (next : ℕ) → PartsMet others xs middle ok ns next
-      → PartsMet read xs at ok (v ∷ ns) next
-  unfolding first_parts lines
-  part_and_others more true v middle m ok ns next o =
-      let found = number_found most space (drop at xs) v (drop middle xs) m.number in
-      record {
-        numbers = prepended_if v ok ns ∙ rw (o.numbers, found.text)
-            (sym (number_before_space most v found.bytes (drop middle xs) found.is_number read others reads));
-        rest = λ t. o.rest t ∙ rw found.text
-            (sym (next_behind found.bytes (drop middle xs) (no_newline_in most v found.bytes (drop middle xs)
-            found.is_number)));
-        right = λ t. let h = m.right refl in let g = o.right t in (omega arith, omega arith);
-      }
-  part_and_others more false v middle m ok ns next o =
-      let past : first_parts others (lines (drop middle xs)) ≡ none = rw ((m.wrong refl).1, drop-length xs) in
-      not_met read xs at ok (v ∷ ns) next (not_read ok ns (o.numbers ∙ past))
-      (nothing_read most read others reads (drop at xs) (inr more) (inl (sym m.number)))
+  module _ (most : ℕ) (others : List (List ℕ) → Option (List ℕ)) (reads : Reads most those others) where
+    -- one more number, which a space ends
+    pub number_more : (v next : ℕ) → NumberMet most space xs from v next → GoesOn read others xs at next (ns ++ v ∷ [])
+    number_more v next m =
+        let found = number_found most space (drop from xs) v (drop next xs) m.number in
+        record {
+          numbers = so_far.numbers
+              ∙ ap (appended ns) (ap (λ t. first_parts those (lines t)) found.text
+              ∙ number_before_space most v found.bytes (drop next xs) found.is_number those others reads)
+              ∙ appended_one ns v _;
+          next = so_far.next ∙ ap (λ t. drop 1 (lines t)) found.text ∙ next_behind found.bytes (drop next xs)
+              (no_newline_in most v found.bytes (drop next xs) found.is_number);
+          onward = omega (arith, so_far.onward, m.right);
+        }
+
+    -- the last one, which the newline ends
+    pub last_number : others [] ≡ some [] → (v next : ℕ) → NumberMet most newline xs from v next
+        → PartsMet read xs at (ns ++ v ∷ []) next
+    unfolding Option-elim
+    last_number ends v next m =
+        let found = number_found most newline (drop from xs) v (drop next xs) m.number in
+        record {
+          numbers = sym (so_far.numbers ∙ ap (appended ns) (ap (λ t. first_parts those (lines t)) found.text
+              ∙ number_before_newline most v found.bytes (drop next xs) found.is_number those others reads
+              ∙ ap (prepended v) ends));
+          rest = sym (so_far.next ∙ ap (λ t. drop 1 (lines t)) found.text
+              ∙ rw (lines_at found.bytes (drop next xs) (no_newline_in most v found.bytes (drop next xs)
+              found.is_number)));
+          right = (omega (arith, so_far.onward, m.right), m.right.1);
+        }
+
+    -- no number
+    pub no_number_more : (number_cut most newline (drop from xs) ≡ none) ⊎ (others [] ≡ none)
+        → (number_cut most space (drop from xs) ≡ none)
+        ⊎ ((w : List ℕ) (ws : List (List ℕ)) → others (w ∷ ws) ≡ none)
+        → none ≡ first_parts read (lines (drop at xs))
+    no_number_more last before = nothing_more (sym (nothing_read most those others reads (drop from xs) last before))

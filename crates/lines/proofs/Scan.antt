@@ -14,7 +14,7 @@ use borrow.Author.Tests.{ltb-true}
 use Rattle.lines.specs.Number.{digit0, digit9, is_digit, are_digits, is_decimal, append_digit, append_digits}
 use Rattle.lines.specs.Number.{number_up_to}
 use Rattle.lines.specs.code.NumbersRead.{up_to, first_digit, one_more, Cut, bytes_before, cut, NumberCut}
-use Rattle.lines.specs.code.NumbersRead.{number_before, number_cut, NumberMet}
+use Rattle.lines.specs.code.NumbersRead.{number_before, number_cut}
 
 -- the number that the byte `end` ends, where n is read already
 unfoldable pub scan : (most end n : ℕ) → List ℕ → Option NumberCut
@@ -237,30 +237,6 @@ module _ (most n x : ℕ) where
   pub behind_digit : ¬ (n ≡ 0) → is_digit x ≡ true → up_to most (append_digit n x) ≡ one_more most n x
   unfolding one_more up_to
   behind_digit h d = rw (lt-ltb 0 n (omega arith), d)
-
-pub number_met : (most end : ℕ) (xs : List ℕ) (at n next : ℕ) → n ≤ most → number_cut most end (drop at xs)
-    ≡ some (number_before n (drop next xs)) → at < next → next ≤ length xs
-    → NumberMet most end xs at true n next
-number_met most end xs at n next f e h k =
-    record {
-      number = sym e;
-      fits = f;
-      right = λ t. (h, k);
-      wrong = λ t. absurd (false≢true (sym t));
-    }
-
--- no number at `at` of the text
-pub no_number_met : (most end : ℕ) (xs : List ℕ) (at : ℕ) (ok : Bool) (v next : ℕ) → (ok ≡ false) × (v ≡ 0)
-    × (next ≡ length xs) → number_cut most end (drop at xs) ≡ none
-    → NumberMet most end xs at ok v next
-no_number_met most end xs at ok v next n s =
-    let (e, z, p) = n in
-    record {
-      number = rw e (sym s);
-      fits = omega arith;
-      right = λ t. absurd (false≢true (sym e ∙ t));
-      wrong = λ t. (z, p);
-    }
 
 pub nothing_there : (most end : ℕ) (xs : List ℕ) (at : ℕ) → length xs ≤ at → number_cut most end (drop at xs) ≡ none
 unfolding number_cut cut Option-elim

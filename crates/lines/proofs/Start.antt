@@ -1,13 +1,16 @@
 -- A line that is known: the text starts with it and a newline. Assumes nothing.
 use Prim.Native.Nat.{ℕ, suc, ◌+◌, ◌≤◌, ◌<◌}
 use mathlib.Core.Path.{◌≡◌, refl, sym, ap, ◌∙◌}
-use mathlib.Core.Bool.{Bool, true, false, cond, ◌&&◌, false≢true, and-true, and-false, and_assoc}
+use mathlib.Core.Bool.{Bool, true, false, cond, ◌&&◌, false≢true, and-true, and_assoc}
 use mathlib.Core.List.{List, [], ◌∷◌, ◌++◌, append_assoc}
 use native.Mathlib.Omega.{arith}
-use native.Mathlib.Numerals.{add-one}
 use lib.Dec.{eqb}
-use lib.ListN.{length, get_or, drop, length-append, length-drop, drop_of_length-le}
-use lib.Seq.{drop-cons, drop-drop, get_or-drop}
+use lib.ListN.{length, get_or, take, drop, length-append, length-drop}
+use lib.Seq.{drop-drop}
+use denote.Ref.{Bor}
+use Rattle.std.specs.Prelude.{Option as Optional, Some, None, unwrap_or, option_map}
+use Rattle.std.specs.Option.{option_eq}
+use Rattle.std.specs.Cmp.Lexicographic.{pointwise}
 use borrow.Author.Tests.{eqb-true, eq-eqb, ne_eqb}
 use Rattle.lines.specs.Line.{newline, Line, line, in_first_line, lines, same_bytes, is_line, first_is}
 use Rattle.lines.specs.code.NumbersRead.{starts_with}
@@ -86,54 +89,34 @@ starts ys xs at e =
       inside = λ h. omega (arith, length-drop at xs, lengths);
     }
 
--- from a position on, and one byte further
-module _ (xs ys : List ℕ) (at i : ℕ) (k : i < length ys) where
-  pub starts_further : at + i < length xs → get_or xs (at + i) 0 ≡ get_or ys i 0
-      → starts_with (drop i ys) (drop (at + i) xs) ≡ starts_with (drop (i + 1) ys) (drop (at + (i + 1)) xs)
-  unfolding starts_with
-  starts_further h e =
-      let next : at + (i + 1) ≡ suc (at + i) = omega arith in
-      rw (next, add-one, drop-cons xs (at + i) 0 h, drop-cons ys i 0 k, eq-eqb (get_or xs (at + i) 0) (get_or ys i 0) e)
+eqb_swapped : (x y : ℕ) → eqb x y ≡ eqb y x
+eqb_swapped x y = by_test (eqb y x) refl
+  where
+    by_test : (b : Bool) → eqb y x ≡ b → eqb x y ≡ b
+    by_test true e = eq-eqb x y (sym (eqb-true y x e))
+    by_test false e = ne_eqb x y (λ s. false≢true (sym e ∙ eq-eqb y x (sym s)))
 
-  pub starts_differ : at + i < length xs → ¬ (get_or xs (at + i) 0 ≡ get_or ys i 0)
-      → starts_with (drop i ys) (drop (at + i) xs) ≡ false
-  unfolding starts_with
-  starts_differ h f =
-      rw (drop-cons xs (at + i) 0 h, drop-cons ys i 0 k, ne_eqb (get_or xs (at + i) 0) (get_or ys i 0) f)
-
-  pub starts_past : length xs ≤ at + i → starts_with (drop i ys) (drop (at + i) xs) ≡ false
-  unfolding starts_with
-  starts_past h = rw (drop_of_length-le xs {i = at + i} h, drop-cons ys i 0 k)
-
-pub starts_whole : (xs ys : List ℕ) (at i : ℕ) → length ys ≤ i → starts_with (drop i ys) (drop (at + i) xs) ≡ true
+-- the library's test, which compares as many bytes
+pub same_start : (ys xs : List ℕ) → pointwise eqb ys (take (length ys) xs) ≡ starts_with ys xs
 unfolding starts_with
-starts_whole xs ys at i h = rw (drop_of_length-le ys {i = i} h)
+same_start [] xs = refl
+same_start (y ∷ ys) [] = refl
+same_start (y ∷ ys) (x ∷ xs) = rw (eqb_swapped y x, same_start ys xs)
 
--- bytes and a newline: a text that is too short, and one that is not
-starts_short : (ys xs : List ℕ) → length xs ≤ length ys → starts_with (ys ++ newline ∷ []) xs ≡ false
+-- bytes and one more; past its end a text has none
+pub starts_byte : (e : ℕ) (ys xs : List ℕ) → starts_with (ys ++ e ∷ []) xs
+    ≡ (starts_with ys xs && eqb (get_or xs (length ys) (suc e)) e)
 unfolding starts_with
-starts_short [] [] h = refl
-starts_short [] (x ∷ xs) h = absurd (omega arith)
-starts_short (y ∷ ys) [] h = refl
-starts_short (y ∷ ys) (x ∷ xs) h = rw (starts_short ys xs (omega arith), and-false)
+starts_byte e [] [] = sym (ne_eqb (suc e) e (λ s. omega arith))
+starts_byte e [] (x ∷ xs) = rw and-true
+starts_byte e (y ∷ ys) [] = refl
+starts_byte e (y ∷ ys) (x ∷ xs) = rw (starts_byte e ys xs) (sym (and_assoc (eqb x y) (starts_with ys xs) _))
 
-starts_newline : (ys xs : List ℕ) → length ys < length xs → starts_with (ys ++ newline ∷ []) xs
-    ≡ (starts_with ys xs && eqb (get_or xs (length ys) 0) newline)
-unfolding starts_with
-starts_newline [] [] h = absurd (omega arith)
-starts_newline [] (x ∷ xs) h = rw and-true
-starts_newline (y ∷ ys) [] h = absurd (omega arith)
-starts_newline (y ∷ ys) (x ∷ xs) h =
-    rw (starts_newline ys xs (omega arith)) (sym (and_assoc (eqb x y) (starts_with ys xs) _))
-
-module _ (ys xs : List ℕ) (at : ℕ) where
-  pub no_line_there : length xs ≤ at + length ys → starts_with (ys ++ newline ∷ []) (drop at xs) ≡ false
-  no_line_there h = starts_short ys (drop at xs) (omega (arith, length-drop at xs))
-
-  pub line_there : at + length ys < length xs → starts_with (ys ++ newline ∷ []) (drop at xs)
-      ≡ (starts_with ys (drop at xs) && eqb (get_or xs (at + length ys) 0) newline)
-  line_there h = starts_newline ys (drop at xs) (omega (arith, length-drop at xs))
-      ∙ rw (get_or-drop at xs (length ys) 0)
+-- a byte that may be there is another
+pub same_byte : (r : Optional (Bor ℕ)) (q : Bor ℕ) (n : ℕ) → unwrap_or (option_map (λ x. x.now) r) (suc q.now) ≡ n
+    → option_eq (λ x y. eqb x.now y.now) r (Some q) ≡ eqb n q.now
+same_byte None q n e = rw (← e) (sym (ne_eqb (suc q.now) q.now (λ s. omega arith)))
+same_byte (Some x) q n e = rw e
 
 -- the lines after a known one
 pub record Passed (ys xs : List ℕ) (at : ℕ) : Type 0 where

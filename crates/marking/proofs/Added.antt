@@ -10,7 +10,7 @@ use lib.ListN.{length, get_or, set, length-set}
 use lib.Seq.{get_or-set_same, get_or-set_other}
 use borrow.Author.Tests.{lt-ltb, le-ltb, le-leb, lt-leb, eq-eqb, ne_eqb}
 use Rattle.common.proofs.Reflect.{eq_or_ne, le_or_lt}
-use Rattle.marking.specs.code.Added.{marked, Added}
+use Rattle.marking.specs.code.Added.{Added}
 
 or_true : (b : Bool) → (b || true) ≡ true
 or_true true = refl

@@ -1,3 +1,4 @@
 pub mod Added
 pub mod Walks
 pub mod Steps
+pub mod AxisTests

@@ -1,9 +1,9 @@
 -- Each axis by the walk that marks it, on a well-formed document. Assumes nothing.
-use Prim.Native.Nat.{ℕ, zero, suc, ◌+◌, ◌≤◌, ◌<◌}
+use Prim.Native.Nat.{ℕ, suc, ◌+◌, ◌≤◌, ◌<◌}
 use mathlib.Core.Path.{◌≡◌, refl, sym, ◌∙◌}
 use mathlib.Core.Bool.{Bool, true, false, not, ◌&&◌, ◌||◌}
 use mathlib.Core.List.{List}
-use mathlib.Core.Logic.{◌↔◌, ◌⊎◌, inl, inr, ⊎_elim}
+use mathlib.Core.Logic.{◌↔◌, inl, inr, ⊎_elim}
 use native.Mathlib.Omega.{arith}
 use native.Mathlib.Numerals.{add-one}
 use lib.Dec.{T, ltb, leb, eqb}
@@ -11,7 +11,7 @@ use lib.ListN.{length, get_or}
 use borrow.Author.Tests.{ne_eqb}
 use native.Mathlib.Nat.{pos_of_ne-zero}
 use Rattle.xpath.specs.Document.{Document, kind_at, parent_at, is_attribute, is_child, is_ancestor, are_siblings}
-use Rattle.xpath.specs.Axis.{on_axis, passes}
+use Rattle.xpath.specs.Axis.{on_axis}
 use Rattle.xpath.specs.code.Ends.{Prepared}
 use Rattle.common.proofs.Reflect.{facts, tests_equal, true_iff, and_iff, or_iff, and_via, not_via, eq_iff, le_iff}
 use Rattle.common.proofs.Reflect.{le_or_lt}
@@ -19,7 +19,7 @@ use Rattle.xpath.proofs.Tree.{Child, Ancestor, parent_is, ancestor_cases, child_
 use Rattle.xpath.proofs.Tree.{parent_smaller}
 use Rattle.xpath.proofs.Facts.{NoAttribute, OnAxis, on_axis_iff}
 use Rattle.xpath.proofs.Axes.{past_last_axis}
-use Rattle.marking.specs.code.Added.{marked, Added, may_hold, candidate, ChildrenFrom}
+use Rattle.marking.specs.code.Added.{marked, Added, may_hold, ChildrenFrom}
 use Rattle.marking.proofs.Added.{between, added_cong, nothing_added}
 use Rattle.marking.proofs.Walks.{at_end, below_end, past_end, next_within, next_is_child}
 
@@ -110,7 +110,7 @@ module _ (d : Document) (es : List ℕ) (r : Prepared d es) (t : ℕ → Bool) (
         λ (a, n). let s = ancestor_smaller d r.formed l a in ((omega arith, descendant_before x y k l a), v.1 n),
       ))
 
-  descendant_or_self_marked : {old mid new : List ℕ} (lo : ℕ) → lo ≡ x + 1 →
+  pub descendant_or_self_marked : {old mid new : List ℕ} (lo : ℕ) → lo ≡ x + 1 →
       Added (length d) old mid (λ y. eqb x y && t y) →
       Added (length d) mid new (between lo (end x) (kept_of 3)) → Added (length d) old new (stepped 5)
   unfolding on_axis
@@ -233,7 +233,7 @@ module _ (d : Document) (es : List ℕ) (r : Prepared d es) (t : ℕ → Bool) (
   unfolding on_axis
   ancestor_marked u = u
 
-  ancestor_or_self_marked : {old mid new : List ℕ} → Added (length d) old mid (λ y. eqb x y && t y) →
+  pub ancestor_or_self_marked : {old mid new : List ℕ} → Added (length d) old mid (λ y. eqb x y && t y) →
       Added (length d) mid new (λ y. is_ancestor d y x && t y) → Added (length d) old new (stepped 6)
   unfolding on_axis
   ancestor_or_self_marked a b =
@@ -276,20 +276,6 @@ module _ (d : Document) (es : List ℕ) (r : Prepared d es) (t : ℕ → Bool) (
 
   pub no_axis : {old : List ℕ} (a : ℕ) → 12 ≤ a → Added (length d) old old (stepped a)
   no_axis a h = nothing_added (stepped a) (λ y l. rw (← past_last_axis a d x y h))
-
--- the or-self axes, by tests on the axes that make them up: a test asks the same on each
-module _ (d : Document) (es : List ℕ) (r : Prepared d es) (n c x : ℕ) (k : x < length d) {old mid new : List ℕ} where
-  pub descendant_or_self_passed : (lo : ℕ) → lo ≡ x + 1 → Added (length d) old mid (λ y. eqb x y && passes 0 n c d y) →
-      Added (length d) mid new (between lo (get_or es x 0) (candidate 3 n c d)) →
-      Added (length d) old new (λ y. on_axis 5 d x y && passes 5 n c d y)
-  unfolding passes
-  descendant_or_self_passed lo q a b = descendant_or_self_marked d es r (passes 5 n c d) x k lo q a b
-
-  pub ancestor_or_self_passed : Added (length d) old mid (λ y. eqb x y && passes 0 n c d y) →
-      Added (length d) mid new (λ y. is_ancestor d y x && passes 4 n c d y) →
-      Added (length d) old new (λ y. on_axis 6 d x y && passes 6 n c d y)
-  unfolding passes
-  ancestor_or_self_passed a b = ancestor_or_self_marked d es r (passes 6 n c d) x k a b
 
 module _ (d : Document) (es : List ℕ) (r : Prepared d es) where
   -- the first child of p, if it has any, is the row after p

@@ -3,13 +3,13 @@ use Prim.Native.Nat.{ℕ, ◌≤◌, ◌<◌}
 use mathlib.Core.Path.{◌≡◌, refl, sym, ◌∙◌}
 use mathlib.Core.Bool.{Bool, true, false, ◌&&◌, and-false}
 use mathlib.Core.List.{List}
-use mathlib.Core.Logic.{◌⊎◌, inl, inr, ⊎_elim}
+use mathlib.Core.Logic.{inl, inr, ⊎_elim}
 use native.Mathlib.Omega.{arith}
-use lib.Dec.{T, ltb}
+use lib.Dec.{T}
 use lib.ListN.{length, get_or, set}
 use borrow.Author.Tests.{lt-ltb, le-ltb}
 use Rattle.xpath.specs.Document.{Document, parent_at, is_child, is_ancestor, well_formed}
-use Rattle.xpath.specs.code.Ends.{EndsAt, Ends, Prepared}
+use Rattle.xpath.specs.code.Ends.{EndsAt, Prepared}
 use Rattle.marking.specs.code.Added.{Added, ChildrenFrom}
 use Rattle.marking.proofs.Added.{between, from_on, up_start, up_marked, up_left, up_end, down_start}
 use Rattle.marking.proofs.Added.{down_marked, down_left, down_end}

@@ -1,7 +1,6 @@
 -- The numbers of the table stand for the rule table: antt computes both. Assumes nothing.
 use Prim.Native.Nat.{ℕ, zero, suc, ◌<◌, ◌≤◌}
 use mathlib.Core.Path.{◌≡◌, refl, ap}
-use mathlib.Core.Bool.{cond}
 use mathlib.Core.List.{List, [], ◌∷◌, map, head-eq_of_cons-eq, tail-eq_of_cons-eq}
 use mathlib.Core.Logic.{⊎_elim}
 use native.Mathlib.Omega.{arith}
@@ -10,7 +9,7 @@ use mir.Facts.{and_yes, leb_yes}
 use borrow.Author.Tests.{lt-ltb, ne_eqb}
 use Rattle.common.proofs.Reflect.{le_or_lt}
 use Rattle.common.specs.Lists.{all_of}
-use Rattle.rules.specs.Form.{Form, Rule}
+use Rattle.rules.specs.Form.{Rule}
 use Rattle.rules.specs.RuleTable.{rules}
 use Rattle.rules.specs.Yields.{table_rules, forms_in, forms_of, first_count, premise_count}
 use Rattle.matching.specs.code.Pattern.{path_letter_number, qualifier_letter_number, axis_letter_number}

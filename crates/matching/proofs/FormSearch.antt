@@ -23,6 +23,9 @@ module _ (f : FormPattern → Bool) (t : List ℕ) (count n₀ place : ℕ) wher
   abbrev pub Searched : ℕ → ℕ → Type 0
   Searched n i = any_of f (forms_from t count n₀ place) ≡ any_of f (forms_from t count n i)
 
+  pub search_begins : (n i : ℕ) → n ≡ n₀ → i ≡ place → Searched n i
+  search_begins n i e q = rw (e, q)
+
   module _ (n i : ℕ) where
     pub search_ends : n ≤ 0 → Searched n i → false ≡ any_of f (forms_from t count n₀ place)
     unfolding any_of forms_from

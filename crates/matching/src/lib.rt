@@ -15,7 +15,7 @@ ghost use Rattle.matching.specs.code.RowYields.{sides, row_yields};
 ghost use Rattle.matching.specs.code.MatchTypes.{sides_in};
 
 pub use matcher::Sides;
-use matcher::{rule_at, some_form_yields};
+use matcher::{Lent, rule_at};
 pub use order::{axis_below, test_below};
 use tables::TABLE;
 pub use tables::TABLE_SIZE;
@@ -44,7 +44,8 @@ pub fn no_notes() -> [usize; MAX_ROWS]
 pub fn premise_count(table: &[u64], rule: u16) -> u16
     ensures { table.now ≡ rule_table → result ≡ premise_count rule }
 {
-    rule_at(table, rule).2
+    let [_, _, count, _] = rule_at(table, rule);
+    count
 }
 
 // Whether the rule, by the rule table or by the way back, yields the step, whose rows are left and right, from premises
@@ -69,6 +70,7 @@ pub fn yields(
     if rule == WAY_BACK_RULE {
         return is_with_back(rows, left, right, noted);
     }
-    let e = rule_at(table, rule);
-    some_form_yields(rows, table, e.0, e.1, e.2, left, right, first, second)
+    let [place, forms, count, _] = rule_at(table, rule);
+    let lent = Lent { rows, table };
+    lent.some_form_yields(place, forms, count, Sides { left, right }, first, second)
 }

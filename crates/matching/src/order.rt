@@ -4,37 +4,28 @@ ghost use Rattle.rules.specs.Order.{is_pair, axis_below, test_below};
 ghost use Rattle.matching.specs.code.MatchTypes.{pairs_of};
 
 use crate::tables::AXIS_PAIRS;
-use common::{and, node_test, or};
+use common::node_test;
 
 // Whether (a, b) is one of the pairs.
 pub fn is_pair(pairs: &[[u16; 2]], a: u16, b: u16) -> bool
     ensures { result ≡ is_pair (pairs_of pairs.now) a b }
 {
-    let mut i: usize = 0;
-    while i < pairs.len() {
-        let pair = pairs[i];
-        if and(pair[0] == a, pair[1] == b) {
-            return true;
-        }
-        i += 1;
-    }
-    false
+    pairs.contains(&[a, b])
 }
 
 // Whether axis a is below axis b.
 pub fn axis_below(a: u16, b: u16) -> bool
     ensures { result ≡ axis_below a b }
 {
-    let pairs = AXIS_PAIRS;
-    is_pair(&pairs, a, b)
+    is_pair(&AXIS_PAIRS, a, b)
 }
 
 // Whether test t with name c is below test u with name e.
 pub fn test_below(t: u16, c: u16, u: u16, e: u16) -> bool
     ensures { result ≡ test_below t c u e }
 {
-    let same = and(t == u, c == e);
-    let named = and(t == node_test::NAME, u == node_test::STAR);
-    let targeted = and(t == node_test::TARGET, u == node_test::INSTRUCTION);
-    or(or(or(same, named), targeted), u == node_test::NODE)
+    let same = t == u && c == e;
+    let named = t == node_test::NAME && u == node_test::STAR;
+    let targeted = t == node_test::TARGET && u == node_test::INSTRUCTION;
+    same || named || targeted || u == node_test::NODE
 }

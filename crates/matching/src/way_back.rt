@@ -9,7 +9,7 @@ ghost use Rattle.matching.specs.code.MatchTypes.{Reverses};
 
 use crate::matcher::Sides;
 use crate::order::is_pair;
-use common::{and, axis, node_test, row_kind, wide};
+use common::{axis, node_test, row_kind};
 use terms::{Row, is_noted, note, row_at};
 
 // Rule 59, which the table doesn't have.
@@ -25,92 +25,70 @@ const OPPOSITES: [[u16; 2]; 6] = [
     [axis::PRECEDING_SIBLING, axis::FOLLOWING_SIBLING],
 ];
 
-// What is seen of a row and of one that is to be its way back: whether it fits, whether that is all, or which operand
-// is to have which for its way back. A filter has one such operand, which stands twice.
-#[derive(Drop)]
-struct Reversal {
-    fits: bool,
-    ends: bool,
-    first: Sides,
-    second: Sides,
+// What is seen of a row and of one that is to be its way back: that it isn't, that it is, or which operand is to have
+// which for its way back. A filter has one such operand, which stands twice.
+#[derive(Clone, Copy, PartialEq, Eq, Debug)]
+enum Reversal {
+    Never,
+    Always,
+    Operands(Sides, Sides),
 }
 
 fn is_opposite(a: u16, b: u16) -> bool
     ensures { result ≡ is_pair opposites a b }
 {
-    let pairs = OPPOSITES;
-    is_pair(&pairs, a, b)
+    is_pair(&OPPOSITES, a, b)
 }
 
 // Whether row i is a step on that axis with that test and name.
 fn is_step(rows: &[u16], i: u16, a: u16, t: u16, c: u16) -> bool
     ensures { result ≡ is_step (table_of rows.now) i a t c }
 {
-    let x = row_at(rows, wide(i));
-    and(
-        and(and(x.kind == row_kind::STEP, x.a == a), x.b == t),
-        x.c == c,
-    )
+    let x = row_at(rows, usize::from(i));
+    x.kind == row_kind::STEP && x.a == a && x.b == t && x.c == c
 }
 
 // Whether y is self::N, then the opposite axis with node(), for the step x.
 fn is_step_back(rows: &[u16], x: Row, y: Row) -> bool
     ensures { result ≡ is_step_back (table_of rows.now) (row_of x) (row_of y) }
 {
-    let z = row_at(rows, wide(y.b));
-    let test = is_step(rows, y.a, axis::SELF, x.b, x.c);
-    let opposite = and(
-        is_opposite(x.a, z.a),
-        is_step(rows, y.b, z.a, node_test::NODE, 0),
-    );
-    and(y.kind == row_kind::COMPOSITION, and(test, opposite))
+    let z = row_at(rows, usize::from(y.b));
+    y.kind == row_kind::COMPOSITION
+        && is_step(rows, y.a, axis::SELF, x.b, x.c)
+        && is_opposite(x.a, z.a)
+        && is_step(rows, y.b, z.a, node_test::NODE, 0)
 }
 
 // Whether y is .[f], then a path, for x, whose qualifier is f.
 fn is_filter_back(rows: &[u16], x: Row, y: Row) -> bool
     ensures { result ≡ is_filter_back (table_of rows.now) (row_of x) (row_of y) }
 {
-    let z = row_at(rows, wide(y.a));
-    let filter = and(z.kind == row_kind::FILTER, z.b == x.b);
-    let self_node = is_step(rows, z.a, axis::SELF, node_test::NODE, 0);
-    and(y.kind == row_kind::COMPOSITION, and(filter, self_node))
+    let z = row_at(rows, usize::from(y.a));
+    y.kind == row_kind::COMPOSITION
+        && z.kind == row_kind::FILTER
+        && z.b == x.b
+        && is_step(rows, z.a, axis::SELF, node_test::NODE, 0)
 }
 
 // What is seen of x and of y, which is to be its way back.
 fn reversal_of(rows: &[u16], x: Row, y: Row) -> Reversal
     ensures { Reverses (table_of rows.now) (row_of x) (row_of y) result }
 {
-    let none = Sides { left: 0, right: 0 };
-    let kind = x.kind;
-    let p = x.a;
-    let q = x.b;
-    let v = y.a;
-    let w = y.b;
-    match kind {
-        row_kind::UNION => Reversal {
-            fits: y.kind == row_kind::UNION,
-            ends: false,
-            first: Sides { left: p, right: v },
-            second: Sides { left: q, right: w },
-        },
-        row_kind::COMPOSITION => Reversal {
-            fits: y.kind == row_kind::COMPOSITION,
-            ends: false,
-            first: Sides { left: q, right: v },
-            second: Sides { left: p, right: w }, // p's is last
-        },
-        row_kind::FILTER => Reversal {
-            fits: is_filter_back(rows, x, y),
-            ends: false,
-            first: Sides { left: p, right: w },
-            second: Sides { left: p, right: w },
-        },
-        _ => Reversal {
-            fits: and(kind == row_kind::STEP, is_step_back(rows, x, y)),
-            ends: true,
-            first: none,
-            second: none,
-        },
+    let (p, q) = (x.a, x.b);
+    let (v, w) = (y.a, y.b);
+    match x.kind {
+        row_kind::UNION if y.kind == row_kind::UNION => {
+            Reversal::Operands(Sides { left: p, right: v }, Sides { left: q, right: w })
+        }
+        // p's is last
+        row_kind::COMPOSITION if y.kind == row_kind::COMPOSITION => {
+            Reversal::Operands(Sides { left: q, right: v }, Sides { left: p, right: w })
+        }
+        row_kind::FILTER if is_filter_back(rows, x, y) => {
+            Reversal::Operands(Sides { left: p, right: w }, Sides { left: p, right: w })
+        }
+        row_kind::STEP if is_step_back(rows, x, y) => Reversal::Always,
+        _ => Reversal::Never,
     }
 }
 
@@ -123,31 +101,24 @@ fn is_back(rows: &[u16], i: u16, j: u16, noted: &mut [usize]) -> bool
     if is_noted(noted, i, j) {
         return true;
     }
-    let seen = reversal_of(rows, row_at(rows, wide(i)), row_at(rows, wide(j)));
-    if !seen.fits {
-        return false;
+    match reversal_of(
+        rows,
+        row_at(rows, usize::from(i)),
+        row_at(rows, usize::from(j)),
+    ) {
+        Reversal::Never => false,
+        Reversal::Always => true,
+        Reversal::Operands(first, second) => {
+            let found = first.left < i
+                && second.left < i
+                && is_back(rows, first.left, first.right, noted)
+                && is_back(rows, second.left, second.right, noted);
+            if found {
+                note(noted, i, j);
+            }
+            found
+        }
     }
-    if seen.ends {
-        return true;
-    }
-    let first = seen.first;
-    let second = seen.second;
-    if i <= first.left {
-        return false;
-    }
-    if i <= second.left {
-        return false;
-    }
-    let first_found = is_back(rows, first.left, first.right, noted);
-    if !first_found {
-        return false;
-    }
-    let second_found = is_back(rows, second.left, second.right, noted);
-    if !second_found {
-        return false;
-    }
-    note(noted, i, j);
-    true
 }
 
 // Whether row right is left[some w], and w is the way back of row left; what is found on the way is noted.
@@ -156,15 +127,14 @@ pub fn is_with_back(rows: &[u16], left: u16, right: u16, noted: &mut [usize]) ->
     ensures { (result ≡ is_with_back (table_of rows.now) left right)
         × Noted (table_of rows.now) noted.new }
 {
-    let y = row_at(rows, wide(right));
-    let f = row_at(rows, wide(y.b));
-    let g = row_at(rows, wide(f.a));
-    let v = row_at(rows, wide(g.b));
-    let filter = and(y.kind == row_kind::FILTER, y.a == left);
-    let inside = and(g.kind == row_kind::INCLUSION, v.kind == row_kind::VOID);
-    let fits = and(filter, and(f.kind == row_kind::NOT, inside));
-    if !fits {
-        return false;
-    }
-    is_back(rows, left, g.a, noted)
+    let y = row_at(rows, usize::from(right));
+    let f = row_at(rows, usize::from(y.b));
+    let g = row_at(rows, usize::from(f.a));
+    let v = row_at(rows, usize::from(g.b));
+    y.kind == row_kind::FILTER
+        && y.a == left
+        && f.kind == row_kind::NOT
+        && g.kind == row_kind::INCLUSION
+        && v.kind == row_kind::VOID
+        && is_back(rows, left, g.a, noted)
 }

@@ -1,15 +1,14 @@
 -- The walk from line to line. Assumes nothing.
 use Prim.Native.Nat.{ℕ, suc, ◌+◌, ◌-◌, ◌≤◌, ◌<◌}
 use mathlib.Core.Path.{◌≡◌, refl, sym, ap, ◌∙◌}
-use mathlib.Core.Bool.{Bool, true, false, cond}
+use mathlib.Core.Bool.{Bool, true, false, cond, not}
 use mathlib.Core.List.{List, [], ◌∷◌}
 use native.Mathlib.Nat.{add-zero}
-use native.Mathlib.Numerals.{add-one}
 use native.Mathlib.Omega.{arith}
 use lib.Dec.{eqb}
 use lib.ListN.{length, get_or, take, drop, length-drop, drop_of_length-le, get_or-map}
-use lib.Seq.{drop-cons, drop-drop, get_or-drop}
-use borrow.Author.Tests.{eq-eqb, ne_eqb}
+use lib.Seq.{drop-drop, get_or-drop}
+use Rattle.std.specs.List.{position_or_len}
 use Rattle.lines.specs.Line.{newline, Line, line, in_first_line, lines}
 use Rattle.names.specs.Names.{NameMet}
 use Rattle.names.specs.code.LineStarts.{first_length, NextMet, StartMet}
@@ -24,32 +23,20 @@ first_longer x (l ∷ ls) = refl
 abbrev one_more : ℕ → Bool → List Line → List Line
 one_more x b ls = cond b (line [] true ∷ ls) (in_first_line x ls)
 
--- the first line ends before a newline, and goes on with any other byte
-module _ (xs : List ℕ) (i : ℕ) (inside : i < length xs) where
-  pub ends_here : get_or xs i 0 ≡ newline → first_length (lines (drop i xs)) ≡ 0
-  unfolding lines first_length
-  ends_here e =
-      ap (λ ys. first_length (lines ys)) (drop-cons xs i 0 inside)
-      ∙ ap (λ b. first_length (one_more (get_or xs i 0) b (lines (drop (suc i) xs))))
-      (eq-eqb (get_or xs i 0) newline e)
-
-  pub goes_on : ¬ (get_or xs i 0 ≡ newline)
-      → first_length (lines (drop i xs)) ≡ suc (first_length (lines (drop (i + 1) xs)))
-  unfolding lines
-  goes_on f =
-      ap (λ ys. first_length (lines ys)) (drop-cons xs i 0 inside)
-      ∙ ap (λ b. first_length (one_more (get_or xs i 0) b (lines (drop (suc i) xs))))
-      (ne_eqb (get_or xs i 0) newline f)
-      ∙ first_longer (get_or xs i 0) (lines (drop (suc i) xs))
-      ∙ ap (λ j. suc (first_length (lines (drop j xs)))) (sym (add-one i))
+-- the first line ends at the first newline, or with the text
+pub first_ends : (xs : List ℕ) → position_or_len (λ x. eqb x newline) xs ≡ first_length (lines xs)
+unfolding lines first_length
+first_ends [] = refl
+first_ends (x ∷ xs) = by_test (eqb x newline) (first_ends xs)
+  where
+    by_test : (b : Bool) → position_or_len (λ x. eqb x newline) xs ≡ first_length (lines xs)
+        → cond (not b) (1 + position_or_len (λ x. eqb x newline) xs) 0 ≡ first_length (one_more x b (lines xs))
+    by_test true e = refl
+    by_test false e = rw (e, first_longer x (lines xs)) (omega arith)
 
 no_lines : (xs : List ℕ) (i : ℕ) → length xs ≤ i → lines (drop i xs) ≡ []
 unfolding lines
 no_lines xs i h = ap lines (drop_of_length-le xs {i = i} h)
-
-pub nothing_left : (xs : List ℕ) (i : ℕ) → length xs ≤ i → first_length (lines (drop i xs)) ≡ 0
-unfolding first_length
-nothing_left xs i h = ap first_length (no_lines xs i h)
 
 -- the first line's bytes are the first of the text, as many as it has
 more_bytes : (x : ℕ) (xs : List ℕ) (b : Bool) (ls : List Line)

@@ -17,14 +17,8 @@ pub struct Name {
 fn line_end(list: &[u8], at: usize) -> usize
     ensures { result ≡ at + first_length (lines (drop at list.now)) }
 {
-    let mut i = at;
-    while i < list.len() {
-        if list[i] == lines::NEWLINE {
-            return i;
-        }
-        i += 1;
-    }
-    i
+    let rest = lines::rest(list, at);
+    at + lines::find(rest, lines::NEWLINE).unwrap_or(rest.len())
 }
 
 // Where the next line starts; the list's length where there is none.
@@ -33,9 +27,10 @@ pub fn next_line(list: &[u8], at: usize) -> usize
 {
     let end = line_end(list, at);
     if end < list.len() {
-        return end + 1;
+        end + 1
+    } else {
+        list.len()
     }
-    list.len()
 }
 
 // Where line k starts, counted from 0; the list's length where there is none.
@@ -43,11 +38,8 @@ fn line_start(list: &[u8], k: usize) -> usize
     ensures { StartMet list.now k result }
 {
     let mut at = 0;
-    let mut i = 0;
-    while i < k {
-        let next = next_line(list, at);
-        at = next;
-        i += 1;
+    for _ in 0..k {
+        at = next_line(list, at);
     }
     at
 }
@@ -58,9 +50,9 @@ pub fn count(list: &[u8]) -> usize
 {
     let mut n = 0;
     let mut at = 0;
+    // From line to line: where the next one starts is known only when this one is read.
     while at < list.len() {
-        let next = next_line(list, at);
-        at = next;
+        at = next_line(list, at);
         n += 1;
     }
     n

@@ -1,32 +1,55 @@
 -- The ways through the code that compares two rows. Assumes nothing.
 use Prim.Native.Nat.{ℕ, suc}
 use mathlib.Core.Path.{◌≡◌, refl, sym, ap, ap₂, subst, ◌∙◌}
-use mathlib.Core.Bool.{true}
+use mathlib.Core.Bool.{true, false, false≢true}
 use mathlib.Core.List.{List}
 use native.Mathlib.Omega.{arith}
 use lib.Dec.{eqb}
 use lib.ListN.{get_or, set, take, replicate}
 use borrow.Author.Tests.{eqb-true}
-use Rattle.terms.specs.Row.{Row}
-use Rattle.terms.specs.code.RowTypes.{row_of}
+use Rattle.std.specs.declared.cmp.Ordering.{Ordering}
+use Rattle.std.specs.declared.cmp.Ordering.TheVariants.{Less, Equal, Greater}
+use Rattle.std.specs.Ordering.{nat_cmp, is_ne, is_eq}
+use Rattle.std.proofs.lemmas.Grind.{common_steps}
+use Rattle.terms.specs.Row.{Row, row_at}
 use Rattle.terms.specs.Terms.{terms, term_at}
 use Rattle.terms.proofs.Noted.{nothing_noted, noted_more}
 use Rattle.ordering.specs.declared.Sort.{Sort}
-use Rattle.ordering.specs.declared.Pair.{Pair}
 use Rattle.ordering.specs.Order.{Order, less, equal, greater, ◌and_then◌, number_order}
 use Rattle.ordering.specs.TermOrder.{row_order, field_order, term_order}
 use Rattle.ordering.specs.OrderCall.{order_value}
-use Rattle.ordering.specs.code.Sorts.{sorts_of, term_kind, field_as, Paired, Noted, Compared}
+use Rattle.ordering.specs.code.Sorts.{order_of, sorts_in, sorts_of, term_kind, field_as, Noted, Compared}
 use Rattle.ordering.proofs.Orders.{numbers_ordered}
 use Rattle.ordering.proofs.TermOrder.{terms_ordered}
 use Rattle.ordering.proofs.Rows.{row_by, row_at_lem}
 
 -- a comparison that doesn't find equal decides
-pub decided : (o u : Order) {r : ℕ} → r ≡ order_value o → ¬ (r ≡ 1) → r ≡ order_value (o and_then u)
-decided less u e n = e
-decided equal u e n = absurd (n e)
-decided greater u e n = e
+pub decided : (o u : Order) (r : Ordering) → order_of r ≡ o → is_ne r ≡ true → order_of r ≡ (o and_then u)
+decided o u Less e n = rw (← e)
+decided o u Equal e n = absurd (false≢true n)
+decided o u Greater e n = rw (← e)
 
+-- where it finds equal, the next one decides
+pub passed : (o u : Order) (r : Ordering) → order_of r ≡ o → is_ne r ≡ false → (o and_then u) ≡ u
+passed o u Less e f = absurd (false≢true (sym f))
+passed o u Equal e f = rw (← e)
+passed o u Greater e f = absurd (false≢true (sym f))
+
+equal_of : (r : Ordering) → is_ne r ≡ false → order_of r ≡ equal
+equal_of Less f = absurd (false≢true (sym f))
+equal_of Equal f = refl
+equal_of Greater f = absurd (false≢true (sym f))
+
+equal_where : (r : Ordering) → is_eq r ≡ true → order_of r ≡ equal
+equal_where Less e = absurd (false≢true e)
+equal_where Equal e = refl
+equal_where Greater e = absurd (false≢true e)
+
+pub numbers_compared : (n m : ℕ) → order_of (nat_cmp n m) ≡ number_order n m
+unfolding number_order
+numbers_compared n m = grind (arith, common_steps)
+
+-- an answer's value is that of equal
 pub found_equal : (o : Order) {r : ℕ} → r ≡ order_value o → r ≡ 1 → o ≡ equal
 found_equal less e f = absurd (omega arith)
 found_equal equal e f = refl
@@ -38,12 +61,12 @@ module _ (rs ss : List Row) where
   none_noted k i j q = nothing_noted k i j q
 
   pub noted_equal : (xs : List ℕ) (i j : ℕ) → Noted rs ss xs → true ≡ eqb (get_or xs i 0) (suc j)
-      → Compared rs ss (term_order (term_at rs i) (term_at ss j)) 1 xs
+      → Compared rs ss (term_order (term_at rs i) (term_at ss j)) Equal xs
   unfolding Noted
   noted_equal xs i j s e =
       let same : term_at rs i ≡ term_at ss j = s i j (eqb-true (get_or xs i 0) (suc j) (sym e)) in
       record {
-        answer = ap order_value (sym (ap (term_order (term_at rs i)) (sym same) ∙ terms_ordered.same (term_at rs i)));
+        answer = sym (ap (term_order (term_at rs i)) (sym same) ∙ terms_ordered.same (term_at rs i));
         noted = s;
       }
 
@@ -55,13 +78,7 @@ module _ (rs ss : List Row) where
       (terms_ordered.equal_same (term_at rs i) (term_at ss j) e)
 
   -- rows i and j, as the code has them
-  module _ (i j : ℕ) (p : Pair) (pair : Paired rs i ss j p) where
-    abbrev x : Row
-    x = row_of p.x
-
-    abbrev y : Row
-    y = row_of p.y
-
+  module _ (i j : ℕ) {x y : Row} (left : x ≡ row_at rs i) (right : y ≡ row_at ss j) where
     abbrev kind : ℕ
     kind = term_kind x.kind
 
@@ -75,61 +92,61 @@ module _ (rs ss : List Row) where
     abbrev fields : Sort → (x y : ℕ) → Order
     fields sort x y = field_order (field_as (terms (take i rs)) sort x) (field_as (terms (take j ss)) sort y)
 
-    abbrev firsts : Order
-    firsts = fields p.sorts.0 x.a y.a
-
-    abbrev seconds : Order
-    seconds = fields p.sorts.1 x.b y.b
-
-    abbrev thirds : Order
-    thirds = fields p.sorts.2 x.c y.c
-
     both_rows : order ≡ row_order (row_by (terms (take i rs)) x) (row_by (terms (take j ss)) y)
     unfolding term_order
     both_rows =
-        ap₂ row_order (row_at_lem rs i ∙ ap (row_by (terms (take i rs))) (sym pair.left))
-        (row_at_lem ss j ∙ ap (row_by (terms (take j ss))) (sym pair.right))
+        ap₂ row_order (row_at_lem rs i ∙ ap (row_by (terms (take i rs))) (sym left))
+        (row_at_lem ss j ∙ ap (row_by (terms (take j ss))) (sym right))
 
-    pub kinds_differ : ¬ (p.kinds ≡ 1) → p.kinds ≡ order_value order
-    unfolding row_order
-    kinds_differ n = decided kinds _ pair.kinds n ∙ ap order_value (sym both_rows)
-
-    -- of one kind
-    module _ (same : p.kinds ≡ 1) where
-      by_sorts : order
-          ≡ (fields (sorts_of kind).0 x.a y.a and_then fields (sorts_of kind).1 x.b y.b
-          and_then fields (sorts_of kind).2 x.c y.c)
+    module _ (r₀ : Ordering) (kinds-is : order_of r₀ ≡ kinds) where
+      pub kinds_differ : is_ne r₀ ≡ true → order_of r₀ ≡ order
       unfolding row_order
-      by_sorts =
-          let one_kind : kind ≡ term_kind y.kind =
-          numbers_ordered.equal_same kind (term_kind y.kind) (found_equal kinds pair.kinds same) in
-          both_rows ∙ rw (← one_kind, numbers_ordered.same kind)
+      kinds_differ n = decided kinds _ r₀ kinds-is n ∙ sym both_rows
 
-      by_fields : order ≡ (firsts and_then seconds and_then thirds)
-      by_fields =
-          by_sorts
-          ∙ ap (λ (s : Sort × Sort × Sort). fields s.0 x.a y.a and_then fields s.1 x.b y.b
-          and_then fields s.2 x.c y.c) (sym pair.fields)
+      -- of one kind, whose fields are of these sorts
+      module _ (same : is_ne r₀ ≡ false) (sorts : List Sort) (sorts-are : sorts_in sorts ≡ sorts_of kind) where
+        abbrev firsts : Order
+        firsts = fields (sorts_in sorts).0 x.a y.a
 
-      pub firsts_differ : {r : ℕ} → r ≡ order_value firsts → ¬ (r ≡ 1) → r ≡ order_value order
-      firsts_differ e n = decided firsts _ e n ∙ ap order_value (sym by_fields)
+        abbrev seconds : Order
+        seconds = fields (sorts_in sorts).1 x.b y.b
 
-      module _ {a : ℕ} (first : a ≡ order_value firsts) (first-equal : a ≡ 1) where
-        after_first : order ≡ (seconds and_then thirds)
-        after_first = by_fields ∙ ap (λ o. o and_then seconds and_then thirds) (found_equal firsts first first-equal)
+        abbrev thirds : Order
+        thirds = fields (sorts_in sorts).2 x.c y.c
 
-        pub seconds_differ : {r : ℕ} → r ≡ order_value seconds → ¬ (r ≡ 1) → r ≡ order_value order
-        seconds_differ e n = decided seconds _ e n ∙ ap order_value (sym after_first)
+        by_sorts : order
+            ≡ (fields (sorts_of kind).0 x.a y.a and_then fields (sorts_of kind).1 x.b y.b
+            and_then fields (sorts_of kind).2 x.c y.c)
+        unfolding row_order
+        by_sorts =
+            let alike : kinds ≡ equal = sym kinds-is ∙ equal_of r₀ same in
+            let one_kind : kind ≡ term_kind y.kind = numbers_ordered.equal_same kind (term_kind y.kind) alike in
+            both_rows ∙ rw (← one_kind, numbers_ordered.same kind)
 
-        module _ {b : ℕ} (second : b ≡ order_value seconds) (second-equal : b ≡ 1) where
-          pub thirds_decide : {r : ℕ} → r ≡ order_value thirds → r ≡ order_value order
-          thirds_decide e =
-              e ∙ ap order_value
-              (sym (after_first ∙ ap (λ o. o and_then thirds) (found_equal seconds second second-equal)))
+        by_fields : order ≡ (firsts and_then seconds and_then thirds)
+        by_fields =
+            by_sorts
+            ∙ ap (λ (s : Sort × Sort × Sort). fields s.0 x.a y.a and_then fields s.1 x.b y.b
+            and_then fields s.2 x.c y.c) (sym sorts-are)
 
-          -- a pair that is found equal
-          pub all_equal : {r : ℕ} → r ≡ order_value thirds → r ≡ 1 → (xs ys : List ℕ) → Noted rs ss xs
-              → ys ≡ set xs i (suc j) → Noted rs ss ys
-          all_equal e third_equal xs ys noted stored =
-              subst (Noted rs ss) (sym stored)
-              (equal_noted xs i j noted (found_equal order (thirds_decide e) third_equal))
+        module _ (r₁ : Ordering) (first : order_of r₁ ≡ firsts) where
+          pub firsts_differ : is_ne r₁ ≡ true → order_of r₁ ≡ order
+          firsts_differ n = decided firsts _ r₁ first n ∙ sym by_fields
+
+          module _ (first-equal : is_ne r₁ ≡ false) (r₂ : Ordering) (second : order_of r₂ ≡ seconds) where
+            after_first : order ≡ (seconds and_then thirds)
+            after_first = by_fields ∙ passed firsts _ r₁ first first-equal
+
+            pub seconds_differ : is_ne r₂ ≡ true → order_of r₂ ≡ order
+            seconds_differ n = decided seconds _ r₂ second n ∙ sym after_first
+
+            module _ (second-equal : is_ne r₂ ≡ false) (r₃ : Ordering) (third : order_of r₃ ≡ thirds) where
+              pub thirds_decide : order_of r₃ ≡ order
+              thirds_decide = third ∙ sym (after_first ∙ passed seconds thirds r₂ second second-equal)
+
+              -- a pair that is found equal
+              pub all_equal : is_eq r₃ ≡ true → (xs ys : List ℕ) → Noted rs ss xs → ys ≡ set xs i (suc j) → Noted rs
+                  ss ys
+              all_equal third-equal xs ys noted stored =
+                  subst (Noted rs ss) (sym stored)
+                  (equal_noted xs i j noted (sym thirds_decide ∙ equal_where r₃ third-equal))

@@ -17,8 +17,6 @@ use Rattle.terms.specs.Terms.{Term, as_path, as_qualifier, no_term, path_in, qua
 use Rattle.terms.specs.Terms.{term_at}
 use Rattle.terms.proofs.ByKind.{Kind, void_kind, root_kind, step_kind, union_kind, composition_kind}
 use Rattle.terms.proofs.ByKind.{filter_kind, true_kind, false_kind, not_kind, and_kind, or_kind, in_kind, kind_of_lem}
-use Rattle.terms.proofs.ByKind.{NoneOf}
-use Rattle.terms.proofs.ByKind.{kinds_in_use}
 use Rattle.terms.proofs.Terms.{term_at_lem, term_take, term_past, path_term, qualifier_term}
 use Rattle.ordering.specs.declared.Sort.{Sort}
 use Rattle.ordering.specs.declared.Sort.TheVariants.{Nothing, Number, Path, Qualifier}
@@ -39,23 +37,27 @@ pub kind_there : (rs : List Row) {r : Row} {n i : ℕ} → r ≡ row_at rs n →
 kind_there rs e f = ap (λ r. r.kind) (row_there rs e f)
 
 -- a kind without fields that are compared
-pub sorts_rest : (k : ℕ) → NoneOf k kinds_in_use → sorts_of k ≡ no_sorts
+pub sorts_rest : (k : ℕ) → ¬ (k ≡ 2) → ¬ (k ≡ 3) → ¬ (k ≡ 4) → ¬ (k ≡ 5) → ¬ (k ≡ 8) → ¬ (k ≡ 9) → ¬ (k ≡ 10)
+    → ¬ (k ≡ 11) → sorts_of k ≡ no_sorts
 unfolding sorts_of sort_of fields_of
-sorts_rest k n = ⊎_elim (λ h. by (kind_of_lem k h) n) (λ (h : max_kind < k). rw get_or-eq_default) (le_or_lt k max_kind)
+sorts_rest k n₂ n₃ n₄ n₅ n₈ n₉ n₁₀ n₁₁ =
+    ⊎_elim (λ h. by (kind_of_lem k h) n₂ n₃ n₄ n₅ n₈ n₉ n₁₀ n₁₁)
+    (λ (h : max_kind < k). rw get_or-eq_default) (le_or_lt k max_kind)
   where
-    by : {j : ℕ} → Kind j → NoneOf j kinds_in_use → sorts_of j ≡ no_sorts
-    by void_kind m = refl
-    by root_kind m = refl
-    by step_kind m = absurd (m.0.0.0.0.0.0.0.1 refl)
-    by union_kind m = absurd (m.0.0.0.0.0.0.1 refl)
-    by composition_kind m = absurd (m.0.0.0.0.0.1 refl)
-    by filter_kind m = absurd (m.0.0.0.0.1 refl)
-    by true_kind m = refl
-    by false_kind m = refl
-    by not_kind m = absurd (m.0.0.0.1 refl)
-    by and_kind m = absurd (m.0.0.1 refl)
-    by or_kind m = absurd (m.0.1 refl)
-    by in_kind m = absurd (m.1 refl)
+    by : {j : ℕ} → Kind j → ¬ (j ≡ 2) → ¬ (j ≡ 3) → ¬ (j ≡ 4) → ¬ (j ≡ 5) → ¬ (j ≡ 8) → ¬ (j ≡ 9) → ¬ (j ≡ 10)
+        → ¬ (j ≡ 11) → sorts_of j ≡ no_sorts
+    by void_kind n₂ n₃ n₄ n₅ n₈ n₉ n₁₀ n₁₁ = refl
+    by root_kind n₂ n₃ n₄ n₅ n₈ n₉ n₁₀ n₁₁ = refl
+    by step_kind n₂ n₃ n₄ n₅ n₈ n₉ n₁₀ n₁₁ = absurd (n₂ refl)
+    by union_kind n₂ n₃ n₄ n₅ n₈ n₉ n₁₀ n₁₁ = absurd (n₃ refl)
+    by composition_kind n₂ n₃ n₄ n₅ n₈ n₉ n₁₀ n₁₁ = absurd (n₄ refl)
+    by filter_kind n₂ n₃ n₄ n₅ n₈ n₉ n₁₀ n₁₁ = absurd (n₅ refl)
+    by true_kind n₂ n₃ n₄ n₅ n₈ n₉ n₁₀ n₁₁ = refl
+    by false_kind n₂ n₃ n₄ n₅ n₈ n₉ n₁₀ n₁₁ = refl
+    by not_kind n₂ n₃ n₄ n₅ n₈ n₉ n₁₀ n₁₁ = absurd (n₈ refl)
+    by and_kind n₂ n₃ n₄ n₅ n₈ n₉ n₁₀ n₁₁ = absurd (n₉ refl)
+    by or_kind n₂ n₃ n₄ n₅ n₈ n₉ n₁₀ n₁₁ = absurd (n₁₀ refl)
+    by in_kind n₂ n₃ n₄ n₅ n₈ n₉ n₁₀ n₁₁ = absurd (n₁₁ refl)
 
 -- the term of a row, field by field
 abbrev pub row_by : List Term → Row → TermRow
@@ -249,11 +251,6 @@ module _ (rs : List Row) (i x : ℕ) where
       by true e = operand_kind Qualifier e
       by false e = ap (λ f. field_kind (operand (qualifier_row f))) (no_qualifier e)
 
--- both tests pass
-both_pass : (a b : Bool) → (a && b) ≡ true → (a ≡ true) × (b ≡ true)
-both_pass true b e = (refl, e)
-both_pass false b e = absurd (false≢true e)
-
 -- one test of two fails
 one_fails : (a b : Bool) → (a && b) ≡ false → (a ≡ false) ⊎ (b ≡ false)
 one_fails true b e = inr e
@@ -261,18 +258,6 @@ one_fails false b e = inl refl
 
 -- the field x of row i of rs and the field y of row j of ss, of one sort
 module _ (rs : List Row) (i x : ℕ) (ss : List Row) (j y : ℕ) where
-  -- what the code's tests say
-  module _ (s : Sort) {f g r : Bool} (ef : f ≡ is_operand rs i s x) (eg : g ≡ is_operand ss j s y) (er : r ≡ (f && g))
-    where
-      tested : r ≡ (is_operand rs i s x && is_operand ss j s y)
-      tested = er ∙ ap₂ ◌&&◌ ef eg
-
-      pub two_operands : r ≡ true → (is_operand rs i s x ≡ true) × (is_operand ss j s y ≡ true)
-      two_operands e = both_pass _ _ (sym tested ∙ e)
-
-      pub not_two : r ≡ false → (is_operand rs i s x && is_operand ss j s y) ≡ false
-      not_two e = sym tested ∙ e
-
   -- two operands are compared as terms
   pub both_operands : (s : Sort) → is_operand rs i s x ≡ true → is_operand ss j s y ≡ true
       → term_order (term_at rs x) (term_at ss y) ≡ field_order (field_as (ts rs i x) s x) (field_as (ts ss j y) s y)

@@ -1,11 +1,14 @@
 -- Steps read from lent numbers, and the steps of two bundles in turn. Assumes nothing.
 use Prim.Native.Nat.{ℕ, ◌+◌, ◌*◌, ◌/◌, ◌<◌, min}
 use mathlib.Core.Path.{◌≡◌, sym, ap, ap₂, ◌∙◌}
+use mathlib.Core.Bool.{true, false}
 use mathlib.Core.List.{List, ◌∷◌, map}
 use native.Mathlib.Numerals.{add-one}
 use native.Mathlib.Omega.{arith}
 use lib.ListN.{length, get_or, drop, drop_of_length-le}
 use lib.Seq.{drop-cons}
+use Rattle.std.specs.declared.cmp.Ordering.{Ordering}
+use Rattle.std.specs.Ordering.{is_ne}
 use Rattle.terms.specs.Row.{Row}
 use Rattle.terms.specs.Terms.{term_at}
 use Rattle.calls.specs.Book.{Step, step, no_step}
@@ -14,9 +17,9 @@ use Rattle.calls.proofs.Tables.{step_lent}
 use Rattle.ordering.specs.Order.{Order, ◌and_then◌, number_order}
 use Rattle.ordering.specs.TermOrder.{term_order}
 use Rattle.ordering.specs.BundleOrder.{term_step, step_order, steps_order}
-use Rattle.ordering.specs.OrderCall.{order_value}
+use Rattle.ordering.specs.code.Sorts.{order_of}
 use Rattle.ordering.proofs.Orders.{Numbers, below, alike, above, numbers}
-use Rattle.ordering.proofs.Compared.{decided, found_equal}
+use Rattle.ordering.proofs.Compared.{decided, passed}
 
 pub step_there : (xs : List ℕ) (k : ℕ) → k < length xs / 5
     → step (get_or xs (5 * k) 0) (get_or xs (5 * k + 1) 0) (get_or xs (5 * k + 2) 0) (get_or xs (5 * k + 3) 0)
@@ -37,25 +40,21 @@ module _ (rs ss : List Row) (p q : Step) where
   abbrev rights : Order
   rights = term_order (term_at rs p.right) (term_at ss q.right)
 
-  pub rules_differ : {r : ℕ} → r ≡ order_value rules → ¬ (r ≡ 1)
-      → r ≡ order_value (step_order (term_step rs p) (term_step ss q))
-  unfolding step_order term_step
-  rules_differ e n = decided rules _ e n
-
-  module _ {a : ℕ} (rule : a ≡ order_value rules) (rule-equal : a ≡ 1) where
-    pub lefts_differ : {r : ℕ} → r ≡ order_value lefts → ¬ (r ≡ 1)
-        → r ≡ order_value (step_order (term_step rs p) (term_step ss q))
+  module _ (r₀ : Ordering) (rule : order_of r₀ ≡ rules) where
+    pub rules_differ : is_ne r₀ ≡ true → order_of r₀ ≡ step_order (term_step rs p) (term_step ss q)
     unfolding step_order term_step
-    lefts_differ e n =
-        decided lefts _ e n
-        ∙ ap (λ o. order_value (o and_then lefts and_then rights)) (sym (found_equal rules rule rule-equal))
+    rules_differ n = decided rules _ r₀ rule n
 
-    pub rights_decide : {b : ℕ} → b ≡ order_value lefts → b ≡ 1 → {r : ℕ} → r ≡ order_value rights
-        → r ≡ order_value (step_order (term_step rs p) (term_step ss q))
-    unfolding step_order term_step
-    rights_decide left left-equal e =
-        e ∙ ap₂ (λ o u. order_value (o and_then u and_then rights)) (sym (found_equal rules rule rule-equal))
-        (sym (found_equal lefts left left-equal))
+    module _ (rule-equal : is_ne r₀ ≡ false) (r₁ : Ordering) (left : order_of r₁ ≡ lefts) where
+      pub lefts_differ : is_ne r₁ ≡ true → order_of r₁ ≡ step_order (term_step rs p) (term_step ss q)
+      unfolding step_order term_step
+      lefts_differ n = decided lefts _ r₁ left n ∙ sym (passed rules (lefts and_then rights) r₀ rule rule-equal)
+
+      pub rights_decide : is_ne r₁ ≡ false → (r : Ordering) → order_of r ≡ rights
+          → order_of r ≡ step_order (term_step rs p) (term_step ss q)
+      unfolding step_order term_step
+      rights_decide left-equal r e =
+          e ∙ sym (passed rules (lefts and_then rights) r₀ rule rule-equal ∙ passed lefts rights r₁ left left-equal)
 
 -- the steps from k on
 module _ (rs ss : List Row) (ps qs : List Step) where
@@ -72,13 +71,13 @@ module _ (rs ss : List Row) (ps qs : List Step) where
       (drop-cons ps k no_step h ∙ ap (λ n. get_or ps k no_step ∷ drop n ps) (sym (add-one k)))
       (drop-cons qs k no_step g ∙ ap (λ n. get_or qs k no_step ∷ drop n qs) (sym (add-one k)))
 
-  pub step_decides : (k : ℕ) → k < length ps → k < length qs → {r : ℕ} → r ≡ order_value (at k) → ¬ (r ≡ 1)
-      → r ≡ order_value (from k)
-  step_decides k h g e n = decided (at k) _ e n ∙ ap order_value (sym (from_step k h g))
+  pub step_decides : (k : ℕ) → k < length ps → k < length qs → (r : Ordering) → order_of r ≡ at k → is_ne r ≡ true
+      → order_of r ≡ from k
+  step_decides k h g r e n = decided (at k) _ r e n ∙ sym (from_step k h g)
 
-  pub step_passes : (k : ℕ) → k < length ps → k < length qs → {r : ℕ} → r ≡ order_value (at k) → r ≡ 1
+  pub step_passes : (k : ℕ) → k < length ps → k < length qs → (r : Ordering) → order_of r ≡ at k → is_ne r ≡ false
       → from k ≡ from (k + 1)
-  step_passes k h g e n = from_step k h g ∙ ap (λ o. o and_then from (k + 1)) (found_equal (at k) e n)
+  step_passes k h g r e n = from_step k h g ∙ passed (at k) (from (k + 1)) r e n
 
   -- where one list is at its end, the shorter is less
   pub ends : (k : ℕ) → k ≡ min (length ps) (length qs) → number_order (length ps) (length qs) ≡ from k

@@ -1,29 +1,22 @@
 // The order of terms and of bundles, on the lent rows and steps of two sessions.
 #![tactic(auto)]
 
-ghost use Rattle.std.specs.Prelude.{◌≡◌, cond, get_or, take};
+ghost use Rattle.std.specs.Prelude.{◌≡◌, ◌/◌, ◌<◌, cond, get_or, length, take};
 ghost use Rattle.terms.specs.Row.{row_at, table_of};
 ghost use Rattle.terms.specs.Terms.{terms, term_at};
 ghost use Rattle.calls.specs.Book.{no_step, book};
 ghost use Rattle.calls.specs.code.Tables.{steps_of};
 ghost use Rattle.calls.specs.code.Answers.{step_of};
-ghost use Rattle.ordering.specs.Order.{number_order};
 ghost use Rattle.ordering.specs.TermOrder.{field_order, term_order};
 ghost use Rattle.ordering.specs.BundleOrder.{term_step, step_order};
 ghost use Rattle.ordering.specs.OrderCall.{order_value, order_answer, bundle_order_answer, order_answer_of};
 ghost use Rattle.ordering.specs.code.Sorts.{sorts_in, sorts_of, term_kind, field_as, is_operand, number_as};
-ghost use Rattle.ordering.specs.code.Sorts.{Paired, Noted, Compared};
+ghost use Rattle.ordering.specs.code.Sorts.{order_of, Noted, Compared};
 
 use calls::Step;
-use common::{row_kind, wide};
-use terms::{Row, is_noted, note, row_at};
-
-// The value of an answer.
-const LESS: u16 = 0;
-
-const EQUAL: u16 = 1;
-
-const GREATER: u16 = 2;
+use common::row_kind;
+use std::cmp::Ordering;
+use terms::{is_noted, note, row_at};
 
 // The answer of an order call.
 #[derive(Clone, Copy)]
@@ -33,7 +26,7 @@ pub enum OrderAnswer {
 }
 
 // What a field of a row is.
-#[derive(Clone, Copy)]
+#[derive(Clone, Copy, PartialEq, Eq, Debug)]
 enum Sort {
     Nothing,
     Number,
@@ -41,44 +34,32 @@ enum Sort {
     Qualifier,
 }
 
-// What the fields a, b and c of a row are.
-#[derive(Drop)]
-struct Sorts(Sort, Sort, Sort);
-
-// Two rows that are compared, the order of their kinds, and what the fields of the first are.
-#[derive(Drop)]
-struct Pair {
-    kinds: u16,
-    x: Row,
-    y: Row,
-    sorts: Sorts,
-}
-
-fn order_numbers(x: usize, y: usize) -> u16
-    ensures { result ≡ order_value (number_order x y) }
+// The value of an answer.
+fn value_of(order: Ordering) -> u16
+    ensures { result ≡ order_value (order_of order) }
 {
-    if x < y {
-        return LESS;
+    match order {
+        Ordering::Less => 0,
+        Ordering::Equal => 1,
+        Ordering::Greater => 2,
     }
-    if y < x {
-        return GREATER;
-    }
-    EQUAL
 }
 
-fn sorts_of(kind: u16) -> Sorts
+// What the fields a, b and c of a row of a kind are.
+fn sorts_of(kind: u16) -> [Sort; 3]
     ensures { sorts_in result ≡ sorts_of kind }
 {
     match kind {
-        row_kind::STEP => Sorts(Sort::Number, Sort::Number, Sort::Number),
-        row_kind::UNION => Sorts(Sort::Path, Sort::Path, Sort::Nothing),
-        row_kind::COMPOSITION => Sorts(Sort::Path, Sort::Path, Sort::Nothing),
-        row_kind::FILTER => Sorts(Sort::Path, Sort::Qualifier, Sort::Nothing),
-        row_kind::NOT => Sorts(Sort::Qualifier, Sort::Nothing, Sort::Nothing),
-        row_kind::AND => Sorts(Sort::Qualifier, Sort::Qualifier, Sort::Nothing),
-        row_kind::OR => Sorts(Sort::Qualifier, Sort::Qualifier, Sort::Nothing),
-        row_kind::INCLUSION => Sorts(Sort::Path, Sort::Path, Sort::Nothing),
-        _ => Sorts(Sort::Nothing, Sort::Nothing, Sort::Nothing),
+        row_kind::STEP => [Sort::Number, Sort::Number, Sort::Number],
+        row_kind::UNION | row_kind::COMPOSITION | row_kind::INCLUSION => [
+            Sort::Path,
+            Sort::Path,
+            Sort::Nothing,
+        ],
+        row_kind::FILTER => [Sort::Path, Sort::Qualifier, Sort::Nothing],
+        row_kind::NOT => [Sort::Qualifier, Sort::Nothing, Sort::Nothing],
+        row_kind::AND | row_kind::OR => [Sort::Qualifier, Sort::Qualifier, Sort::Nothing],
+        _ => [Sort::Nothing, Sort::Nothing, Sort::Nothing],
     }
 }
 
@@ -97,14 +78,11 @@ fn term_kind(kind: u16) -> u16
 fn is_operand(rows: &[u16], i: u16, sort: Sort, x: u16) -> bool
     ensures { result ≡ is_operand (table_of rows.now) i sort x }
 {
-    let kind = row_at(rows, wide(x)).kind;
-    let path = kind <= terms::LAST_PATH;
-    let qualifier = common::and(row_kind::TRUE <= kind, kind <= terms::MAX_KIND);
+    let kind = row_at(rows, usize::from(x)).kind;
     match sort {
-        Sort::Nothing => false,
-        Sort::Number => false,
-        Sort::Path => common::and(x < i, path),
-        Sort::Qualifier => common::and(x < i, qualifier),
+        Sort::Nothing | Sort::Number => false,
+        Sort::Path => x < i && kind <= terms::LAST_PATH,
+        Sort::Qualifier => x < i && row_kind::TRUE <= kind && kind <= terms::MAX_KIND,
     }
 }
 
@@ -114,9 +92,10 @@ fn kind_or(rows: &[u16], i: u16, sort: Sort, x: u16, none: u16) -> u16
         (row_at (table_of rows.now) x).kind none }
 {
     if is_operand(rows, i, sort, x) {
-        return row_at(rows, wide(x)).kind;
+        row_at(rows, usize::from(x)).kind
+    } else {
+        none
     }
-    none
 }
 
 // What stands for the field x of row i where a field is compared as a number.
@@ -131,19 +110,6 @@ fn number_of(rows: &[u16], i: u16, sort: Sort, x: u16) -> u16
     }
 }
 
-// The rows i and j, the order of their kinds, and what the fields of the left one are.
-fn pair_of(left: &[u16], i: u16, right: &[u16], j: u16) -> Pair
-    ensures { Paired (table_of left.now) i (table_of right.now) j result }
-{
-    let x = row_at(left, wide(i));
-    let y = row_at(right, wide(j));
-    let kind = term_kind(x.kind);
-    let other = term_kind(y.kind);
-    let kinds = order_numbers(wide(kind), wide(other));
-    let sorts = sorts_of(kind);
-    Pair { kinds, x, y, sorts }
-}
-
 // The fields x of row i and y of row j, of one sort.
 #[cycle(order_fields_order_rows)]
 fn order_fields(
@@ -155,55 +121,49 @@ fn order_fields(
     y: u16,
     sort: Sort,
     noted: &mut [usize],
-) -> u16
+) -> Ordering
     requires { Noted (table_of left.now) (table_of right.now) noted.old }
     ensures { Compared (table_of left.now) (table_of right.now)
         (field_order (field_as (terms (take i (table_of left.now))) sort x)
         (field_as (terms (take j (table_of right.now))) sort y)) result noted.new }
 {
-    let first = is_operand(left, i, sort, x);
-    let second = is_operand(right, j, sort, y);
-    if common::and(first, second) {
+    if is_operand(left, i, sort, x) && is_operand(right, j, sort, y) {
         return order_rows(left, x, right, y, noted);
     }
-    let n = number_of(left, i, sort, x);
-    let m = number_of(right, j, sort, y);
-    order_numbers(wide(n), wide(m))
+    number_of(left, i, sort, x).cmp(&number_of(right, j, sort, y))
 }
 
 // The terms of row i and row j: first by kind, then by fields from the left. Operands are earlier rows; a pair that is
 // found equal is noted, so that it is compared once.
 #[cycle(order_fields_order_rows)]
-fn order_rows(left: &[u16], i: u16, right: &[u16], j: u16, noted: &mut [usize]) -> u16
+fn order_rows(left: &[u16], i: u16, right: &[u16], j: u16, noted: &mut [usize]) -> Ordering
     requires { Noted (table_of left.now) (table_of right.now) noted.old }
     ensures { Compared (table_of left.now) (table_of right.now)
         (term_order (term_at (table_of left.now) i) (term_at (table_of right.now) j)) result
         noted.new }
 {
     if is_noted(noted, i, j) {
-        return EQUAL;
+        return Ordering::Equal;
     }
-    let pair = pair_of(left, i, right, j);
-    let kinds = pair.kinds;
-    if kinds != EQUAL {
+    let x = row_at(left, usize::from(i));
+    let y = row_at(right, usize::from(j));
+    let kind = term_kind(x.kind);
+    let other = term_kind(y.kind);
+    let kinds = kind.cmp(&other);
+    if kinds.is_ne() {
         return kinds;
     }
-    let x = pair.x;
-    let y = pair.y;
-    let sorts = pair.sorts;
-    let sort_a = sorts.0;
-    let sort_b = sorts.1;
-    let sort_c = sorts.2;
-    let first = order_fields(left, i, x.a, right, j, y.a, sort_a, noted);
-    if first != EQUAL {
+    let [a, b, c] = sorts_of(kind);
+    let first = order_fields(left, i, x.a, right, j, y.a, a, noted);
+    if first.is_ne() {
         return first;
     }
-    let second = order_fields(left, i, x.b, right, j, y.b, sort_b, noted);
-    if second != EQUAL {
+    let second = order_fields(left, i, x.b, right, j, y.b, b, noted);
+    if second.is_ne() {
         return second;
     }
-    let third = order_fields(left, i, x.c, right, j, y.c, sort_c, noted);
-    if third == EQUAL {
+    let third = order_fields(left, i, x.c, right, j, y.c, c, noted);
+    if third.is_eq() {
         note(noted, i, j);
     }
     third
@@ -214,58 +174,44 @@ pub fn order_on(left: &[u16], i: u16, right: &[u16], j: u16) -> OrderAnswer
     ensures { order_answer_of result
         ≡ order_answer (table_of left.now) i (table_of right.now) j }
 {
-    if terms::row_count(left) <= wide(i) {
+    if terms::row_count(left) <= usize::from(i) {
         return OrderAnswer::BadSide(1);
     }
-    if terms::row_count(right) <= wide(j) {
+    if terms::row_count(right) <= usize::from(j) {
         return OrderAnswer::BadSide(2);
     }
     let mut noted = [0usize; terms::MAX_ROWS];
-    let order = order_rows(left, i, right, j, &mut noted);
-    OrderAnswer::Compared(order)
+    OrderAnswer::Compared(value_of(order_rows(left, i, right, j, &mut noted)))
 }
 
-// Step k, counted from 0; zeros past the last one.
+// Step k, counted from 0.
 fn step_at(steps: &[u16], k: usize) -> Step
+    requires { k < length steps.now / 5 }
     ensures { step_of result ≡ get_or (steps_of steps.now) k no_step }
 {
-    if k < steps.len() / calls::STEP_WIDTH {
-        let at = calls::STEP_WIDTH * k;
-        let rule = steps[at];
-        let left = steps[at + 1];
-        let right = steps[at + 2];
-        let first = steps[at + 3];
-        let second = steps[at + 4];
-        return Step {
-            rule,
-            left,
-            right,
-            first,
-            second,
-        };
-    }
+    let at = calls::STEP_WIDTH * k;
     Step {
-        rule: 0,
-        left: 0,
-        right: 0,
-        first: 0,
-        second: 0,
+        rule: steps[at],
+        left: steps[at + 1],
+        right: steps[at + 2],
+        first: steps[at + 3],
+        second: steps[at + 4],
     }
 }
 
 // The steps p and q: rule first, then left and right.
-fn order_steps(left: &[u16], p: Step, right: &[u16], q: Step, noted: &mut [usize]) -> u16
+fn order_steps(left: &[u16], p: Step, right: &[u16], q: Step, noted: &mut [usize]) -> Ordering
     requires { Noted (table_of left.now) (table_of right.now) noted.old }
     ensures { Compared (table_of left.now) (table_of right.now)
         (step_order (term_step (table_of left.now) (step_of p))
         (term_step (table_of right.now) (step_of q))) result noted.new }
 {
-    let rules = order_numbers(wide(p.rule), wide(q.rule));
-    if rules != EQUAL {
+    let rules = p.rule.cmp(&q.rule);
+    if rules.is_ne() {
         return rules;
     }
     let lefts = order_rows(left, p.left, right, q.left, noted);
-    if lefts != EQUAL {
+    if lefts.is_ne() {
         return lefts;
     }
     order_rows(left, p.right, right, q.right, noted)
@@ -283,21 +229,21 @@ pub fn bundle_order_on<'a>(
         (book (table_of right.now) (steps_of right_steps.now)) }
 {
     let mut noted = [0usize; terms::MAX_ROWS];
-    let n = left_steps.len() / calls::STEP_WIDTH;
-    let m = right_steps.len() / calls::STEP_WIDTH;
-    let both = calls::clamp(n, m);
-    let mut k = 0;
-    while k < both {
-        let p = step_at(left_steps, k);
-        let q = step_at(right_steps, k);
-        let order = order_steps(left, p, right, q, &mut noted);
-        if order != EQUAL {
-            return OrderAnswer::Compared(order);
+    let n = calls::step_count(left_steps);
+    let m = calls::step_count(right_steps);
+    for k in 0..n.min(m) {
+        let order = order_steps(
+            left,
+            step_at(left_steps, k),
+            right,
+            step_at(right_steps, k),
+            &mut noted,
+        );
+        if order.is_ne() {
+            return OrderAnswer::Compared(value_of(order));
         }
-        k += 1;
     }
-    let order = order_numbers(n, m);
-    OrderAnswer::Compared(order)
+    OrderAnswer::Compared(value_of(n.cmp(&m)))
 }
 
 impl OrderAnswer {
@@ -314,8 +260,8 @@ impl OrderAnswer {
         ensures { result ≡ (order_answer_of self).value }
     {
         match self {
-            OrderAnswer::Compared(order) => order as u32,
-            OrderAnswer::BadSide(place) => place as u32,
+            OrderAnswer::Compared(order) => u32::from(order),
+            OrderAnswer::BadSide(place) => u32::from(place),
         }
     }
 }

@@ -2,21 +2,21 @@
 // answers of the calls that set one or return to one.
 #![tactic(auto)]
 
-ghost use Rattle.std.specs.Prelude.{◌≡◌, ◌*◌, ◌<◌, length, get_or};
+ghost use Rattle.std.specs.Prelude.{◌≡◌, ◌*◌, ◌<◌, map, length, get_or};
 ghost use Rattle.std.proofs.lemmas.List.Edits.{sets};
 ghost use Rattle.calls.specs.Book.{max_points};
 ghost use Rattle.calls.specs.PointCall.{place_of, point_answer, return_answer};
-ghost use Rattle.calls.specs.code.Points.{point_answer_of, point_width, no_counts, counts_of};
+ghost use Rattle.calls.specs.code.Points.{point_answer_of, point_width, no_counts, counts_in, counts_of, FoundIs};
 ghost use Rattle.calls.specs.code.Points.{counts_names, counts_numbers};
 ghost use Rattle.calls.specs.code.Points.{point_named, first_point_numbers, first_points, cleared};
 
-use calls::{MAX_POINTS, POINT_WIDTH, PointAnswer, PointCounts, clamp, front};
+use calls::{MAX_POINTS, POINT_WIDTH, PointAnswer, PointCounts, front};
 
 // The numbers of the first k points.
 fn first_points(points: &[u16], k: usize) -> &[u16]
     ensures { result.now ≡ first_point_numbers k points.now }
 {
-    front(points, POINT_WIDTH * clamp(k, MAX_POINTS))
+    front(points, POINT_WIDTH * k.min(MAX_POINTS))
 }
 
 fn point_count(points: &[u16]) -> usize
@@ -25,95 +25,85 @@ fn point_count(points: &[u16]) -> usize
     points.len() / POINT_WIDTH
 }
 
-// The place of the name among those of the points, counted from 0; how many there are where it is none of them.
-fn place_in(points: &[u16], name: u16) -> usize
-    ensures { result ≡ place_of (counts_names (counts_of points.now)) name }
+// The points, each as its numbers.
+fn whole_points(points: &[u16]) -> &[[u16; POINT_WIDTH]]
+    ensures { map counts_in result.now ≡ counts_of points.now }
 {
-    let count = point_count(points);
-    let mut i = 0;
-    while i < count {
-        let held = points[POINT_WIDTH * i];
-        if held == name {
-            return i;
-        }
-        i += 1;
-    }
-    count
+    points.as_chunks().0
 }
 
-// The same among the first k points.
+// The place of the name among those of the points, counted from 0.
+fn place_in(points: &[u16], name: u16) -> Option<usize>
+    ensures { FoundIs result (place_of (counts_names (counts_of points.now)) name) (length (counts_of points.now)) }
+{
+    whole_points(points)
+        .iter()
+        .position(|point| point[0] == name)
+}
+
+// The same among the first k points; how many these are where it is none of them.
+// Not an Option, which would be no plainer: a return asks for a place only after `judge_return` has found it.
 pub fn point_place(points: &[u16], k: usize, name: u16) -> usize
     ensures { result ≡ place_of (counts_names (first_points k points.now)) name }
 {
     let held = first_points(points, k);
-    place_in(held, name)
+    place_in(held, name).unwrap_or(point_count(held))
 }
 
 // The point at a place, counted from 0; zeros where there is none.
 fn point_at(points: &[u16], i: usize) -> PointCounts
     ensures { result ≡ get_or (counts_of points.now) i no_counts }
 {
-    if i < point_count(points) {
-        let at = POINT_WIDTH * i;
-        let name = points[at];
-        let rows = points[at + 1];
-        let steps = points[at + 2];
-        return PointCounts { name, rows, steps };
-    }
-    PointCounts {
-        name: 0,
-        rows: 0,
-        steps: 0,
+    match whole_points(points).get(i) {
+        Some(&[name, rows, steps]) => PointCounts { name, rows, steps },
+        None => PointCounts {
+            name: 0,
+            rows: 0,
+            steps: 0,
+        },
     }
 }
 
 // The point of that name among the first k points; zeros where there is none.
+// Not an Option, which would be no plainer: a return to no point is judged as one to no rows and steps.
 pub fn point_named(points: &[u16], k: usize, name: u16) -> PointCounts
     ensures { result ≡ point_named (first_points k points.now) name }
 {
-    let held = first_points(points, k);
-    let place = place_in(held, name);
-    point_at(held, place)
+    point_at(first_points(points, k), point_place(points, k, name))
 }
 
 // The answer of a call that sets a point of that name after the first k points.
+#[tactic(auto, unfolding(calls::specs::PointCall::point_answer), using(calls::proofs::PointTables::names_count))]
 pub fn judge_point(points: &[u16], k: usize, name: u16) -> PointAnswer
     ensures { point_answer_of result ≡ point_answer (counts_names (first_points k points.now)) name }
 {
     let held = first_points(points, k);
-    let count = point_count(held);
-    let place = place_in(held, name);
-    if common::or(name == 0, place < count) {
+    if name == 0 || place_in(held, name).is_some() {
         return PointAnswer::BadPoint(name);
     }
-    if MAX_POINTS <= count {
+    if MAX_POINTS <= point_count(held) {
         return PointAnswer::PointsFull;
     }
     PointAnswer::Accepted
 }
 
 // The answer of a call that returns to the point of that name among the first k points.
+#[tactic(auto, unfolding(calls::specs::PointCall::return_answer), using(calls::proofs::PointTables::names_count))]
 pub fn judge_return(points: &[u16], k: usize, name: u16) -> PointAnswer
     ensures { point_answer_of result ≡ return_answer (counts_names (first_points k points.now)) name }
 {
-    let held = first_points(points, k);
-    let count = point_count(held);
-    let place = place_in(held, name);
-    if count <= place {
-        return PointAnswer::BadPoint(name);
+    match place_in(first_points(points, k), name) {
+        Some(_) => PointAnswer::Accepted,
+        None => PointAnswer::BadPoint(name),
     }
-    PointAnswer::Accepted
 }
 
 // The numbers from place `from` on become 0.
 pub fn clear(numbers: &mut [u16], from: usize)
     ensures { numbers.new ≡ cleared from numbers.old }
 {
-    let mut i = from;
-    while i < numbers.len() {
-        numbers[i] = 0;
-        i += 1;
-    }
+    let from = from.min(numbers.len());
+    numbers[from..].fill(0);
 }
 
 // Point k, counted from 0, becomes `point`.
@@ -122,7 +112,5 @@ pub fn put_point(points: &mut [u16], k: usize, point: PointCounts)
     ensures { points.new ≡ sets points.old (point_width * k) (counts_numbers point) }
 {
     let at = POINT_WIDTH * k;
-    points[at] = point.name;
-    points[at + 1] = point.rows;
-    points[at + 2] = point.steps;
+    points[at..at + POINT_WIDTH].copy_from_slice(&[point.name, point.rows, point.steps]);
 }

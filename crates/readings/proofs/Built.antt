@@ -1,11 +1,13 @@
 -- Rows put one by one. Assumes nothing.
 use Prim.Native.Nat.{ℕ, suc, ◌+◌, ◌*◌, ◌-◌, ◌<◌, ◌≤◌, max}
 use mathlib.Core.Path.{◌≡◌, refl, sym, ap, ◌∙◌, subst}
-use mathlib.Core.Bool.{Bool, true, false, cond, ◌&&◌}
+use mathlib.Core.Bool.{Bool, true, false, cond}
 use mathlib.Core.List.{List, [], ◌∷◌, ◌++◌}
 use mathlib.Core.Option.{Option, none, some}
+use Rattle.std.specs.Prelude.{Option as Maybe, Some, None}
+use Rattle.std.specs.Option.{option_or}
 use native.Mathlib.Omega.{arith}
-use lib.Dec.{T, eqb, ltb, lt→ltb, ltb→lt}
+use lib.Dec.{eqb, ltb, lt→ltb, ltb→lt}
 use lib.ListN.{length, take, drop, length-append}
 use lib.Seq.{sets, length-sets, length-take-le, drop-drop, drop-set-lt}
 use Rattle.terms.specs.Row.{Row, row, table_of, max_rows, find}
@@ -14,11 +16,12 @@ use Rattle.terms.proofs.Find.{find_le}
 use Rattle.grammar.specs.Bytes.{Bytes}
 use Rattle.grammar.specs.Denotes.{Put, put, Named, unlisted}
 use Rattle.grammar.proofs.Basics.{so, is_true, never}
-use Rattle.readings.specs.declared.Reading.{Reading}
 use Rattle.heads.specs.declared.Head.{Head}
-use Rattle.readings.specs.code.Build.{row_width, row_numbers, capped, moved_to, failed_at, row_taken, no_room, Sized}
-use Rattle.readings.specs.code.Build.{Holds, Beyond, SameText, PutMet, missing_of, first_of, Made, Grown}
-use Rattle.readings.specs.code.Build.{HeadPut, unlisted_at, joined, over, leaf}
+use Rattle.heads.specs.code.Head.{place_of}
+use Rattle.readings.specs.declared.Reading.{Reading}
+use Rattle.readings.specs.code.Build.{Standing, stands, row_width, row_numbers, capped, moved_to, row_taken}
+use Rattle.readings.specs.code.Build.{no_room, Sized, Holds, Beyond, SameText, PutMet, first_of, Made, Grown}
+use Rattle.readings.specs.code.Build.{HeadPut, joined, over, leaf}
 
 not_less : (m n : ℕ) → n ≤ m → ltb m n ≡ false
 not_less m n h = go (ltb m n) refl
@@ -55,9 +58,8 @@ put_at rs r = refl
 pub refuse : {A : Type 0} (b : Bool) → b ≡ true → b ≡ false → A
 refuse b e f = absurd (never (sym f ∙ e))
 
-unchanged : (x y : Reading) → y.ok ≡ x.ok → y.at ≡ x.at → y.listed ≡ x.listed → y.missing ≡ x.missing
-    → SameText x y
-unchanged x y a b c d = record { ok = a; at = b; listed = c; missing = d }
+unchanged : (x y : Standing) → y.ok ≡ x.ok → y.at ≡ x.at → y.missing ≡ x.missing → SameText x y
+unchanged x y a b c = record { ok = a; at = b; missing = c }
 
 -- a table holds as many rows as are counted
 pub table_count : (xs : List ℕ) (count : ℕ) → Sized xs count → length (table_of (take (row_width * count) xs)) ≡ count
@@ -95,7 +97,7 @@ row_beyond xs ys n r e =
     }
 
 -- put
-module _ (r : Row) (nesting : ℕ) (xs : List ℕ) (x : Reading) (z : Sized xs x.count) where
+module _ (r : Row) (nesting : ℕ) (xs : List ℕ) (x : Standing) (z : Sized xs x.count) where
   counted : length (table_of (take (row_width * x.count) xs)) ≡ x.count
   counted = table_count xs x.count z
 
@@ -112,7 +114,7 @@ module _ (r : Row) (nesting : ℕ) (xs : List ℕ) (x : Reading) (z : Sized xs x
           keeps = λ f. absurd (never f);
           beyond = λ f. absurd (never f);
         };
-        text = unchanged x (no_room x nesting) refl refl refl refl;
+        text = unchanged x (no_room x nesting) refl refl refl;
         nest = refl;
       }
 
@@ -133,7 +135,7 @@ module _ (r : Row) (nesting : ℕ) (xs : List ℕ) (x : Reading) (z : Sized xs x
             keeps = λ g. g;
             beyond = λ g. none_put xs x.count;
           };
-          text = unchanged x (row_taken x found x.count nesting) refl refl refl refl;
+          text = unchanged x (row_taken x found x.count nesting) refl refl refl;
           nest = refl;
         }
 
@@ -154,7 +156,7 @@ module _ (r : Row) (nesting : ℕ) (xs : List ℕ) (x : Reading) (z : Sized xs x
               keeps = λ g. absurd (never g);
               beyond = λ g. absurd (never g);
             };
-            text = unchanged x (no_room x nesting) refl refl refl refl;
+            text = unchanged x (no_room x nesting) refl refl refl;
             nest = refl;
           }
 
@@ -179,14 +181,9 @@ module _ (r : Row) (nesting : ℕ) (xs : List ℕ) (x : Reading) (z : Sized xs x
               keeps = λ g. g;
               beyond = λ g. row_beyond xs ys n r k;
             };
-            text = unchanged x (row_taken x n (n + 1) nesting) refl refl refl refl;
+            text = unchanged x (row_taken x n (n + 1) nesting) refl refl refl;
             nest = refl;
           }
-
--- a row put is a term made, with no name
-same_missing : (x y : Reading) → SameText x y → missing_of y ≡ missing_of x
-unfolding missing_of
-same_missing x y t = rw (t.listed, t.missing) refl
 
 first_none : (m : Option ℕ) → first_of m none ≡ m
 unfolding first_of
@@ -212,9 +209,8 @@ unlisted_append num (x ∷ xs) ys = go (eqb (num x.name) 0) (unlisted_append num
     go false e = e
 
 -- what was made does not depend on the places before and after it
-pub made_from : {f : List Row → Put} {n : ℕ} {m : Option ℕ} {xs ys : List ℕ} (x : Reading) (to : ℕ) (y : Reading)
+pub made_from : {f : List Row → Put} {n : ℕ} {m : Option ℕ} {xs ys : List ℕ} (x : Standing) (to : ℕ) (y : Standing)
     → Made f n m xs (moved_to x to) ys y → Made f n m xs x ys y
-unfolding missing_of
 made_from x to y a =
     record {
       puts = record { held = a.puts.held; at = a.puts.at; keeps = a.puts.keeps; beyond = a.puts.beyond };
@@ -222,9 +218,8 @@ made_from x to y a =
       names = a.names;
     }
 
-pub made_to : {f : List Row → Put} {n : ℕ} {m : Option ℕ} {xs ys : List ℕ} (x y : Reading) (to : ℕ)
+pub made_to : {f : List Row → Put} {n : ℕ} {m : Option ℕ} {xs ys : List ℕ} (x y : Standing) (to : ℕ)
     → Made f n m xs x ys y → Made f n m xs x ys (moved_to y to)
-unfolding missing_of
 made_to x y to a =
     record {
       puts = record { held = a.puts.held; at = a.puts.at; keeps = a.puts.keeps; beyond = a.puts.beyond };
@@ -232,13 +227,14 @@ made_to x y to a =
       names = a.names;
     }
 
-pub made_row : (r : Row) (n : ℕ) (xs : List ℕ) (x : Reading) (ys : List ℕ) (y : Reading)
+-- a row put is a term made, with no name
+pub made_row : (r : Row) (n : ℕ) (xs : List ℕ) (x : Standing) (ys : List ℕ) (y : Standing)
     → PutMet r (capped n) xs x ys y → Made (λ rs. put rs r) n none xs x ys y
 made_row r n xs x ys y m =
-    record { puts = m.puts; nest = m.nest; names = same_missing x y m.text ∙ sym (first_none (missing_of x)) }
+    record { puts = m.puts; nest = m.nest; names = m.text.missing ∙ sym (first_none x.missing) }
 
 -- two terms, one after the other, and a row over both
-module _ (kind : ℕ) (f g : List Row → Put) (n k : ℕ) (m p : Option ℕ) (ws xs ys zs : List ℕ) (w x y z : Reading)
+module _ (kind : ℕ) (f g : List Row → Put) (n k : ℕ) (m p : Option ℕ) (ws xs ys zs : List ℕ) (w x y z : Standing)
     (a : Made f n m ws w xs x) (b : Made g k p xs x ys y)
     (c : PutMet (row kind x.row y.row 0) (capped (suc (max x.nesting y.nesting))) ys y zs z) where
   joined_more : (rs : List Row) → Holds rs ws w.count w.fits → y.fits ≡ false
@@ -271,7 +267,7 @@ module _ (kind : ℕ) (f g : List Row → Put) (n k : ℕ) (m p : Option ℕ) (w
               (c.puts.beyond e);
         };
         nest = c.nest ∙ rw (a.nest, b.nest) (omega arith);
-        names = same_missing y z c.text ∙ b.names ∙ rw a.names (first_assoc (missing_of w) m p);
+        names = c.text.missing ∙ b.names ∙ rw a.names (first_assoc w.missing m p);
       }
     where
       held : (rs : List Row) → Holds rs ws w.count w.fits → (q : Bool) → y.fits ≡ q
@@ -283,7 +279,7 @@ module _ (kind : ℕ) (f g : List Row → Put) (n k : ℕ) (m p : Option ℕ) (w
       held rs h false e = record { rows = λ i. refuse y.fits (c.puts.keeps i) e; over = λ _. joined_more rs h e }
 
 -- a row over one term
-module _ (kind : ℕ) (f : List Row → Put) (n : ℕ) (m : Option ℕ) (ws xs ys : List ℕ) (w x y : Reading)
+module _ (kind : ℕ) (f : List Row → Put) (n : ℕ) (m : Option ℕ) (ws xs ys : List ℕ) (w x y : Standing)
     (a : Made f n m ws w xs x) (c : PutMet (row kind x.row 0 0) (capped (suc x.nesting)) xs x ys y) where
   pub made_over : Made (over kind f) (suc n) m ws w ys y
   made_over =
@@ -296,7 +292,7 @@ module _ (kind : ℕ) (f : List Row → Put) (n : ℕ) (m : Option ℕ) (ws xs y
           beyond = λ e. then_beyond ws xs ys _ _ _ (a.puts.beyond (c.puts.keeps e)) (c.puts.beyond e);
         };
         nest = c.nest ∙ rw a.nest (omega arith);
-        names = same_missing x y c.text ∙ a.names;
+        names = c.text.missing ∙ a.names;
       }
     where
       same_over : (rs : List Row) → Holds rs ws w.count w.fits → x.fits ≡ true → row kind x.row 0 0
@@ -312,18 +308,16 @@ module _ (kind : ℕ) (f : List Row → Put) (n : ℕ) (m : Option ℕ) (ws xs y
         over = λ _. omega (arith, (a.puts.held rs h).over e, put_more (f rs).rows (row kind (f rs).at 0 0));
       }
 
-pub same_text : (x y z : Reading) → SameText x y → SameText y z → SameText x z
+pub same_text : (x y z : Standing) → SameText x y → SameText y z → SameText x z
 same_text x y z a b =
     record {
       ok = b.ok ∙ a.ok;
       at = b.at ∙ a.at;
-      listed = b.listed ∙ a.listed;
-      missing = b.missing
-          ∙ a.missing;
+      missing = b.missing ∙ a.missing;
     }
 
 -- every_below
-pub below_grown : (xs ys zs : List ℕ) (x y z : Reading) → PutMet (row 2 5 2 0) 1 xs x ys y
+pub below_grown : (xs ys zs : List ℕ) (x y z : Standing) → PutMet (row 2 5 2 0) 1 xs x ys y
     → PutMet (row 4 x.row y.row 0) (capped (suc (max x.nesting y.nesting))) ys y zs z
     → Grown (λ f. joined 4 f (λ rs. put rs (row 2 5 2 0))) (λ n. suc (max n 1)) xs x zs z
 below_grown xs ys zs x y z a b =
@@ -338,7 +332,7 @@ below_grown xs ys zs x y z a b =
     }
 
 -- some_of
-pub some_grown : (xs ys zs us : List ℕ) (x y z u : Reading) → PutMet (row 0 0 0 0) 1 xs x ys y
+pub some_grown : (xs ys zs us : List ℕ) (x y z u : Standing) → PutMet (row 0 0 0 0) 1 xs x ys y
     → PutMet (row 11 x.row y.row 0) (capped (suc (max x.nesting y.nesting))) ys y zs z
     → PutMet (row 8 z.row 0 0) (capped (suc z.nesting)) zs z us u
     → Grown (λ f. over 8 (joined 11 f (leaf 0))) (λ n. suc (suc (max n 1))) xs x us u
@@ -352,83 +346,32 @@ some_grown xs ys zs us x y z u a b c =
           (made_join 11 f (leaf 0) n 1 m none ws xs ys zs w x y z h (made_row (row 0 0 0 0) 1 xs x ys y a) b) c);
     }
 
--- put_head
-pub head_none : (xs : List ℕ) (x : Reading) (h : Head) → Sized xs x.count → h.ok ≡ false
-    → HeadPut xs x h xs (failed_at x h.at)
-head_none xs x h z e =
-    record { sized = z; at = refl; ok = sym (rw e (both_no x.ok)); made = λ f. refuse h.ok f e }
-  where
-    both_no : (b : Bool) → (b && false) ≡ false
-    both_no true = refl
-    both_no false = refl
+-- the first of two places, where the code has them
+place_or : (m o : Maybe ℕ) → place_of (option_or m o) ≡ first_of (place_of m) (place_of o)
+unfolding first_of
+place_or None o = refl
+place_or (Some i) o = refl
 
-module _ (xs : List ℕ) (x : Reading) (h : Head) (ys : List ℕ) (y : Reading) (e : h.ok ≡ true)
-    (a : PutMet (row 2 h.axis h.test h.name) 1 xs (moved_to x h.at) ys y) where
-  both_yes : (b : Bool) → b ≡ (b && true)
-  both_yes true = refl
-  both_yes false = refl
-
-  pub head_listed : h.listed ≡ true → HeadPut xs x h ys y
-  unfolding missing_of
-  head_listed l =
-      record {
-        sized = a.sized;
-        at = a.text.at;
-        ok = a.text.ok ∙ rw e (both_yes x.ok);
-        made = λ _. let m = made_row (row 2 h.axis h.test h.name) 1 xs (moved_to x h.at) ys y a in
-            record {
-              puts =
-                  record {
-                    held = m.puts.held;
-                    at = m.puts.at;
-                    keeps = m.puts.keeps;
-                    beyond = m.puts.beyond;
-                  };
-              nest = m.nest;
-              names = rw l m.names;
-            };
-      }
-
-  made_head : Made (λ rs. put rs (row 2 h.axis h.test h.name)) 1 none xs (moved_to x h.at) ys y
-  made_head = made_row (row 2 h.axis h.test h.name) 1 xs (moved_to x h.at) ys y a
-
-  pub head_unlisted : h.listed ≡ false → HeadPut xs x h ys (unlisted_at y h.place)
-  unfolding unlisted_at missing_of first_of
-  head_unlisted l = go y.listed refl
-    where
-      told : y.listed ≡ x.listed
-      told = a.text.listed
-
-      go : (b : Bool) → y.listed ≡ b → HeadPut xs x h ys (unlisted_at y h.place)
-      go true f = rw f (record {
-        sized = a.sized;
-        at = a.text.at;
-        ok = a.text.ok ∙ rw e (both_yes x.ok);
-        made = λ _. record {
-          puts = record {
-            held = made_head.puts.held;
-            at = made_head.puts.at;
-            keeps = made_head.puts.keeps;
-            beyond = made_head.puts.beyond;
-          };
-          nest =
-              made_head.nest;
-          names = sym (rw (sym told ∙ f, l) refl);
-        };
-      })
-      go false f = rw f (record {
-        sized = a.sized;
-        at = a.text.at;
-        ok = a.text.ok ∙ rw e (both_yes x.ok);
-        made = λ _. record {
-          puts = record {
-            held = made_head.puts.held;
-            at = made_head.puts.at;
-            keeps = made_head.puts.keeps;
-            beyond = made_head.puts.beyond;
-          };
-          nest =
-              made_head.nest;
-          names = sym (rw (sym told ∙ f, a.text.missing) refl);
-        };
-      })
+-- put_head: a row put, whose name may be the first that is not listed
+pub head_put : (xs : List ℕ) (x : Standing) (h : Head) (ys : List ℕ) (y : Reading) (o : Maybe ℕ)
+    → o ≡ option_or y.missing h.unlisted → PutMet (row 2 h.axis h.test h.name) 1 xs (moved_to x h.at) ys (stands y)
+    → HeadPut xs x h ys (stands (record {
+      at = y.at;
+      row = y.row;
+      nesting = y.nesting;
+      count = y.count;
+      fits = y.fits;
+      missing = o;
+    }))
+head_put xs x h ys y o e a =
+    let m = made_row (row 2 h.axis h.test h.name) 1 xs (moved_to x h.at) ys (stands y) a in
+    record {
+      sized = record { size = a.sized.size; bound = a.sized.bound };
+      at = a.text.at;
+      ok = a.text.ok;
+      made = record {
+        puts = record { held = m.puts.held; at = m.puts.at; keeps = m.puts.keeps; beyond = m.puts.beyond };
+        nest = m.nest;
+        names = rw (e, place_or y.missing h.unlisted, a.text.missing) refl;
+      };
+    }

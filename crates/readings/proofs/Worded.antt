@@ -1,11 +1,12 @@
 -- The operator names `and` and `or`. Assumes nothing.
-use Prim.Native.Nat.{ℕ, suc, ◌+◌, ◌-◌, ◌<◌, ◌≤◌, max}
+use Prim.Native.Nat.{ℕ, zero, suc, ◌+◌, ◌-◌, ◌<◌, ◌≤◌, max}
 use Rattle.terms.specs.Row.{row}
-use mathlib.Core.Path.{◌≡◌, refl, sym, ap, ◌∙◌}
+use mathlib.Core.Path.{◌≡◌, refl, sym, ap, subst, ◌∙◌}
 use mathlib.Core.Bool.{Bool, true, false, cond}
 use mathlib.Core.List.{List, [], ◌∷◌}
 use native.Mathlib.Omega.{arith}
 use native.Mathlib.Numerals.{add-one}
+use Rattle.std.proofs.Common.{add-zero}
 use lib.ListN.{length, get_or, drop}
 use Rattle.grammar.specs.Bytes.{Bytes, is_space, is_start, is_name}
 use Rattle.grammar.specs.Grammar.{Unary}
@@ -13,13 +14,12 @@ use Rattle.grammar.specs.code.Reader.{need, keyword, k_a, k_an, k_and, k_o, k_or
 use Rattle.grammar.specs.code.Reader.{both, either, left_of, and_to, or_to, first, begin, step, follow, finish, run}
 use Rattle.grammar.specs.code.Reader.{bad, unary_byte, keyword_byte, lead_end}
 use Rattle.grammar.proofs.Basics.{never}
-use Rattle.readings.specs.declared.Reading.{Reading}
 use Rattle.words.specs.code.Scan.{byte_at, Passed, begins_step}
 use Rattle.heads.specs.code.Head.{proceed}
-use Rattle.readings.specs.code.Build.{capped, moved_to, failed_at, Sized, PutMet, Grown, below_of}
-use Rattle.readings.specs.code.Passing.{WordMet, CloseMet, FirstPut, SlashPut, BeginPut, start_of, root_start}
+use Rattle.readings.specs.code.Build.{Standing, capped, moved_to, refused_at, Sized, PutMet, Grown, below_of}
+use Rattle.readings.specs.code.Passing.{WordPassed, WordMet, ConstPut, CloseMet, FirstPut}
+use Rattle.readings.specs.code.Passing.{SlashPut, BeginPut, Starting, start_of, root_start}
 use Rattle.readings.specs.code.Passing.{after_and, after_or}
-use Rattle.readings.specs.declared.Start.{Start}
 use Rattle.words.proofs.Scanned.{head_drop}
 use Rattle.heads.proofs.Ran.{on_pass, on_stop}
 use Rattle.heads.proofs.Headed.{differs, byte_there}
@@ -43,11 +43,11 @@ or_ends [] x p u w h = refl
 or_ends (b ∷ t) x p u w h = rw h refl
 
 -- a refused operator name
-stopped : (s : Bytes) (r : Reading) (n : ℕ) (next : Open → Pend → Unary → Bytes → Pend) (to : ℕ) → r.at + 1 ≤ to
+stopped : (s : Bytes) (r : Standing) (n : ℕ) (next : Open → Pend → Unary → Bytes → Pend) (to : ℕ) → r.at + 1 ≤ to
     → to ≤ length s
     → ((x : Open) (p : Pend) (u : Unary) (w : Bytes)
     → proceed s r.at (unary_byte x p u w (byte_at s r.at)) ≡ bad (length s - to))
-    → WordMet s r (failed_at r to) n next
+    → WordMet s r (refused_at to) n next
 stopped s r n next to h i f =
     record {
       between = record { from = h; fits = i };
@@ -57,7 +57,7 @@ stopped s r n next to h i f =
       failed = λ e. f;
     }
 
-module _ (s : Bytes) (r : Reading) (b : byte_at s r.at ≡ 97) where
+module _ (s : Bytes) (r : Standing) (b : byte_at s r.at ≡ 97) where
   a_there : r.at < length s
   a_there = byte_there s r.at 97 refl b
 
@@ -66,7 +66,7 @@ module _ (s : Bytes) (r : Reading) (b : byte_at s r.at ≡ 97) where
   unfolding proceed unary_byte follow
   first_a x p u w = rw (b, add-one) refl
 
-  pub and_second : (byte_at s (r.at + 1) ≡ 110 → ⊥) → WordMet s r (failed_at r (r.at + 1)) 3 after_and
+  pub and_second : (byte_at s (r.at + 1) ≡ 110 → ⊥) → WordMet s r (refused_at (r.at + 1)) 3 after_and
   unfolding step keyword_byte finish
   and_second e = stopped s r 3 after_and (r.at + 1) (omega arith) (omega (arith, a_there))
       (λ x p u w. first_a x p u w
@@ -84,7 +84,7 @@ module _ (s : Bytes) (r : Reading) (b : byte_at s r.at ≡ 97) where
     second_a x p u w = first_a x p u w
         ∙ on_pass s (r.at + 1) (keyword x p u w k_a) (keyword x p u w k_an) n_there (rw c refl)
 
-    pub and_third : (byte_at s (r.at + 1 + 1) ≡ 100 → ⊥) → WordMet s r (failed_at r (r.at + 1 + 1)) 3 after_and
+    pub and_third : (byte_at s (r.at + 1 + 1) ≡ 100 → ⊥) → WordMet s r (refused_at (r.at + 1 + 1)) 3 after_and
     unfolding step keyword_byte finish
     and_third e = stopped s r 3 after_and (r.at + 1 + 1) (omega arith) (omega (arith, n_there))
         (λ x p u w. second_a x p u w
@@ -103,7 +103,7 @@ module _ (s : Bytes) (r : Reading) (b : byte_at s r.at ≡ 97) where
           ∙ on_pass s (r.at + 1 + 1) (keyword x p u w k_an) (keyword x p u w k_and) d_there (rw d refl)
 
       pub and_touch : is_name (byte_at s (r.at + 1 + 1 + 1)) ≡ true
-          → WordMet s r (failed_at r (r.at + 1 + 1 + 1)) 3 after_and
+          → WordMet s r (refused_at (r.at + 1 + 1 + 1)) 3 after_and
       unfolding step keyword_byte finish
       and_touch e = stopped s r 3 after_and (r.at + 1 + 1 + 1) (omega arith) (omega (arith, d_there))
           (λ x p u w. third_a x p u w
@@ -121,7 +121,7 @@ module _ (s : Bytes) (r : Reading) (b : byte_at s r.at ≡ 97) where
             failed = λ f. yes_no (sym o ∙ f);
           }
 
-module _ (s : Bytes) (r : Reading) (b : byte_at s r.at ≡ 111) where
+module _ (s : Bytes) (r : Standing) (b : byte_at s r.at ≡ 111) where
   o_there : r.at < length s
   o_there = byte_there s r.at 111 refl b
 
@@ -130,7 +130,7 @@ module _ (s : Bytes) (r : Reading) (b : byte_at s r.at ≡ 111) where
   unfolding proceed unary_byte follow
   first_o x p u w = rw (b, add-one) refl
 
-  pub or_second : (byte_at s (r.at + 1) ≡ 114 → ⊥) → WordMet s r (failed_at r (r.at + 1)) 2 after_or
+  pub or_second : (byte_at s (r.at + 1) ≡ 114 → ⊥) → WordMet s r (refused_at (r.at + 1)) 2 after_or
   unfolding step keyword_byte finish
   or_second e = stopped s r 2 after_or (r.at + 1) (omega arith) (omega (arith, o_there))
       (λ x p u w. first_o x p u w
@@ -148,7 +148,7 @@ module _ (s : Bytes) (r : Reading) (b : byte_at s r.at ≡ 111) where
     second_o x p u w = first_o x p u w
         ∙ on_pass s (r.at + 1) (keyword x p u w k_o) (keyword x p u w k_or) r_there (rw c refl)
 
-    pub or_touch : is_name (byte_at s (r.at + 1 + 1)) ≡ true → WordMet s r (failed_at r (r.at + 1 + 1)) 2 after_or
+    pub or_touch : is_name (byte_at s (r.at + 1 + 1)) ≡ true → WordMet s r (refused_at (r.at + 1 + 1)) 2 after_or
     unfolding step keyword_byte finish
     or_touch e = stopped s r 2 after_or (r.at + 1 + 1) (omega arith) (omega (arith, r_there))
         (λ x p u w. second_o x p u w
@@ -166,33 +166,105 @@ module _ (s : Bytes) (r : Reading) (b : byte_at s r.at ≡ 111) where
           failed = λ f. yes_no (sym o ∙ f);
         }
 
+-- by cases: how many of its bytes stand there
+pub and_word : (s : Bytes) (r q : Standing) → r.ok ≡ true → byte_at s r.at ≡ 97
+    → WordPassed s (97 ∷ 110 ∷ 100 ∷ []) r q → WordMet s r q 3 after_and
+and_word s r q o b p = go p.n refl
+  where
+    two : r.at + 2 ≡ r.at + 1 + 1
+    two = omega arith
+
+    three : r.at + 3 ≡ r.at + 1 + 1 + 1
+    three = omega arith
+
+    it : (z : Standing) → q ≡ z → WordMet s r z 3 after_and → WordMet s r q 3 after_and
+    it z e m = subst (λ (v : Standing). WordMet s r v 3 after_and) (sym e) m
+
+    go : (n : ℕ) → p.n ≡ n → WordMet s r q 3 after_and
+    go zero e = let c = rw (e, add-zero) at (p.cut (omega (arith, e))) in absurd (c.0 b)
+    go (suc zero) e = let c = rw e at (p.cut (omega (arith, e))) in it _ c.1 (and_second s r b c.0)
+    go (suc (suc zero)) e =
+        let c = rw (e, two) at (p.cut (omega (arith, e))) in
+        let d : byte_at s (r.at + 1) ≡ 110 = p.same 1 (omega (arith, e)) in
+        it _ c.1 (and_third s r b d c.0)
+    go (suc (suc (suc zero))) e =
+        let d : byte_at s (r.at + 1) ≡ 110 = p.same 1 (omega (arith, e)) in
+        let f : byte_at s (r.at + 1 + 1) ≡ 100 = rw two at (p.same 2 (omega (arith, e))) in
+        let touched = rw (e, three) at (p.touched e) in
+        let whole = rw (e, three) at (p.whole e) in
+        named (is_name (byte_at s (r.at + 1 + 1 + 1))) refl d f touched whole
+      where
+        named : (k : Bool) → is_name (byte_at s (r.at + 1 + 1 + 1)) ≡ k → byte_at s (r.at + 1) ≡ 110
+            → byte_at s (r.at + 1 + 1) ≡ 100
+            → (is_name (byte_at s (r.at + 1 + 1 + 1)) ≡ true → q ≡ refused_at (r.at + 1 + 1 + 1))
+            → (is_name (byte_at s (r.at + 1 + 1 + 1)) ≡ false → q ≡ moved_to r (r.at + 1 + 1 + 1))
+            → WordMet s r q 3 after_and
+        named true k d f touched whole = it _ (touched k) (and_touch s r b d f k)
+        named false k d f touched whole = it _ (whole k) (and_read s r b d f o k)
+    go (suc (suc (suc (suc n)))) e = absurd (omega (arith, e, p.few))
+
+pub or_word : (s : Bytes) (r q : Standing) → r.ok ≡ true → byte_at s r.at ≡ 111
+    → WordPassed s (111 ∷ 114 ∷ []) r q → WordMet s r q 2 after_or
+or_word s r q o b p = go p.n refl
+  where
+    two : r.at + 2 ≡ r.at + 1 + 1
+    two = omega arith
+
+    it : (z : Standing) → q ≡ z → WordMet s r z 2 after_or → WordMet s r q 2 after_or
+    it z e m = subst (λ (v : Standing). WordMet s r v 2 after_or) (sym e) m
+
+    go : (n : ℕ) → p.n ≡ n → WordMet s r q 2 after_or
+    go zero e = let c = rw (e, add-zero) at (p.cut (omega (arith, e))) in absurd (c.0 b)
+    go (suc zero) e = let c = rw e at (p.cut (omega (arith, e))) in it _ c.1 (or_second s r b c.0)
+    go (suc (suc zero)) e =
+        let d : byte_at s (r.at + 1) ≡ 114 = p.same 1 (omega (arith, e)) in
+        let touched = rw (e, two) at (p.touched e) in
+        let whole = rw (e, two) at (p.whole e) in
+        named (is_name (byte_at s (r.at + 1 + 1))) refl d touched whole
+      where
+        named : (k : Bool) → is_name (byte_at s (r.at + 1 + 1)) ≡ k → byte_at s (r.at + 1) ≡ 114
+            → (is_name (byte_at s (r.at + 1 + 1)) ≡ true → q ≡ refused_at (r.at + 1 + 1))
+            → (is_name (byte_at s (r.at + 1 + 1)) ≡ false → q ≡ moved_to r (r.at + 1 + 1))
+            → WordMet s r q 2 after_or
+        named true k d touched whole = it _ (touched k) (or_touch s r b d k)
+        named false k d touched whole = it _ (whole k) (or_read s r b d o k)
+    go (suc (suc (suc n))) e = absurd (omega (arith, e, p.few))
+
+-- constant
+pub const_read : (s : Bytes) (kind : ℕ) (xs ys : List ℕ) (r shut q : Standing) (to : ℕ) → shut.ok ≡ true
+    → Passed is_space s r.at to → CloseMet s (moved_to r to) 41 shut → PutMet (row kind 0 0 0) 1 xs shut ys q
+    → ConstPut s kind xs r ys q
+const_read s kind xs ys r shut q to o v h p =
+    record {
+      to = to;
+      passed = v;
+      sized = p.sized;
+      wrong = λ f. yes_no (sym o ∙ ap (λ (z : Standing). z.ok) (h.wrong f));
+      right = λ e.
+          let d = h.right e in
+          (d.0, d.2, subst (λ (z : Standing). PutMet (row kind 0 0 0) 1 xs z ys q) d.1 p);
+    }
+
 -- close
-pub close_kept : (s : Bytes) (r : Reading) (b : ℕ) → r.ok ≡ false → CloseMet s r b r
-close_kept s r b e = record
-    { count = refl; kept = λ _. refl; wrong = λ f _. yes_no (sym f ∙ e); right = λ f _. yes_no (sym f ∙ e) }
+pub close_wrong : (s : Bytes) (r : Standing) (b : ℕ) → (byte_at s r.at ≡ b → ⊥) → CloseMet s r b (refused_at r.at)
+close_wrong s r b h = record { count = λ e. no e; wrong = λ _. refl; right = λ g. absurd (h g) }
 
-pub close_wrong : (s : Bytes) (r : Reading) (b : ℕ) → r.ok ≡ true → (byte_at s r.at ≡ b → ⊥)
-    → CloseMet s r b (failed_at r r.at)
-close_wrong s r b e h =
-    record { count = refl; kept = λ f. yes_no (sym e ∙ f); wrong = λ _ _. refl; right = λ _ g. absurd (h g) }
-
-pub close_right : (s : Bytes) (r : Reading) (b to : ℕ) → r.ok ≡ true → byte_at s r.at ≡ b
-    → Passed is_space s (r.at + 1) to → CloseMet s r b (moved_to r to)
-close_right s r b to e h q =
-    record { count = refl; kept = λ f. yes_no (sym e ∙ f); wrong = λ _ g. absurd (g h); right = λ _ _. (to, refl, q) }
+pub close_right : (s : Bytes) (r : Standing) (b to : ℕ) → byte_at s r.at ≡ b → Passed is_space s (r.at + 1) to
+    → CloseMet s r b (moved_to r to)
+close_right s r b to h q = record { count = λ _. refl; wrong = λ g. absurd (g h); right = λ _. (to, refl, q) }
 
 -- first_step, pass_slash
-pub first_joins : (lead step : Reading) (xs ys : List ℕ) (q : Reading) (rooted : Bool) → rooted ≡ true
+pub first_joins : (lead step : Standing) (xs ys : List ℕ) (q : Standing) (rooted : Bool) → rooted ≡ true
     → PutMet (row 4 lead.row step.row 0) (capped (suc (max lead.nesting step.nesting))) xs step ys q
     → FirstPut rooted lead step xs ys q
 first_joins lead step xs ys q rooted e m =
     record { sized = m.sized; joins = λ _. m; stays = λ f. yes_no (sym e ∙ f) }
 
-pub first_stays : (lead step : Reading) (xs : List ℕ) (rooted : Bool) → rooted ≡ false → Sized xs step.count
+pub first_stays : (lead step : Standing) (xs : List ℕ) (rooted : Bool) → rooted ≡ false → Sized xs step.count
     → FirstPut rooted lead step xs xs step
 first_stays lead step xs rooted e z = record { sized = z; joins = λ f. yes_no (sym f ∙ e); stays = λ _. (refl, refl) }
 
-pub slash_two : (s : Bytes) (xs ys : List ℕ) (r b : Reading) (to : ℕ) → byte_at s (r.at + 1) ≡ 47
+pub slash_two : (s : Bytes) (xs ys : List ℕ) (r b : Standing) (to : ℕ) → byte_at s (r.at + 1) ≡ 47
     → Passed is_space s (r.at + 1 + 1) to → Grown below_of (λ n. suc (max n 1)) xs r ys b
     → SlashPut s xs r ys (moved_to b to)
 slash_two s xs ys r b to e q m =
@@ -202,7 +274,7 @@ slash_two s xs ys r b to e q m =
       one = λ f. absurd (f e);
     }
 
-pub slash_one : (s : Bytes) (xs : List ℕ) (r : Reading) (to : ℕ) → (byte_at s (r.at + 1) ≡ 47 → ⊥)
+pub slash_one : (s : Bytes) (xs : List ℕ) (r : Standing) (to : ℕ) → (byte_at s (r.at + 1) ≡ 47 → ⊥)
     → Passed is_space s (r.at + 1) to → Sized xs r.count → SlashPut s xs r xs (moved_to r to)
 slash_one s xs r to e q z =
     record {
@@ -212,26 +284,26 @@ slash_one s xs r to e q z =
     }
 
 -- begin_root, begin_path
-pub root_step : (s : Bytes) (r : Reading) → begins_step (byte_at s r.at) ≡ true → start_of r true true ≡ root_start s r
+pub root_step : (s : Bytes) (r : Standing) → begins_step (byte_at s r.at) ≡ true → start_of r true true ≡ root_start s r
 unfolding root_start
 root_step s r e = sym (rw e refl)
 
-pub root_slash : (s : Bytes) (r : Reading) → begins_step (byte_at s r.at) ≡ false → byte_at s r.at ≡ 47
-    → start_of (failed_at r r.at) true false ≡ root_start s r
+pub root_slash : (s : Bytes) (r : Standing) → begins_step (byte_at s r.at) ≡ false → byte_at s r.at ≡ 47
+    → start_of (refused_at r.at) true false ≡ root_start s r
 unfolding root_start begins_step is_start
 root_slash s r e f = sym (rw f refl)
 
-pub root_alone : (s : Bytes) (r : Reading) → begins_step (byte_at s r.at) ≡ false → (byte_at s r.at ≡ 47 → ⊥)
+pub root_alone : (s : Bytes) (r : Standing) → begins_step (byte_at s r.at) ≡ false → (byte_at s r.at ≡ 47 → ⊥)
     → start_of r true false ≡ root_start s r
 unfolding root_start
 root_alone s r e f = sym (rw (e, differs (byte_at s r.at) 47 f) refl)
 
-module _ (s : Bytes) (xs : List ℕ) (r : Reading) (to : ℕ) (q : Passed is_space s r.at to) where
+module _ (s : Bytes) (xs : List ℕ) (r : Standing) (to : ℕ) (q : Passed is_space s r.at to) where
   pub begin_bare : (byte_at s to ≡ 47 → ⊥) → BeginPut s xs r xs (start_of (moved_to r to) false true)
   begin_bare e = record
       { to = to; passed = q; bare = λ _. (refl, refl); root = λ f. absurd (e f); any = λ f. absurd (e f) }
 
-  pub begin_root : (ys : List ℕ) (p : Reading) (end : ℕ) (z : Start) → byte_at s to ≡ 47
+  pub begin_root : (ys : List ℕ) (p : Standing) (end : ℕ) (z : Starting) → byte_at s to ≡ 47
       → (byte_at s (to + 1) ≡ 47 → ⊥)
       → PutMet (row 1 0 0 0) 1 xs (moved_to r to) ys p → Passed is_space s (to + 1) end → z
       ≡ root_start s (moved_to p end) → BeginPut s xs r ys z
@@ -244,7 +316,7 @@ module _ (s : Bytes) (xs : List ℕ) (r : Reading) (to : ℕ) (q : Passed is_spa
         any = λ _ h. absurd (f h);
       }
 
-  pub begin_any : (zs ys : List ℕ) (p b : Reading) (end : ℕ) → byte_at s to ≡ 47 → byte_at s (to + 1) ≡ 47
+  pub begin_any : (zs ys : List ℕ) (p b : Standing) (end : ℕ) → byte_at s to ≡ 47 → byte_at s (to + 1) ≡ 47
       → PutMet (row 1 0 0 0) 1 xs (moved_to r to) zs p → Grown below_of (λ n. suc (max n 1)) zs p ys b
       → Passed is_space s (to + 1 + 1) end → BeginPut s xs r ys (start_of (moved_to b end) true true)
   begin_any zs ys p b end e f m g v =

@@ -6,7 +6,7 @@ use mathlib.Core.List.{List, [], ◌∷◌, ◌++◌, append-nil}
 use native.Mathlib.Omega.{arith}
 use native.Mathlib.Numerals.{add-one}
 use lib.Dec.{eqb}
-use lib.ListN.{length, get_or, take, drop, set, replicate, length-append}
+use lib.ListN.{length, get_or, take, drop, set, replicate, length-append, drop_of_length-le}
 use lib.Seq.{drop-cons, append_snoc, set-append_seam, take-append_seam}
 use borrow.Author.Tests.{le-leb, lt-leb, eq-eqb, ne_eqb}
 use Rattle.calls.specs.Book.{answer}
@@ -17,7 +17,6 @@ use Rattle.records.specs.Records.{empty_record, max_records}
 use Rattle.records.specs.code.Held.{records_in, no_records, with_record}
 use Rattle.records.specs.Releases.{release_answer, released}
 use Rattle.records.specs.code.Listed.{listed}
-use Rattle.records.proofs.Searches.{from_place, none_left}
 
 -- a release, test by test
 module _ (rs : List Record) (n : ℕ) (is-n : n ≡ length rs) (place : ℕ) where
@@ -70,73 +69,66 @@ pub none_listed : no_records ≡ listed []
 unfolding no_records
 none_listed = refl
 
-module _ (held : List Record) (n : ℕ) (flags : List ℕ) where
+module _ (rs : List Record) (flags : List ℕ) where
   -- the released records from place i on
   abbrev from : ℕ → List Record
-  from i = released (drop i (take n held)) (drop i flags)
+  from i = released (drop i rs) (drop i flags)
 
   -- the listing shows the released records before place i
   pub record Shown (shown : Records) (i : ℕ) : Type 0 where
     pub records : List Record
     pub is : shown ≡ listed records
     pub few : length records ≤ i
-    pub so_far : records ++ from i ≡ released (take n held) flags
+    pub so_far : records ++ from i ≡ released rs flags
 
   pub none_shown : (shown : Records) → shown ≡ no_records → Shown shown 0
   none_shown shown e = record { records = []; is = e ∙ none_listed; few = omega arith; so_far = refl }
 
-  pub has_room : (shown : Records) (i : ℕ) → i < n → n ≤ max_records → Shown shown i
-      → min shown.count max_records < max_records
-  has_room shown i h room w =
+  pub has_room : (shown : Records) (i : ℕ) → i < max_records → Shown shown i → min shown.count max_records < max_records
+  has_room shown i h w =
       let few = w.few in
       subst (λ (s : Records). min s.count max_records < max_records) (sym w.is) (omega arith)
 
-  module _ (fits : n ≤ length held) (enough : n ≤ length flags) where
-    from_here : (i : ℕ) → i < n
-        → from i ≡ cond (eqb (get_or flags i 0) 1) (get_or held i empty_record ∷ from (i + 1)) (from (i + 1))
+  module _ (shown : Records) (i : ℕ) (h : i < length rs) (g : i < length flags) (w : Shown shown i) where
+    from_here : from i ≡ cond (eqb (get_or flags i 0) 1) (get_or rs i empty_record ∷ from (i + 1)) (from (i + 1))
     unfolding released
-    from_here i h =
-        ap (λ l. released l (drop i flags)) (from_place held n fits i h)
-        ∙ ap (released (get_or held i empty_record ∷ drop (suc i) (take n held))) (drop-cons flags i 0 (omega arith))
-        ∙ ap (λ k. cond (eqb (get_or flags i 0) 1)
-        (get_or held i empty_record ∷ released (drop k (take n held)) (drop k flags))
-        (released (drop k (take n held)) (drop k flags))) (sym (add-one i))
+    from_here =
+        ap (λ l. released l (drop i flags)) (drop-cons rs i empty_record h)
+        ∙ ap (released (get_or rs i empty_record ∷ drop (suc i) rs)) (drop-cons flags i 0 g)
+        ∙ ap (λ k. cond (eqb (get_or flags i 0) 1) (get_or rs i empty_record ∷ released (drop k rs) (drop k flags))
+        (released (drop k rs) (drop k flags))) (sym (add-one i))
 
-    from_none : (i : ℕ) → n ≤ i → from i ≡ []
-    unfolding released
-    from_none i h = ap (λ l. released l (drop i flags)) (none_left held n fits i h)
+    pub shown_more : get_or flags i 0 ≡ 1 → i < max_records → (next : Records)
+        → next ≡ with_record shown (get_or rs i empty_record) → Shown next (i + 1)
+    shown_more f room next e =
+        let xs = w.records in
+        let r = get_or rs i empty_record in
+        let few = w.few in
+        let here : from i ≡ r ∷ from (i + 1) = from_here ∙ rw (eq-eqb (get_or flags i 0) 1 f) in
+        record {
+          records = xs ++ (r ∷ []);
+          is = e ∙ ap (λ s. with_record s r) w.is ∙ listed_more xs r (omega arith);
+          few = omega (arith, length-append xs (r ∷ []));
+          so_far = append_snoc xs r (from (i + 1)) ∙ ap (λ l. xs ++ l) (sym here) ∙ w.so_far;
+        }
 
-    module _ (shown : Records) (i : ℕ) (h : i < n) (room : n ≤ max_records) (w : Shown shown i) where
-      pub shown_more : get_or flags i 0 ≡ 1 → (next : Records) → next ≡ with_record shown (get_or held i empty_record)
-          → Shown next (i + 1)
-      shown_more f next e =
-          let xs = w.records in
-          let r = get_or held i empty_record in
-          let few = w.few in
-          let here : from i ≡ r ∷ from (i + 1) = from_here i h ∙ rw (eq-eqb (get_or flags i 0) 1 f) in
-          record {
-            records = xs ++ (r ∷ []);
-            is = e ∙ ap (λ s. with_record s r) w.is ∙ listed_more xs r (omega arith);
-            few = omega (arith, length-append xs (r ∷ []));
-            so_far = append_snoc xs r (from (i + 1)) ∙ ap (λ l. xs ++ l) (sym here) ∙ w.so_far;
-          }
+    pub shown_same : ¬ (get_or flags i 0 ≡ 1) → Shown shown (i + 1)
+    shown_same f =
+        let few = w.few in
+        let here : from i ≡ from (i + 1) = from_here ∙ rw (ne_eqb (get_or flags i 0) 1 f) in
+        record {
+          records = w.records;
+          is = w.is;
+          few = omega arith;
+          so_far = ap (λ l. w.records ++ l) (sym here) ∙ w.so_far;
+        }
 
-      pub shown_same : ¬ (get_or flags i 0 ≡ 1) → Shown shown (i + 1)
-      shown_same f =
-          let few = w.few in
-          let here : from i ≡ from (i + 1) = from_here i h ∙ rw (ne_eqb (get_or flags i 0) 1 f) in
-          record {
-            records = w.records;
-            is = w.is;
-            few = omega arith;
-            so_far = ap (λ l. w.records ++ l) (sym here) ∙ w.so_far;
-          }
-
-    pub all_shown : (shown : Records) (i : ℕ) → n ≤ i → Shown shown i
-        → shown ≡ listed (released (take n held) flags)
-    all_shown shown i h w =
-        let all = sym (append-nil w.records) ∙ ap (λ l. w.records ++ l) (sym (from_none i h)) ∙ w.so_far in
-        w.is ∙ ap listed all
+  pub all_shown : (shown : Records) (i : ℕ) → length rs ≤ i → Shown shown i → shown ≡ listed (released rs flags)
+  unfolding released
+  all_shown shown i h w =
+      let none : from i ≡ [] = ap (λ l. released l (drop i flags)) (drop_of_length-le rs h) in
+      let all = sym (append-nil w.records) ∙ ap (λ l. w.records ++ l) (sym none) ∙ w.so_far in
+      w.is ∙ ap listed all
 
 -- where all are released, the listing shows every record
 pub every_released : (rs : List Record) (n : ℕ) → length rs ≤ n → released rs (replicate n 1) ≡ rs

@@ -2,20 +2,20 @@
 // calls record, current and release, and listings.
 #![tactic(auto)]
 
-ghost use Rattle.std.specs.Prelude.{◌≡◌, ◌<◌, leb, length, set};
+ghost use Rattle.std.specs.Prelude.{◌≡◌, ◌<◌, leb, length};
 ghost use Rattle.terms.specs.Row.{table_of};
 ghost use Rattle.calls.specs.code.Tables.{steps_of};
 ghost use Rattle.records.specs.Records.{current, row_of, is_fit_step, record_answer, all_kept};
-ghost use Rattle.records.specs.Records.{empty_record, max_records};
+ghost use Rattle.records.specs.Records.{max_records};
 ghost use Rattle.records.specs.code.Held.{record_answer_of, size_of, records_in, no_records, with_record};
 ghost use Rattle.records.specs.Releases.{released};
-ghost use Rattle.records.specs.code.Listed.{release_answer_of, flagged, no_releases, listed};
+ghost use Rattle.records.specs.code.Listed.{release_answer_of, no_releases, listed};
 ghost use Rattle.records.specs.code.Promises.{RecordMade, all_releases, ReleaseMade};
 
 pub const MAX_RECORDS: usize = 256;
 
 // A record: a series, an edition from 1, a path row and a step.
-#[derive(Clone, Copy)]
+#[derive(Clone, Copy, PartialEq, Eq, Debug)]
 pub struct Record {
     pub series: u16,
     pub edition: u16,
@@ -31,7 +31,7 @@ pub struct Records {
 }
 
 // The answer of a record call.
-#[derive(Clone, Copy)]
+#[derive(Clone, Copy, PartialEq, Eq, Debug)]
 pub enum RecordAnswer {
     Recorded,
     NotNext(u32),
@@ -45,14 +45,15 @@ pub struct RecordsMade {
     pub records: Records,
 }
 
-// Which records are released: 1 at the place of each that is.
+// Which records are released: 1 at the place of each that is. Not as bool: the demand on registers that is to be
+// believed reads these numbers as they stand.
 #[derive(Clone, Copy)]
 pub struct Releases {
     pub flags: [u8; MAX_RECORDS],
 }
 
 // The answer of a release.
-#[derive(Clone, Copy)]
+#[derive(Clone, Copy, PartialEq, Eq, Debug)]
 pub enum ReleaseAnswer {
     Released,
     NoRecord(u16),
@@ -64,16 +65,12 @@ pub struct ReleasesMade {
     pub releases: Releases,
 }
 
-fn no_record() -> Record
-    ensures { result ≡ empty_record }
-{
-    Record {
-        series: 0,
-        edition: 0,
-        row: 0,
-        step: 0,
-    }
-}
+const NO_RECORD: Record = Record {
+    series: 0,
+    edition: 0,
+    row: 0,
+    step: 0,
+};
 
 // Whether a step is as it must be for an edition with that row, where the previous edition has the row `previous`.
 fn is_fit_step(steps: &[u16], previous: u16, given: Record) -> bool
@@ -83,20 +80,18 @@ fn is_fit_step(steps: &[u16], previous: u16, given: Record) -> bool
         return given.step == 0;
     }
     let sides = calls::sides_of(steps, given.step);
-    let held = steps.len() / calls::STEP_WIDTH;
-    let is_held = common::and(1 <= given.step, common::wide(given.step) <= held);
-    let left = sides.left;
-    let right = sides.right;
-    common::and(is_held, common::and(left == previous, right == given.row))
+    1 <= given.step
+        && usize::from(given.step) <= calls::step_count(steps)
+        && sides.left == previous
+        && sides.right == given.row
 }
 
 impl Records {
     pub fn new() -> Records
         ensures { result ≡ no_records }
     {
-        let none = no_record();
         Records {
-            held: [none; MAX_RECORDS],
+            held: [NO_RECORD; MAX_RECORDS],
             count: 0,
         }
     }
@@ -105,7 +100,14 @@ impl Records {
     pub fn size(self) -> usize
         ensures { result ≡ size_of self }
     {
-        calls::clamp(self.count, MAX_RECORDS)
+        self.count.min(MAX_RECORDS)
+    }
+
+    // The records held.
+    fn list(&self) -> &[Record]
+        ensures { result.now ≡ records_in self.now }
+    {
+        &self.held[..self.size()]
     }
 
     fn is_full(self) -> bool
@@ -118,56 +120,29 @@ impl Records {
     pub fn current(self, series: u16) -> u16
         ensures { result ≡ current (records_in self) series }
     {
-        let held = self.held;
-        let mut highest = 0;
-        let mut i = self.size();
-        while 0 < i {
-            i -= 1;
-            let here = held[i];
-            let edition = here.edition;
-            if common::and(here.series == series, highest < edition) {
-                highest = edition;
-            }
-        }
-        highest
+        self.list()
+            .iter()
+            .filter(|r| r.series == series)
+            .map(|r| r.edition)
+            .max()
+            .unwrap_or(0)
     }
 
     // The row of an edition of a series; 0 where it is not held.
     fn row_of(self, series: u16, edition: u16) -> u16
         ensures { result ≡ row_of (records_in self) series edition }
     {
-        let n = self.size();
-        let held = self.held;
-        let mut i = 0;
-        while i < n {
-            let here = held[i];
-            if common::and(here.series == series, here.edition == edition) {
-                return here.row;
-            }
-            i += 1;
-        }
-        0
+        self.list()
+            .iter()
+            .find(|r| r.series == series && r.edition == edition)
+            .map_or(0, |r| r.row)
     }
 
     // Whether every row and every step in use is among the first ones, as many as given.
     pub fn all_kept(self, rows: usize, steps: usize) -> bool
         ensures { result ≡ all_kept rows steps (records_in self) }
     {
-        let n = self.size();
-        let held = self.held;
-        let mut i = 0;
-        while i < n {
-            let here = held[i];
-            let kept = common::and(
-                common::wide(here.row) < rows,
-                common::wide(here.step) <= steps,
-            );
-            if !kept {
-                return false;
-            }
-            i += 1;
-        }
-        true
+        self.list().iter().all(|r| usize::from(r.row) < rows && usize::from(r.step) <= steps)
     }
 
     // The answer of a record call on lent rows and steps: the first refusal that applies, or acceptance.
@@ -176,8 +151,8 @@ impl Records {
             ≡ record_answer (table_of rows.now) (steps_of steps.now) (records_in self) given }
     {
         let highest = self.current(given.series);
-        let due = highest as u32 + 1;
-        if given.edition as u32 != due {
+        let due = u32::from(highest) + 1;
+        if u32::from(given.edition) != due {
             return RecordAnswer::NotNext(due);
         }
         if !terms::is_held_path(rows, given.row) {
@@ -193,15 +168,14 @@ impl Records {
         RecordAnswer::Recorded
     }
 
-    // The record after those held.
-    fn put(mut self, given: Record) -> Records
-        requires { size_of self < max_records }
-        ensures { result ≡ with_record self given }
+    // Also the record, after those held.
+    fn put(&mut self, given: Record)
+        requires { size_of self.old < max_records }
+        ensures { self.new ≡ with_record self.old given }
     {
         let n = self.size();
         self.held[n] = given;
         self.count = n + 1;
-        self
     }
 
     // A record call on lent rows and steps: the answer, and the record after those held where it is accepted.
@@ -209,14 +183,11 @@ impl Records {
         ensures { RecordMade (table_of rows.now) (steps_of steps.now) self given result }
     {
         let answer = self.judge(rows, steps, given);
+        let mut records = self;
         if answer.number() == 0 {
-            let records = self.put(given);
-            return RecordsMade { answer, records };
+            records.put(given);
         }
-        RecordsMade {
-            answer,
-            records: self,
-        }
+        RecordsMade { answer, records }
     }
 }
 
@@ -225,19 +196,11 @@ impl Records {
     pub fn released(self, releases: Releases) -> Records
         ensures { result ≡ listed (released (records_in self) releases.flags) }
     {
-        let n = self.size();
-        let held = self.held;
-        let flags = releases.flags;
         let mut shown = Records::new();
-        let mut i = 0;
-        while i < n {
-            let here = held[i];
-            let flag = flags[i];
-            if flag == 1 {
-                let next = shown.put(here);
-                shown = next;
+        for (record, flag) in self.list().iter().zip(&releases.flags) {
+            if *flag == 1 {
+                shown.put(*record);
             }
-            i += 1;
         }
         shown
     }
@@ -246,8 +209,7 @@ impl Records {
     pub fn listing(self) -> Records
         ensures { result ≡ listed (records_in self) }
     {
-        let all = Releases::all();
-        self.released(all)
+        self.released(Releases::all())
     }
 }
 
@@ -268,34 +230,20 @@ impl Releases {
         }
     }
 
-    // Also the record at that place, counted from 0.
-    fn put(mut self, at: usize) -> Releases
-        requires { at < max_records }
-        ensures { result ≡ flagged (set self.flags at 1) }
-    {
-        self.flags[at] = 1;
-        self
-    }
-
     // A release of the record at a place, counted from 1: the answer, and the releases left.
     pub fn release(self, records: Records, place: u16) -> ReleasesMade
         ensures { ReleaseMade (records_in records) self place result }
     {
         let n = records.size();
-        let p = common::wide(place);
-        if p == 0 {
+        let p = usize::from(place);
+        let mut releases = self;
+        if p == 0 || n < p {
             return ReleasesMade {
                 answer: ReleaseAnswer::NoRecord(place),
-                releases: self,
+                releases,
             };
         }
-        if n < p {
-            return ReleasesMade {
-                answer: ReleaseAnswer::NoRecord(place),
-                releases: self,
-            };
-        }
-        let releases = self.put(p - 1);
+        releases.flags[p - 1] = 1;
         ReleasesMade {
             answer: ReleaseAnswer::Released,
             releases,
@@ -318,7 +266,7 @@ impl ReleaseAnswer {
     {
         match self {
             ReleaseAnswer::Released => 0,
-            ReleaseAnswer::NoRecord(place) => place as u32,
+            ReleaseAnswer::NoRecord(place) => u32::from(place),
         }
     }
 }
@@ -341,7 +289,7 @@ impl RecordAnswer {
         match self {
             RecordAnswer::Recorded => 0,
             RecordAnswer::NotNext(due) => due,
-            RecordAnswer::BadRecord(place) => place as u32,
+            RecordAnswer::BadRecord(place) => u32::from(place),
             RecordAnswer::RegisterFull => 0,
         }
     }

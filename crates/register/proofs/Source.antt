@@ -19,7 +19,7 @@ use Rattle.records.specs.declared.RecordAnswer.TheVariants as RecordCases
 use Rattle.records.specs.declared.Records.{Records}
 use Rattle.records.specs.declared.ReleaseAnswer.TheVariants as ReleaseCases
 use Rattle.register.specs.declared.Register.{Register}
-use Rattle.register.specs.declared.ReadResult.{ReadResult}
+use Rattle.register.specs.code.Results.{ReadResult}
 use Rattle.register.specs.declared.ReturnAnswer.TheVariants as ReturnCases
 use Rattle.calls.specs.Book as book
 use Rattle.calls.specs.Book.{Step, Answer, answer, accepted}

@@ -1,2 +1,3 @@
 pub mod Promises
 pub mod Demand
+pub mod code

@@ -1,12 +1,11 @@
 -- What the register's calls promise, for every register. Assumes nothing.
 use Rattle.std.specs.Prelude.{◌≡◌, false, List, ℕ}
 use Rattle.session.specs.declared.session.Session.{Session}
-use Rattle.session.specs.declared.read.ReadResult as session-read
 use Rattle.records.specs.declared.Record.{Record}
 use Rattle.records.specs.declared.Records.{Records}
 use Rattle.records.specs.declared.Releases.{Releases}
 use Rattle.register.specs.declared.Register.{Register}
-use Rattle.register.specs.declared.ReadResult.{ReadResult}
+use Rattle.register.specs.code.Results.{ReadResult}
 use Rattle.register.specs.declared.ReturnAnswer.{ReturnAnswer}
 use Rattle.register.specs.declared.ReturnAnswer.TheVariants as ReturnCases
 use Rattle.calls.specs.Book.{Answer, answer}

@@ -20,6 +20,7 @@ ghost use Rattle.records.specs.Releases.{crew_listing, crew_current};
 ghost use Rattle.records.specs.code.Listed.{release_answer_of, listed};
 ghost use Rattle.register.specs.Promises.{return_answer_of, fresh_register, released_in, RegisterMet};
 ghost use Rattle.register.specs.Promises.{RegisterReadMet};
+ghost use Rattle.register.specs.code.Results.{over};
 
 use records::Releases;
 pub use records::{Record, RecordAnswer, Records, ReleaseAnswer};
@@ -43,51 +44,10 @@ pub enum ReturnAnswer {
     InUse,
 }
 
+// What a call gives: its answer, and the register that it leaves.
 #[derive(Clone, Copy)]
-pub struct TermResult {
-    pub answer: TermAnswer,
-    pub register: Register,
-}
-
-#[derive(Clone, Copy)]
-pub struct StepResult {
-    pub answer: StepAnswer,
-    pub register: Register,
-}
-
-#[derive(Clone, Copy)]
-pub struct TextResult {
-    pub answer: TextAnswer,
-    pub register: Register,
-}
-
-#[derive(Clone, Copy)]
-pub struct PointResult {
-    pub answer: PointAnswer,
-    pub register: Register,
-}
-
-#[derive(Clone, Copy)]
-pub struct ReturnResult {
-    pub answer: ReturnAnswer,
-    pub register: Register,
-}
-
-#[derive(Clone, Copy)]
-pub struct RecordResult {
-    pub answer: RecordAnswer,
-    pub register: Register,
-}
-
-#[derive(Clone, Copy)]
-pub struct ReleaseResult {
-    pub answer: ReleaseAnswer,
-    pub register: Register,
-}
-
-#[derive(Clone, Copy)]
-pub struct ReadResult {
-    pub answer: ReadAnswer,
+pub struct Answered<A> {
+    pub answer: A,
     pub register: Register,
 }
 
@@ -97,198 +57,153 @@ impl Register {
     pub fn new() -> Register
         ensures { result ≡ fresh_register }
     {
-        let session = Session::new();
-        let records = Records::new();
-        let releases = Releases::new();
         Register {
-            session,
-            records,
-            releases,
+            session: Session::new(),
+            records: Records::new(),
+            releases: Releases::new(),
         }
     }
 
     // Records an edition of a series: its path row, and the step by which the previous edition's path is contained in
     // it.
-    pub fn record(self, series: u16, edition: u16, row: u16, step: u16) -> RecordResult
+    pub fn record(self, series: u16, edition: u16, row: u16, step: u16) -> Answered<RecordAnswer>
         ensures { RegisterMet self (Above.passed (Above.own (recorded series edition row step)))
             (record_answer_of result.answer) result.register }
     {
-        let session = self.session;
-        let releases = self.releases;
         let given = Record {
             series,
             edition,
             row,
             step,
         };
-        let made = session.record(self.records, given);
-        let answer = made.answer;
-        let records = made.records;
-        let register = Register {
-            session,
-            records,
-            releases,
-        };
-        RecordResult { answer, register }
+        let made = self.session.record(self.records, given);
+        Answered {
+            answer: made.answer,
+            register: Register {
+                records: made.records,
+                ..self
+            },
+        }
     }
 
     // The current edition of a series, 0 if it has none.
     pub fn current(self, series: u16) -> u16
         ensures { result ≡ current (records_in self.records) series }
     {
-        let records = self.records;
-        records.current(series)
+        self.records.current(series)
     }
 
     // Releases the record at a place, counted from 1.
-    pub fn release(self, place: u16) -> ReleaseResult
+    pub fn release(self, place: u16) -> Answered<ReleaseAnswer>
         ensures { RegisterMet self (Above.own place) (release_answer_of result.answer) result.register }
     {
-        let session = self.session;
-        let records = self.records;
-        let released = self.releases;
-        let made = released.release(records, place);
-        let answer = made.answer;
-        let releases = made.releases;
-        let register = Register {
-            session,
-            records,
-            releases,
-        };
-        ReleaseResult { answer, register }
+        let made = self.releases.release(self.records, place);
+        Answered {
+            answer: made.answer,
+            register: Register {
+                releases: made.releases,
+                ..self
+            },
+        }
     }
 
     // All records, in the order of recording.
     pub fn listing(self) -> Records
         ensures { result ≡ listed (records_in self.records) }
     {
-        let records = self.records;
-        records.listing()
+        self.records.listing()
     }
 
     // The released records, in that order.
     pub fn crew_listing(self) -> Records
         ensures { result ≡ listed (crew_listing (released_in self)) }
     {
-        let records = self.records;
-        records.released(self.releases)
+        self.records.released(self.releases)
     }
 
     // The highest released edition of a series, 0 if it has none.
     pub fn crew_current(self, series: u16) -> u16
         ensures { result ≡ crew_current (released_in self) series }
     {
-        let records = self.records;
-        let shown = records.released(self.releases);
+        let shown = self.records.released(self.releases);
         shown.current(series)
     }
 
     // Returns to the point of that name, where that drops no row and no step in use.
-    pub fn return_to(self, name: u16) -> ReturnResult
+    pub fn return_to(self, name: u16) -> Answered<ReturnAnswer>
         ensures { RegisterMet self (Above.passed (Above.passed (Call.return name)))
             (return_answer_of result.answer) result.register }
     {
-        let session = self.session;
-        let records = self.records;
-        let releases = self.releases;
-        let made = session.return_to(name);
-        let told = made.answer;
-        let used = session.drops_in_use(records, name);
-        if told.number() == 0 {
-            if used {
-                return ReturnResult {
-                    answer: ReturnAnswer::InUse,
-                    register: self,
-                };
-            }
-            let next = made.session;
-            let register = Register {
-                session: next,
-                records,
-                releases,
-            };
-            return ReturnResult {
-                answer: ReturnAnswer::Accepted,
-                register,
+        let made = self.session.return_to(name);
+        if made.answer.number() != 0 {
+            return Answered {
+                answer: ReturnAnswer::BadPoint(name),
+                register: self,
             };
         }
-        ReturnResult {
-            answer: ReturnAnswer::BadPoint(name),
-            register: self,
+        if self.session.drops_in_use(self.records, name) {
+            return Answered {
+                answer: ReturnAnswer::InUse,
+                register: self,
+            };
+        }
+        Answered {
+            answer: ReturnAnswer::Accepted,
+            register: Register {
+                session: made.session,
+                ..self
+            },
         }
     }
 
-    pub fn term(self, kind: u16, a: u16, b: u16, c: u16) -> TermResult
+    // The answer of a call of the session's, and the register over the session that it leaves.
+    fn passed_on<A>(self, made: session::Answered<A>) -> Answered<A>
+        ensures answer { result.answer ≡ made.answer }
+        ensures register { result.register ≡ over self made.session }
+    {
+        Answered {
+            answer: made.answer,
+            register: Register {
+                session: made.session,
+                ..self
+            },
+        }
+    }
+
+    pub fn term(self, kind: u16, a: u16, b: u16, c: u16) -> Answered<TermAnswer>
         ensures { RegisterMet self (Above.passed (Above.passed (Call.term (row kind a b c))))
             (term_answer_of result.answer) result.register }
     {
-        let session = self.session;
-        let records = self.records;
-        let releases = self.releases;
-        let made = session.term(kind, a, b, c);
-        let answer = made.answer;
-        let next = made.session;
-        let register = Register {
-            session: next,
-            records,
-            releases,
-        };
-        TermResult { answer, register }
+        self.passed_on(self.session.term(kind, a, b, c))
     }
 
-    pub fn step(self, rule: u16, left: u16, right: u16, first: u16, second: u16) -> StepResult
+    pub fn step(
+        self,
+        rule: u16,
+        left: u16,
+        right: u16,
+        first: u16,
+        second: u16,
+    ) -> Answered<StepAnswer>
         ensures { RegisterMet self (Above.passed (Above.passed (Call.step (step rule left right first second))))
             (step_answer_of result.answer) result.register }
     {
-        let session = self.session;
-        let records = self.records;
-        let releases = self.releases;
-        let made = session.step(rule, left, right, first, second);
-        let answer = made.answer;
-        let next = made.session;
-        let register = Register {
-            session: next,
-            records,
-            releases,
-        };
-        StepResult { answer, register }
+        self.passed_on(self.session.step(rule, left, right, first, second))
     }
 
-    pub fn text(self, names: &[u8], selector: &[u8]) -> TextResult
+    pub fn text(self, names: &[u8], selector: &[u8]) -> Answered<TextAnswer>
         ensures { RegisterMet self
             (Above.passed (Above.passed (Call.text names.now selector.now)))
             (text_answer_of result.answer) result.register }
     {
-        let session = self.session;
-        let records = self.records;
-        let releases = self.releases;
-        let made = session.text(names, selector);
-        let answer = made.answer;
-        let next = made.session;
-        let register = Register {
-            session: next,
-            records,
-            releases,
-        };
-        TextResult { answer, register }
+        self.passed_on(self.session.text(names, selector))
     }
 
-    pub fn point(self, name: u16) -> PointResult
+    pub fn point(self, name: u16) -> Answered<PointAnswer>
         ensures { RegisterMet self (Above.passed (Above.passed (Call.point name)))
             (point_answer_of result.answer) result.register }
     {
-        let session = self.session;
-        let records = self.records;
-        let releases = self.releases;
-        let made = session.point(name);
-        let answer = made.answer;
-        let next = made.session;
-        let register = Register {
-            session: next,
-            records,
-            releases,
-        };
-        PointResult { answer, register }
+        self.passed_on(self.session.point(name))
     }
 
     pub fn select(
@@ -302,55 +217,45 @@ impl Register {
         ensures { SelectMet self.session row document.now context limit
             marks.old result marks.new }
     {
-        let session = self.session;
-        session.select(row, document, context, limit, marks)
+        self.session.select(row, document, context, limit, marks)
     }
 
     pub fn replace<'a>(self, old: &'a [u16], new: &'a [u16], by: &'a [u16]) -> ReplaceAnswer
         ensures { ReplaceMet self.session old.now new.now by.now result }
     {
-        let session = self.session;
-        session.replace(old, new, by)
+        self.session.replace(old, new, by)
     }
 
     pub fn order(self, row: u16, other: Register, other_row: u16) -> OrderAnswer
         ensures { OrderMet self.session row other.session other_row result }
     {
-        let session = self.session;
-        let against = other.session;
-        session.order(row, against, other_row)
+        self.session.order(row, other.session, other_row)
     }
 
     pub fn bundle_order(self, other: Register) -> OrderAnswer
         ensures { BundleOrderMet self.session other.session result }
     {
-        let session = self.session;
-        let against = other.session;
-        session.bundle_order(against)
+        self.session.bundle_order(other.session)
     }
 
     pub fn write(self, out: &mut [u8]) -> WriteAnswer
         ensures { WriteMet self.session out.old result out.new }
     {
-        let session = self.session;
-        session.write(out)
+        self.session.write(out)
     }
 
     // A register without records over the session that a bundle reads as.
-    pub fn read(bytes: &[u8]) -> ReadResult
+    pub fn read(bytes: &[u8]) -> Answered<ReadAnswer>
         ensures { RegisterReadMet bytes.now result }
     {
         let read = Session::read(bytes);
-        let answer = read.answer;
-        let session = read.session;
-        let records = Records::new();
-        let releases = Releases::new();
-        let register = Register {
-            session,
-            records,
-            releases,
-        };
-        ReadResult { answer, register }
+        Answered {
+            answer: read.answer,
+            register: Register {
+                session: read.session,
+                ..Register::new()
+            },
+        }
     }
 }
 

@@ -3,10 +3,13 @@
 
 ghost use Rattle.std.specs.Prelude.{◌≡◌, [], ◌∷◌, ◌≤◌, length};
 ghost use Rattle.terms.specs.Row.{table_of};
+ghost use Rattle.terms.specs.code.RowTypes.{PlaceIs};
 ghost use Rattle.calls.specs.Book.{book, max_steps};
 ghost use Rattle.calls.specs.code.Tables.{steps_of, first_rows, first_steps};
 ghost use Rattle.replacing.specs.Covered.{is_held_step, is_in, is_replaced, step_saying};
 ghost use Rattle.replacing.specs.ReplaceCall.{are_bad_lists, replace_answer, replace_answer_of};
+
+use matching::Sides;
 
 // The most old rows of a call, and the most new ones.
 pub const MAX_LIST: usize = 64;
@@ -20,49 +23,36 @@ pub enum ReplaceAnswer {
 }
 
 // Whether step i, counted from 1, is held.
+#[tactic(auto, unfolding(crate::specs::Covered::is_held_step))]
 fn is_held_step(steps: &[u16], i: u16) -> bool
     ensures { result ≡ is_held_step (steps_of steps.now) i }
 {
-    let held = steps.len() / calls::STEP_WIDTH;
-    common::and(1 <= i, common::wide(i) <= held)
+    1 <= i && usize::from(i) <= calls::step_count(steps)
 }
 
 // Whether the list has the number n.
 fn is_in(list: &[u16], n: u16) -> bool
     ensures { result ≡ is_in list.now n }
 {
-    let mut i = 0;
-    while i < list.len() {
-        let m = list[i];
-        if m == n {
-            return true;
-        }
-        i += 1;
-    }
-    false
+    list.contains(&n)
 }
 
 // Whether step i is held and says that the row `old`, a path, is contained in some row of `new`.
+#[tactic(auto, unfolding(crate::specs::Covered::is_replaced, calls::specs::Promises::sides_of))]
 fn is_replaced(rows: &[u16], steps: &[u16], new: &[u16], old: u16, i: u16) -> bool
     ensures { result ≡ is_replaced (book (table_of rows.now) (steps_of steps.now))
         new.now old i }
 {
-    let sides = calls::sides_of(steps, i);
-    let held = is_held_step(steps, i);
-    let path = terms::is_held_path(rows, old);
-    let left = sides.left;
-    let right = sides.right;
-    let from = common::and(left == old, path);
-    let within = is_in(new, right);
-    common::and(held, common::and(from, within))
+    let Sides { left, right } = calls::sides_of(steps, i);
+    is_held_step(steps, i) && left == old && terms::is_held_path(rows, old) && is_in(new, right)
 }
 
 // Whether a list is too long, or there are not as many steps as old rows.
+#[tactic(auto, unfolding(crate::specs::ReplaceCall::are_bad_lists))]
 fn are_bad_lists<'a>(old: &'a [u16], new: &'a [u16], by: &'a [u16]) -> bool
     ensures { result ≡ are_bad_lists old.now new.now by.now }
 {
-    let long = common::or(MAX_LIST < old.len(), MAX_LIST < new.len());
-    common::or(long, by.len() != old.len())
+    MAX_LIST < old.len() || MAX_LIST < new.len() || by.len() != old.len()
 }
 
 // A replace call on lent rows and steps, as `Session::replace` makes it on those that it holds. `by` has the number of
@@ -81,15 +71,10 @@ pub fn replace_on<'a>(
     if are_bad_lists(old, new, by) {
         return ReplaceAnswer::BadLists;
     }
-    let mut k = 0;
-    while k < old.len() {
-        let row = old[k];
-        let i = by[k];
-        if !is_replaced(rows, steps, new, row, i) {
-            let place = k + 1;
-            return ReplaceAnswer::NotCovered(place as u16);
+    for (k, row) in old.iter().enumerate() {
+        if !is_replaced(rows, steps, new, *row, by[k]) {
+            return ReplaceAnswer::NotCovered((k + 1) as u16);
         }
-        k += 1;
     }
     ReplaceAnswer::Covered
 }
@@ -99,26 +84,21 @@ fn says(rows: &[u16], steps: &[u16], old: u16, new: u16, i: u16) -> bool
     ensures { result ≡ is_replaced (book (table_of rows.now) (steps_of steps.now))
         (new ∷ []) old i }
 {
-    let list = [new];
-    is_replaced(rows, steps, &list, old, i)
+    is_replaced(rows, steps, &[new], old, i)
 }
 
-// The first step, counted from 1, that says so; 0 where none does.
-fn first_saying(rows: &[u16], steps: &[u16], old: u16, new: u16) -> u16
+// The first step, counted from 1, that says so.
+fn first_saying(rows: &[u16], steps: &[u16], old: u16, new: u16) -> Option<u16>
     requires { length (steps_of steps.now) ≤ max_steps }
-    ensures { result ≡ step_saying (book (table_of rows.now) (steps_of steps.now)) old new }
+    ensures { PlaceIs result (step_saying (book (table_of rows.now) (steps_of steps.now)) old new) }
 {
-    let held = steps.len() / calls::STEP_WIDTH;
-    let mut n = 0;
-    while n < held {
-        let next = n + 1;
-        let i = next as u16;
+    for n in 0..calls::step_count(steps) {
+        let i = (n + 1) as u16;
         if says(rows, steps, old, new, i) {
-            return i;
+            return Some(i);
         }
-        n += 1;
     }
-    0
+    None
 }
 
 // The same of the first n rows of a table and the first m steps of another.
@@ -129,9 +109,8 @@ pub fn step_saying<'a>(
     m: usize,
     old: u16,
     new: u16,
-) -> u16
-    ensures { result ≡ step_saying (book (first_rows n rows.now) (first_steps m steps.now))
-        old new }
+) -> Option<u16>
+    ensures { PlaceIs result (step_saying (book (first_rows n rows.now) (first_steps m steps.now)) old new) }
 {
     let held_rows = calls::first_rows(rows, n);
     let held_steps = calls::first_steps(steps, m);

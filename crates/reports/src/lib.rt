@@ -1,22 +1,22 @@
 // What the program audit prints, of any open file.
 #![tactic(auto)]
 
+use arrayvec::ArrayString;
 use auditing::Report;
+use std::fmt::Write;
 
-fn print_after_space(value: u64) {
-    io::write_all(1, b" ");
-    io::print_decimal(1, value);
-}
+// Longer than the heading and five numbers of at most twenty digits.
+const LONGEST_REPORT: usize = 256;
 
 // The answer, the refused line or 0, the steps held, and the rows of the last step, or zeros, under a heading.
 fn print(report: Report) {
-    io::write_all(1, b"answer line steps left right\n");
-    io::print_decimal(1, report.answer as u64);
-    print_after_space(report.line as u64);
-    print_after_space(report.steps as u64);
-    print_after_space(report.left as u64);
-    print_after_space(report.right as u64);
-    io::write_all(1, b"\n");
+    let mut text = ArrayString::<LONGEST_REPORT>::new();
+    let _ = writeln!(
+        text,
+        "answer line steps left right\n{} {} {} {} {}",
+        report.answer, report.line, report.steps, report.left, report.right
+    );
+    io::write_all(1, text.as_str().as_bytes());
 }
 
 // Reads a bundle from an open file and prints the report of it. No contract can speak of what is read or printed; the

@@ -1,86 +1,74 @@
--- A word and the rest of its line. Assumes nothing.
-use Prim.Native.Nat.{ℕ, ◌+◌, ◌≤◌, ◌<◌}
+-- The first line of a text, and what stands behind its word. Assumes nothing.
+use Prim.Native.Nat.{ℕ, suc, ◌+◌}
 use mathlib.Core.Path.{◌≡◌, refl, sym, ap, ◌∙◌}
-use mathlib.Core.Bool.{true, false, false≢true}
-use mathlib.Core.List.{List, [], ◌∷◌}
+use mathlib.Core.Bool.{Bool, true, false, cond, not}
+use mathlib.Core.List.{List, [], ◌∷◌, ◌++◌}
 use mathlib.Core.Option.{none}
 use native.Mathlib.Omega.{arith}
-use native.Mathlib.Numerals.{add-one}
 use lib.Dec.{eqb}
-use lib.ListN.{length, get_or, drop}
-use lib.Seq.{drop-cons}
-use borrow.Author.Tests.{eq-eqb, ne_eqb}
-use Rattle.lines.specs.Line.{newline, Line, in_first_line, lines}
+use lib.ListN.{length, take, drop, length-append, length-drop}
+use lib.Seq.{drop-drop}
+use Rattle.std.specs.List.{position_or_len}
+use Rattle.lines.specs.Line.{newline, space, Line, in_first_line, lines}
 use Rattle.lines.specs.code.NumbersRead.{first_parts}
-use Rattle.lines.proofs.Cutting.{no_lines}
-use Rattle.script_words.specs.declared.Word.{Word}
+use Rattle.lines.proofs.Cutting.{Free, lines_at, no_whole_line}
+use Rattle.lines.proofs.First.{Before, behind_first}
+use Rattle.lines.proofs.Parts.{PartsMet}
 use Rattle.script_words.specs.declared.Shape.TheVariants.{Rest}
-use Rattle.script.specs.declared.CallLine.{CallLine}
-use Rattle.script.specs.declared.Values.{Values}
-use Rattle.script.specs.Command.{numbers_in, word_command}
-use Rattle.script_words.specs.Words.{shape_of}
-use Rattle.script.specs.code.CommandRead.{size_only, plain_line, no_call, CallMet}
-use Rattle.script.proofs.Calls.{if_not_read, if_read}
+use Rattle.script.specs.Command.{numbers_in}
+use Rattle.script.specs.Rest.{rest_of, first_bytes}
 
--- the line that starts at `at` has no newline before i
-pub record Passed (xs : List ℕ) (at i : ℕ) : Type 0 where
-  pub first : first_parts (numbers_in Rest) (lines (drop at xs)) ≡ first_parts (numbers_in Rest) (lines (drop i xs))
-  pub next : drop 1 (lines (drop at xs)) ≡ drop 1 (lines (drop i xs))
-  pub from : at ≤ i
-
-pub none_passed : (xs : List ℕ) (at : ℕ) → Passed xs at at
-none_passed xs at = record { first = refl; next = refl; from = omega arith }
-
--- a byte more at the start of the first line
-one_first : (x : ℕ) (ls : List Line) → first_parts (numbers_in Rest) (in_first_line x ls)
-    ≡ first_parts (numbers_in Rest) ls
-unfolding first_parts in_first_line
-one_first x [] = refl
-one_first x (l ∷ ls) = refl
-
-one_next : (x : ℕ) (ls : List Line) → drop 1 (in_first_line x ls) ≡ drop 1 ls
-unfolding in_first_line
-one_next x [] = refl
-one_next x (l ∷ ls) = refl
-
-module _ (xs : List ℕ) (at i : ℕ) (p : Passed xs at i) (inside : i < length xs) where
-  here : drop i xs ≡ get_or xs i 0 ∷ drop (i + 1) xs
-  here = rw (add-one i) (drop-cons xs i 0 inside)
-
-  pub one_passed : ¬ (get_or xs i 0 ≡ newline) → Passed xs at (i + 1)
-  unfolding lines
-  one_passed f =
-      let other : lines (drop i xs) ≡ in_first_line (get_or xs i 0) (lines (drop (i + 1) xs)) =
-      ap lines here ∙ rw (ne_eqb (get_or xs i 0) newline f) in
-      record {
-        first = p.first ∙ ap (first_parts (numbers_in Rest)) other
-            ∙ one_first (get_or xs i 0) (lines (drop (i + 1) xs));
-        next = p.next ∙ ap (drop 1) other ∙ one_next (get_or xs i 0) (lines (drop (i + 1) xs));
-        from = omega (arith, p.from);
-      }
-
-  pub rest_read : get_or xs i 0 ≡ newline → (word : Word) → shape_of word ≡ Rest → (r : CallLine) (values : Values)
-      → r ≡ plain_line word values (i + 1) → values ≡ size_only 0 → CallMet (word_command word) xs at r
-  unfolding lines first_parts
-  rest_read e word s r values is zero =
-      let ended : lines (drop i xs) ≡ record { bytes = []; ended = true } ∷ lines (drop (i + 1) xs) =
-      ap lines here ∙ rw (eq-eqb (get_or xs i 0) newline e) in
-      if_read word Rest s xs at true [] (i + 1)
-      (record {
-        numbers = sym (p.first ∙ ap (first_parts (numbers_in Rest)) ended);
-        rest = λ _. sym (p.next ∙ ap (drop 1) ended);
-        right = λ _. (omega (arith, p.from), omega (arith, inside));
-      })
-      r refl values is zero refl
-
-pub no_rest_read : (xs : List ℕ) (at i : ℕ) → Passed xs at i → length xs ≤ i → (word : Word) → shape_of word ≡ Rest
-    → (r : CallLine) → r ≡ no_call (length xs) → CallMet (word_command word) xs at r
+-- any bytes up to the newline are no numbers
+pub any_bytes : (xs : List ℕ) (at i : ℕ) → Before newline (drop at xs) i
+    → PartsMet (numbers_in Rest) xs at [] (at + i + 1)
 unfolding first_parts
-no_rest_read xs at i p outside word s r is =
-    if_not_read word Rest s xs at false [] 0
-    (record {
-      numbers = sym (p.first ∙ ap (first_parts (numbers_in Rest)) (no_lines xs i outside));
-      rest = λ e. absurd (false≢true e);
-      right = λ e. absurd (false≢true e);
-    })
-    r refl is
+any_bytes xs at i b =
+    let next : drop (at + i + 1) xs ≡ b.rest =
+    ap (λ k. drop k xs) (omega arith)
+    ∙ sym (drop-drop (length b.bytes + 1) at xs) ∙ ap (drop (length b.bytes + 1)) b.text
+    ∙ behind_first newline b.bytes b.rest in
+    let size = ap length b.text ∙ length-append b.bytes (newline ∷ b.rest) in
+    record {
+      numbers = rw (b.text, lines_at b.bytes b.rest b.free);
+      rest = rw (next, b.text, lines_at b.bytes b.rest b.free);
+      right = (omega arith, omega (arith, size, b.size, length-drop at xs));
+    }
+
+pub no_bytes : (xs : List ℕ) → Free newline xs → none ≡ first_parts (numbers_in Rest) (lines xs)
+no_bytes xs f = sym (no_whole_line (numbers_in Rest) xs f)
+
+-- one byte more at the start of the first line
+one_more : (x : ℕ) (ls : List Line) → first_bytes (in_first_line x ls) ≡ x ∷ first_bytes ls
+unfolding first_bytes in_first_line
+one_more x [] = refl
+one_more x (l ∷ ls) = refl
+
+-- the first line goes to the first newline, or the text's end
+pub first_line_taken : (xs : List ℕ) → take (position_or_len (λ x. eqb x newline) xs) xs ≡ first_bytes (lines xs)
+unfolding lines first_bytes
+first_line_taken [] = refl
+first_line_taken (x ∷ xs) = by_test (eqb x newline) (first_line_taken xs)
+  where
+    by_test : (b : Bool) → take (position_or_len (λ x. eqb x newline) xs) xs ≡ first_bytes (lines xs)
+        → take (cond (not b) (1 + position_or_len (λ x. eqb x newline) xs) 0) (x ∷ xs)
+        ≡ first_bytes (cond b (record { bytes = []; ended = true } ∷ lines xs) (in_first_line x (lines xs)))
+    by_test true later = refl
+    by_test false later =
+        let k : 1 + position_or_len (λ x. eqb x newline) xs ≡ suc (position_or_len
+        (λ x. eqb x newline) xs) = omega arith in
+        rw (k, one_more x (lines xs)) (ap (λ ys. x ∷ ys) later)
+
+-- what stands behind the first space
+rest_behind : (w r : List ℕ) → Free space w → rest_of (w ++ space ∷ r) ≡ r
+unfolding rest_of
+rest_behind [] r f = refl
+rest_behind (x ∷ w) r f = rw (f.0, rest_behind w r f.1)
+
+pub rest_dropped : (xs : List ℕ) (i : ℕ) → Before space xs i → drop (i + 1) xs ≡ rest_of xs
+rest_dropped xs i b =
+    rw (← b.size, b.text) (behind_first space b.bytes b.rest ∙ sym (rest_behind b.bytes b.rest b.free))
+
+pub no_rest : (xs : List ℕ) → Free space xs → [] ≡ rest_of xs
+unfolding rest_of
+no_rest [] f = refl
+no_rest (x ∷ xs) f = rw f.0 (no_rest xs f.1)

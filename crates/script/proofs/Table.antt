@@ -1,123 +1,123 @@
 -- The words of the table are tried one after the other. Assumes nothing.
-use Prim.Native.Nat.{ℕ, ◌+◌, ◌-◌, ◌≤◌, ◌<◌}
+use Prim.Native.Nat.{ℕ, ◌+◌, ◌≤◌, ◌<◌}
 use mathlib.Core.Path.{◌≡◌, refl, sym, ap, subst, ◌∙◌}
 use mathlib.Core.Bool.{Bool, true, false}
 use mathlib.Core.List.{List, [], ◌∷◌, ◌++◌}
-use mathlib.Core.Option.{Option-elim}
+use mathlib.Core.Option.{none, Option-elim}
 use native.Mathlib.Omega.{arith}
 use native.Mathlib.Numerals.{add-one}
-use lib.ListN.{length, get_or, take, drop, length-append}
-use lib.ListN.{drop_of_length-le}
+use lib.ListN.{length, get_or, drop, length-append, drop_of_length-le}
 use lib.Seq.{drop-cons}
+use Rattle.std.specs.Prelude.{Option as Optional, Some}
 use Rattle.lines.specs.Line.{newline, space, lines}
 use Rattle.lines.specs.code.NumbersRead.{first_parts, starts_with}
 use Rattle.lines.proofs.Start.{starts}
 use Rattle.lines.proofs.Parts.{first_none}
 use Rattle.script_words.specs.declared.Word.{Word}
-use Rattle.script_words.specs.declared.Entry.{Entry}
+use Rattle.script_words.specs.declared.Shape.{Shape}
+use Rattle.script_words.specs.declared.TheConstants.{WORDS}
 use Rattle.script.specs.declared.Values.{Values}
 use Rattle.script.specs.declared.CallLine.{CallLine}
 use Rattle.script.specs.Command.{word_command, word_for, command_by, command_of}
 use Rattle.script_words.specs.Words.{words, shape_of}
-use Rattle.script.specs.code.CommandRead.{size_only, plain_line, no_call, call_line, CallMet, stands_alone}
-use Rattle.script_words.specs.code.Entries.{no_entry, EntryMet}
-use Rattle.script_words.proofs.Table.{word_sound}
-use Rattle.script.proofs.Calls.{is_no_call}
+use Rattle.script.specs.code.CommandRead.{size_only, plain_line, CallMet, CallRead, stands_alone}
+use Rattle.script_words.specs.code.Entries.{Fits, text_of, entry_of, no_entry}
+use Rattle.script_words.proofs.Table.{Sound, word_sound, word_at, word_count}
+use Rattle.script.proofs.Calls.{read_behind}
 use Rattle.script.proofs.Words.{word_and_numbers, word_alone, word_without_numbers, another_word}
 
--- entry i is tried, after the entries before it
-module _ (xs : List ℕ) (at i : ℕ) (h : i < length words)
-    (so_far : first_parts command_of (lines (drop at xs))
-    ≡ first_parts (command_by (drop i words)) (lines (drop at xs)))
-    (entry : Entry) (met : EntryMet (get_or words i no_entry) entry)
+-- the words before the first i are tried
+abbrev pub Tried : (xs : List ℕ) (at i : ℕ) → Type 0
+Tried xs at i = first_parts command_of (lines (drop at xs)) ≡ first_parts (command_by (drop i words)) (lines
+    (drop at xs))
+
+-- word i is tried, after those before it
+module _ (xs : List ℕ) (at i : ℕ) (h : i < length WORDS) (so_far : Tried xs at i) (d : Word) (text : List ℕ)
+    (is : text ≡ text_of (get_or WORDS i d)) (shape : Shape) (asks : shape ≡ shape_of (get_or WORDS i d))
   where
+    abbrev word : Word
+    word = get_or WORDS i d
+
     abbrev w : List ℕ
-    w = (get_or words i no_entry).0
+    w = text_of word
 
     abbrev later : List (List ℕ × Word)
     later = drop (i + 1) words
 
+    inside : i < length words
+    inside = omega (arith, word_count)
+
     here : first_parts command_of (lines (drop at xs))
-        ≡ first_parts (command_by (get_or words i no_entry ∷ later)) (lines (drop at xs))
+        ≡ first_parts (command_by (entry_of word ∷ later)) (lines (drop at xs))
     here =
         so_far
         ∙ ap (λ es. first_parts (command_by es) (lines (drop at xs)))
-        (drop-cons words i no_entry h ∙ ap (λ n. get_or words i no_entry ∷ drop n words) (sym (add-one i)))
+        (drop-cons words i no_entry inside ∙ ap (λ n. get_or words i no_entry ∷ drop n words) (sym (add-one i))
+        ∙ ap (λ e. e ∷ later) (word_at i h d))
 
-    by_entry : (r : CallLine) → CallMet (command_by (get_or words i no_entry ∷ later)) xs at r →
-        CallMet command_of xs at r
-    by_entry r m =
-        record {
-          line = m.line ∙ ap (λ o. Option-elim o (no_call (length xs)) (call_line r.next)) (sym here);
-          rest = m.rest ∙ ap (λ o. Option-elim o [] (λ c. drop 1 (lines (drop at xs)))) (sym here);
-          further = m.further;
-          inside = m.inside;
-        }
+    sound : Sound (entry_of word)
+    sound = subst Sound (word_at i h d) (word_sound i inside)
 
-    -- whether the line starts with the word and a space
-    module _ (b : Bool) (told : b ≡ starts_with (take (entry.1 + 1) entry.0) (drop at xs)) where
-      starts_so : (t : Bool) → b ≡ t → starts_with (w ++ space ∷ []) (drop at xs) ≡ t
-      starts_so t e = ap (λ ys. starts_with ys (drop at xs)) (sym met.and_space) ∙ sym told ∙ e
+    by_word : (r : Optional CallLine) → CallRead (command_by (entry_of word ∷ later)) xs at r →
+        CallRead command_of xs at r
+    by_word r m = read_behind command_of (command_by (entry_of word ∷ later)) xs at at (omega arith) here refl r m
 
-      pub space_inside : b ≡ true → at + (entry.1 + 1) ≤ length xs
-      space_inside e =
-          let size = length-append w (space ∷ []) in
-          let start = starts (w ++ space ∷ []) xs at (starts_so true e) in
-          omega (arith, start.inside (omega (arith, size)), size, met.size)
+    pub shape_right : (shape_of word ≡ shape) × Fits shape
+    shape_right = (sym asks, subst Fits (sym asks) sound.fits)
 
-      pub numbers_read : b ≡ true → (r : CallLine) → CallMet (word_command entry.2) xs (at + (entry.1 + 1)) r
-          → CallMet command_of xs at r
-      numbers_read e r m =
-          let s = word_sound i h in
-          by_entry r (word_and_numbers w _ later s.no_newline s.no_space xs at (starts_so true e) r
-          (subst (λ n. CallMet (word_command (get_or words i no_entry).1) xs (at + (n + 1)) r) met.size
-          (subst (λ word. CallMet (word_command word) xs (at + (entry.1 + 1)) r) met.word m)))
+    -- the word and one more byte are there
+    there : (e : ℕ) (t : Bool) → starts_with (text ++ e ∷ []) (drop at xs) ≡ t
+        → starts_with (w ++ e ∷ []) (drop at xs) ≡ t
+    there e t told = subst (λ u. starts_with (u ++ e ∷ []) (drop at xs) ≡ t) is told
 
-      -- whether the line is the word
-      module _ (a : Bool) (alone : a ≡ starts_with (take entry.1 entry.0 ++ newline ∷ []) (drop at xs)) where
-        is_so : (t : Bool) → a ≡ t → starts_with (w ++ newline ∷ []) (drop at xs) ≡ t
-        is_so t e = ap (λ ys. starts_with (ys ++ newline ∷ []) (drop at xs)) (sym met.bytes) ∙ sym alone ∙ e
+    passed : (e : ℕ) → starts_with (text ++ e ∷ []) (drop at xs) ≡ true → at + (length text + 1) ≤ length xs
+    passed e told =
+        let size = length-append w (e ∷ []) in
+        let start = starts (w ++ e ∷ []) xs at (there e true told) in
+        omega (arith, start.inside (omega (arith, size)), size, ap length is)
 
-        pub newline_inside : a ≡ true → at + (entry.1 + 1) ≤ length xs
-        newline_inside e =
-            let size = length-append w (newline ∷ []) in
-            let start = starts (w ++ newline ∷ []) xs at (is_so true e) in
-            omega (arith, start.inside (omega (arith, size)), size, met.size)
+    -- the line starts with the word and a space
+    module _ (told : starts_with (text ++ space ∷ []) (drop at xs) ≡ true) where
+      pub space_inside : at + (length text + 1) ≤ length xs
+      space_inside = passed space told
 
-        stands : (t d : Bool) → d ≡ stands_alone entry.3 → d ≡ t → stands_alone (shape_of (get_or words i no_entry).1)
-            ≡ t
-        stands t d e f = ap stands_alone (sym met.shape) ∙ sym e ∙ f
+      pub numbers_read : (r : Optional CallLine) → CallRead (word_command word) xs (at + (length text + 1)) r
+          → CallRead command_of xs at r
+      numbers_read r m =
+          by_word r (word_and_numbers w word later sound.no_newline sound.no_space xs at (there space true told) r
+          (subst (λ u. CallRead (word_command word) xs (at + (length u + 1)) r) is m))
 
-        pub word_read : a ≡ true → (d : Bool) → d ≡ stands_alone entry.3 → d ≡ true → (r : CallLine)
-            → (v : Values) → r ≡ plain_line entry.2 v (at + (entry.1 + 1)) → v ≡ size_only 0
-            → CallMet command_of xs at r
-        word_read e d f g r v is none =
-            let s = word_sound i h in
-            by_entry r (subst (CallMet (command_by (get_or words i no_entry ∷ later)) xs at)
-            (sym (is ∙ ap (λ u. plain_line entry.2 u (at + (entry.1 + 1))) none
-            ∙ ap (λ n. plain_line entry.2 (size_only 0) (at + (n + 1))) met.size
-            ∙ ap (λ word. plain_line word (size_only 0) (at + (length w + 1))) met.word))
-            (word_alone w _ later s.no_newline s.no_space xs at (is_so true e) (stands true d f g)))
+    -- the line is the word
+    module _ (alone : starts_with (text ++ newline ∷ []) (drop at xs) ≡ true) where
+      pub newline_inside : at + (length text + 1) ≤ length xs
+      newline_inside = passed newline alone
 
-        pub nothing_read : a ≡ true → (d : Bool) → d ≡ stands_alone entry.3 → d ≡ false → (r : CallLine)
-            → r ≡ no_call (length xs) → CallMet command_of xs at r
-        nothing_read e d f g r is =
-            let s = word_sound i h in
-            by_entry r (subst (CallMet (command_by (get_or words i no_entry ∷ later)) xs at) (sym is)
-            (word_without_numbers w _ later s.no_newline s.no_space xs at (is_so true e) (stands false d f g)))
+      pub word_read : stands_alone shape ≡ true → (r : CallLine) (v : Values)
+          → r ≡ plain_line word v (at + (length text + 1)) → v ≡ size_only 0 → CallMet command_of xs at r
+      word_read t r v e f =
+          subst (CallMet command_of xs at)
+          (sym (e ∙ ap (λ u. plain_line word u (at + (length text + 1))) f
+          ∙ ap (λ u. plain_line word (size_only 0) (at + (length u + 1))) is))
+          (by_word (Some _) (word_alone w word later sound.no_newline sound.no_space xs at (there newline true alone)
+          (subst (λ u. stands_alone u ≡ true) asks t)))
 
-        pub next_entry : b ≡ false → a ≡ false
-            → first_parts command_of (lines (drop at xs)) ≡ first_parts (command_by later) (lines (drop at xs))
-        next_entry f g =
-            let s = word_sound i h in
-            here ∙ another_word w _ later s.no_newline s.no_space xs at (starts_so false f) (is_so false g)
+      pub nothing_read : stands_alone shape ≡ false → none ≡ first_parts command_of (lines (drop at xs))
+      nothing_read t =
+          word_without_numbers w word later sound.no_newline sound.no_space xs at (there newline true alone)
+          (subst (λ u. stands_alone u ≡ false) asks t) ∙ sym here
 
--- after the last entry
-pub no_entry_left : (xs : List ℕ) (at i : ℕ) → length words ≤ i
-    → first_parts command_of (lines (drop at xs)) ≡ first_parts (command_by (drop i words)) (lines (drop at xs))
-    → (r : CallLine) → r ≡ no_call (length xs) → CallMet command_of xs at r
+    pub next_word : starts_with (text ++ space ∷ []) (drop at xs) ≡ false
+        → starts_with (text ++ newline ∷ []) (drop at xs) ≡ false → Tried xs at (i + 1)
+    next_word f g =
+        here ∙ another_word w word later sound.no_newline sound.no_space xs at (there space false f)
+        (there newline false g)
+
+-- after the last word
+pub no_word_left : (xs : List ℕ) (at i : ℕ) → length WORDS ≤ i → Tried xs at i
+    → none ≡ first_parts command_of (lines (drop at xs))
 unfolding command_by word_for Option-elim
-no_entry_left xs at i h so_far r is =
-    rw is (is_no_call command_of xs at (so_far
-    ∙ ap (λ es. first_parts (command_by es) (lines (drop at xs))) (drop_of_length-le words {i = i} h)
-    ∙ first_none (command_by []) (λ w ws. refl) (lines (drop at xs))))
+no_word_left xs at i h so_far =
+    sym (so_far
+    ∙ ap (λ es. first_parts (command_by es) (lines (drop at xs)))
+    (drop_of_length-le words {i = i} (omega (arith, word_count)))
+    ∙ first_none (command_by []) (λ w ws. refl) (lines (drop at xs)))

@@ -3,11 +3,11 @@ use Prim.Native.Nat.{ℕ, zero, suc, ◌+◌}
 use mathlib.Core.Path.{◌≡◌, refl, sym, ap, ◌∙◌}
 use mathlib.Core.Bool.{Bool, true, false, false≢true}
 use mathlib.Core.List.{List, [], ◌∷◌, ◌++◌, append_assoc}
-use mathlib.Core.Option.{Option, none, some, Option-elim}
+use mathlib.Core.Option.{none, some, Option-elim}
 use native.Mathlib.Omega.{arith}
-use lib.Dec.{eqb}
 use lib.ListN.{length, drop, length-append}
 use borrow.Author.Tests.{eq-eqb, le-leb, eqb-true}
+use Rattle.std.specs.Prelude.{Option as Optional}
 use Rattle.lines.specs.Line.{newline, space, lines, same_bytes}
 use Rattle.lines.specs.Number.{numbers_up_to}
 use Rattle.lines.specs.code.NumbersRead.{first_parts, starts_with}
@@ -22,9 +22,9 @@ use Rattle.script_words.specs.declared.Shape.TheVariants.{Counted, Listed, Selec
 use Rattle.script.specs.declared.CallLine.{CallLine}
 use Rattle.script.specs.Command.{command, at_most, numbers_in, named, word_command, word_for, command_by}
 use Rattle.script_words.specs.Words.{shape_of}
-use Rattle.script.specs.code.CommandRead.{no_numbers, size_only, values_of, listed_of, plain_line, no_call, call_line}
-use Rattle.script.specs.code.CommandRead.{stands_alone, CallMet}
-use Rattle.script.proofs.Calls.{is_no_call, is_call}
+use Rattle.script.specs.code.CommandRead.{no_numbers, size_only, values_of, listed_of, plain_line, call_line}
+use Rattle.script.specs.code.CommandRead.{stands_alone, CallMet, CallRead}
+use Rattle.script.proofs.Calls.{is_call, read_behind}
 
 -- a word that is all of its line has no numbers, or is no call
 alone : (shape : Shape) → stands_alone shape ≡ true → numbers_in shape [] ≡ some []
@@ -80,8 +80,8 @@ module _ (w : List ℕ) (word : Word) (es : List (List ℕ × Word)) (f : Free n
     by_word ws = rw (same_itself w)
 
     -- the line starts with it and a space
-    pub word_and_numbers : starts_with (w ++ space ∷ []) (drop at xs) ≡ true → (r : CallLine)
-        → CallMet (word_command word) xs (at + (length w + 1)) r → CallMet (command_by table) xs at r
+    pub word_and_numbers : starts_with (w ++ space ∷ []) (drop at xs) ≡ true → (r : Optional CallLine)
+        → CallRead (word_command word) xs (at + (length w + 1)) r → CallRead (command_by table) xs at r
     word_and_numbers e r m =
         let size = length-append w (space ∷ []) in
         let start = starts (w ++ space ∷ []) xs at e in
@@ -94,12 +94,7 @@ module _ (w : List ℕ) (word : Word) (es : List (List ℕ × Word)) (f : Free n
         ∙ first_mapped (λ o. o) refl (λ ws. command_by table (w ∷ ws)) (word_command word) by_word (lines behind) in
         let next : drop 1 (lines (drop at xs)) ≡ drop 1 (lines behind) =
         ap (λ t. drop 1 (lines t)) text ∙ next_behind w behind f in
-        record {
-          line = m.line ∙ sym (ap (λ o. Option-elim o (no_call (length xs)) (call_line r.next)) same);
-          rest = m.rest ∙ rw (same, next);
-          further = omega (arith, m.further, start.inside (omega (arith, size)), size);
-          inside = m.inside;
-        }
+        read_behind (command_by table) (word_command word) xs at (at + (length w + 1)) (omega arith) same next r m
 
     -- the line is it
     module _ (e : starts_with (w ++ newline ∷ []) (drop at xs) ≡ true) where
@@ -132,10 +127,9 @@ module _ (w : List ℕ) (word : Word) (es : List (List ℕ × Word)) (f : Free n
           (omega (arith, start.inside (omega (arith, size)), size))
 
       pub word_without_numbers : stands_alone (shape_of word) ≡ false
-          → CallMet (command_by table) xs at (no_call (length xs))
+          → none ≡ first_parts (command_by table) (lines (drop at xs))
       unfolding named Option-elim
-      word_without_numbers t =
-          is_no_call (command_by table) xs at (told ∙ ap (named word) (not_alone (shape_of word) t))
+      word_without_numbers t = sym (told ∙ ap (named word) (not_alone (shape_of word) t))
 
     -- the line starts with another word
     pub another_word : starts_with (w ++ space ∷ []) (drop at xs) ≡ false

@@ -7,13 +7,12 @@ ghost use Rattle.lines.specs.Line.{lines};
 ghost use Rattle.lines.specs.code.NumbersRead.{max_count};
 ghost use Rattle.script.specs.Command.{word_command, command_of};
 ghost use Rattle.script.specs.Rest.{rest_of, newline_for_space, names_of, first_bytes};
-ghost use Rattle.script.specs.code.CommandRead.{no_numbers, size_only, plain_line, no_call, CallMet};
-ghost use Rattle.script.specs.code.CommandRead.{stands_alone};
+ghost use Rattle.script.specs.code.CommandRead.{no_numbers, size_only, plain_line, CallRead, stands_alone};
 ghost use Rattle.script_words.specs.code.Entries.{Fits};
 
-use script_words::{MAX_NUMBERS, Shape, WORD_COUNT, Word, entry_at};
+use script_words::{MAX_NUMBERS, Shape, WORDS, Word};
 
-const MAX_LIMIT: u32 = 4294967295;
+const MAX_LIMIT: u32 = u32::MAX;
 
 // The length of the longest marks buffer.
 pub const MAX_MARKS: usize = 1024;
@@ -36,10 +35,9 @@ pub struct Values {
 }
 
 // A call: its word, the numbers after it, those that are listed and zeros after them, and the position of the next
-// line. A line that is no call is not `ok`, and has zeros and the text's length.
+// line.
 #[derive(Clone, Copy)]
 pub struct CallLine {
-    pub ok: bool,
     pub word: Word,
     pub values: Values,
     pub numbers: [u16; MAX_NUMBERS],
@@ -71,7 +69,6 @@ fn plain_line(word: Word, values: Values, next: usize) -> CallLine
     ensures { result ≡ plain_line word values next }
 {
     CallLine {
-        ok: true,
         word,
         values,
         numbers: no_numbers(),
@@ -79,127 +76,88 @@ fn plain_line(word: Word, values: Values, next: usize) -> CallLine
     }
 }
 
-fn no_call(bytes: &[u8]) -> CallLine
-    ensures { result ≡ no_call (length bytes.now) }
-{
-    CallLine {
-        ok: false,
-        word: Word::Term,
-        values: size_only(0),
-        numbers: no_numbers(),
-        next: bytes.len(),
-    }
-}
-
 // The call of a word and the numbers at `at`, `count` of them to the line's end.
-fn counted_call(bytes: &[u8], at: usize, word: Word, count: usize) -> CallLine
+fn counted_call(bytes: &[u8], at: usize, word: Word, count: usize) -> Option<CallLine>
     requires { (shape_of word ≡ Shape.Counted count) × (count ≤ max_count) }
-    ensures { CallMet (word_command word) bytes.now at result }
+    ensures { CallRead (word_command word) bytes.now at result }
 {
-    let line = lines::numbers_line(bytes, at, count);
-    if !line.ok {
-        return no_call(bytes);
-    }
-    let numbers = line.numbers;
+    let line = lines::numbers_line(bytes, at, count)?;
+    let [a, b, c, d, e] = line.numbers;
     let values = Values {
-        a: numbers[0],
-        b: numbers[1],
-        c: numbers[2],
-        d: numbers[3],
-        e: numbers[4],
-        limit: 0,
-        size: 0,
+        a,
+        b,
+        c,
+        d,
+        e,
+        ..size_only(0)
     };
-    plain_line(word, values, line.next)
+    Some(plain_line(word, values, line.next))
 }
 
 // The same of the numbers of a select.
-fn selection_call(bytes: &[u8], at: usize, word: Word) -> CallLine
+fn selection_call(bytes: &[u8], at: usize, word: Word) -> Option<CallLine>
     requires { shape_of word ≡ Shape.Selection }
-    ensures { CallMet (word_command word) bytes.now at result }
+    ensures { CallRead (word_command word) bytes.now at result }
 {
-    let row = lines::number_at(bytes, at, lines::SPACE, lines::MAX_NUMBER);
-    let context = lines::number_at(bytes, row.next, lines::SPACE, lines::MAX_NUMBER);
-    let limit = lines::number_at(bytes, context.next, lines::SPACE, MAX_LIMIT);
-    let marks = lines::number_at(bytes, limit.next, lines::NEWLINE, MAX_MARKS as u32);
-    if !marks.ok {
-        return no_call(bytes);
-    }
+    let row = lines::number_at(bytes, at, lines::SPACE, lines::MAX_NUMBER)?;
+    let context = lines::number_at(bytes, row.next, lines::SPACE, lines::MAX_NUMBER)?;
+    let limit = lines::number_at(bytes, context.next, lines::SPACE, MAX_LIMIT)?;
+    let marks = lines::number_at(bytes, limit.next, lines::NEWLINE, MAX_MARKS as u32)?;
     let values = Values {
         a: row.value as u16,
         b: context.value as u16,
-        c: 0,
-        d: 0,
-        e: 0,
         limit: limit.value,
-        size: marks.value as usize,
+        ..size_only(marks.value as usize)
     };
-    plain_line(word, values, marks.next)
+    Some(plain_line(word, values, marks.next))
 }
 
 // The same of the length of a buffer.
-fn room_call(bytes: &[u8], at: usize, word: Word) -> CallLine
+fn room_call(bytes: &[u8], at: usize, word: Word) -> Option<CallLine>
     requires { shape_of word ≡ Shape.Room }
-    ensures { CallMet (word_command word) bytes.now at result }
+    ensures { CallRead (word_command word) bytes.now at result }
 {
-    let room = lines::number_at(bytes, at, lines::NEWLINE, MAX_ROOM as u32);
-    if !room.ok {
-        return no_call(bytes);
-    }
-    plain_line(word, size_only(room.value as usize), room.next)
+    let room = lines::number_at(bytes, at, lines::NEWLINE, MAX_ROOM as u32)?;
+    Some(plain_line(word, size_only(room.value as usize), room.next))
 }
 
 // The same of any bytes up to the line's end.
-fn rest_call(bytes: &[u8], at: usize, word: Word) -> CallLine
+fn rest_call(bytes: &[u8], at: usize, word: Word) -> Option<CallLine>
     requires { shape_of word ≡ Shape.Rest }
-    ensures { CallMet (word_command word) bytes.now at result }
+    ensures { CallRead (word_command word) bytes.now at result }
 {
-    let mut i = at;
-    while i < bytes.len() {
-        if bytes[i] == lines::NEWLINE {
-            return plain_line(word, size_only(0), i + 1);
-        }
-        i += 1;
-    }
-    no_call(bytes)
+    let length = lines::find(lines::rest(bytes, at), lines::NEWLINE)?;
+    Some(plain_line(word, size_only(0), at + length + 1))
 }
 
 // The same of a list of up to `most` numbers.
-fn list_call(bytes: &[u8], at: usize, word: Word, most: usize) -> CallLine
+fn list_call(bytes: &[u8], at: usize, word: Word, most: usize) -> Option<CallLine>
     requires { (shape_of word ≡ Shape.Listed most) × (most ≤ max_numbers) }
-    ensures { CallMet (word_command word) bytes.now at result }
+    ensures { CallRead (word_command word) bytes.now at result }
 {
     let mut numbers = no_numbers();
-    let mut count = 0;
     let mut from = at;
-    while count < most {
-        let more = lines::number_at(bytes, from, lines::SPACE, lines::MAX_NUMBER);
-        if !more.ok {
-            let last = lines::number_at(bytes, from, lines::NEWLINE, lines::MAX_NUMBER);
-            if !last.ok {
-                return no_call(bytes);
-            }
+    for count in 0..most {
+        let Some(more) = lines::number_at(bytes, from, lines::SPACE, lines::MAX_NUMBER) else {
+            let last = lines::number_at(bytes, from, lines::NEWLINE, lines::MAX_NUMBER)?;
             numbers[count] = last.value as u16;
-            let values = size_only(count + 1);
-            return CallLine {
-                ok: true,
+            return Some(CallLine {
                 word,
-                values,
+                values: size_only(count + 1),
                 numbers,
                 next: last.next,
-            };
-        }
+            });
+        };
         numbers[count] = more.value as u16;
-        count += 1;
         from = more.next;
     }
-    no_call(bytes)
+    None
 }
 
 // The same of what stands after a word of a shape.
-fn shaped_call(bytes: &[u8], at: usize, word: Word, shape: Shape) -> CallLine
+fn shaped_call(bytes: &[u8], at: usize, word: Word, shape: Shape) -> Option<CallLine>
     requires { (shape_of word ≡ shape) × Fits shape }
-    ensures { CallMet (word_command word) bytes.now at result }
+    ensures { CallRead (word_command word) bytes.now at result }
 {
     match shape {
         Shape::Counted(count) => counted_call(bytes, at, word, count),
@@ -216,92 +174,56 @@ fn stands_alone(shape: Shape) -> bool
 {
     match shape {
         Shape::Counted(count) => count == 0,
-        Shape::Listed(_) => true,
-        Shape::Selection => false,
-        Shape::Room => false,
-        Shape::Rest => true,
+        Shape::Listed(_) | Shape::Rest => true,
+        Shape::Selection | Shape::Room => false,
     }
 }
 
 // The call of the line at `at`.
-pub fn call_at(bytes: &[u8], at: usize) -> CallLine
-    ensures { CallMet command_of bytes.now at result }
+pub fn call_at(bytes: &[u8], at: usize) -> Option<CallLine>
+    ensures { CallRead command_of bytes.now at result }
 {
-    let mut i = 0;
-    while i < WORD_COUNT {
-        let entry = entry_at(i);
-        let padded = entry.0;
-        let size = entry.1;
-        let word = entry.2;
-        let shape = entry.3;
-        let end = size + 1;
-        if lines::starts_with(bytes, at, &padded[..end]) {
+    for word in WORDS {
+        let text = word.text();
+        let shape = word.shape();
+        let end = text.len() + 1;
+        if lines::word_at(bytes, at, text, lines::SPACE) {
             return shaped_call(bytes, at + end, word, shape);
         }
-        if lines::is_line(bytes, at, &padded[..size]) {
+        if lines::is_line(bytes, at, text) {
             if !stands_alone(shape) {
-                return no_call(bytes);
+                return None;
             }
-            return plain_line(word, size_only(0), at + end);
+            return Some(plain_line(word, size_only(0), at + end));
         }
-        i += 1;
     }
-    no_call(bytes)
+    None
 }
 
-// Where the rest of the line at `at` starts: behind its first space, or at the line's end where it has none.
-fn rest_start(bytes: &[u8], at: usize) -> usize
-    requires { at ≤ length bytes.now }
-    ensures { (first_bytes (lines (drop result bytes.now))
-        ≡ rest_of (first_bytes (lines (drop at bytes.now)))) × (result ≤ length bytes.now) }
+// The first line of a text, without its newline.
+fn first_line(text: &[u8]) -> &[u8]
+    ensures { result.now ≡ first_bytes (lines text.now) }
 {
-    let mut i = at;
-    while i < bytes.len() {
-        let b = bytes[i];
-        if b == lines::NEWLINE {
-            return i;
-        }
-        i += 1;
-        if b == lines::SPACE {
-            return i;
-        }
-    }
-    i
-}
-
-// Where the line ends that the byte at `from` is in.
-fn line_end(bytes: &[u8], from: usize) -> usize
-    requires { from ≤ length bytes.now }
-    ensures { (result ≡ from + length (first_bytes (lines (drop from bytes.now))))
-        × (result ≤ length bytes.now) }
-{
-    let mut i = from;
-    while i < bytes.len() {
-        if bytes[i] == lines::NEWLINE {
-            return i;
-        }
-        i += 1;
-    }
-    i
+    let length = lines::find(text, lines::NEWLINE).unwrap_or(text.len());
+    &text[..length]
 }
 
 // The bytes behind the first space of the line at `at`; none where it has none.
 pub fn rest_at(bytes: &[u8], at: usize) -> &[u8]
     ensures { result.now ≡ rest_of (first_bytes (lines (drop at bytes.now))) }
 {
-    let from = rest_start(bytes, calls::clamp(at, bytes.len()));
-    let end = line_end(bytes, from);
-    &bytes[from..end]
+    let line = first_line(lines::rest(bytes, at));
+    match lines::find(line, lines::SPACE) {
+        Some(length) => &line[length + 1..],
+        None => &[],
+    }
 }
 
 // A newline for a space; another byte stays.
 fn newline_for_space(b: u8) -> u8
     ensures { result ≡ newline_for_space b }
 {
-    if b == lines::SPACE {
-        return lines::NEWLINE;
-    }
-    b
+    if b == lines::SPACE { lines::NEWLINE } else { b }
 }
 
 // Writes the list of names that the bytes write, as much of it as there is room for. It gives how many bytes these are.
@@ -310,11 +232,9 @@ pub fn put_names(bytes: &[u8], out: &mut [u8]) -> usize
         × (take result out.new ≡ take result (names_of bytes.now))
         × (length out.new ≡ length out.old) }
 {
-    let size = calls::clamp(bytes.len(), out.len());
-    let mut i = 0;
-    while i < size {
-        out[i] = newline_for_space(bytes[i]);
-        i += 1;
+    let size = bytes.len().min(out.len());
+    for (i, b) in bytes[..size].iter().enumerate() {
+        out[i] = newline_for_space(*b);
     }
     size
 }

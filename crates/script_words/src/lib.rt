@@ -1,9 +1,9 @@
 // The words of a script's lines, and what stands after each.
 #![tactic(auto)]
 
-ghost use Rattle.std.specs.Prelude.{◌<◌, length, get_or};
-ghost use Rattle.script_words.specs.Words.{words};
-ghost use Rattle.script_words.specs.code.Entries.{no_entry, EntryMet};
+ghost use Rattle.std.specs.Prelude.{◌≡◌};
+ghost use Rattle.script_words.specs.Words.{shape_of};
+ghost use Rattle.script_words.specs.code.Entries.{text_of};
 
 use calls::STEP_WIDTH;
 use terms::ROW_WIDTH;
@@ -51,55 +51,92 @@ pub enum Shape {
     Rest,
 }
 
-// A word's bytes and spaces after them, how many bytes it has, which word it is, and what stands after it.
-#[derive(Clone, Copy)]
-pub struct Entry(pub [u8; WORD_WIDTH], pub usize, pub Word, pub Shape);
-
-// One byte more than the longest word has.
-const WORD_WIDTH: usize = 13;
-
-pub const WORD_COUNT: usize = 22;
-
-const WORDS: [Entry; WORD_COUNT] = [
-    Entry(*b"term         ", 4, Word::Term, Shape::Counted(ROW_WIDTH)),
-    Entry(*b"step         ", 4, Word::Step, Shape::Counted(STEP_WIDTH)),
-    Entry(*b"select       ", 6, Word::Select, Shape::Selection),
-    Entry(
-        *b"document     ",
-        8,
-        Word::Document,
-        Shape::Listed(MAX_NUMBERS),
-    ),
-    Entry(*b"fresh        ", 5, Word::Fresh, Shape::Counted(0)),
-    Entry(*b"old          ", 3, Word::Old, Shape::Listed(MAX_LISTED)),
-    Entry(*b"new          ", 3, Word::New, Shape::Listed(MAX_LISTED)),
-    Entry(
-        *b"replace      ",
-        7,
-        Word::Replace,
-        Shape::Listed(MAX_LISTED),
-    ),
-    Entry(*b"write        ", 5, Word::Write, Shape::Room),
-    Entry(*b"point        ", 5, Word::Point, Shape::Counted(1)),
-    Entry(*b"return       ", 6, Word::Return, Shape::Counted(1)),
-    Entry(*b"other        ", 5, Word::Other, Shape::Counted(0)),
-    Entry(*b"order        ", 5, Word::Order, Shape::Counted(2)),
-    Entry(*b"bundle-order ", 12, Word::BundleOrder, Shape::Counted(0)),
-    Entry(*b"names        ", 5, Word::Names, Shape::Rest),
-    Entry(*b"text         ", 4, Word::Text, Shape::Rest),
-    Entry(*b"record       ", 6, Word::Record, Shape::Counted(4)),
-    Entry(*b"current      ", 7, Word::Current, Shape::Counted(1)),
-    Entry(*b"release      ", 7, Word::Release, Shape::Counted(1)),
-    Entry(*b"records      ", 7, Word::Records, Shape::Counted(0)),
-    Entry(*b"released     ", 8, Word::Released, Shape::Counted(0)),
-    Entry(*b"crew-current ", 12, Word::CrewCurrent, Shape::Counted(1)),
+// The words, in the order in which they are tried.
+pub const WORDS: [Word; 22] = [
+    Word::Term,
+    Word::Step,
+    Word::Select,
+    Word::Document,
+    Word::Fresh,
+    Word::Old,
+    Word::New,
+    Word::Replace,
+    Word::Write,
+    Word::Point,
+    Word::Return,
+    Word::Other,
+    Word::Order,
+    Word::BundleOrder,
+    Word::Names,
+    Word::Text,
+    Word::Record,
+    Word::Current,
+    Word::Release,
+    Word::Records,
+    Word::Released,
+    Word::CrewCurrent,
 ];
 
-// Entry i of the table.
-pub fn entry_at(i: usize) -> Entry
-    requires { i < length words }
-    ensures { EntryMet (get_or words i no_entry) result }
-{
-    let words = WORDS;
-    words[i]
+impl Word {
+    // The bytes of the word.
+    #[tactic(auto, unfolding(crate::specs::code::Entries::text_of, lines::specs::Ascii::ascii))]
+    pub fn text(self) -> &'static [u8]
+        ensures { result.now ≡ text_of self }
+    {
+        match self {
+            Word::Term => b"term",
+            Word::Step => b"step",
+            Word::Select => b"select",
+            Word::Document => b"document",
+            Word::Fresh => b"fresh",
+            Word::Old => b"old",
+            Word::New => b"new",
+            Word::Replace => b"replace",
+            Word::Write => b"write",
+            Word::Point => b"point",
+            Word::Return => b"return",
+            Word::Other => b"other",
+            Word::Order => b"order",
+            Word::BundleOrder => b"bundle-order",
+            Word::Names => b"names",
+            Word::Text => b"text",
+            Word::Record => b"record",
+            Word::Current => b"current",
+            Word::Release => b"release",
+            Word::Records => b"records",
+            Word::Released => b"released",
+            Word::CrewCurrent => b"crew-current",
+        }
+    }
+
+    // What stands after it.
+    #[tactic(auto, unfolding(crate::specs::Words::shape_of))]
+    pub fn shape(self) -> Shape
+        ensures { result ≡ shape_of self }
+    {
+        match self {
+            Word::Term => Shape::Counted(ROW_WIDTH),
+            Word::Step => Shape::Counted(STEP_WIDTH),
+            Word::Select => Shape::Selection,
+            Word::Document => Shape::Listed(MAX_NUMBERS),
+            Word::Fresh => Shape::Counted(0),
+            Word::Old => Shape::Listed(MAX_LISTED),
+            Word::New => Shape::Listed(MAX_LISTED),
+            Word::Replace => Shape::Listed(MAX_LISTED),
+            Word::Write => Shape::Room,
+            Word::Point => Shape::Counted(1),
+            Word::Return => Shape::Counted(1),
+            Word::Other => Shape::Counted(0),
+            Word::Order => Shape::Counted(2),
+            Word::BundleOrder => Shape::Counted(0),
+            Word::Names => Shape::Rest,
+            Word::Text => Shape::Rest,
+            Word::Record => Shape::Counted(4),
+            Word::Current => Shape::Counted(1),
+            Word::Release => Shape::Counted(1),
+            Word::Records => Shape::Counted(0),
+            Word::Released => Shape::Counted(0),
+            Word::CrewCurrent => Shape::Counted(1),
+        }
+    }
 }

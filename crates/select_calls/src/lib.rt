@@ -8,17 +8,16 @@ ghost use Rattle.calls.specs.code.Answers.{select_answer_of, evaluation_answer};
 ghost use Rattle.calls.specs.Promises.{SelectMade};
 
 use calls::SelectAnswer;
-use selection::Evaluated;
-use xpath::DocumentCheck;
+use selection::EvaluationError;
 
 // The answer of a select call that comes to an evaluation.
-fn select_answer(done: Evaluated) -> SelectAnswer
+fn select_answer(done: Result<u32, EvaluationError>) -> SelectAnswer
     ensures { select_answer_of result ≡ evaluation_answer (answer_of done) }
 {
     match done {
-        Evaluated::Selected(visits) => SelectAnswer::Selected(visits),
-        Evaluated::NoRoom => SelectAnswer::ShortMarks,
-        Evaluated::LimitPassed => SelectAnswer::LimitPassed,
+        Ok(visits) => SelectAnswer::Selected(visits),
+        Err(EvaluationError::NoRoom) => SelectAnswer::ShortMarks,
+        Err(EvaluationError::LimitPassed) => SelectAnswer::LimitPassed,
     }
 }
 
@@ -34,19 +33,17 @@ pub fn select_on(
     ensures { SelectMade (table_of rows.now) row document.now context limit
         marks.old result marks.new }
 {
-    let checked = xpath::check_document(document);
-    let check = checked.answer;
-    if let DocumentCheck::Refused(value) = check {
-        return SelectAnswer::BadDocument(value);
-    }
-    let x = common::wide(context);
+    let ends = match xpath::check_document(document) {
+        Ok(ends) => ends,
+        Err(value) => return SelectAnswer::BadDocument(value),
+    };
+    let x = usize::from(context);
     if xpath::node_count(document) <= x {
         return SelectAnswer::BadArgument(1);
     }
     if !terms::is_held_path(rows, row) {
         return SelectAnswer::BadArgument(2);
     }
-    let ends = checked.ends;
-    let done = selection::evaluate(rows, common::wide(row), document, &ends, x, limit, marks);
+    let done = selection::evaluate(rows, usize::from(row), document, &ends, x, limit, marks);
     select_answer(done)
 }

@@ -1,7 +1,7 @@
 -- Laws of the tests and sums over the numbers below a bound. Assumes nothing.
 use Prim.Native.Nat.{ℕ, zero, suc, ◌+◌, ◌≤◌, ◌<◌}
 use mathlib.Core.Path.{◌≡◌, refl}
-use mathlib.Core.Bool.{Bool, false, ◌&&◌, ◌||◌, and-false}
+use mathlib.Core.Bool.{Bool, ◌&&◌, ◌||◌}
 use mathlib.Core.Logic.{⊎_elim}
 use native.Mathlib.Omega.{arith}
 use native.Mathlib.Numerals.{add-one}
@@ -16,11 +16,6 @@ module _ (f : ℕ → Bool) where
   pub all_more : (n : ℕ) → all_below (n + 1) f ≡ (all_below n f && f n)
   unfolding all_below
   all_more n = rw add-one
-
-  pub all_fails : (n k : ℕ) → k < n → f k ≡ false → all_below n f ≡ false
-  unfolding all_below
-  all_fails zero k l e = absurd (omega arith)
-  all_fails (suc n) k l e = ⊎_elim (λ q. rw (← q, e, and-false)) (λ h. rw (all_fails n k h e)) (below_suc l)
 
 module _ (f : ℕ → ℕ) where
   pub sum_more : (n : ℕ) → sum_below (n + 1) f ≡ sum_below n f + f n

@@ -39,9 +39,6 @@ module _ (S : ℕ → Bool) (s : ℕ → ℕ → Bool) (n : ℕ) where
     pub joined_next : (m : List ℕ) → S z ≡ true → Added n new m (s z) → Added n old m (joined_below S s (z + 1))
     joined_next m e g = added_twice _ (s z) _ u g (λ y h. any_more (λ w. S w && s w y) z ∙ rw e)
 
-    pub all_joined : z ≡ n → Added n old new (joined_below S s n)
-    all_joined e = rw e at u
-
 pub written_more : (k : ℕ) (s : ℕ → Bool) (old new : List ℕ) (v : ℕ) → new ≡ written k s old → v ≡ cond (s k) 1 0 →
     set new k v ≡ written (k + 1) s old
 unfolding written

@@ -1,13 +1,13 @@
 -- The terms of rows by the code's tests: past the rows held, without operands, with operands. Assumes nothing.
 use Prim.Native.Nat.{ℕ, zero, suc, ◌+◌, ◌≤◌, ◌<◌}
 use mathlib.Core.Path.{◌≡◌, refl, ◌∙◌}
-use mathlib.Core.Bool.{Bool, true, false, cond, ◌&&◌, ◌||◌, true≢false, false≢true, and-false}
+use mathlib.Core.Bool.{Bool, true, false, cond, ◌&&◌, ◌||◌, and-false}
 use mathlib.Core.List.{List}
 use mathlib.Core.Logic.{⊎_elim}
 use native.Mathlib.Omega.{arith}
-use lib.Dec.{leb, eqb}
+use lib.Dec.{eqb}
 use lib.ListN.{length, get_or, set, take, length-take, get_or-eq_default}
-use borrow.Author.Tests.{leb-true, ne_eqb, lt-ltb}
+use borrow.Author.Tests.{ne_eqb, lt-ltb}
 use Rattle.xpath.specs.Document.{Document}
 use Rattle.xpath.specs.Term.{Path, Qualifier, Void, Root, AxisStep, Union, Composition, Filter, True, False, Not, And}
 use Rattle.xpath.specs.Term.{Or}
@@ -18,13 +18,13 @@ use Rattle.xpath.specs.Visits.{visits, qualifier_visits}
 use Rattle.common.proofs.Reflect.{le_or_lt, eq_or_ne}
 use Rattle.terms.specs.Row.{Row, row, row_at}
 use Rattle.terms.specs.Fields.{max_kind}
-use Rattle.terms.specs.Terms.{Term, no_term, term_by, terms, term_at, as_path, as_qualifier, path_in, qualifier_in}
+use Rattle.terms.specs.Terms.{Term, no_term, term_by, terms, term_at, as_path, as_qualifier, qualifier_in}
 use Rattle.terms.proofs.Terms.{term_past, term_at_lem, term_take}
 use Rattle.terms.proofs.ByKind.{Kind, void_kind, root_kind, step_kind, union_kind, composition_kind, filter_kind}
 use Rattle.terms.proofs.ByKind.{true_kind, false_kind, not_kind, and_kind, or_kind, in_kind, kind_of_lem}
 use Rattle.marking.specs.code.Added.{Added}
 use Rattle.marking.proofs.Added.{nothing_added, added_cong, added_set}
-use Rattle.selection.specs.code.Parts.{path_has_operands, qualifier_has_operands, leaf_path}
+use Rattle.selection.specs.code.Parts.{leaf_path}
 
 -- row r of the first `top` rows
 module _ (rs : List Row) (top r : ℕ) where
@@ -35,21 +35,6 @@ module _ (rs : List Row) (top r : ℕ) where
   pub term_held : r < top → get_or (terms (take top rs)) r no_term ≡ term_by (terms (take r rs)) (row_at rs r)
   unfolding term_at
   term_held h = term_take top rs r h ∙ term_at_lem rs r
-
-kind_range : (a b k : ℕ) → (leb a k && leb k b) ≡ true → (a ≤ k) × (k ≤ b)
-kind_range a b k h = go (leb a k) (leb k b) refl refl h
-  where
-    go : (s t : Bool) → leb a k ≡ s → leb k b ≡ t → (s && t) ≡ true → (a ≤ k) × (k ≤ b)
-    go true true e f h = (leb-true a k e, leb-true k b f)
-    go true false e f h = absurd (false≢true h)
-    go false true e f h = absurd (false≢true h)
-    go false false e f h = absurd (false≢true h)
-
-pub kind_is_filter : (k : ℕ) → path_has_operands k ≡ true → ¬ (k ≡ 3) → ¬ (k ≡ 4) → k ≡ 5
-kind_is_filter k h n m = omega (arith, kind_range 3 5 k h)
-
-pub kind_is_or : (k : ℕ) → qualifier_has_operands k ≡ true → ¬ (k ≡ 11) → ¬ (k ≡ 8) → ¬ (k ≡ 9) → k ≡ 10
-kind_is_or k h n m o = omega (arith, kind_range 8 11 k h)
 
 -- a kind past the last is read as the void path, or as false
 past_kinds : (ts : List Term) (r : Row) → max_kind < r.kind → term_by ts r ≡ no_term
@@ -66,52 +51,53 @@ abbrev pub leaf_qualifier : ℕ → Qualifier
 leaf_qualifier kind = cond (eqb kind 6) True False
 
 module _ (ts : List Term) (a b c : ℕ) where
-  leaf_path_by : {k : ℕ} → Kind k → path_has_operands k ≡ false →
+  leaf_path_by : {k : ℕ} → Kind k → ¬ (k ≡ 3) → ¬ (k ≡ 4) → ¬ (k ≡ 5) →
       as_path (term_by ts (row k a b c)) ≡ leaf_path (row k a b c)
   unfolding term_by as_path leaf_path
-  leaf_path_by void_kind h = refl
-  leaf_path_by root_kind h = refl
-  leaf_path_by step_kind h = refl
-  leaf_path_by union_kind h = absurd (true≢false h)
-  leaf_path_by composition_kind h = absurd (true≢false h)
-  leaf_path_by filter_kind h = absurd (true≢false h)
-  leaf_path_by true_kind h = refl
-  leaf_path_by false_kind h = refl
-  leaf_path_by not_kind h = refl
-  leaf_path_by and_kind h = refl
-  leaf_path_by or_kind h = refl
-  leaf_path_by in_kind h = refl
+  leaf_path_by void_kind l m n = refl
+  leaf_path_by root_kind l m n = refl
+  leaf_path_by step_kind l m n = refl
+  leaf_path_by union_kind l m n = absurd (l refl)
+  leaf_path_by composition_kind l m n = absurd (m refl)
+  leaf_path_by filter_kind l m n = absurd (n refl)
+  leaf_path_by true_kind l m n = refl
+  leaf_path_by false_kind l m n = refl
+  leaf_path_by not_kind l m n = refl
+  leaf_path_by and_kind l m n = refl
+  leaf_path_by or_kind l m n = refl
+  leaf_path_by in_kind l m n = refl
 
-  leaf_qualifier_by : {k : ℕ} → Kind k → qualifier_has_operands k ≡ false →
+  leaf_qualifier_by : {k : ℕ} → Kind k → ¬ (k ≡ 8) → ¬ (k ≡ 9) → ¬ (k ≡ 10) → ¬ (k ≡ 11) →
       as_qualifier (term_by ts (row k a b c)) ≡ leaf_qualifier k
   unfolding term_by as_qualifier
-  leaf_qualifier_by void_kind h = refl
-  leaf_qualifier_by root_kind h = refl
-  leaf_qualifier_by step_kind h = refl
-  leaf_qualifier_by union_kind h = refl
-  leaf_qualifier_by composition_kind h = refl
-  leaf_qualifier_by filter_kind h = refl
-  leaf_qualifier_by true_kind h = refl
-  leaf_qualifier_by false_kind h = refl
-  leaf_qualifier_by not_kind h = absurd (true≢false h)
-  leaf_qualifier_by and_kind h = absurd (true≢false h)
-  leaf_qualifier_by or_kind h = absurd (true≢false h)
-  leaf_qualifier_by in_kind h = absurd (true≢false h)
+  leaf_qualifier_by void_kind l m n o = refl
+  leaf_qualifier_by root_kind l m n o = refl
+  leaf_qualifier_by step_kind l m n o = refl
+  leaf_qualifier_by union_kind l m n o = refl
+  leaf_qualifier_by composition_kind l m n o = refl
+  leaf_qualifier_by filter_kind l m n o = refl
+  leaf_qualifier_by true_kind l m n o = refl
+  leaf_qualifier_by false_kind l m n o = refl
+  leaf_qualifier_by not_kind l m n o = absurd (l refl)
+  leaf_qualifier_by and_kind l m n o = absurd (m refl)
+  leaf_qualifier_by or_kind l m n o = absurd (n refl)
+  leaf_qualifier_by in_kind l m n o = absurd (o refl)
 
 module _ (ts : List Term) (r : Row) where
-  pub leaf_path_lem : path_has_operands r.kind ≡ false → as_path (term_by ts r) ≡ leaf_path r
+  pub leaf_path_lem : ¬ (r.kind ≡ 3) → ¬ (r.kind ≡ 4) → ¬ (r.kind ≡ 5) → as_path (term_by ts r) ≡ leaf_path r
   unfolding as_path
-  leaf_path_lem e =
+  leaf_path_lem l m n =
       ⊎_elim
-      (λ h. leaf_path_by ts r.a r.b r.c (kind_of_lem r.kind h) e)
+      (λ h. leaf_path_by ts r.a r.b r.c (kind_of_lem r.kind h) l m n)
       (λ h. rw (past_kinds ts r h, void_leaf r (omega arith) (omega arith)))
       (le_or_lt r.kind max_kind)
 
-  pub leaf_qualifier_lem : qualifier_has_operands r.kind ≡ false → as_qualifier (term_by ts r) ≡ leaf_qualifier r.kind
+  pub leaf_qualifier_lem : ¬ (r.kind ≡ 8) → ¬ (r.kind ≡ 9) → ¬ (r.kind ≡ 10) → ¬ (r.kind ≡ 11) →
+      as_qualifier (term_by ts r) ≡ leaf_qualifier r.kind
   unfolding as_qualifier
-  leaf_qualifier_lem e =
+  leaf_qualifier_lem l m n o =
       ⊎_elim
-      (λ h. leaf_qualifier_by ts r.a r.b r.c (kind_of_lem r.kind h) e)
+      (λ h. leaf_qualifier_by ts r.a r.b r.c (kind_of_lem r.kind h) l m n o)
       (λ h. rw (past_kinds ts r h, ne_eqb r.kind 6 (λ q. absurd (omega arith))))
       (le_or_lt r.kind max_kind)
 
@@ -180,27 +166,16 @@ module _ (d : Document) (x : ℕ) where
   qualifier_visits_positive (Or f g) = omega arith
   qualifier_visits_positive (In p q) = omega arith
 
-  module _ (ts : List Term) (r : Row) where
-    pub first_path_visits : path_has_operands r.kind ≡ true →
-        1 + visits d (path_in ts r.a) x ≤ visits d (as_path (term_by ts r)) x
-    unfolding visits term_by as_path
-    first_path_visits h =
-        ⊎_elim (λ e. rw e (omega arith))
-        (λ n. ⊎_elim (λ e. rw e (omega arith)) (λ m. rw (kind_is_filter r.kind h n m) (omega arith))
-        (eq_or_ne r.kind 4))
-        (eq_or_ne r.kind 3)
+  module _ (ts : List Term) (r : Row) (h : ¬ (r.kind ≡ 9) → r.kind ≡ 10) where
+    pub and_or_visits : qualifier_visits d
+        (as_qualifier (term_by ts r)) x ≡ 1 + (qualifier_visits d (qualifier_in ts r.a) x + qualifier_visits d
+        (qualifier_in ts r.b) x)
+    unfolding qualifier_visits term_by as_qualifier
+    and_or_visits = ⊎_elim (λ e. rw e) (λ n. rw (h n)) (eq_or_ne r.kind 9)
 
-    -- the kinds that are left after inclusion and not: and, or
-    module _ (h : qualifier_has_operands r.kind ≡ true) (n : ¬ (r.kind ≡ 11)) (m : ¬ (r.kind ≡ 8)) where
-      pub and_or_visits : qualifier_visits d
-          (as_qualifier (term_by ts r)) x ≡ 1 + (qualifier_visits d (qualifier_in ts r.a) x + qualifier_visits d
-          (qualifier_in ts r.b) x)
-      unfolding qualifier_visits term_by as_qualifier
-      and_or_visits = ⊎_elim (λ e. rw e) (λ o. rw (kind_is_or r.kind h n m o)) (eq_or_ne r.kind 9)
-
-      pub and_or_holds : cond (eqb r.kind 9)
-          (holds d (qualifier_in ts r.a) x && holds d (qualifier_in ts r.b) x)
-          (holds d (qualifier_in ts r.a) x || holds d (qualifier_in ts r.b) x) ≡ holds d
-          (as_qualifier (term_by ts r)) x
-      unfolding holds term_by as_qualifier
-      and_or_holds = ⊎_elim (λ e. rw e) (λ o. rw (kind_is_or r.kind h n m o)) (eq_or_ne r.kind 9)
+    pub and_or_holds : cond (eqb r.kind 9)
+        (holds d (qualifier_in ts r.a) x && holds d (qualifier_in ts r.b) x)
+        (holds d (qualifier_in ts r.a) x || holds d (qualifier_in ts r.b) x) ≡ holds d
+        (as_qualifier (term_by ts r)) x
+    unfolding holds term_by as_qualifier
+    and_or_holds = ⊎_elim (λ e. rw e) (λ n. rw (h n)) (eq_or_ne r.kind 9)

@@ -16,7 +16,7 @@ use Rattle.lines.specs.code.NumbersRead.{first_parts, first_numbers}
 use Rattle.lines.proofs.Cutting.{lines_at}
 use Rattle.lines.proofs.Written.{line_reads_back}
 use Rattle.session.specs.declared.session.Session.{Session}
-use Rattle.session.specs.declared.read.ReadResult.{ReadResult}
+use Rattle.session.specs.code.Results.{ReadResult}
 use Rattle.session.specs.declared.write.WriteAnswer.{WriteAnswer}
 use Rattle.calls.specs.Book.{Step, book, answer}
 use Rattle.calls.specs.Runs.{seen, done, then}

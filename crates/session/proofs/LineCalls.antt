@@ -11,10 +11,10 @@ use Rattle.terms.specs.Row.{max_rows}
 use Rattle.lines.specs.Ascii.{ascii}
 use Rattle.lines.specs.Line.{newline, lines, first_is}
 use Rattle.lines.specs.declared.NumbersLine.{NumbersLine}
-use Rattle.lines.specs.code.NumbersRead.{first_numbers, max_count, LineMet}
+use Rattle.lines.specs.code.NumbersRead.{first_numbers, max_count, counted_numbers, LineMet}
 use Rattle.lines.proofs.Cutting.{Free, lacks, lacks_free, no_lines, some_line}
 use Rattle.lines.proofs.Filled.{first_four, first_five}
-use Rattle.lines.proofs.LineRead.{parts_met}
+use Rattle.lines.proofs.LineRead.{parts_met, no_parts_met}
 use Rattle.lines.proofs.Start.{line_passed}
 use Rattle.session.specs.declared.session.Session.{Session}
 use Rattle.calls.specs.declared.TermAnswer.{TermAnswer}
@@ -46,13 +46,10 @@ pub step_names_free : Free newline step_names
 unfolding step_names ascii lacks
 step_names_free = lacks_free newline step_names refl
 
--- the numbers of a line, where the code has told whether it has them
-line_numbers_lem : (count : ℕ) (xs : List ℕ) (at : ℕ) → count ≤ max_count → (r : NumbersLine) (b : Bool)
-    → LineMet count xs at r →
-    r.ok ≡ b → cond b (some (take count r.numbers)) none ≡ first_numbers count (lines (drop at xs))
-line_numbers_lem count xs at few r b m e =
-    subst (λ t. cond t (some (take count r.numbers)) none ≡ first_numbers count (lines (drop at xs))) e
-    (parts_met count xs at few r m).numbers
+-- the numbers of a line that has them
+line_numbers_lem : (count : ℕ) (xs : List ℕ) (at : ℕ) → count ≤ max_count → (r : NumbersLine) → LineMet count xs at r →
+    some (take count r.numbers) ≡ first_numbers count (lines (drop at xs))
+line_numbers_lem count xs at few r m = (parts_met count xs at few r m).numbers
 
 -- term lines, where the first n rows of xs are held
 module _ (bytes xs : List ℕ) (n line at : ℕ) where
@@ -72,12 +69,13 @@ module _ (bytes xs : List ℕ) (n line at : ℕ) where
   unfolding rows_read
   row_end h = rw (no_lines bytes at h)
 
+  pub row_wrong_there : first_is step_names (lines (drop at bytes)) ≡ false
+      → none ≡ counted_numbers row_width (drop at bytes)
+      → rows_read row_step_answer here line (lines (drop at bytes)) ≡ refused_at wrong_form line
+  row_wrong_there other e = row_wrong here line _ other (no_parts_met row_width bytes at (omega arith) e)
+
   module _ (other : first_is step_names (lines (drop at bytes)) ≡ false) (r : NumbersLine)
       (m : LineMet row_width bytes at r) where
-    pub row_wrong_there : r.ok ≡ false → rows_read row_step_answer here line (lines (drop at bytes))
-        ≡ refused_at wrong_form line
-    row_wrong_there e = row_wrong here line _ other (line_numbers_lem row_width bytes at (omega arith) r false m e)
-
     -- the first four of the numbers are all that a row takes
     abbrev four : List ℕ
     four = take row_width r.numbers
@@ -85,11 +83,11 @@ module _ (bytes xs : List ℕ) (n line at : ℕ) where
     row_there : row_of_numbers r.numbers ≡ row_of_numbers four
     row_there = rw (first_four r.numbers (omega (arith, m.size)))
 
-    module _ (right : r.ok ≡ true) (few : n ≤ max_rows) (ys : List ℕ) (t : TermAnswer)
+    module _ (few : n ≤ max_rows) (ys : List ℕ) (t : TermAnswer)
         (placed : TermPlaced xs n (row_of_numbers r.numbers) ys t)
       where
         four_read : some four ≡ first_numbers row_width (lines (drop at bytes))
-        four_read = line_numbers_lem row_width bytes at (omega arith) r true m right
+        four_read = line_numbers_lem row_width bytes at (omega arith) r m
 
         four_placed : TermPlaced xs n (row_of_numbers four) ys t
         four_placed = subst (λ q. TermPlaced xs n q ys t) row_there placed
@@ -110,7 +108,7 @@ module _ (bytes xs : List ℕ) (n line at : ℕ) where
               row_held here line _ other four four_read _ _
               (term_made_held here (row_of_numbers four) n count ys t four_placed e) e
               ∙ ap (rows_read row_step_answer (holding ys (n + 1) fresh_session.steps 0) (line + 1))
-              (sym (m.rest right))
+              (sym m.rest)
 
           pub row_room : length xs ≡ row_width * max_rows → n < max_rows
           row_room size =
@@ -133,12 +131,12 @@ module _ (bytes xs : List ℕ) (n : ℕ) (ys : List ℕ) (k line at : ℕ) where
       let same : min k max_steps ≡ k = omega arith in
       rw (no_lines bytes at h) (ap (λ j. record { answer = answer 0 j; session = now_held }) (held ∙ same))
 
-  module _ (r : NumbersLine) (m : LineMet step_width bytes at r) where
-    pub step_wrong_there : at < length bytes → r.ok ≡ false → steps_read row_step_answer now_held line
-        (lines (drop at bytes)) ≡ refused_at wrong_form line
-    step_wrong_there inside e = step_wrong now_held line _ (some_line bytes at inside)
-        (line_numbers_lem step_width bytes at (omega arith) r false m e)
+  pub step_wrong_there : at < length bytes → none ≡ counted_numbers step_width (drop at bytes)
+      → steps_read row_step_answer now_held line (lines (drop at bytes)) ≡ refused_at wrong_form line
+  step_wrong_there inside e = step_wrong now_held line _ (some_line bytes at inside)
+      (no_parts_met step_width bytes at (omega arith) e)
 
+  module _ (r : NumbersLine) (m : LineMet step_width bytes at r) where
     -- a step takes all five numbers
     abbrev five : List ℕ
     five = take step_width r.numbers
@@ -146,12 +144,12 @@ module _ (bytes xs : List ℕ) (n : ℕ) (ys : List ℕ) (k line at : ℕ) where
     step_there : step_of_numbers r.numbers ≡ step_of_numbers five
     step_there = rw (first_five r.numbers (omega (arith, m.size)))
 
-    module _ (right : r.ok ≡ true) (few : k ≤ max_steps) (t : StepAnswer)
+    module _ (few : k ≤ max_steps) (t : StepAnswer)
         (judged : step_answer_of t ≡ row_step_answer (book (first_rows n xs) (first_steps k ys))
         (step_of_numbers r.numbers))
       where
         five_read : some five ≡ first_numbers step_width (lines (drop at bytes))
-        five_read = line_numbers_lem step_width bytes at (omega arith) r true m right
+        five_read = line_numbers_lem step_width bytes at (omega arith) r m
 
         five_judged : step_answer_of t ≡ row_step_answer (book (first_rows n xs) (first_steps k ys))
             (step_of_numbers five)
@@ -174,7 +172,7 @@ module _ (bytes xs : List ℕ) (n : ℕ) (ys : List ℕ) (k line at : ℕ) where
               let five-written = written ∙ ap (λ q. sets ys (step_width * k) (step_numbers q)) step_there in
               step_held now_held line _ five five_read _ _
               (step_made_held now_held (step_of_numbers five) t five_judged e k steps_counted_lem zs five-written) e
-              ∙ ap (steps_read row_step_answer (holding xs n zs (k + 1)) (line + 1)) (sym (m.rest right))
+              ∙ ap (steps_read row_step_answer (holding xs n zs (k + 1)) (line + 1)) (sym m.rest)
 
           pub step_room : length ys ≡ step_width * max_steps → k < max_steps
           unfolding row_step_answer

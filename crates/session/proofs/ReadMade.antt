@@ -1,6 +1,7 @@
 -- From the reading of a bundle's parts to the call read. Assumes nothing.
 use Prim.Native.Nat.{ℕ, ◌≤◌, ◌<◌}
-use mathlib.Core.Path.{◌≡◌, refl, sym, ap, subst, ◌∙◌}
+use Rattle.std.specs.Prelude.{Result}
+use mathlib.Core.Path.{◌≡◌, refl, sym, ap, ◌∙◌}
 use mathlib.Core.Bool.{true, false, false≢true}
 use mathlib.Core.List.{List, [], ◌∷◌}
 use native.Mathlib.Omega.{arith}
@@ -9,9 +10,10 @@ use borrow.Author.Tests.{ne_eqb}
 use Rattle.lines.specs.Ascii.{ascii}
 use Rattle.lines.specs.Line.{Line, lines, first_is}
 use Rattle.lines.proofs.Start.{line_passed}
-use Rattle.session.specs.declared.read.ReadResult.{ReadResult}
+use Rattle.session.specs.code.Results.{ReadResult}
 use Rattle.session.specs.declared.read.RowsEnd.{RowsEnd}
-use Rattle.session.specs.declared.read.StepsEnd.{StepsEnd}
+use Rattle.session.specs.declared.read.ReadRefusal.{ReadRefusal}
+use Rattle.session.specs.declared.session.Session.{Session}
 use Rattle.calls.specs.Book.{answer, accepted}
 use Rattle.session.specs.View.{fresh_session}
 use Rattle.bundles.specs.Bundle.{row_names}
@@ -20,7 +22,7 @@ use Rattle.common.specs.Refusals.{wrong_form}
 use Rattle.session.specs.Reading.{refused_at, steps_read, rows_read, lines_read, reading}
 use Rattle.session.specs.ReadCall.{read_answer_of, is_held, reading_of, ReadMet}
 use Rattle.session.specs.code.Parts.{holding}
-use Rattle.session.specs.code.Parts.{after_rows, RowsBounds, RowsReadMet, after_steps, StepsBounds, StepsReadMet}
+use Rattle.session.specs.code.Parts.{after_rows, RowsReadMet, after_steps, StepsReadMet}
 use Rattle.session.proofs.LineCalls.{row_names_free}
 use Rattle.session.proofs.ReadByRows.{reading_by_rows}
 
@@ -69,25 +71,30 @@ module _ (bytes : List ℕ) (e : first_is row_names (lines bytes) ≡ true) wher
       ∙ ap (rows_read row_step_answer fresh_session 2)
       (sym (line_passed row_names bytes 0 row_names_free e).rest)
 
-  module _ (xs ys : List ℕ) (fresh : xs ≡ fresh_session.rows) (t u : RowsEnd) (m : RowsReadMet bytes 11 xs ys t)
-      (is : t ≡ u) where
-    pub rows_read_lem : after_rows bytes ys u ≡ reading bytes
-    rows_read_lem =
-        subst (λ v. after_rows bytes ys v ≡ reading bytes) is
-        (m.reading ∙ rw fresh (ap (λ s. rows_read row_step_answer s 2 (lines (drop 11 bytes))) (sym fresh_tables))
-        ∙ sym from_line_2)
+  pub rows_read_lem : (xs ys : List ℕ) → xs ≡ fresh_session.rows → (t : Result RowsEnd ReadRefusal)
+      → RowsReadMet bytes 11 xs ys t → after_rows bytes ys t ≡ reading bytes
+  rows_read_lem xs ys fresh t m =
+      m.reading ∙ rw fresh (ap (λ s. rows_read row_step_answer s 2 (lines (drop 11 bytes))) (sym fresh_tables))
+      ∙ sym from_line_2
 
-    pub rows_bounds : RowsBounds bytes u
-    rows_bounds = subst (RowsBounds bytes) is m.bounds
+pub steps_read_lem : (bytes ys : List ℕ) (n line at : ℕ) (zs₀ zs : List ℕ) → zs₀ ≡ fresh_session.steps
+    → (t : Result ℕ ReadRefusal) → StepsReadMet bytes at line ys n zs₀ zs t
+    → steps_read row_step_answer (holding ys n fresh_session.steps 0) line (lines (drop at bytes)) ≡ reading bytes
+    → after_steps ys n zs t ≡ reading bytes
+steps_read_lem bytes ys n line at zs₀ zs fresh t m e =
+    m.reading ∙ ap (λ ws. steps_read row_step_answer (holding ys n ws 0) line (lines (drop at bytes))) fresh ∙ e
 
-module _ (bytes ys : List ℕ) (n line at : ℕ) (zs₀ zs : List ℕ) (fresh : zs₀ ≡ fresh_session.steps) (t u : StepsEnd)
-    (m : StepsReadMet bytes at line ys n zs₀ zs t) (is : t ≡ u)
-  where
-    pub steps_read_lem : steps_read row_step_answer (holding ys n fresh_session.steps 0) line (lines (drop at bytes))
-        ≡ reading bytes → after_steps ys n zs u ≡ reading bytes
-    steps_read_lem e =
-        subst (λ v. after_steps ys n zs v ≡ reading bytes) is
-        (m.reading ∙ ap (λ ws. steps_read row_step_answer (holding ys n ws 0) line (lines (drop at bytes))) fresh ∙ e)
-
-    pub steps_bounds : StepsBounds u
-    steps_bounds = subst StepsBounds is m.bounds
+-- a fresh session with other tables of rows and steps
+pub fresh_with : (s : Session) → s ≡ fresh_session → (xs : List ℕ) (n : ℕ) (ys : List ℕ) (m : ℕ)
+    → record { rows = xs; row_count = n; steps = ys; step_count = m; points = s.points; point_count = s.point_count }
+    ≡ holding xs n ys m
+unfolding fresh_session
+fresh_with s e xs n ys m =
+    ap (λ (t : Session). record {
+      rows = xs;
+      row_count = n;
+      steps = ys;
+      step_count = m;
+      points = t.points;
+      point_count = t.point_count;
+    }) e

@@ -12,7 +12,7 @@ use denote.MutBor.{MutBor}
 use lib.ListN.{length}
 use Rattle.terms.specs.Row.{row}
 use Rattle.session.specs.declared.session.Session.{Session}
-use Rattle.session.specs.declared.read.ReadResult.{ReadResult}
+use Rattle.session.specs.code.Results.{ReadResult}
 use Rattle.calls.specs.declared.SelectAnswer.{SelectAnswer}
 use Rattle.calls.specs.Book as book
 use Rattle.calls.specs.Book.{Answer, answer, accepted}

@@ -10,7 +10,6 @@ use lib.Seq.{sets, sets-eq, take_at, drop-append-add, drop-append_seam, length-t
 use Rattle.common.specs.Lists.{Every, joined}
 use Rattle.common.proofs.Entries.{every_there}
 use Rattle.terms.specs.Row.{Row, table_of, max_rows, table_with}
-use Rattle.session.specs.declared.session.Session.{Session}
 use Rattle.calls.specs.declared.points.PointCounts.{PointCounts}
 use Rattle.calls.specs.Book as books
 use Rattle.calls.specs.Book.{Step, max_steps, Point, no_point, max_points, Book, empty_book, pointed_book}

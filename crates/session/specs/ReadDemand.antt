@@ -7,7 +7,7 @@ use Rattle.common.specs.Lists.{Every}
 use Rattle.lines.specs.Line.{Line, line, lines}
 use Rattle.lines.specs.Written.{AllFit}
 use Rattle.session.specs.declared.session.Session.{Session}
-use Rattle.session.specs.declared.read.ReadResult.{ReadResult}
+use Rattle.session.specs.code.Results.{ReadResult}
 use Rattle.session.specs.declared.write.WriteAnswer.{WriteAnswer}
 use Rattle.calls.specs.Book.{Step, answer}
 use Rattle.calls.specs.Calls.{Call, term, step, text, point, return, CallSeen}

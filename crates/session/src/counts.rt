@@ -13,14 +13,14 @@ impl Session {
     pub fn steps_held(self) -> u16
         ensures { result ≡ length (view self).steps }
     {
-        calls::clamp(self.step_count, Session::STEPS) as u16
+        self.steps_counted() as u16
     }
 
     // How many of the steps are held by the rule.
     pub fn rule_uses(self, rule: u16) -> usize
         ensures { result ≡ uses_of rule (view self).steps }
     {
-        let steps = calls::first_steps(&self.steps, self.step_count);
+        let steps = self.held_steps();
         step_calls::rule_uses(steps, rule)
     }
 
@@ -28,8 +28,8 @@ impl Session {
     pub fn last_step(self) -> Sides
         ensures { sides_in result ≡ sides_of (step_numbered (view self).steps (length (view self).steps)) }
     {
-        let held = calls::clamp(self.step_count, Session::STEPS);
-        let steps = calls::first_steps(&self.steps, self.step_count);
+        let held = self.steps_counted();
+        let steps = self.held_steps();
         calls::sides_of(steps, held as u16)
     }
 }

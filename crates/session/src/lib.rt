@@ -11,7 +11,7 @@ mod write;
 
 pub use calls::{PointAnswer, SelectAnswer, StepAnswer, TermAnswer};
 pub use ordering::OrderAnswer;
-pub use read::{ReadAnswer, ReadResult};
+pub use read::ReadAnswer;
 pub use replacing::ReplaceAnswer;
-pub use session::{PointResult, Session, StepResult, TermResult, TextAnswer, TextResult};
+pub use session::{Answered, Session, TextAnswer};
 pub use write::WriteAnswer;

@@ -9,18 +9,18 @@ impl Session {
     pub fn order(self, row: u16, other: Session, other_row: u16) -> OrderAnswer
         ensures { OrderMet self row other other_row result }
     {
-        let left = calls::first_rows(&self.rows, self.row_count);
-        let right = calls::first_rows(&other.rows, other.row_count);
+        let left = self.held_rows();
+        let right = other.held_rows();
         ordering::order_on(left, row, right, other_row)
     }
 
     pub fn bundle_order(self, other: Session) -> OrderAnswer
         ensures { BundleOrderMet self other result }
     {
-        let left = calls::first_rows(&self.rows, self.row_count);
-        let left_steps = calls::first_steps(&self.steps, self.step_count);
-        let right = calls::first_rows(&other.rows, other.row_count);
-        let right_steps = calls::first_steps(&other.steps, other.step_count);
+        let left = self.held_rows();
+        let left_steps = self.held_steps();
+        let right = other.held_rows();
+        let right_steps = other.held_steps();
         ordering::bundle_order_on(left, left_steps, right, right_steps)
     }
 }

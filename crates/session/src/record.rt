@@ -15,8 +15,8 @@ impl Session {
     pub fn record(self, records: Records, given: Record) -> RecordsMade
         ensures { RecordMade (view self).rows (view self).steps records given result }
     {
-        let rows = calls::first_rows(&self.rows, self.row_count);
-        let steps = calls::first_steps(&self.steps, self.step_count);
+        let rows = self.held_rows();
+        let steps = self.held_steps();
         records.record(rows, steps, given)
     }
 
@@ -25,9 +25,9 @@ impl Session {
         ensures { result ≡ drops_in_use (view self) (records_in records) (Call.return name) }
     {
         let point = point_calls::point_named(&self.points, self.point_count, name);
-        let rows = calls::first_rows(&self.rows, common::wide(point.rows));
+        let rows = calls::first_rows(&self.rows, usize::from(point.rows));
         let row_count = terms::row_count(rows);
-        let steps = calls::first_steps(&self.steps, common::wide(point.steps));
+        let steps = calls::first_steps(&self.steps, usize::from(point.steps));
         let step_count = steps.len() / calls::STEP_WIDTH;
         !records.all_kept(row_count, step_count)
     }

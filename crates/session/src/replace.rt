@@ -1,5 +1,5 @@
 // The call replace: whether a list of old rows is covered by a list of new ones.
-ghost use Rattle.std.specs.Prelude.{◌≡◌};
+ghost use Rattle.terms.specs.code.RowTypes.{PlaceIs};
 ghost use Rattle.replacing.specs.Covered.{step_saying};
 ghost use Rattle.session.specs.View.{view};
 ghost use Rattle.session.specs.ReplaceDemand.{ReplaceMet};
@@ -12,14 +12,14 @@ impl Session {
     pub fn replace<'a>(self, old: &'a [u16], new: &'a [u16], by: &'a [u16]) -> ReplaceAnswer
         ensures { ReplaceMet self old.now new.now by.now result }
     {
-        let rows = calls::first_rows(&self.rows, self.row_count);
-        let steps = calls::first_steps(&self.steps, self.step_count);
+        let rows = self.held_rows();
+        let steps = self.held_steps();
         replacing::replace_on(rows, steps, old, new, by)
     }
 
-    // The first step, counted from 1, that says that row `old`, a path, is contained in row `new`; 0 where none does.
-    pub fn step_saying(self, old: u16, new: u16) -> u16
-        ensures { result ≡ step_saying (view self) old new }
+    // The first step, counted from 1, that says that row `old`, a path, is contained in row `new`.
+    pub fn step_saying(self, old: u16, new: u16) -> Option<u16>
+        ensures { PlaceIs result (step_saying (view self) old new) }
     {
         replacing::step_saying(
             &self.rows,

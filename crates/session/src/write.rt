@@ -26,26 +26,28 @@ fn write_at(out: &mut [u8], at: usize, s: Session) -> usize
     bundles::write_tables(out, at, &s.rows, s.row_count, &s.steps, s.step_count)
 }
 
-// A writer at byte 0 of the buffer.
-fn at_start<'a>(out: &'a mut [u8]) -> Writer<'a>
-    ensures { (result.out ≡ out.entry) × (result.at ≡ 0) }
-{
-    Writer { out: out, at: 0 }
-}
+impl<'a> Writer<'a> {
+    // A writer at byte 0 of the buffer.
+    fn at_start(out: &'a mut [u8]) -> Writer<'a>
+        ensures { (result.out ≡ out.entry) × (result.at ≡ 0) }
+    {
+        Writer { out, at: 0 }
+    }
 
-// Appends the lines of the session's bundle, where there is room for all. It gives their length.
-fn append<'a>(w: Writer<'a>, s: Session) -> usize
-    ensures { TextWritten w.entry.out.now w.entry.at (session_text s) result w.exit.0.now }
-{
-    let at = w.at;
-    write_at(&mut *w.out, at, s)
+    // Appends the lines of the session's bundle, where there is room for all. It gives their length.
+    fn append(self, s: Session) -> usize
+        ensures { TextWritten self.entry.out.now self.entry.at (session_text s) result self.exit.0.now }
+    {
+        let at = self.at;
+        write_at(self.out, at, s)
+    }
 }
 
 // The lines of the session's bundle, the first at byte 0. Its contract says nothing of a writer.
 fn write_lines(out: &mut [u8], s: Session) -> usize
     ensures { TextWritten out.old 0 (session_text s) result out.new }
 {
-    append(at_start(out), s)
+    Writer::at_start(out).append(s)
 }
 
 impl WriteAnswer {

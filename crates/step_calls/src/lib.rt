@@ -6,6 +6,7 @@ ghost use Rattle.std.specs.Prelude.{◌≡◌, ◌*◌, ◌≤◌, ◌<◌, leng
 ghost use Rattle.std.proofs.lemmas.List.Edits.{sets};
 ghost use Rattle.terms.specs.Row.{row_at, table_of};
 ghost use Rattle.terms.specs.Fields.{is_path};
+ghost use Rattle.terms.specs.code.RowTypes.{PlaceIs};
 ghost use Rattle.matching.specs.code.Encode.{rule_table};
 ghost use Rattle.matching.specs.code.RowWayBack.{Noted};
 ghost use Rattle.calls.specs.Book.{max_steps, book};
@@ -18,25 +19,20 @@ ghost use Rattle.calls.specs.Promises.{row_yielded, row_step_answer};
 
 use calls::{
     MAX_STEPS, STEP_WIDTH, Step, StepAnswer, first_rows, first_steps, sides_of, step_count,
+    whole_steps,
 };
 
 // How many of the steps are held by the rule.
 pub fn rule_uses(steps: &[u16], rule: u16) -> usize
     ensures { result ≡ uses_of rule (steps_of steps.now) }
 {
-    let count = step_count(steps);
-    let mut uses = 0;
-    let mut i = 0;
-    while i < count {
-        let held_by = steps[STEP_WIDTH * i];
-        if held_by == rule {
-            uses += 1;
-        }
-        i += 1;
-    }
-    uses
+    whole_steps(steps)
+        .iter()
+        .filter(|step| step[0] == rule)
+        .count()
 }
 
+#[tactic(auto, unfolding(terms::specs::Fields::is_path))]
 fn is_path(rows: &[u16], i: usize) -> bool
     ensures { result ≡ is_path (row_at (table_of rows.now) i) }
 {
@@ -44,53 +40,56 @@ fn is_path(rows: &[u16], i: usize) -> bool
 }
 
 // Whether rows i and j are both paths, or neither is.
+#[tactic(auto, unfolding(calls::specs::StepCall::same_sort))]
 fn same_sort(rows: &[u16], i: usize, j: usize) -> bool
     ensures { result ≡ same_sort (table_of rows.now) i j }
 {
-    let left = is_path(rows, i);
-    let right = is_path(rows, j);
-    if left { right } else { !right }
+    is_path(rows, i) == is_path(rows, j)
 }
 
-// The place of refusal 5, 0 if there is none.
-fn bad_side(rows: &[u16], step: Step) -> u16
-    ensures { result ≡ bad_side_of (table_of rows.now) (step_of step) }
+// The place of refusal 5.
+#[tactic(auto, unfolding(calls::specs::StepCall::bad_side_of))]
+fn bad_side(rows: &[u16], step: Step) -> Option<u16>
+    ensures { PlaceIs result (bad_side_of (table_of rows.now) (step_of step)) }
 {
     let n = terms::row_count(rows);
-    let left = common::wide(step.left);
+    let left = usize::from(step.left);
+    let right = usize::from(step.right);
     if n <= left {
-        return 1;
+        Some(1)
+    } else if n <= right || !same_sort(rows, left, right) {
+        Some(2)
+    } else {
+        None
     }
-    let right = common::wide(step.right);
-    if common::or(n <= right, !same_sort(rows, left, right)) {
-        return 2;
-    }
-    0
 }
 
 // Whether premise i is as it must be, where `held` steps are.
+#[tactic(auto, unfolding(calls::specs::StepCall::premise_ok))]
 fn premise_ok(needed: bool, held: usize, i: u16) -> bool
     ensures { result ≡ premise_ok needed held i }
 {
     if needed {
-        return common::and(1 <= i, common::wide(i) <= held);
+        1 <= i && usize::from(i) <= held
+    } else {
+        i == 0
     }
-    i == 0
 }
 
-// The place of refusal 6, 0 if there is none.
-fn bad_premise(table: &[u64], held: usize, step: Step) -> u16
+// The place of refusal 6.
+#[tactic(auto, unfolding(calls::specs::StepCall::bad_premise_of))]
+fn bad_premise(table: &[u64], held: usize, step: Step) -> Option<u16>
     requires { table.now ≡ rule_table }
-    ensures { result ≡ bad_premise_of held (step_of step) }
+    ensures { PlaceIs result (bad_premise_of held (step_of step)) }
 {
     let count = matching::premise_count(table, step.rule);
     if !premise_ok(1 <= count, held, step.first) {
-        return 1;
+        Some(1)
+    } else if !premise_ok(2 <= count, held, step.second) {
+        Some(2)
+    } else {
+        None
     }
-    if !premise_ok(2 <= count, held, step.second) {
-        return 2;
-    }
-    0
 }
 
 // Whether the rule yields the step, judged by row numbers.
@@ -108,6 +107,7 @@ fn is_yielded(rows: &[u16], steps: &[u16], table: &[u64], step: Step, noted: &mu
 }
 
 // The answer of a step call on the rows and steps: the first refusal that applies, or the new step's number.
+#[tactic(auto, unfolding(calls::specs::Promises::row_step_answer, calls::specs::StepCall::step_answer_by))]
 fn step_answer(
     rows: &[u16],
     steps: &[u16],
@@ -121,17 +121,15 @@ fn step_answer(
         (book (table_of rows.now) (steps_of steps.now)) (step_of step))
         × Noted (table_of rows.now) noted.new }
 {
-    if common::or(step.rule == 0, matching::MAX_RULE < step.rule) {
+    if step.rule == 0 || matching::MAX_RULE < step.rule {
         return StepAnswer::NoRule;
     }
-    let side = bad_side(rows, step);
-    if 0 < side {
-        return StepAnswer::BadSide(side);
+    if let Some(place) = bad_side(rows, step) {
+        return StepAnswer::BadSide(place);
     }
     let held = step_count(steps);
-    let premise = bad_premise(table, held, step);
-    if 0 < premise {
-        return StepAnswer::BadPremise(premise);
+    if let Some(place) = bad_premise(table, held, step) {
+        return StepAnswer::BadPremise(place);
     }
     if !is_yielded(rows, steps, table, step, noted) {
         return StepAnswer::NotYielded;
@@ -139,9 +137,7 @@ fn step_answer(
     if MAX_STEPS <= held {
         return StepAnswer::StepsFull;
     }
-    let next = held + 1;
-    let number = next as u16;
-    StepAnswer::Held(number)
+    StepAnswer::Held((held + 1) as u16)
 }
 
 // The same on the first n rows of a table and the first m steps of another, by the rule table, which is lent, as
@@ -192,9 +188,6 @@ pub fn put_step(steps: &mut [u16], m: usize, step: Step)
     ensures { steps.new ≡ sets steps.old (step_width * m) (step_numbers (step_of step)) }
 {
     let at = STEP_WIDTH * m;
-    steps[at] = step.rule;
-    steps[at + 1] = step.left;
-    steps[at + 2] = step.right;
-    steps[at + 3] = step.first;
-    steps[at + 4] = step.second;
+    let numbers = [step.rule, step.left, step.right, step.first, step.second];
+    steps[at..at + STEP_WIDTH].copy_from_slice(&numbers);
 }

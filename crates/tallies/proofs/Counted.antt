@@ -7,7 +7,7 @@ use lib.Dec.{leb, eqb}
 use lib.ListN.{length}
 use borrow.Author.Tests.{le-leb, lt-leb, eq-eqb, ne_eqb}
 use Rattle.calls.specs.Book.{accepted}
-use Rattle.session.specs.declared.read.ReadResult.{ReadResult}
+use Rattle.session.specs.code.Results.{ReadResult}
 use Rattle.session.specs.View.{view}
 use Rattle.session.specs.Reading.{reading}
 use Rattle.session.specs.ReadCall.{read_answer_of, ReadMet}

@@ -6,7 +6,7 @@ use mathlib.Core.Bool.{Bool, true, false, cond, not, ◌&&◌, false≢true}
 use mathlib.Core.List.{List, [], ◌∷◌}
 use native.Mathlib.Omega.{arith}
 use lib.Dec.{leb}
-use lib.ListN.{length, get_or, take}
+use lib.ListN.{length, get_or}
 use borrow.Author.Tests.{eqb-true}
 use Rattle.common.specs.Lists.{Every}
 use Rattle.common.proofs.Entries.{every_more, every_first}

@@ -5,7 +5,7 @@ ghost use Rattle.std.specs.Prelude.{◌≡◌, get_or};
 ghost use Rattle.session.specs.View.{view};
 ghost use Rattle.tallies.specs.NameList.{is_bad_name, list_answer, list_answer_of};
 ghost use Rattle.tallies.specs.Count.{file};
-ghost use Rattle.tallies.specs.code.Tally.{plus as Tally·plus, plus_each, column_of, fresh_tally, with_file};
+ghost use Rattle.tallies.specs.code.Tally.{plus_each, column_of, fresh_tally, with_file};
 ghost use Rattle.tallies.specs.code.Tally.{entries_of, entry_of, no_entry};
 
 use session::Session;
@@ -17,8 +17,6 @@ pub const MAX_FILES: usize = 64;
 pub const LINES: usize = RULES + 1;
 
 const RULES: usize = matching::MAX_RULE as usize;
-
-const MAX_COUNT: u64 = 18446744073709551615;
 
 // The answer to a list of file names.
 #[derive(Clone, Copy)]
@@ -45,13 +43,7 @@ pub struct TallyLine {
 fn is_bad_name(opened: &[bool], k: usize) -> bool
     ensures { result ≡ is_bad_name opened.now k }
 {
-    if MAX_FILES <= k {
-        return true;
-    }
-    if opened.len() <= k {
-        return true;
-    }
-    !opened[k]
+    MAX_FILES <= k || !opened.get(k).copied().unwrap_or(false)
 }
 
 // Judges a list of names, where `opened` says of each place, counted from 0, whether its file was opened.
@@ -59,12 +51,10 @@ pub fn judge_list<'a>(list: &'a [u8], opened: &'a [bool]) -> ListAnswer
     ensures { list_answer_of result ≡ list_answer list.now opened.now }
 {
     let count = names::count(list);
-    let mut k = 0;
-    while k < count {
+    for k in 0..count {
         if is_bad_name(opened, k) {
             return ListAnswer::BadName(k + 1);
         }
-        k += 1;
     }
     ListAnswer::Taken
 }
@@ -89,30 +79,15 @@ impl ListAnswer {
     }
 }
 
-// The sum, or the largest number where it is more.
-fn plus(a: u64, b: u64) -> u64
-    ensures { result ≡ Tally·plus a b }
-{
-    if MAX_COUNT - a < b {
-        return MAX_COUNT;
-    }
-    a + b
-}
-
 // The uses, and those among the session's steps.
-fn plus_uses(uses: [u64; RULES], session: Session) -> [u64; RULES]
+fn plus_uses(mut uses: [u64; RULES], session: Session) -> [u64; RULES]
     ensures { result ≡ plus_each uses (column_of (view session).steps) }
 {
-    let mut sums = uses;
-    let mut i = 0;
-    while i < RULES {
-        let rule = i + 1;
-        let more = session.rule_uses(rule as u16);
-        let before = sums[i];
-        sums[i] = plus(before, more as u64);
-        i += 1;
+    for (i, count) in uses.iter_mut().enumerate() {
+        let more = session.rule_uses(i as u16 + 1);
+        *count = count.saturating_add(more as u64);
     }
-    sums
+    uses
 }
 
 impl Tally {
@@ -129,10 +104,7 @@ impl Tally {
     pub fn add(self, failed: bool, bytes: &[u8]) -> Tally
         ensures { result ≡ with_file self (file failed bytes.now) }
     {
-        if failed {
-            return self;
-        }
-        if common::MAX_BYTES < bytes.len() {
+        if failed || common::MAX_BYTES < bytes.len() {
             return self;
         }
         let read = Session::read(bytes);
@@ -142,10 +114,10 @@ impl Tally {
             return self;
         }
         let session = read.session;
-        let before = self.uses;
-        let uses = plus_uses(before, session);
-        let total = plus(self.total, session.steps_held() as u64);
-        Tally { uses, total }
+        Tally {
+            uses: plus_uses(self.uses, session),
+            total: self.total.saturating_add(u64::from(session.steps_held())),
+        }
     }
 
     // Line k of the tally, counted from 0; zeros past the last.
@@ -153,18 +125,12 @@ impl Tally {
         ensures { entry_of result ≡ get_or (entries_of self) k no_entry }
     {
         if k < RULES {
-            let uses = self.uses;
-            let count = uses[k];
-            let rule = k + 1;
             return TallyLine {
-                rule: rule as u16,
-                count,
+                rule: k as u16 + 1,
+                count: self.uses[k],
             };
         }
-        if k == RULES {
-            let count = self.total;
-            return TallyLine { rule: 0, count };
-        }
-        TallyLine { rule: 0, count: 0 }
+        let count = if k == RULES { self.total } else { 0 };
+        TallyLine { rule: 0, count }
     }
 }

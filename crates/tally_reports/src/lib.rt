@@ -1,8 +1,11 @@
 // What the program tally prints, of any list of names.
 #![tactic(auto)]
 
+ghost use Rattle.std.specs.Prelude.{IfOk};
 ghost use Rattle.io.specs.Counts.{IsPrefixLen};
 
+use arrayvec::ArrayString;
+use std::fmt::Write;
 use std::fs::File;
 use std::io::Read;
 use std::rt::Files;
@@ -15,116 +18,80 @@ const LONGEST_NAME: usize = 4095;
 // more. Of a longer list this much has one name more, or a name that is too long.
 pub const LONGEST_LIST: usize = tallies::MAX_FILES * (LONGEST_NAME + 1) + 1;
 
-// The open files, and which of them were opened.
-#[derive(Drop)]
-struct OpenFiles {
-    files: [Option<File>; tallies::MAX_FILES],
-    opened: [bool; tallies::MAX_FILES],
-}
+// Longer than a line of two numbers.
+const LONGEST_LINE: usize = 64;
+
+// The open files, in the order of their names.
+type OpenFiles = [Option<File>; tallies::MAX_FILES];
 
 const NO_FILE: Option<File> = None;
 
 // The file of that name; none if it can't be opened. A name that is no UTF-8 can't be.
 fn open_at(rt: &impl Files<File = File>, list: &[u8], k: usize) -> Option<File> {
     let name = names::name_at(list, k);
-    let start = name.start;
-    let end = name.end;
-    let path = str::from_utf8(&list[start..end]).ok()?;
+    let path = str::from_utf8(&list[name.start..name.end]).ok()?;
     File::open(rt, path).ok()
 }
 
-// Opens the files in order, up to the first that can't be opened.
+// The open files in order, up to the first that can't be opened.
 fn open_all(rt: &impl Files<File = File>, list: &[u8]) -> OpenFiles {
     let count = names::count(list);
     let mut files = [NO_FILE; tallies::MAX_FILES];
-    let mut opened = [false; tallies::MAX_FILES];
-    for k in 0..tallies::MAX_FILES {
-        if count <= k {
-            return OpenFiles { files, opened };
-        }
-        let file = open_at(rt, list, k);
-        if file.is_none() {
-            return OpenFiles { files, opened };
-        }
-        files[k] = file;
-        opened[k] = true;
+    for (k, place) in files.iter_mut().enumerate().take(count) {
+        let Some(file) = open_at(rt, list, k) else {
+            break;
+        };
+        *place = Some(file);
     }
-    OpenFiles { files, opened }
+    files
 }
 
-// How many bytes came of a file, and whether a read failed.
-#[derive(Drop)]
-struct FileRead {
-    failed: bool,
-    length: usize,
-}
-
-// Reads the file until the bytes are full, the file ends or a read fails.
-fn read_file(file: &mut File, bytes: &mut [u8]) -> FileRead
-    ensures { IsPrefixLen result.length bytes.new }
+// Reads the file until the bytes are full or the file ends; how many bytes came.
+fn read_file(file: &mut File, bytes: &mut [u8]) -> std::io::Result<usize>
+    ensures { IfOk result (λ n. IsPrefixLen n bytes.new) }
 {
     let mut length = 0;
+    // How much a read gives is known only when it has been made.
     while length < bytes.len() {
-        match file.read(&mut bytes[length..]) {
-            Err(_) => {
-                return FileRead {
-                    failed: true,
-                    length,
-                };
-            }
-            Ok(0) => {
-                return FileRead {
-                    failed: false,
-                    length,
-                };
-            }
-            Ok(more) => length += more,
+        let more = file.read(&mut bytes[length..])?;
+        if more == 0 {
+            break;
         }
+        length += more;
     }
-    FileRead {
-        failed: false,
-        length,
-    }
+    Ok(length)
 }
 
 fn add_file(tally: Tally, mut file: File) -> Tally {
     // One byte more than a bundle has, so that a longer file shows.
     let mut bytes = [0u8; common::MAX_BYTES + 1];
-    let reading = read_file(&mut file, &mut bytes);
-    let length = reading.length;
-    tally.add(reading.failed, &bytes[..length])
-}
-
-fn add_opened(tally: Tally, file: Option<File>) -> Tally {
-    match file {
-        Some(file) => add_file(tally, file),
-        None => tally,
+    match read_file(&mut file, &mut bytes) {
+        Ok(length) => tally.add(false, &bytes[..length]),
+        Err(_) => tally.add(true, &[]),
     }
 }
 
-fn add_all(mut files: [Option<File>; tallies::MAX_FILES], count: usize) -> Tally {
+fn add_all(files: OpenFiles) -> Tally {
     let mut tally = Tally::new();
-    for k in 0..tallies::MAX_FILES {
-        if count <= k {
-            return tally;
+    for file in files {
+        if let Some(file) = file {
+            tally = add_file(tally, file);
         }
-        tally = add_opened(tally, files[k].take());
     }
     tally
 }
 
 fn print_line(first: u64, second: u64) {
-    io::print_decimal(1, first);
-    io::write_all(1, b" ");
-    io::print_decimal(1, second);
-    io::write_all(1, b"\n");
+    let mut line = ArrayString::<LONGEST_LINE>::new();
+    let _ = writeln!(line, "{first} {second}");
+    io::write_all(1, line.as_str().as_bytes());
 }
 
 fn print_tally(tally: Tally) {
     io::write_all(1, b"rule uses\n");
     for k in 0..tallies::LINES {
         let line = tally.line(k);
-        print_line(line.rule as u64, line.count);
+        print_line(u64::from(line.rule), line.count);
     }
 }
 
@@ -132,14 +99,15 @@ fn print_tally(tally: Tally) {
 // from 1 up, and a last line with 0 and the total; of a list that is refused, `17 LINE` alone. No contract can speak
 // of what is opened, read or printed; the numbers are those of crate tallies.
 pub fn print_list(rt: &impl Files<File = File>, list: &[u8]) {
-    let all = open_all(rt, list);
-    let opened = all.opened;
+    let files = open_all(rt, list);
+    let mut opened = [false; tallies::MAX_FILES];
+    for (open, file) in opened.iter_mut().zip(&files) {
+        *open = file.is_some();
+    }
     let answer = tallies::judge_list(list, &opened);
-    let number = answer.number();
-    if number != 0 {
-        print_line(number as u64, answer.value() as u64);
+    if answer.number() != 0 {
+        print_line(u64::from(answer.number()), answer.value() as u64);
         return;
     }
-    let files = all.files;
-    print_tally(add_all(files, names::count(list)));
+    print_tally(add_all(files));
 }

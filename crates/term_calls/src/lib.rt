@@ -4,7 +4,7 @@
 ghost use Rattle.std.specs.Prelude.{◌≡◌, ◌*◌, ◌≤◌, length};
 ghost use Rattle.terms.specs.Row.{table_of, row_width, max_rows, find};
 ghost use Rattle.terms.specs.Nesting.{nesting};
-ghost use Rattle.terms.specs.code.RowTypes.{row_of};
+ghost use Rattle.terms.specs.code.RowTypes.{row_of, FoundIs};
 ghost use Rattle.terms.specs.code.Kept.{Kept};
 ghost use Rattle.calls.specs.TermCall.{term_answer};
 ghost use Rattle.calls.specs.code.Tables.{first_rows};
@@ -16,25 +16,25 @@ use terms::Row;
 
 // The answer of a term call on the rows, by the row's nesting and the search for an equal row: the first refusal that
 // applies, or the new row's number.
-fn term_answer(rows: &[u16], depth: u16, found: usize, row: Row) -> TermAnswer
+#[tactic(auto, unfolding(calls::specs::TermCall::term_answer))]
+fn term_answer(rows: &[u16], depth: u16, found: Option<usize>, row: Row) -> TermAnswer
     requires { (length (table_of rows.now) ≤ max_rows) × (depth ≡ nesting (table_of rows.now) (row_of row))
-        × (found ≡ find (table_of rows.now) (row_of row)) }
+        × FoundIs found (find (table_of rows.now) (row_of row)) (length (table_of rows.now)) }
     ensures { term_answer_of result ≡ term_answer (table_of rows.now) (row_of row) }
 {
     if terms::MAX_KIND < row.kind {
         return TermAnswer::BadKind;
     }
-    let place = terms::bad_place(rows, row);
-    if 0 < place {
+    if let Some(place) = terms::bad_place(rows, row) {
         return TermAnswer::BadField(place);
     }
     if terms::MAX_NESTING < depth {
         return TermAnswer::TooDeep;
     }
-    let count = terms::row_count(rows);
-    if found < count {
-        return TermAnswer::AlreadyHeld(found as u16);
+    if let Some(i) = found {
+        return TermAnswer::AlreadyHeld(i as u16);
     }
+    let count = terms::row_count(rows);
     if terms::MAX_ROWS <= count {
         return TermAnswer::TermsFull;
     }
@@ -42,16 +42,19 @@ fn term_answer(rows: &[u16], depth: u16, found: usize, row: Row) -> TermAnswer
 }
 
 // The same on the first n rows of a table.
+#[tactic(auto, using(calls::proofs::Tables::few_rows))]
 fn judge_term(rows: &[u16], n: usize, row: Row) -> TermAnswer
     ensures { term_answer_of result ≡ term_answer (first_rows n rows.now) (row_of row) }
 {
     let held = first_rows(rows, n);
-    let depth = terms::nesting_of(held, row);
+    // No table of a call has more rows than `nesting_of` takes.
+    let depth = terms::nesting_of(held, row).unwrap();
     let found = terms::find_row(held, row);
     term_answer(held, depth, found, row)
 }
 
 // The same by what is kept of these rows, which its caller has: their nestings and a filter.
+#[tactic(auto, using(calls::proofs::Tables::few_rows))]
 fn judge_kept(rows: &[u16], n: usize, table: &[u16], filter: &[u8], row: Row) -> TermAnswer
     requires { Kept (first_rows n rows.now) table.now filter.now }
     ensures { term_answer_of result ≡ term_answer (first_rows n rows.now) (row_of row) }

@@ -15,7 +15,7 @@ use Rattle.common.proofs.Reflect.{facts, le_or_lt}
 use Rattle.terms.specs.Row.{Row, row, no_row, row_at}
 use Rattle.terms.specs.Fields.{Field, unused, axis, test, name, path, qualifier, Fields, fields_of, max_kind}
 use Rattle.terms.specs.Fields.{is_path, is_qualifier, held_path, held_qualifier, field_ok, bad_place}
-use Rattle.terms.specs.Nesting.{max_nesting, nestings, nesting}
+use Rattle.terms.specs.Nesting.{max_nesting, nestings}
 use Rattle.terms.specs.Terms.{Term, of_path, of_qualifier, no_term, term_by, terms, term_at, path_at, qualifier_at}
 use Rattle.terms.specs.AcceptedRows.{is_well_formed, is_new, Built, empty, more}
 use Rattle.terms.proofs.ByKind.{Kind, void_kind, root_kind, step_kind, union_kind, composition_kind}

@@ -1,14 +1,11 @@
 -- The twelve kinds of rows, for proofs by cases. Assumes nothing.
-use Prim.Native.Nat.{ℕ, zero, suc, ◌≤◌, ◌<◌}
+use Prim.Native.Nat.{ℕ, zero, suc, ◌≤◌}
 use mathlib.Core.Path.{◌≡◌, refl}
 use mathlib.Core.List.{List, [], ◌∷◌}
-use mathlib.Core.Logic.{⊎_elim}
 use native.Mathlib.Omega.{arith}
-use lib.ListN.{get_or-eq_default}
-use Rattle.common.proofs.Reflect.{le_or_lt}
 use Rattle.xpath.specs.Term.{Void, Root, AxisStep, Union, Composition, Filter, True, False, Not, And, Or, In}
 use Rattle.terms.specs.Row.{row}
-use Rattle.terms.specs.Fields.{no_fields, max_kind, fields_of}
+use Rattle.terms.specs.Fields.{max_kind}
 use Rattle.terms.specs.Terms.{Term, of_path, of_qualifier, as_path, as_qualifier, term_by}
 
 pub data Kind : ℕ → Type 0 where
@@ -111,22 +108,3 @@ NoneOf k (j ∷ js) = NoneOf k js × ¬ (k ≡ j)
 -- the kinds with a field in use, the last first
 abbrev pub kinds_in_use : List ℕ
 kinds_in_use = 11 ∷ 10 ∷ 9 ∷ 8 ∷ 5 ∷ 4 ∷ 3 ∷ 2 ∷ []
-
-pub fields_rest : (k : ℕ) → NoneOf k kinds_in_use → fields_of k ≡ no_fields
-unfolding fields_of
-fields_rest k n = ⊎_elim (λ h. by (kind_of_lem k h) n) (λ (h : max_kind < k). rw get_or-eq_default)
-    (le_or_lt k max_kind)
-  where
-    by : {j : ℕ} → Kind j → NoneOf j kinds_in_use → fields_of j ≡ no_fields
-    by void_kind m = refl
-    by root_kind m = refl
-    by step_kind m = absurd (m.0.0.0.0.0.0.0.1 refl)
-    by union_kind m = absurd (m.0.0.0.0.0.0.1 refl)
-    by composition_kind m = absurd (m.0.0.0.0.0.1 refl)
-    by filter_kind m = absurd (m.0.0.0.0.1 refl)
-    by true_kind m = refl
-    by false_kind m = refl
-    by not_kind m = absurd (m.0.0.0.1 refl)
-    by and_kind m = absurd (m.0.0.1 refl)
-    by or_kind m = absurd (m.0.1 refl)
-    by in_kind m = absurd (m.1 refl)

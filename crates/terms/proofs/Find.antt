@@ -1,18 +1,23 @@
 -- The search for an equal row. Assumes nothing.
 use Prim.Native.Nat.{ℕ, zero, suc, ◌+◌, ◌<◌, ◌≤◌}
 use mathlib.Core.Path.{◌≡◌, refl, ◌∙◌, ap}
-use mathlib.Core.Bool.{Bool, true, false, cond}
+use mathlib.Core.Bool.{Bool, true, false, not, cond}
 use mathlib.Core.List.{List, [], ◌∷◌}
-use native.Mathlib.Numerals.{add-one}
 use native.Mathlib.Omega.{arith}
 use lib.Dec.{T}
 use mir.Facts.{eqb_yes}
-use lib.ListN.{length, drop, drop_of_length-le}
-use lib.Seq.{drop-cons}
+use lib.ListN.{length}
 use borrow.Author.Tests.{eq-eqb}
 use Rattle.common.proofs.Reflect.{facts, true_iff}
-use Rattle.terms.specs.Row.{Row, no_row, row_at, same_row, find}
+use Rattle.terms.specs.Row.{Row, row_at, same_row, find}
 use Rattle.terms.specs.AcceptedRows.{is_new}
+use Rattle.terms.specs.code.RowTypes.{FoundIs}
+use Rattle.std.proofs.Common.{map, position, Some, None, ltb}
+use Rattle.std.proofs.Common.{add_comm}
+use Rattle.std.specs.List.{position_or_len}
+use Rattle.std.proofs.lemmas.List.Recursion.{is_position_or_len}
+use borrow.Author.Tests.{ltb-true, ltb-false}
+use lib.ListN.{length-map}
 
 -- rows with the same fields are equal
 pub row_equal : {r s : Row} → r.kind ≡ s.kind → r.a ≡ s.a → r.b ≡ s.b → r.c ≡ s.c → r ≡ s
@@ -65,17 +70,22 @@ pub new_row : (rs : List Row) (r : Row) → T (is_new rs r) → (i : ℕ) → i 
 unfolding is_new
 new_row rs r t i h = let e : find rs r ≡ length rs = eqb_yes t in find_first rs r i (omega arith)
 
--- the search from row i on
-module _ (rs : List Row) (r : Row) (i : ℕ) where
-  pub find_end : length rs ≤ i → find (drop i rs) r ≡ 0
+-- what a search gives among m values, as a place or none
+pub placed : (n m : ℕ) → n ≤ m → FoundIs (cond (ltb n m) (Some n) None) n m
+placed n m h = by (ltb n m) refl
+  where
+    by : (b : Bool) → ltb n m ≡ b → FoundIs (cond b (Some n) None) n m
+    by true e = (refl, ltb-true n m e)
+    by false e = let g = ltb-false n m e in omega arith
+
+-- the search among values that stand for rows
+module _ {X : Type 0} (f : X → Row) (r : Row) where
+  find_by : (xs : List X) → find (map f xs) r ≡ position_or_len (λ x. same_row (f x) r) xs
   unfolding find
-  find_end h = rw (drop_of_length-le rs h)
+  find_by xs = is_position_or_len (λ xs. find (map f xs) r) (λ x. same_row (f x) r) refl
+      (λ x xs. ap (cond (same_row (f x) r) 0) (add_comm (find (map f xs) r) 1)) xs
 
-  module _ (h : i < length rs) where
-    pub find_hit : same_row (row_at rs i) r ≡ true → find (drop i rs) r ≡ 0
-    unfolding find
-    find_hit e = rw (drop-cons rs i no_row h, e)
-
-    pub find_miss : same_row (row_at rs i) r ≡ false → find (drop i rs) r ≡ find (drop (i + 1) rs) r + 1
-    unfolding find
-    find_miss e = rw (drop-cons rs i no_row h, e, add-one i)
+  pub found_by : (xs : List X) → FoundIs (position (λ x. same_row (f x) r) xs) (find (map f xs) r) (length (map f xs))
+  found_by xs =
+      rw (length-map xs f, ← find_by xs)
+      (placed (find (map f xs) r) (length xs) (omega (arith, find_le (map f xs) r, length-map xs f)))

@@ -1,11 +1,16 @@
 -- The table of lent numbers, row by row. Assumes nothing.
-use Prim.Native.Nat.{ℕ, zero, suc, ◌+◌, ◌*◌, ◌/◌, ◌<◌, ◌≤◌}
-use mathlib.Core.Path.{◌≡◌, refl, ap, ◌∙◌}
-use mathlib.Core.List.{List, [], ◌∷◌, ◌++◌}
+use Prim.Native.Nat.{ℕ, zero, suc, ◌+◌, ◌*◌, ◌/◌, ◌≤◌}
+use mathlib.Core.Path.{◌≡◌, refl, sym, ap, ◌∙◌}
+use mathlib.Core.List.{List, [], ◌∷◌, ◌++◌, append_assoc}
 use native.Mathlib.Omega.{arith}
-use lib.ListN.{length, get_or, take, drop, length-append, get_or-eq_default}
+use lib.ListN.{length, take, drop, length-append}
 use lib.Seq.{sets, sets-eq, length-take-le, take_at}
-use Rattle.terms.specs.Row.{Row, row, no_row, row_at, row_width, row_numbers, table_of}
+use Rattle.std.proofs.Common.{map}
+use Rattle.std.proofs.lemmas.List.{drop-drop}
+use borrow.Rule.Slice.PartMut.{put_mid}
+use Rattle.std.specs.Simd.{first_chunks}
+use Rattle.terms.specs.Row.{Row, row, row_width, row_numbers, table_of}
+use Rattle.terms.specs.code.RowTypes.{row_in}
 
 -- a row is four numbers
 pub rows_lent : (xs : List ℕ) → length (table_of xs) ≡ length xs / 4
@@ -16,25 +21,19 @@ rows_lent (k ∷ x ∷ []) = refl
 rows_lent (k ∷ x ∷ y ∷ []) = refl
 rows_lent (k ∷ x ∷ y ∷ z ∷ xs) = let h = rows_lent xs in omega arith
 
--- row i is the four numbers from 4 * i on
-pub row_lent : (xs : List ℕ) (i : ℕ) → 4 * i + 3 < length xs →
-    row_at (table_of xs) i ≡ row (get_or xs (4 * i) 0) (get_or xs (4 * i + 1) 0) (get_or xs (4 * i + 2) 0)
-    (get_or xs (4 * i + 3) 0)
+-- the rows are the numbers four by four
+pub rows_by_four : (n : ℕ) (xs : List ℕ) → n ≡ length xs / 4 → map row_in (first_chunks 4 n xs) ≡ table_of xs
 unfolding table_of
-row_lent [] i h = absurd (omega arith)
-row_lent (k ∷ []) i h = absurd (omega arith)
-row_lent (k ∷ x ∷ []) i h = absurd (omega arith)
-row_lent (k ∷ x ∷ y ∷ []) i h = absurd (omega arith)
-row_lent (k ∷ x ∷ y ∷ z ∷ xs) zero h = refl
-row_lent (k ∷ x ∷ y ∷ z ∷ xs) (suc i) h =
-    let e : 4 * suc i ≡ suc (suc (suc (suc (4 * i)))) = omega arith in
-    let e₁ : 4 * suc i + 1 ≡ suc (suc (suc (suc (4 * i + 1)))) = omega arith in
-    let e₂ : 4 * suc i + 2 ≡ suc (suc (suc (suc (4 * i + 2)))) = omega arith in
-    let e₃ : 4 * suc i + 3 ≡ suc (suc (suc (suc (4 * i + 3)))) = omega arith in
-    rw (e₁, e₂, e₃, e) (row_lent xs i (omega arith))
-
-pub row_past : (xs : List ℕ) (i : ℕ) → length xs ≤ 4 * i + 3 → row_at (table_of xs) i ≡ no_row
-row_past xs i h = get_or-eq_default (table_of xs) no_row (omega (arith, rows_lent xs))
+rows_by_four zero [] e = refl
+rows_by_four (suc n) [] e = absurd (omega arith)
+rows_by_four zero (k ∷ []) e = refl
+rows_by_four (suc n) (k ∷ []) e = absurd (omega arith)
+rows_by_four zero (k ∷ x ∷ []) e = refl
+rows_by_four (suc n) (k ∷ x ∷ []) e = absurd (omega arith)
+rows_by_four zero (k ∷ x ∷ y ∷ []) e = refl
+rows_by_four (suc n) (k ∷ x ∷ y ∷ []) e = absurd (omega arith)
+rows_by_four zero (k ∷ x ∷ y ∷ z ∷ xs) e = absurd (omega arith)
+rows_by_four (suc n) (k ∷ x ∷ y ∷ z ∷ xs) e = ap (λ (rs : List Row). row k x y z ∷ rs) (rows_by_four n xs (omega arith))
 
 -- n whole rows, and then other numbers
 pub table_append : (n : ℕ) (xs ys : List ℕ) → length xs ≡ 4 * n → table_of (xs ++ ys) ≡ table_of xs ++ table_of ys
@@ -55,6 +54,13 @@ take_sets xs m vs h =
     ap (take (m + length vs)) (sets-eq vs xs m h)
     ∙ take_at (take m xs ++ vs) (drop (m + length vs) xs) (m + length vs)
     (length-append (take m xs) vs ∙ ap (λ k. k + length vs) (length-take-le m xs (omega arith)))
+
+-- a copy of the numbers vs to the place m and those after it
+pub copied : (m k : ℕ) (xs vs ys : List ℕ) → ys ≡ vs → k ≡ length vs → m + k ≤ length xs
+    → put_mid m k xs ys ≡ sets xs m vs
+copied m k xs vs ys same size fits =
+    rw (same, drop-drop k m xs, size)
+    (sym (append_assoc (take m xs) vs (drop (m + length vs) xs)) ∙ sym (sets-eq vs xs m (omega arith)))
 
 -- a row is put after the first n
 pub row_put : (n : ℕ) (xs : List ℕ) (r : Row) → row_width * n + 4 ≤ length xs

@@ -1,29 +1,15 @@
 -- A table of notes: at i stands j + 1 where row j was found for row i, or 0. Assumes nothing.
-use Prim.Native.Nat.{ℕ, zero, suc, ◌+◌, ◌<◌, ◌≤◌}
-use mathlib.Core.Path.{◌≡◌, refl, sym, ◌∙◌, ap, ap₂, subst, subst₂}
-use mathlib.Core.Bool.{false}
+use Prim.Native.Nat.{ℕ, zero, suc, ◌<◌}
+use mathlib.Core.Path.{◌≡◌, refl, sym, ◌∙◌, ap, subst, subst₂}
 use mathlib.Core.List.{List}
 use mathlib.Core.Logic.{⊎_elim}
 use native.Mathlib.Omega.{arith}
-use lib.Dec.{eqb}
-use lib.ListN.{length, get_or, set, replicate, length-set, get_or-eq_default}
+use lib.ListN.{length, get_or, set, replicate, length-set}
 use lib.Seq.{set_out, get_or-set_same, get_or-set_other}
-use borrow.Author.Tests.{ne_eqb}
 use Rattle.common.proofs.Reflect.{eq_or_ne, le_or_lt}
 
--- what stands at i, in the table or past its end, and what is stored there
+-- what stands at i once it is noted
 module _ (xs : List ℕ) (i j : ℕ) where
-  pub past_noted : {at : ℕ} → at ≡ i → length xs ≤ at → false ≡ eqb (get_or xs i 0) (suc j)
-  past_noted {at} e h =
-      let z : get_or xs i 0 ≡ 0 = get_or-eq_default xs 0 (omega arith) in
-      sym (ne_eqb (get_or xs i 0) (suc j) (λ q. absurd (omega arith)))
-
-  pub there_noted : {at k : ℕ} → at ≡ i → k ≡ j → eqb (get_or xs at 0) (k + 1) ≡ eqb (get_or xs i 0) (suc j)
-  there_noted {at} {k} e f = let h : k + 1 ≡ suc j = omega arith in ap₂ (λ at k. eqb (get_or xs at 0) k) e h
-
-  pub set_there : {at k : ℕ} → at ≡ i → k ≡ j → set xs at (k + 1) ≡ set xs i (suc j)
-  set_there {at} {k} e f = let h : k + 1 ≡ suc j = omega arith in ap₂ (set xs) e h
-
   pub note_there : {ys : List ℕ} → ys ≡ set xs i (suc j) → i < length ys → get_or ys i 0 ≡ suc j
   note_there {ys} q l =
       let same : length ys ≡ length xs = ap length q ∙ length-set xs i (suc j) in

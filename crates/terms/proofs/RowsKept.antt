@@ -5,7 +5,7 @@ use mathlib.Core.Bool.{Bool, true, false, cond}
 use mathlib.Core.List.{List, [], ◌∷◌, ◌++◌}
 use mathlib.Core.Logic.{⊎_elim}
 use native.Mathlib.Omega.{arith}
-use lib.ListN.{length, get_or, take, set, length-set, length-append}
+use lib.ListN.{length, get_or, set, length-set, length-append}
 use lib.Seq.{take-suc-set, get_or-set_same, get_or-set_other}
 use Rattle.common.proofs.Reflect.{eq_or_ne}
 use Rattle.terms.specs.Row.{Row, max_rows, entries_from, same_row, find}

@@ -3,7 +3,7 @@
 ghost use Rattle.std.specs.Prelude.{◌≡◌, [], ◌∷◌, ◌++◌, ◌≤◌, ◌<◌, length};
 ghost use Rattle.terms.specs.Row.{table_of, max_rows, find};
 ghost use Rattle.terms.specs.Nesting.{nesting};
-ghost use Rattle.terms.specs.code.RowTypes.{row_of};
+ghost use Rattle.terms.specs.code.RowTypes.{row_of, FoundIs};
 ghost use Rattle.terms.specs.code.Kept.{slot_count, slot_of, Filters, Nestings, Kept};
 
 use crate::{MAX_ROWS, Row, deeper_operand, find_row, row_count};
@@ -12,13 +12,11 @@ use crate::{MAX_ROWS, Row, deeper_operand, find_row, row_count};
 pub const SLOTS: usize = 8192;
 
 // The slot that a row falls in.
+#[tactic(auto, unfolding(crate::specs::code::Kept::slot_of))]
 fn slot_of(row: Row) -> usize
     ensures { result ≡ slot_of (row_of row) }
 {
-    let kind = row.kind as usize;
-    let a = row.a as usize;
-    let b = row.b as usize;
-    let c = row.c as usize;
+    let [kind, a, b, c] = row.numbers().map(usize::from);
     (((kind * 37 + a) * 41 + b) * 43 + c) % SLOTS
 }
 
@@ -27,19 +25,16 @@ pub fn nesting_kept(rows: &[u16], table: &[u16], row: Row) -> u16
     requires { (length (table_of rows.now) ≤ max_rows) × Nestings (table_of rows.now) table.now }
     ensures { result ≡ nesting (table_of rows.now) (row_of row) }
 {
-    let n = row_count(rows);
-    deeper_operand(&table[..n], row) + 1
+    deeper_operand(&table[..row_count(rows)], row) + 1
 }
 
 // The same as find_row; it searches only where the filter has a row in that slot.
-pub fn find_kept(rows: &[u16], filter: &[u8], row: Row) -> usize
+pub fn find_kept(rows: &[u16], filter: &[u8], row: Row) -> Option<usize>
     requires { Filters (table_of rows.now) filter.now }
-    ensures { result ≡ find (table_of rows.now) (row_of row) }
+    ensures { FoundIs result (find (table_of rows.now) (row_of row)) (length (table_of rows.now)) }
 {
-    let slot = slot_of(row);
-    let mark = filter[slot];
-    if mark == 0 {
-        return row_count(rows);
+    if filter[slot_of(row)] == 0 {
+        return None;
     }
     find_row(rows, row)
 }
@@ -49,11 +44,8 @@ pub fn keep(rows: &[u16], table: &mut [u16], filter: &mut [u8], row: Row)
     requires { Kept (table_of rows.now) table.old filter.old × (length (table_of rows.now) < max_rows) }
     ensures { Kept (table_of rows.now ++ (row_of row ∷ [])) table.new filter.new }
 {
-    let n = row_count(rows);
-    let nesting = nesting_kept(rows, table, row);
-    let slot = slot_of(row);
-    table[n] = nesting;
-    filter[slot] = 1;
+    table[row_count(rows)] = nesting_kept(rows, table, row);
+    filter[slot_of(row)] = 1;
 }
 
 // What is kept of no rows.

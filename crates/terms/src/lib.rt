@@ -4,14 +4,15 @@
 
 mod kept;
 
-ghost use Rattle.std.specs.Prelude.{◌≡◌, cond, leb, eqb, suc, ◌+◌, ◌*◌, ◌≤◌, ◌<◌, length, get_or, set, take};
+ghost use Rattle.std.specs.Prelude.{◌≡◌, Some, None, cond, leb, eqb, suc, ◌+◌, ◌*◌, ◌≤◌, ◌<◌};
+ghost use Rattle.std.specs.Prelude.{map, length, get_or, set, take};
 ghost use Rattle.std.proofs.lemmas.List.Edits.{sets};
-ghost use Rattle.terms.specs.Row.{row_at, row_width, row_numbers, table_of, max_rows, same_row, find};
+ghost use Rattle.terms.specs.Row.{row_at, row_width, row_numbers, table_of, max_rows, find};
 ghost use Rattle.terms.specs.Fields.{fields_of, held_path, held_qualifier, field_ok, bad_place};
 ghost use Rattle.terms.specs.Nesting.{operand_nesting, nesting_by, nestings, nesting};
-ghost use Rattle.terms.specs.code.RowTypes.{row_of, field_of, fields_in};
+ghost use Rattle.terms.specs.code.RowTypes.{row_of, row_in, field_of, fields_in, PlaceIs, FoundIs};
 
-use common::{axis, node_test, row_kind, wide};
+use common::{axis, node_test, row_kind};
 pub use kept::{SLOTS, clear_filter, find_kept, keep, nesting_kept, no_nestings};
 
 // The most rows of a table.
@@ -30,7 +31,7 @@ const FIRST_QUALIFIER: u16 = row_kind::TRUE;
 
 pub const MAX_KIND: u16 = row_kind::INCLUSION;
 
-#[derive(Clone, Copy)]
+#[derive(Clone, Copy, PartialEq, Eq, Debug)]
 pub struct Row {
     pub kind: u16,
     pub a: u16,
@@ -38,9 +39,17 @@ pub struct Row {
     pub c: u16,
 }
 
+// What stands past the end of a table.
+const NO_ROW: Row = Row {
+    kind: row_kind::VOID,
+    a: 0,
+    b: 0,
+    c: 0,
+};
+
 // What a field of a row must be.
-#[derive(Drop)]
-enum Field {
+#[derive(Clone, Copy)]
+pub enum Field {
     Unused,
     Axis,
     Test,
@@ -49,9 +58,14 @@ enum Field {
     Qualifier,
 }
 
-// What the fields a, b and c of a row must be.
-#[derive(Drop)]
-struct Fields(Field, Field, Field);
+impl Row {
+    // Its numbers, in order.
+    fn numbers(self) -> [u16; ROW_WIDTH]
+        ensures { result ≡ row_numbers (row_of self) }
+    {
+        [self.kind, self.a, self.b, self.c]
+    }
+}
 
 pub fn row_count(rows: &[u16]) -> usize
     ensures { result ≡ length (table_of rows.now) }
@@ -59,68 +73,61 @@ pub fn row_count(rows: &[u16]) -> usize
     rows.len() / ROW_WIDTH
 }
 
+// The rows, each as its numbers.
+fn whole_rows(rows: &[u16]) -> &[[u16; ROW_WIDTH]]
+    ensures { map row_in result.now ≡ table_of rows.now }
+{
+    rows.as_chunks().0
+}
+
 // Row i; `0 0 0 0` past the last row.
 pub fn row_at(rows: &[u16], i: usize) -> Row
     ensures { row_of result ≡ row_at (table_of rows.now) i }
 {
-    if i < rows.len() / ROW_WIDTH {
-        let at = ROW_WIDTH * i;
-        let kind = rows[at];
-        let a = rows[at + 1];
-        let b = rows[at + 2];
-        let c = rows[at + 3];
-        return Row { kind, a, b, c };
-    }
-    Row {
-        kind: row_kind::VOID,
-        a: 0,
-        b: 0,
-        c: 0,
+    match whole_rows(rows).get(i) {
+        Some(&[kind, a, b, c]) => Row { kind, a, b, c },
+        None => NO_ROW,
     }
 }
 
 // Whether x is the number of a row that is a path.
+#[tactic(auto, unfolding(crate::specs::Fields::held_path, crate::specs::Fields::is_path))]
 pub fn is_held_path(rows: &[u16], x: u16) -> bool
     ensures { result ≡ held_path (table_of rows.now) x }
 {
-    let i = x as usize;
-    if i < row_count(rows) {
-        return row_at(rows, i).kind <= LAST_PATH;
-    }
-    false
+    let i = usize::from(x);
+    i < row_count(rows) && row_at(rows, i).kind <= LAST_PATH
 }
 
 // Whether x is the number of a row that is a qualifier.
+#[tactic(auto, unfolding(crate::specs::Fields::held_qualifier, crate::specs::Fields::is_qualifier))]
 pub fn is_held_qualifier(rows: &[u16], x: u16) -> bool
     ensures { result ≡ held_qualifier (table_of rows.now) x }
 {
-    let i = x as usize;
-    if i < row_count(rows) {
-        let kind = row_at(rows, i).kind;
-        if FIRST_QUALIFIER <= kind {
-            return kind <= MAX_KIND;
-        }
-    }
-    false
+    let i = usize::from(x);
+    let kind = row_at(rows, i).kind;
+    i < row_count(rows) && FIRST_QUALIFIER <= kind && kind <= MAX_KIND
 }
 
-fn fields_of(kind: u16) -> Fields
-    ensures { fields_in result ≡ fields_of kind }
+// What the fields a, b and c of a row of that kind must be.
+#[tactic(auto, unfolding(crate::specs::Fields::fields_of))]
+pub fn fields_of(kind: u16) -> (Field, Field, Field)
+    ensures { fields_in result.0 result.1 result.2 ≡ fields_of kind }
 {
     match kind {
-        row_kind::STEP => Fields(Field::Axis, Field::Test, Field::Name),
-        row_kind::UNION => Fields(Field::Path, Field::Path, Field::Unused),
-        row_kind::COMPOSITION => Fields(Field::Path, Field::Path, Field::Unused),
-        row_kind::FILTER => Fields(Field::Path, Field::Qualifier, Field::Unused),
-        row_kind::NOT => Fields(Field::Qualifier, Field::Unused, Field::Unused),
-        row_kind::AND => Fields(Field::Qualifier, Field::Qualifier, Field::Unused),
-        row_kind::OR => Fields(Field::Qualifier, Field::Qualifier, Field::Unused),
-        row_kind::INCLUSION => Fields(Field::Path, Field::Path, Field::Unused),
-        _ => Fields(Field::Unused, Field::Unused, Field::Unused),
+        row_kind::STEP => (Field::Axis, Field::Test, Field::Name),
+        row_kind::UNION | row_kind::COMPOSITION | row_kind::INCLUSION => {
+            (Field::Path, Field::Path, Field::Unused)
+        }
+        row_kind::FILTER => (Field::Path, Field::Qualifier, Field::Unused),
+        row_kind::NOT => (Field::Qualifier, Field::Unused, Field::Unused),
+        row_kind::AND | row_kind::OR => (Field::Qualifier, Field::Qualifier, Field::Unused),
+        _ => (Field::Unused, Field::Unused, Field::Unused),
     }
 }
 
 // Whether x is what its place asks, in a row whose test is t.
+#[tactic(auto, unfolding(crate::specs::Fields::field_ok))]
 fn field_ok(rows: &[u16], field: Field, x: u16, t: u16) -> bool
     ensures { result ≡ field_ok (table_of rows.now) (field_of field) x t }
 {
@@ -129,94 +136,70 @@ fn field_ok(rows: &[u16], field: Field, x: u16, t: u16) -> bool
         Field::Axis => x <= axis::LAST,
         Field::Test => x <= node_test::LAST,
         Field::Name => {
-            if common::or(t == node_test::NAME, t == node_test::TARGET) {
-                return 1 <= x;
+            if t == node_test::NAME || t == node_test::TARGET {
+                1 <= x
+            } else {
+                x == 0
             }
-            x == 0
         }
         Field::Path => is_held_path(rows, x),
         Field::Qualifier => is_held_qualifier(rows, x),
     }
 }
 
-// The first place, 1 to 3, whose field is bad; 0 if there is none.
-pub fn bad_place(rows: &[u16], row: Row) -> u16
-    ensures { result ≡ bad_place (table_of rows.now) (row_of row) }
+// The first place, 1 to 3, whose field is bad.
+#[tactic(auto, unfolding(crate::specs::Fields::bad_place))]
+pub fn bad_place(rows: &[u16], row: Row) -> Option<u16>
+    ensures { PlaceIs result (bad_place (table_of rows.now) (row_of row)) }
 {
-    let fields = fields_of(row.kind);
-    let first = fields.0;
-    let second = fields.1;
-    let third = fields.2;
+    let (first, second, third) = fields_of(row.kind);
     if !field_ok(rows, first, row.a, row.b) {
-        return 1;
+        Some(1)
+    } else if !field_ok(rows, second, row.b, row.b) {
+        Some(2)
+    } else if !field_ok(rows, third, row.c, row.b) {
+        Some(3)
+    } else {
+        None
     }
-    if !field_ok(rows, second, row.b, row.b) {
-        return 2;
-    }
-    if !field_ok(rows, third, row.c, row.b) {
-        return 3;
-    }
-    0
 }
 
-fn same_row(x: Row, y: Row) -> bool
-    ensures { result ≡ same_row (row_of x) (row_of y) }
+// The number of the first row that is `row`.
+pub fn find_row(rows: &[u16], row: Row) -> Option<usize>
+    ensures { FoundIs result (find (table_of rows.now) (row_of row)) (length (table_of rows.now)) }
 {
-    let two = common::and(x.kind == y.kind, x.a == y.a);
-    let three = common::and(two, x.b == y.b);
-    common::and(three, x.c == y.c)
-}
-
-// The number of the first row that is `row`; where there is none, how many rows there are.
-pub fn find_row(rows: &[u16], row: Row) -> usize
-    ensures { result ≡ find (table_of rows.now) (row_of row) }
-{
-    let n = row_count(rows);
-    let mut i = 0;
-    while i < n {
-        if same_row(row_at(rows, i), row) {
-            return i;
-        }
-        i += 1;
-    }
-    i
+    whole_rows(rows)
+        .iter()
+        .position(|&[kind, a, b, c]| Row { kind, a, b, c } == row)
 }
 
 // Entry x, 0 past the last one.
 fn entry_at(entries: &[u16], x: u16) -> u16
     ensures { result ≡ get_or entries.now x 0 }
 {
-    let i = x as usize;
-    if i < entries.len() {
-        return entries[i];
-    }
-    0
+    entries.get(usize::from(x)).copied().unwrap_or(0)
 }
 
 // The nesting of the operand x, by the nestings of the rows; 0 for a field that is no operand.
+#[tactic(auto, unfolding(crate::specs::Nesting::operand_nesting))]
 fn operand_nesting(nestings: &[u16], field: Field, x: u16) -> u16
     ensures { result ≡ operand_nesting nestings.now (field_of field) x }
 {
     match field {
-        Field::Unused => 0,
-        Field::Axis => 0,
-        Field::Test => 0,
-        Field::Name => 0,
-        Field::Path => entry_at(nestings, x),
-        Field::Qualifier => entry_at(nestings, x),
+        Field::Path | Field::Qualifier => entry_at(nestings, x),
+        Field::Unused | Field::Axis | Field::Test | Field::Name => 0,
     }
 }
 
 // The nesting of the deeper operand, by the nestings of the rows before; 0 if there is no operand.
+#[tactic(auto, unfolding(crate::specs::Nesting::nesting_by))]
 pub(crate) fn deeper_operand(nestings: &[u16], row: Row) -> u16
     ensures { result + 1 ≡ nesting_by nestings.now (row_of row) }
 {
-    let fields = fields_of(row.kind);
-    let first = fields.0;
-    let second = fields.1;
+    let (first, second, _) = fields_of(row.kind);
     let x = operand_nesting(nestings, first, row.a);
     let y = operand_nesting(nestings, second, row.b);
-    if x <= y { y } else { x }
+    x.max(y)
 }
 
 // The nestings of the rows, in order, each by those before it.
@@ -225,12 +208,8 @@ fn fill_nestings(rows: &[u16], table: &mut [u16])
     ensures { take (length (table_of rows.now)) table.new ≡ nestings
         (table_of rows.now) }
 {
-    let n = row_count(rows);
-    let mut i = 0;
-    while i < n {
-        let deeper = deeper_operand(&table[..i], row_at(rows, i));
-        table[i] = deeper + 1;
-        i += 1;
+    for i in 0..row_count(rows) {
+        table[i] = deeper_operand(&table[..i], row_at(rows, i)) + 1;
     }
 }
 
@@ -245,15 +224,15 @@ fn nesting_within(rows: &[u16], row: Row) -> u16
     nesting_kept(rows, &table, row)
 }
 
-// The nesting of a row whose operands are among the rows; 0, which no row has, where these are more than MAX_ROWS.
-pub fn nesting_of(rows: &[u16], row: Row) -> u16
+// The nesting of a row whose operands are among the rows; none where these are more than MAX_ROWS.
+pub fn nesting_of(rows: &[u16], row: Row) -> Option<u16>
     ensures { result ≡ cond (leb (length (table_of rows.now)) max_rows)
-        (nesting (table_of rows.now) (row_of row)) 0 }
+        (Some (nesting (table_of rows.now) (row_of row))) None }
 {
     if MAX_ROWS < row_count(rows) {
-        0
+        None
     } else {
-        nesting_within(rows, row)
+        Some(nesting_within(rows, row))
     }
 }
 
@@ -263,31 +242,22 @@ pub fn put_row(rows: &mut [u16], n: usize, row: Row)
     ensures { rows.new ≡ sets rows.old (row_width * n) (row_numbers (row_of row)) }
 {
     let at = ROW_WIDTH * n;
-    rows[at] = row.kind;
-    rows[at + 1] = row.a;
-    rows[at + 2] = row.b;
-    rows[at + 3] = row.c;
+    rows[at..at + ROW_WIDTH].copy_from_slice(&row.numbers());
 }
 
 // Whether it is noted that a search found row j for row i: at i stands j + 1.
 pub fn is_noted(noted: &[usize], i: u16, j: u16) -> bool
     ensures { result ≡ eqb (get_or noted.now i 0) (suc j) }
 {
-    let at = wide(i);
-    if noted.len() <= at {
-        return false;
-    }
-    let there = noted[at];
-    there == wide(j) + 1
+    noted.get(usize::from(i)) == Some(&(usize::from(j) + 1))
 }
 
 // Notes it, where the table of notes reaches to i.
 pub fn note(noted: &mut [usize], i: u16, j: u16)
     ensures { noted.new ≡ set noted.old i (suc j) }
 {
-    let at = wide(i);
-    if noted.len() <= at {
-        return;
+    let at = usize::from(i);
+    if at < noted.len() {
+        noted[at] = usize::from(j) + 1;
     }
-    noted[at] = wide(j) + 1;
 }

@@ -1,39 +1,42 @@
 -- One law for each way through read_and and read_or. Assumes nothing.
-use Prim.Native.Nat.{ℕ, suc, ◌+◌, ◌-◌, max}
+use Prim.Native.Nat.{ℕ, suc, ◌+◌, ◌≤◌, max}
 use mathlib.Core.Path.{◌≡◌, refl, sym, ap, ◌∙◌, subst}
 use mathlib.Core.Bool.{Bool, true, false, cond}
 use mathlib.Core.List.{List, [], ◌∷◌, ◌++◌}
 use native.Mathlib.Omega.{arith}
 use lib.Dec.{eqb}
 use lib.ListN.{length, drop, length-append}
-use Rattle.terms.specs.Row.{row}
+use Rattle.terms.specs.Row.{row, max_rows}
 use Rattle.grammar.specs.Bytes.{Bytes}
 use Rattle.grammar.specs.Words.{number_of}
 use Rattle.grammar.specs.Grammar.{Unary, operand, conj, Or, alone, disj, spell_and, spell_or}
 use Rattle.grammar.specs.Denotes.{unary_of, and_of, or_of, and_names, or_names, put_qual, nest_qual}
 use Rattle.grammar.specs.code.Reader.{need, inside, Open, first, begin, Left, nothing, either, Pend, plain, both}
 use Rattle.grammar.specs.code.Reader.{left_of, and_to, or_to, wrap, room_of, enter, run, unary_byte}
-use Rattle.readings.specs.declared.Reading.{Reading}
 use Rattle.words.specs.code.Scan.{byte_at}
 use Rattle.heads.specs.code.Head.{proceed}
-use Rattle.readings.specs.code.Build.{capped, moved_to, failed_at, PutMet}
+use Rattle.readings.specs.code.Build.{Standing, capped, moved_to, refused_at, Sized, PutMet}
 use Rattle.readings.specs.code.Passing.{WordMet, after_and, after_or}
-use Rattle.text.specs.code.Readers.{MadeQual, Ready, Reached, UnaryMet, AndRead, AndFails, AndMet, OrFails, OrMet}
+use Rattle.text.specs.code.Readers.{MadeQual, Reached, UnaryMet, AndRead, AndFails, AndMet, OrFails, OrMet}
 use Rattle.readings.proofs.Built.{refuse, unlisted_append, made_from, made_join}
 
 -- an operator name changes only the place
-module _ (s : Bytes) (y q : Reading) (n : ℕ) (next : Open → Pend → Unary → Bytes → Pend)
+module _ (s : Bytes) (y q : Standing) (n : ℕ) (next : Open → Pend → Unary → Bytes → Pend)
     (m : WordMet s y q n next) where
-  word_count : q.count ≡ y.count
-  word_count = ap (λ (r : Reading). r.count) m.same ∙ go q.ok
+  word_sized : (ys : List ℕ) → Sized ys y.count → Sized ys q.count
+  word_sized ys z =
+      record {
+        size = z.size;
+        bound = subst (λ (n : ℕ). n ≤ max_rows) (sym (ap (λ (r : Standing). r.count) m.same)) (go q.ok);
+      }
     where
-      go : (b : Bool) → (cond b (moved_to y q.at) (failed_at y q.at)).count ≡ y.count
-      go true = refl
-      go false = refl
+      go : (b : Bool) → (cond b (moved_to y q.at) (refused_at q.at)).count ≤ max_rows
+      go true = z.bound
+      go false = omega arith
 
   -- one that was read
   word_moved : q.ok ≡ true → q ≡ moved_to y q.at
-  word_moved e = m.same ∙ ap (λ (b : Bool). cond b (moved_to y q.at) (failed_at y q.at)) e
+  word_moved e = m.same ∙ ap (λ (b : Bool). cond b (moved_to y q.at) (refused_at q.at)) e
 
   -- the place is further on, the table the same
   word_reached : (at : ℕ) (ys : List ℕ) → Reached s at ys y → Reached s at ys q
@@ -41,23 +44,17 @@ module _ (s : Bytes) (y q : Reading) (n : ℕ) (next : Open → Pend → Unary �
       record {
         from = omega (arith, r.from, m.between.from);
         fits = m.between.fits;
-        sized = record { size = r.sized.size; bound = rw word_count r.sized.bound };
+        sized = word_sized ys r.sized;
       }
 
-  -- an operand may begin after it
-  pub word_ready : (at : ℕ) (ys : List ℕ) → q.ok ≡ true → Reached s at ys y → Ready s ys q
-  word_ready at ys e r =
-      let z = word_reached at ys r in
-      record { ok = e; fits = z.fits; sized = z.sized }
-
 -- operands joined by `and` so far
-pub record AndGot (s list : Bytes) (left : ℕ) (xs : List ℕ) (x : Reading) (ys : List ℕ) (y : Reading) : Type 0 where
+pub record AndGot (s list : Bytes) (left : ℕ) (xs : List ℕ) (x : Standing) (ys : List ℕ) (y : Standing) : Type 0 where
   pub reached : Reached s x.at ys y
   pub read : y.ok ≡ true → AndRead s list left xs x ys y
   pub failed : y.ok ≡ false → AndFails s left x.at y.at
 
 -- the first operand
-pub and_first : (s list : Bytes) (left : ℕ) (xs : List ℕ) (x : Reading) (ys : List ℕ) (y : Reading)
+pub and_first : (s list : Bytes) (left : ℕ) (xs : List ℕ) (x : Standing) (ys : List ℕ) (y : Standing)
     → UnaryMet s list left xs x ys y → AndGot s list left xs x ys y
 unfolding left_of and_to and_of and_names spell_and
 and_first s list left xs x ys y m =
@@ -76,8 +73,8 @@ and_first s list left xs x ys y m =
       failed = λ e o l i. m.failed e o (plain l) i;
     }
 
-module _ (s list : Bytes) (left : ℕ) (xs : List ℕ) (x : Reading) (ys : List ℕ) (y : Reading)
-    (ok : y.ok ≡ true) (q : Reading) (w : WordMet s y q 3 after_and) where
+module _ (s list : Bytes) (left : ℕ) (xs : List ℕ) (x : Standing) (ys : List ℕ) (y : Standing)
+    (ok : y.ok ≡ true) (q : Standing) (w : WordMet s y q 3 after_and) where
   -- `and` is not read to its end
   pub and_refused : q.ok ≡ false → AndGot s list left xs x ys y → AndMet s list left xs x ys q
   and_refused e got =
@@ -89,15 +86,39 @@ module _ (s list : Bytes) (left : ℕ) (xs : List ℕ) (x : Reading) (ys : List 
         failed = λ _ o l i. a.runs o l i ∙ w.failed e o (a.pend l) a.last a.spaces;
       }
 
+  -- the next operand was refused
+  pub and_stopped : (zs : List ℕ) (z : Standing) → q.ok ≡ true → UnaryMet s list left ys q zs z → z.ok ≡ false
+      → AndGot s list left xs x ys y → AndMet s list left xs x zs z
+  unfolding left_of and_to
+  and_stopped zs z e n f got =
+      let a = got.read ok in
+      let m = subst (λ (r : Standing). UnaryMet s list left ys r zs z) (word_moved s y q 3 after_and w e) n in
+      let next : (o : Open) (l : Left) → room_of o ≡ left
+      → run (drop x.at s) (need (inside o (plain l)) first begin [])
+      ≡ run (drop q.at s) (need (inside o (both l a.tree a.spaces)) first begin []) =
+      λ o l i. a.runs o l i ∙ w.read e o (a.pend l) a.last a.spaces
+      ∙ (λ j. run (drop q.at s)
+      (need (inside o (both ((a.parts l).0 j) ((a.parts l).1 j) a.spaces)) first begin [])) in
+      record {
+        reached = record {
+          from = omega (arith, got.reached.from, w.between.from, m.reached.from);
+          fits = m.reached.fits;
+          sized = m.reached.sized;
+        };
+        read = λ g. refuse z.ok g f;
+        stops = λ g. refuse z.ok g f;
+        failed = λ _ o l i. next o l i ∙ m.failed f o (both l a.tree a.spaces) i;
+      }
+
   -- one more operand
-  pub and_more : (zs : List ℕ) (z : Reading) (vs : List ℕ) (v : Reading) → q.ok ≡ true
+  pub and_more : (zs : List ℕ) (z : Standing) (vs : List ℕ) (v : Standing) → q.ok ≡ true
       → UnaryMet s list left ys q zs z
       → PutMet (row 9 y.row z.row 0) (capped (suc (max y.nesting z.nesting))) zs z vs v
       → AndGot s list left xs x ys y → AndGot s list left xs x vs v
   unfolding left_of and_to and_of and_names spell_and put_qual nest_qual
   and_more zs z vs v e n p got =
       let a = got.read ok in
-      let m = subst (λ (r : Reading). UnaryMet s list left ys r zs z) (word_moved s y q 3 after_and w e) n in
+      let m = subst (λ (r : Standing). UnaryMet s list left ys r zs z) (word_moved s y q 3 after_and w e) n in
       let next : (o : Open) (l : Left) → room_of o ≡ left
       → run (drop x.at s) (need (inside o (plain l)) first begin [])
       ≡ run (drop q.at s) (need (inside o (both l a.tree a.spaces)) first begin []) =
@@ -137,13 +158,13 @@ module _ (s list : Bytes) (left : ℕ) (xs : List ℕ) (x : Reading) (ys : List 
       }
 
 -- no `and` follows
-pub and_ends : (s list : Bytes) (left : ℕ) (xs : List ℕ) (x : Reading) (ys : List ℕ) (y : Reading)
+pub and_ends : (s list : Bytes) (left : ℕ) (xs : List ℕ) (x : Standing) (ys : List ℕ) (y : Standing)
     → (y.ok ≡ true → eqb (byte_at s y.at) 97 ≡ false) → AndGot s list left xs x ys y → AndMet s list left xs x ys y
 and_ends s list left xs x ys y stop got =
     record { reached = got.reached; read = got.read; stops = stop; failed = got.failed }
 
 -- those joined by `or` so far: the last operand, and what stands before it
-pub record Choosing (s list : Bytes) (left : ℕ) (xs : List ℕ) (x : Reading) (ys : List ℕ) (y : Reading) : Type 0 where
+pub record Choosing (s list : Bytes) (left : ℕ) (xs : List ℕ) (x : Standing) (ys : List ℕ) (y : Standing) : Type 0 where
   pub tree : Or
   pub pend : Pend
   pub last : Unary
@@ -155,13 +176,13 @@ pub record Choosing (s list : Bytes) (left : ℕ) (xs : List ℕ) (x : Reading) 
       → run (drop x.at s) (enter o) ≡ proceed s y.at (unary_byte o pend last spaces (byte_at s y.at))
   pub stops : eqb (byte_at s y.at) 97 ≡ false
 
-pub record OrGot (s list : Bytes) (left : ℕ) (xs : List ℕ) (x : Reading) (ys : List ℕ) (y : Reading) : Type 0 where
+pub record OrGot (s list : Bytes) (left : ℕ) (xs : List ℕ) (x : Standing) (ys : List ℕ) (y : Standing) : Type 0 where
   pub reached : Reached s x.at ys y
   pub read : y.ok ≡ true → Choosing s list left xs x ys y
   pub failed : y.ok ≡ false → OrFails s left x.at y.at
 
 -- the first side of `or`
-pub or_first : (s list : Bytes) (left : ℕ) (xs : List ℕ) (x : Reading) (ys : List ℕ) (y : Reading)
+pub or_first : (s list : Bytes) (left : ℕ) (xs : List ℕ) (x : Standing) (ys : List ℕ) (y : Standing)
     → AndMet s list left xs x ys y → OrGot s list left xs x ys y
 unfolding wrap or_of or_names spell_or
 or_first s list left xs x ys y m =
@@ -181,8 +202,8 @@ or_first s list left xs x ys y m =
       failed = λ e o i. m.failed e o nothing i;
     }
 
-module _ (s list : Bytes) (left : ℕ) (xs : List ℕ) (x : Reading) (ys : List ℕ) (y : Reading)
-    (ok : y.ok ≡ true) (q : Reading) (w : WordMet s y q 2 after_or) where
+module _ (s list : Bytes) (left : ℕ) (xs : List ℕ) (x : Standing) (ys : List ℕ) (y : Standing)
+    (ok : y.ok ≡ true) (q : Standing) (w : WordMet s y q 2 after_or) where
   -- `or` is not read to its end
   pub or_refused : q.ok ≡ false → OrGot s list left xs x ys y → OrMet s list left xs x ys q
   or_refused e got =
@@ -193,8 +214,31 @@ module _ (s list : Bytes) (left : ℕ) (xs : List ℕ) (x : Reading) (ys : List 
         failed = λ _ o i. a.runs o i ∙ w.failed e o a.pend a.last a.spaces;
       }
 
+  -- the next operand was refused
+  pub or_stopped : (zs : List ℕ) (z : Standing) → q.ok ≡ true → AndMet s list left ys q zs z → z.ok ≡ false
+      → OrGot s list left xs x ys y → OrMet s list left xs x zs z
+  unfolding wrap
+  or_stopped zs z e n f got =
+      let a = got.read ok in
+      let l = either a.tree a.spaces in
+      let m = subst (λ (r : Standing). AndMet s list left ys r zs z) (word_moved s y q 2 after_or w e) n in
+      let next : (o : Open) → room_of o ≡ left
+      → run (drop x.at s) (enter o) ≡ run (drop q.at s) (need (inside o (plain l)) first begin []) =
+      λ o i. a.runs o i ∙ w.read e o a.pend a.last a.spaces
+      ∙ ap (λ (t : Or). run (drop q.at s) (need (inside o (plain (either t a.spaces))) first begin []))
+      a.whole in
+      record {
+        reached = record {
+          from = omega (arith, got.reached.from, w.between.from, m.reached.from);
+          fits = m.reached.fits;
+          sized = m.reached.sized;
+        };
+        read = λ g. refuse z.ok g f;
+        failed = λ _ o i. next o i ∙ m.failed f o l i;
+      }
+
   -- one more operand
-  pub or_more : (zs : List ℕ) (z : Reading) (vs : List ℕ) (v : Reading) → q.ok ≡ true
+  pub or_more : (zs : List ℕ) (z : Standing) (vs : List ℕ) (v : Standing) → q.ok ≡ true
       → AndMet s list left ys q zs z
       → PutMet (row 10 y.row z.row 0) (capped (suc (max y.nesting z.nesting))) zs z vs v
       → OrGot s list left xs x ys y → OrGot s list left xs x vs v
@@ -202,7 +246,7 @@ module _ (s list : Bytes) (left : ℕ) (xs : List ℕ) (x : Reading) (ys : List 
   or_more zs z vs v e n p got =
       let a = got.read ok in
       let l = either a.tree a.spaces in
-      let m = subst (λ (r : Reading). AndMet s list left ys r zs z) (word_moved s y q 2 after_or w e) n in
+      let m = subst (λ (r : Standing). AndMet s list left ys r zs z) (word_moved s y q 2 after_or w e) n in
       let next : (o : Open) → room_of o ≡ left
       → run (drop x.at s) (enter o) ≡ run (drop q.at s) (need (inside o (plain l)) first begin []) =
       λ o i. a.runs o i ∙ w.read e o a.pend a.last a.spaces
@@ -241,7 +285,7 @@ module _ (s list : Bytes) (left : ℕ) (xs : List ℕ) (x : Reading) (ys : List 
       }
 
 -- no `or` follows: the byte there closes the expression
-pub or_ends : (s list : Bytes) (left : ℕ) (xs : List ℕ) (x : Reading) (ys : List ℕ) (y : Reading)
+pub or_ends : (s list : Bytes) (left : ℕ) (xs : List ℕ) (x : Standing) (ys : List ℕ) (y : Standing)
     → (y.ok ≡ true → eqb (byte_at s y.at) 111 ≡ false) → OrGot s list left xs x ys y → OrMet s list left xs x ys y
 unfolding unary_byte
 or_ends s list left xs x ys y stop got =

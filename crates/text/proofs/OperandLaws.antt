@@ -24,12 +24,11 @@ use Rattle.grammar.specs.code.Reader.{room_of, enter, shut, need_byte, lead_byte
 use Rattle.grammar.specs.code.Reader.{paren_byte_next}
 use Rattle.grammar.specs.code.Reader.{call_byte, union_byte, unary_byte}
 use Rattle.grammar.proofs.Basics.{eq_byte}
-use Rattle.readings.specs.declared.Reading.{Reading}
 use Rattle.heads.specs.declared.Opens.{Opens}
 use Rattle.heads.specs.declared.Opens.TheVariants as Opening
 use Rattle.words.specs.code.Scan.{byte_at, Passed}
 use Rattle.heads.specs.code.Head.{NoCall, CallAt, OperandMet, proceed}
-use Rattle.readings.specs.code.Build.{capped, moved_to, failed_at, Sized, Made, PutMet, Grown, some_of_put}
+use Rattle.readings.specs.code.Build.{Standing, capped, moved_to, refused_at, Sized, Made, PutMet, Grown, some_of_put}
 use Rattle.readings.specs.code.Passing.{ConstPut, NegatePut}
 use Rattle.text.specs.code.Readers.{after_union, union_at_top, MadeQual, NoOperand, UnionMet, UnaryMet}
 use Rattle.words.proofs.Scanned.{past, head_drop}
@@ -92,12 +91,12 @@ module _ (s : Bytes) (at : ℕ) (o : Open) (p : Pend) (w : Bytes) where
           rw (drop_of_length-le s {i = at} h) (at_end (paths u) h)
 
 -- the operand begins at `to`, after whitespace
-module _ (s list : Bytes) (left : ℕ) (xs : List ℕ) (x : Reading) (to : ℕ) (q : Passed is_space s x.at to) where
+module _ (s list : Bytes) (left : ℕ) (xs : List ℕ) (x : Standing) (to : ℕ) (q : Passed is_space s x.at to) where
   spaces_there : x.at + length q.bytes ≡ to
   spaces_there = omega (arith, passed_length is_space s x.at to q, q.from)
 
   -- paths: some node is selected
-  pub unary_paths : (ys : List ℕ) (y : Reading) (zs : List ℕ) (z : Reading) → NoCall s to × (byte_at s to ≡ 40 → ⊥)
+  pub unary_paths : (ys : List ℕ) (y : Standing) (zs : List ℕ) (z : Standing) → NoCall s to × (byte_at s to ≡ 40 → ⊥)
       → UnionMet s list left xs x ys y → Grown some_of_put (λ n. suc (suc (max n 1))) ys y zs z
       → UnaryMet s list left xs x zs z
   unfolding room unary_of unary_names spell_unary put_qual put_path nest_qual nest_path
@@ -120,13 +119,29 @@ module _ (s list : Bytes) (left : ℕ) (xs : List ℕ) (x : Reading) (to : ℕ) 
         failed = λ e o p i. rw g.text.at (m.failed (sym g.text.ok ∙ e) (inside o p) i (none_begins o p));
       }
 
+  pub paths_refused : (ys : List ℕ) (y : Standing) → NoCall s to × (byte_at s to ≡ 40 → ⊥)
+      → UnionMet s list left xs x ys y → y.ok ≡ false → UnaryMet s list left xs x ys y
+  unfolding room
+  paths_refused ys y n m e =
+      let none_begins : (o : Open) (p : Pend) → NoOperand s x.at (inside o p) first =
+      λ o p _ i v. subst (λ (k : ℕ). NoCall s k × (byte_at s k ≡ 40 → ⊥)) (sym (passed_one s x.at to i q v)) n in
+      record {
+        reached = m.reached;
+        read = λ f. refuse y.ok f e;
+        failed = λ _ o p i. m.failed e (inside o p) i (none_begins o p);
+      }
+
   -- `(`
   module _ (b : byte_at s to ≡ 40) where
-    pub group_full : left ≡ 0 → Sized xs x.count → UnaryMet s list left xs x xs (failed_at (moved_to x to) to)
+    pub group_full : left ≡ 0 → Sized xs x.count → UnaryMet s list left xs x xs (refused_at to)
     unfolding step need_byte lead_byte group_byte is_start is_space
     group_full h z =
         record {
-          reached = record { from = q.from; fits = q.fits; sized = z };
+          reached = record {
+            from = q.from;
+            fits = q.fits;
+            sized = record { size = z.size; bound = omega arith };
+          };
           read = λ e. refuse false e refl;
           failed = λ _ o p i. need_over s x.at to q (inside o p) first begin
               ∙ on_fail s to (need (inside o p) first begin q.bytes) (byte_there s to 40 refl b)
@@ -144,7 +159,7 @@ module _ (s list : Bytes) (left : ℕ) (xs : List ℕ) (x : Reading) (to : ℕ) 
           (byte_there s to 40 refl b) (rw (b, has_room (room_of o) left i h) refl)
 
       -- an expression in `( )`
-      pub unary_group : (ys : List ℕ) (y : Reading) → Enclosed s list (left - 1) 41 xs (moved_to x (to + 1)) ys y
+      pub unary_group : (ys : List ℕ) (y : Standing) → Enclosed s list (left - 1) 41 xs (moved_to x (to + 1)) ys y
           → UnaryMet s list left xs x ys y
       unfolding room_of shut step unary_of unary_names spell_unary
       unary_group ys y m =
@@ -223,22 +238,26 @@ abbrev const_kind : Bool → ℕ
 const_kind true = 6
 const_kind false = 7
 
-const_made : (list : Bytes) (k : Bool) (xs : List ℕ) (x : Reading) (ys : List ℕ) (y : Reading)
+const_made : (list : Bytes) (k : Bool) (xs : List ℕ) (x : Standing) (ys : List ℕ) (y : Standing)
     → Made (λ rs. put rs (row (const_kind k) 0 0 0)) 1 none xs x ys y → MadeQual list (constant_of k) [] xs x ys y
 unfolding constant_of put_qual nest_qual unlisted
 const_made list true xs x ys y m = m
 const_made list false xs x ys y m = m
 
-module _ (s list : Bytes) (left : ℕ) (xs : List ℕ) (x : Reading) (to : ℕ) (q : Passed is_space s x.at to)
+module _ (s list : Bytes) (left : ℕ) (xs : List ℕ) (x : Standing) (to : ℕ) (q : Passed is_space s x.at to)
     (paren : ℕ) where
   -- `not (`
   module _ (a : CallAt s to paren not_word) where
-    pub not_full : left ≡ 0 → Sized xs x.count → UnaryMet s list left xs x xs (failed_at (moved_to x to) paren)
+    pub not_full : left ≡ 0 → Sized xs x.count → UnaryMet s list left xs x xs (refused_at paren)
     unfolding call_byte same_bytes ascii
     not_full h z =
         let i = paren_there s list left xs x to q paren not_word a not_type in
         record {
-          reached = record { from = omega (arith, q.from, a.size); fits = omega (arith, i); sized = z };
+          reached = record {
+            from = omega (arith, q.from, a.size);
+            fits = omega (arith, i);
+            sized = record { size = z.size; bound = omega arith };
+          };
           read = λ e. refuse false e refl;
           failed = λ _ o p i. call_none s list left xs x to q paren not_word a not_type o p (rw (i ∙ h) refl);
         }
@@ -251,8 +270,24 @@ module _ (s list : Bytes) (left : ℕ) (xs : List ℕ) (x : Reading) (to : ℕ) 
           call_opens s list left xs x to q paren not_word a not_type o p (enter (negate o p q.bytes a.spaces))
           (rw (has_room (room_of o) left i h) refl)
 
+      pub not_refused : (ys : List ℕ) (y : Standing)
+          → Enclosed s list (left - 1) 41 xs (moved_to x (paren + 1)) ys y → y.ok ≡ false
+          → UnaryMet s list left xs x ys y
+      unfolding room_of shut
+      not_refused ys y m e =
+          record {
+            reached = record {
+              from = omega (arith, q.from, a.size, m.reached.from);
+              fits = m.reached.fits;
+              sized = m.reached.sized;
+            };
+            read = λ f. refuse y.ok f e;
+            failed = λ _ o k i. not_opens o k i ∙ m.failed e (negate o k q.bytes a.spaces) (ap (λ (n : ℕ). n - 1) i)
+                (λ t w n j. rw j refl);
+          }
+
       -- the row of `not` over the expression
-      pub unary_not : (ys : List ℕ) (y : Reading) (zs : List ℕ) (z : Reading)
+      pub unary_not : (ys : List ℕ) (y : Standing) (zs : List ℕ) (z : Standing)
           → Enclosed s list (left - 1) 41 xs (moved_to x (paren + 1)) ys y
           → PutMet (row 8 y.row 0 0) (capped (suc y.nesting)) ys y zs z → UnaryMet s list left xs x zs z
       unfolding room_of shut step unary_of unary_names spell_unary put_qual nest_qual ascii
@@ -301,20 +336,20 @@ module _ (s list : Bytes) (left : ℕ) (xs : List ℕ) (x : Reading) (to : ℕ) 
         const_opens o p ∙ over is_space (const_open o p k q.bytes a.spaces) (λ w b e. rw e refl) s
         (paren + 1) inner v []
 
-    module _ (ok : x.ok ≡ true) (ys : List ℕ) (y : Reading)
+    module _ (ok : x.ok ≡ true) (ys : List ℕ) (y : Standing)
         (c : ConstPut s (const_kind k) xs (moved_to x (paren + 1)) ys y) where
       const_wrong : (byte_at s c.to ≡ 41 → ⊥) → UnaryMet s list left xs x ys y
       unfolding step finish
       const_wrong f =
-          let shut = c.closes.wrong ok f in
-          let no : y.ok ≡ false = c.puts.text.ok ∙ ap (λ (r : Reading). r.ok) shut in
-          let at : y.at ≡ c.to = c.puts.text.at ∙ ap (λ (r : Reading). r.at) shut in
+          let shut = c.wrong f in
+          let no : y.ok ≡ false = ap (λ (r : Standing). r.ok) shut in
+          let at : y.at ≡ c.to = ap (λ (r : Standing). r.at) shut in
           let v = c.passed in
           record {
             reached = record {
               from = omega (arith, q.from, a.size, v.from, at);
               fits = rw at v.fits;
-              sized = c.puts.sized;
+              sized = c.sized;
             };
             read = λ e. refuse y.ok e no;
             failed = λ _ o p i. const_inner o p c.to v
@@ -326,19 +361,19 @@ module _ (s list : Bytes) (left : ℕ) (xs : List ℕ) (x : Reading) (to : ℕ) 
       const_right : byte_at s c.to ≡ 41 → UnaryMet s list left xs x ys y
       unfolding step unary_of unary_names spell_unary is_space
       const_right f =
-          let shut = c.closes.right ok f in
+          let shut = c.right f in
           let end = shut.0 in
-          let r : Passed is_space s (c.to + 1) end = shut.2 in
-          let fine : y.ok ≡ true = c.puts.text.ok ∙ ap (λ (z : Reading). z.ok) shut.1 ∙ ok in
-          let at : y.at ≡ end = c.puts.text.at ∙ ap (λ (z : Reading). z.at) shut.1 in
+          let r : Passed is_space s (c.to + 1) end = shut.1 in
+          let put = shut.2 in
+          let fine : y.ok ≡ true = put.text.ok ∙ ok in
+          let at : y.at ≡ end = put.text.at in
           let v = c.passed in
           let u = constant k q.bytes a.spaces v.bytes in
-          let put = subst (λ (z : Reading). PutMet (row (const_kind k) 0 0 0) 1 xs z ys y) shut.1 c.puts in
           record {
             reached = record {
               from = omega (arith, q.from, a.size, v.from, r.from, at);
               fits = rw at r.fits;
-              sized = c.puts.sized;
+              sized = c.sized;
             };
             read = λ _. record {
               tree = u;
@@ -373,12 +408,12 @@ module _ (s list : Bytes) (left : ℕ) (xs : List ℕ) (x : Reading) (to : ℕ) 
           go false e = const_wrong (λ f. refuse true refl (rw f at e))
 
   -- the two by name
-  pub unary_true : CallAt s to paren true_word → x.ok ≡ true → (ys : List ℕ) (y : Reading)
+  pub unary_true : CallAt s to paren true_word → x.ok ≡ true → (ys : List ℕ) (y : Standing)
       → ConstPut s 6 xs (moved_to x (paren + 1)) ys y → UnaryMet s list left xs x ys y
   unfolding spell_bool
   unary_true a ok ys y c = unary_constant true a ok ys y c
 
-  pub unary_false : CallAt s to paren false_word → x.ok ≡ true → (ys : List ℕ) (y : Reading)
+  pub unary_false : CallAt s to paren false_word → x.ok ≡ true → (ys : List ℕ) (y : Standing)
       → ConstPut s 7 xs (moved_to x (paren + 1)) ys y → UnaryMet s list left xs x ys y
   unfolding spell_bool
   unary_false a ok ys y c = unary_constant false a ok ys y c
@@ -391,7 +426,7 @@ Encloses Opening.Paths = ⊥
 Encloses Opening.True = ⊥
 Encloses Opening.False = ⊥
 
-module _ (s list : Bytes) (left : ℕ) (xs : List ℕ) (x : Reading) (to : ℕ) (q : Passed is_space s x.at to) where
+module _ (s list : Bytes) (left : ℕ) (xs : List ℕ) (x : Standing) (to : ℕ) (q : Passed is_space s x.at to) where
   pub enclosing_there : (k : Opens) (paren : ℕ) → Encloses k → OperandMet s to k paren
       → (x.at ≤ paren) × (paren < length s)
   enclosing_there Opening.Group paren n m =
@@ -403,9 +438,9 @@ module _ (s list : Bytes) (left : ℕ) (xs : List ℕ) (x : Reading) (to : ℕ) 
 
   -- no level is left
   pub unary_full : (k : Opens) (paren : ℕ) → Encloses k → OperandMet s to k paren → left ≡ 0 → Sized xs x.count
-      → UnaryMet s list left xs x xs (failed_at (moved_to x to) paren)
+      → UnaryMet s list left xs x xs (refused_at paren)
   unary_full Opening.Group paren n m h z =
-      subst (λ (i : ℕ). UnaryMet s list left xs x xs (failed_at (moved_to x to) i)) (sym m.1)
+      subst (λ (i : ℕ). UnaryMet s list left xs x xs (refused_at i)) (sym m.1)
       (group_full s list left xs x to q m.0 h z)
   unary_full Opening.Not paren n m h z = not_full s list left xs x to q paren m h z
   unary_full Opening.Paths paren n m h z = absurd n
@@ -414,11 +449,11 @@ module _ (s list : Bytes) (left : ℕ) (xs : List ℕ) (x : Reading) (to : ℕ) 
 
   -- by cases: a group is what it holds, `not` puts one row more
   pub unary_enclosed : (k : Opens) (paren : ℕ) → Encloses k → OperandMet s to k paren → 0 < left
-      → (ys : List ℕ) (y : Reading) (zs : List ℕ) (z : Reading)
+      → (ys : List ℕ) (y : Standing) (zs : List ℕ) (z : Standing)
       → Enclosed s list (left - 1) 41 xs (moved_to x (paren + 1)) ys y → NegatePut k ys y zs z
       → UnaryMet s list left xs x zs z
   unary_enclosed Opening.Group paren n m h ys y zs z e p =
-      subst (λ (r : Reading). UnaryMet s list left xs x zs r) (sym p.1)
+      subst (λ (r : Standing). UnaryMet s list left xs x zs r) (sym p.1)
       (subst (λ (us : List ℕ). UnaryMet s list left xs x us y) (sym p.0)
       (unary_group s list left xs x to q m.0 h ys y
       (subst (λ (i : ℕ). Enclosed s list (left - 1) 41 xs (moved_to x (i + 1)) ys y) m.1 e)))
@@ -426,3 +461,15 @@ module _ (s list : Bytes) (left : ℕ) (xs : List ℕ) (x : Reading) (to : ℕ) 
   unary_enclosed Opening.Paths paren n m h ys y zs z e p = absurd n
   unary_enclosed Opening.True paren n m h ys y zs z e p = absurd n
   unary_enclosed Opening.False paren n m h ys y zs z e p = absurd n
+
+  -- the expression or its `)` was refused
+  pub enclosed_fails : (k : Opens) (paren : ℕ) → Encloses k → OperandMet s to k paren → 0 < left
+      → (ys : List ℕ) (y : Standing) → Enclosed s list (left - 1) 41 xs (moved_to x (paren + 1)) ys y → y.ok ≡ false
+      → UnaryMet s list left xs x ys y
+  enclosed_fails Opening.Group paren n m h ys y e f =
+      unary_group s list left xs x to q m.0 h ys y
+      (subst (λ (i : ℕ). Enclosed s list (left - 1) 41 xs (moved_to x (i + 1)) ys y) m.1 e)
+  enclosed_fails Opening.Not paren n m h ys y e f = not_refused s list left xs x to q paren m h ys y e f
+  enclosed_fails Opening.Paths paren n m h ys y e f = absurd n
+  enclosed_fails Opening.True paren n m h ys y e f = absurd n
+  enclosed_fails Opening.False paren n m h ys y e f = absurd n

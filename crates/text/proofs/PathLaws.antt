@@ -1,5 +1,5 @@
 -- One law for each way through read_path and read_union. Assumes nothing.
-use Prim.Native.Nat.{ℕ, suc, ◌+◌, ◌-◌, ◌<◌, ◌≤◌, max}
+use Prim.Native.Nat.{ℕ, suc, ◌+◌, ◌<◌, ◌≤◌, max}
 use mathlib.Core.Path.{◌≡◌, refl, sym, ap, ◌∙◌, subst}
 use mathlib.Core.Bool.{Bool, true, false, ◌||◌}
 use mathlib.Core.List.{List, [], ◌∷◌, ◌++◌}
@@ -13,8 +13,8 @@ use Rattle.xpath.specs.Term as term
 use Rattle.terms.specs.Row.{row}
 use Rattle.grammar.specs.Bytes.{Bytes, is_space, is_start}
 use Rattle.grammar.specs.Words.{number_of}
-use Rattle.grammar.specs.Grammar.{LocationStep, Rel, one, slash, slashes, Path, root, rooted, Union}
-use Rattle.grammar.specs.Grammar.{union, Unary, paths, spell_step, spell_rel, spell_path, spell_union}
+use Rattle.grammar.specs.Grammar.{LocationStep, Rel, slash, slashes, Path, root, Union}
+use Rattle.grammar.specs.Grammar.{Unary, paths, spell_step, spell_rel, spell_path, spell_union}
 use Rattle.grammar.specs.Denotes.{Named, every_below, step_of, rel_of, rel_after, path_of, union_of, step_names}
 use Rattle.grammar.specs.Denotes.{rel_names, path_names, union_names, unlisted, put_path, nest_path}
 use Rattle.grammar.specs.code.Reader.{need, root1, slash1, after, Ctx, top, inside, Open, bracket, negate}
@@ -24,12 +24,10 @@ use Rattle.grammar.specs.code.Reader.{step, follow}
 use Rattle.grammar.specs.code.Reader.{finish, run, room, shut, need_byte, lead_byte, lead_end, group_byte}
 use Rattle.grammar.specs.code.Reader.{after_byte, path_byte, union_byte, unary_byte, at_top}
 use Rattle.grammar.proofs.Basics.{eq_byte}
-use Rattle.readings.specs.declared.Reading.{Reading}
-use Rattle.readings.specs.declared.Start.{Start}
 use Rattle.words.specs.code.Scan.{byte_at, Passed, begins_step}
 use Rattle.heads.specs.code.Head.{callable, Due}
-use Rattle.readings.specs.code.Build.{capped, moved_to, failed_at, PutMet, Grown, below_of, only_in_step}
-use Rattle.readings.specs.code.Passing.{FirstPut, SlashPut, BeginPut, start_of, root_start}
+use Rattle.readings.specs.code.Build.{Standing, capped, moved_to, refused_at, PutMet, Grown, below_of, only_in_step}
+use Rattle.readings.specs.code.Passing.{FirstPut, SlashPut, BeginPut, Starting, start_of, root_start}
 use Rattle.text.specs.code.Readers.{after_path, after_union, union_at_top, MadePath, Ready, Reached, StepMet}
 use Rattle.text.specs.code.Readers.{NoOperand, PathFails, PathMet, UnionFails, UnionMet}
 use Rattle.words.proofs.Scanned.{head_drop}
@@ -64,7 +62,7 @@ more_not_callable top u w = refl
 more_not_callable (inside o p) u w = refl
 
 -- the path so far, up to its last step
-pub record Pathing (s list : Bytes) (left : ℕ) (xs : List ℕ) (x : Reading) (ys : List ℕ) (y : Reading) : Type 0 where
+pub record Pathing (s list : Bytes) (left : ℕ) (xs : List ℕ) (x : Standing) (ys : List ℕ) (y : Standing) : Type 0 where
   pub lead : Lead
   pub last : LocationStep
   pub spaces : Bytes
@@ -76,13 +74,13 @@ pub record Pathing (s list : Bytes) (left : ℕ) (xs : List ℕ) (x : Reading) (
   pub space : is_space (byte_at s y.at) ≡ false
   pub stops : only_in_step (byte_at s y.at) ≡ false
 
-pub record PathGot (s list : Bytes) (left : ℕ) (xs : List ℕ) (x : Reading) (ys : List ℕ) (y : Reading) : Type 0 where
+pub record PathGot (s list : Bytes) (left : ℕ) (xs : List ℕ) (x : Standing) (ys : List ℕ) (y : Standing) : Type 0 where
   pub reached : Reached s x.at ys y
   pub read : y.ok ≡ true → Pathing s list left xs x ys y
   pub failed : y.ok ≡ false → PathFails s left x.at y.at
 
 -- what stands before a step in its path: a term, its names, and `/` or `//`; the step's whitespace begins at `place`
-pub record Leads (s list : Bytes) (left : ℕ) (xs : List ℕ) (x : Reading) (ys : List ℕ) (y : Reading) : Type 0 where
+pub record Leads (s list : Bytes) (left : ℕ) (xs : List ℕ) (x : Standing) (ys : List ℕ) (y : Standing) : Type 0 where
   pub lead : Lead
   pub spaces : Bytes
   pub path : term.Path
@@ -100,8 +98,8 @@ pub record Leads (s list : Bytes) (left : ℕ) (xs : List ℕ) (x : Reading) (ys
   pub size : (t : LocationStep) → x.at + length (spell_path (path_to lead t)) ≡ place + length (spell_step t)
 
 -- a step after what leads to it
-pub path_joined : (s list : Bytes) (left : ℕ) (xs : List ℕ) (x : Reading) (ys : List ℕ) (y : Reading)
-    (zs : List ℕ) (z : Reading) (vs : List ℕ) (v : Reading) → Leads s list left xs x ys y
+pub path_joined : (s list : Bytes) (left : ℕ) (xs : List ℕ) (x : Standing) (ys : List ℕ) (y : Standing)
+    (zs : List ℕ) (z : Standing) (vs : List ℕ) (v : Standing) → Leads s list left xs x ys y
     → StepMet s list left ys y zs z
     → PutMet (row 4 y.row z.row 0) (capped (suc (max y.nesting z.nesting))) zs z vs v
     → PathGot s list left xs x vs v
@@ -141,8 +139,23 @@ path_joined s list left xs x ys y zs z vs v l m p =
           (l.due c g));
     }
 
+-- the step was refused
+pub path_refused : (s list : Bytes) (left : ℕ) (xs : List ℕ) (x : Standing) (ys : List ℕ) (y : Standing)
+    (zs : List ℕ) (z : Standing) → Leads s list left xs x ys y → StepMet s list left ys y zs z → z.ok ≡ false
+    → PathMet s list left xs x zs z
+path_refused s list left xs x ys y zs z l m e =
+    record {
+      reached = record {
+        from = omega (arith, l.from, l.there, m.reached.from);
+        fits = m.reached.fits;
+        sized = m.reached.sized;
+      };
+      read = λ f. refuse z.ok f e;
+      failed = λ _ c g i _. l.runs c g i ∙ m.failed e c g l.lead l.spaces i (l.due c g);
+    }
+
 -- the first step of a path without `/` before it
-module _ (s list : Bytes) (left : ℕ) (xs : List ℕ) (x : Reading) (to : ℕ) (q : Passed is_space s x.at to)
+module _ (s list : Bytes) (left : ℕ) (xs : List ℕ) (x : Standing) (to : ℕ) (q : Passed is_space s x.at to)
     (b : byte_at s to ≡ 47 → ⊥) where
   group_none : (c : Ctx) (g : Alt) → NoOperand s x.at c g → group_byte c g q.bytes (byte_at s to) ≡ none
   unfolding group_byte callable
@@ -159,7 +172,7 @@ module _ (s list : Bytes) (left : ℕ) (xs : List ℕ) (x : Reading) (to : ℕ) 
         lead = λ _. (rw (differs (byte_at s to) 47 b) (group_none c g n), refl);
       }
 
-  pub path_bare : (zs : List ℕ) (z : Reading) → StepMet s list left xs (moved_to x to) zs z
+  pub path_bare : (zs : List ℕ) (z : Standing) → StepMet s list left xs (moved_to x to) zs z
       → PathGot s list left xs x zs z
   unfolding path_of rel_of path_names rel_names spell_path spell_rel prefix_of join with_prefix
   path_bare zs z m =
@@ -220,7 +233,7 @@ root_after (b ∷ t) c g w v h k =
     let l = or_none (eqb b 64) (eqb b 46) j.1 in
     rw (i.0, k, j.0, l.0, l.1) refl
 
-module _ (s list : Bytes) (left : ℕ) (xs : List ℕ) (x : Reading) (to : ℕ) (q : Passed is_space s x.at to)
+module _ (s list : Bytes) (left : ℕ) (xs : List ℕ) (x : Standing) (to : ℕ) (q : Passed is_space s x.at to)
     (b : byte_at s to ≡ 47) where
   slash_there : to < length s
   slash_there = byte_there s to 47 refl b
@@ -237,7 +250,7 @@ module _ (s list : Bytes) (left : ℕ) (xs : List ℕ) (x : Reading) (to : ℕ) 
       need_over s x.at to q c g begin
       ∙ on_pass s to (need c g begin q.bytes) (root1 c g q.bytes) slash_there (rw b refl)
 
-  module _ (d : byte_at s (to + 1) ≡ 47 → ⊥) (ys : List ℕ) (y : Reading) (end : ℕ)
+  module _ (d : byte_at s (to + 1) ≡ 47 → ⊥) (ys : List ℕ) (y : Standing) (end : ℕ)
       (p : PutMet (row 1 0 0 0) 1 xs (moved_to x to) ys y) (v : Passed is_space s (to + 1) end) where
     root_runs : (c : Ctx) (g : Alt)
         → run (drop x.at s) (need c g begin [])
@@ -279,11 +292,15 @@ module _ (s list : Bytes) (left : ℕ) (xs : List ℕ) (x : Reading) (to : ℕ) 
 
     -- `/` alone
     module _ (e : begins_step (byte_at s end) ≡ false) where
-      pub path_second : byte_at s end ≡ 47 → PathMet s list left xs x ys (failed_at (moved_to y end) end)
+      pub path_second : byte_at s end ≡ 47 → PathMet s list left xs x ys (refused_at end)
       unfolding step need_byte lead_byte is_start is_space path_byte
       path_second f =
           record {
-            reached = record { from = omega (arith, q.from, v.from); fits = v.fits; sized = p.sized };
+            reached = record {
+              from = omega (arith, q.from, v.from);
+              fits = v.fits;
+              sized = record { size = p.sized.size; bound = omega arith };
+            };
             read = λ g. refuse false g refl;
             failed = λ _ c g i n. root_runs c g
                 ∙ on_fail s end (need c g (start (at_root q.bytes)) v.bytes) (byte_there s end 47 refl f)
@@ -307,7 +324,7 @@ module _ (s list : Bytes) (left : ℕ) (xs : List ℕ) (x : Reading) (to : ℕ) 
             failed = λ g. refuse y.ok ok g;
           }
 
-  module _ (d : byte_at s (to + 1) ≡ 47) (ys zs : List ℕ) (y z : Reading) (end : ℕ)
+  module _ (d : byte_at s (to + 1) ≡ 47) (ys zs : List ℕ) (y z : Standing) (end : ℕ)
       (p : PutMet (row 1 0 0 0) 1 xs (moved_to x to) ys y) (m : Grown below_of (λ n. suc (max n 1)) ys y zs z)
       (v : Passed is_space s (to + 1 + 1) end) where
     pub leads_any : Leads s list left xs x zs (moved_to z end)
@@ -406,7 +423,7 @@ module _ (num : Bytes → ℕ) (r : Rel) (w : Bytes) (t : LocationStep) where
       same_names t (rel_names r (i + length (v ++ (47 ∷ 47 ∷ [])))) _ j
       (simp length-append (omega (arith, simp length-append at e)))
 
-module _ (s list : Bytes) (left : ℕ) (xs : List ℕ) (x : Reading) (ys : List ℕ) (y : Reading)
+module _ (s list : Bytes) (left : ℕ) (xs : List ℕ) (x : Standing) (ys : List ℕ) (y : Standing)
     (a : Pathing s list left xs x ys y) (b : byte_at s y.at ≡ 47) where
   abbrev num : Bytes → ℕ
   num = number_of list
@@ -455,7 +472,7 @@ module _ (s list : Bytes) (left : ℕ) (xs : List ℕ) (x : Reading) (ys : List 
       }
 
   -- two: descendant-or-self::node() below it
-  leads_two : byte_at s (y.at + 1) ≡ 47 → (to : ℕ) (zs : List ℕ) (z : Reading) → Passed is_space s (y.at + 1 + 1) to
+  leads_two : byte_at s (y.at + 1) ≡ 47 → (to : ℕ) (zs : List ℕ) (z : Standing) → Passed is_space s (y.at + 1 + 1) to
       → Grown below_of (λ n. suc (max n 1)) ys y zs z → Leads s list left xs x zs (moved_to z to)
   unfolding prefix_of join is_begin lead_byte lead_end step put_path nest_path
   leads_two d to zs z q m =
@@ -483,31 +500,38 @@ module _ (s list : Bytes) (left : ℕ) (xs : List ℕ) (x : Reading) (ys : List 
       }
 
   -- by cases on the next byte
-  pub leads_slash : (zs : List ℕ) (z : Reading) → SlashPut s ys y zs z → Leads s list left xs x zs z
+  pub leads_slash : (zs : List ℕ) (z : Standing) → SlashPut s ys y zs z → Leads s list left xs x zs z
   leads_slash zs z p = go (eqb (byte_at s (y.at + 1)) 47) refl
     where
       go : (k : Bool) → eqb (byte_at s (y.at + 1)) 47 ≡ k → Leads s list left xs x zs z
       go true e =
           let d = eq_byte (byte_at s (y.at + 1)) 47 e in
           let q = p.two d in
-          subst (λ (r : Reading). Leads s list left xs x zs r) (sym q.4)
+          subst (λ (r : Standing). Leads s list left xs x zs r) (sym q.4)
           (leads_two d q.0 zs q.1 q.2 q.3)
       go false e =
           let d : byte_at s (y.at + 1) ≡ 47 → ⊥ = λ f. refuse true refl (rw f at e) in
           let q = p.one d in
-          subst (λ (r : Reading). Leads s list left xs x zs r) (sym q.3)
+          subst (λ (r : Standing). Leads s list left xs x zs r) (sym q.3)
           (subst (λ (us : List ℕ). Leads s list left xs x us (moved_to y q.0)) (sym q.2)
           (leads_one d q.0 q.1))
 
 -- one more step after `/` or `//`
-pub path_more : (s list : Bytes) (left : ℕ) (xs : List ℕ) (x : Reading) (ys : List ℕ) (y : Reading)
-    (zs : List ℕ) (z : Reading) (us : List ℕ) (u : Reading) (vs : List ℕ) (v : Reading)
+pub path_more : (s list : Bytes) (left : ℕ) (xs : List ℕ) (x : Standing) (ys : List ℕ) (y : Standing)
+    (zs : List ℕ) (z : Standing) (us : List ℕ) (u : Standing) (vs : List ℕ) (v : Standing)
     → y.ok ≡ true → byte_at s y.at ≡ 47 → SlashPut s ys y zs z → StepMet s list left zs z us u
     → PutMet (row 4 z.row u.row 0) (capped (suc (max z.nesting u.nesting))) us u vs v
     → PathGot s list left xs x ys y → PathGot s list left xs x vs v
 path_more s list left xs x ys y zs z us u vs v ok b p m j got =
     let l = leads_slash s list left xs x ys y (got.read ok) b zs z p in
     path_joined s list left xs x zs z us u vs v l m j
+
+pub more_refused : (s list : Bytes) (left : ℕ) (xs : List ℕ) (x : Standing) (ys : List ℕ) (y : Standing)
+    (zs : List ℕ) (z : Standing) (us : List ℕ) (u : Standing)
+    → y.ok ≡ true → byte_at s y.at ≡ 47 → SlashPut s ys y zs z → StepMet s list left zs z us u → u.ok ≡ false
+    → PathGot s list left xs x ys y → PathMet s list left xs x us u
+more_refused s list left xs x ys y zs z us u ok b p m e got =
+    path_refused s list left xs x zs z us u (leads_slash s list left xs x ys y (got.read ok) b zs z p) m e
 
 -- a path ends where no `/` follows
 after_path_lem : (t : Bytes) (c : Ctx) (g : Alt) (l : Lead) (x : LocationStep) (w : Bytes)
@@ -521,7 +545,7 @@ after_path_lem (b ∷ t) c g l x w h k e =
     let v = or_none (eqb b 58) (eqb b 91) u.1 in
     rw (h, k, v.1, u.0, v.0) refl
 
-pub path_ends : (s list : Bytes) (left : ℕ) (xs : List ℕ) (x : Reading) (ys : List ℕ) (y : Reading)
+pub path_ends : (s list : Bytes) (left : ℕ) (xs : List ℕ) (x : Standing) (ys : List ℕ) (y : Standing)
     → (y.ok ≡ true → eqb (byte_at s y.at) 47 ≡ false) → PathGot s list left xs x ys y
     → PathMet s list left xs x ys y
 path_ends s list left xs x ys y stop got =
@@ -540,15 +564,17 @@ path_ends s list left xs x ys y stop got =
     }
 
 -- a path's beginning: what its first step makes of it, or what it is alone
-pub record Begun (s list : Bytes) (left : ℕ) (xs : List ℕ) (x : Reading) (ys : List ℕ) (y : Start) : Type 0 where
+pub record Begun (s list : Bytes) (left : ℕ) (xs : List ℕ) (x : Standing) (ys : List ℕ) (y : Starting) : Type 0 where
   pub ready : y.steps ≡ true → Ready s ys y.lead
   pub space : y.steps ≡ true → is_space (byte_at s y.lead.at) ≡ false
-  pub first : y.steps ≡ true → (zs : List ℕ) (z : Reading) (vs : List ℕ) (v : Reading)
+  pub first : y.steps ≡ true → (zs : List ℕ) (z : Standing) (vs : List ℕ) (v : Standing)
       → StepMet s list left ys y.lead zs z → FirstPut y.rooted y.lead z zs vs v
       → PathGot s list left xs x vs v
+  pub refused : y.steps ≡ true → (zs : List ℕ) (z : Standing) → StepMet s list left ys y.lead zs z → z.ok ≡ false
+      → PathMet s list left xs x zs z
   pub alone : y.steps ≡ false → PathMet s list left xs x ys y.lead
 
-module _ (s list : Bytes) (left : ℕ) (xs : List ℕ) (x : Reading) (r : Ready s xs x) where
+module _ (s list : Bytes) (left : ℕ) (xs : List ℕ) (x : Standing) (r : Ready s xs x) where
   begun_bare : (to : ℕ) → Passed is_space s x.at to → (byte_at s to ≡ 47 → ⊥)
       → Begun s list left xs x xs (start_of (moved_to x to) false true)
   begun_bare to q b =
@@ -556,46 +582,50 @@ module _ (s list : Bytes) (left : ℕ) (xs : List ℕ) (x : Reading) (r : Ready 
         ready = λ _. record { ok = r.ok; fits = q.fits; sized = r.sized };
         space = λ _. q.stops;
         first = λ _ zs z vs v m f. let e = f.stays refl in
-            subst (λ (u : Reading). PathGot s list left xs x vs u) (sym e.1)
+            subst (λ (u : Standing). PathGot s list left xs x vs u) (sym e.1)
             (subst (λ (us : List ℕ). PathGot s list left xs x us z) (sym e.0)
             (path_bare s list left xs x to q b zs z m));
+        refused = λ _ zs z m e. path_ends s list left xs x zs z (λ f. refuse z.ok f e)
+            (path_bare s list left xs x to q b zs z m);
         alone = λ e. refuse true refl e;
       }
 
   -- `/` or `//`, and a step
-  begun_step : (ys : List ℕ) (y : Reading) → Ready s ys y → is_space (byte_at s y.at) ≡ false
+  begun_step : (ys : List ℕ) (y : Standing) → Ready s ys y → is_space (byte_at s y.at) ≡ false
       → Leads s list left xs x ys y → Begun s list left xs x ys (start_of y true true)
   begun_step ys y i e l =
       record {
         ready = λ _. i;
         space = λ _. e;
         first = λ _ zs z vs v m f. path_joined s list left xs x ys y zs z vs v l m (f.joins refl);
+        refused = λ _ zs z m f. path_refused s list left xs x ys y zs z l m f;
         alone = λ f. refuse true refl f;
       }
 
   -- `/` alone, or refused
-  begun_alone : (ys : List ℕ) (y : Reading) → PathMet s list left xs x ys y
+  begun_alone : (ys : List ℕ) (y : Standing) → PathMet s list left xs x ys y
       → Begun s list left xs x ys (start_of y true false)
   begun_alone ys y m =
       record {
         ready = λ e. refuse false e refl;
         space = λ e. refuse false e refl;
         first = λ e. refuse false e refl;
+        refused = λ e. refuse false e refl;
         alone = λ _. m;
       }
 
   -- by cases on the byte after `/` and whitespace
   begun_root : (to : ℕ) → Passed is_space s x.at to → byte_at s to ≡ 47 → (byte_at s (to + 1) ≡ 47 → ⊥)
-      → (ys : List ℕ) (y : Reading) (end : ℕ) → PutMet (row 1 0 0 0) 1 xs (moved_to x to) ys y
+      → (ys : List ℕ) (y : Standing) (end : ℕ) → PutMet (row 1 0 0 0) 1 xs (moved_to x to) ys y
       → Passed is_space s (to + 1) end → Begun s list left xs x ys (root_start s (moved_to y end))
   begun_root to q b d ys y end p v = go (begins_step (byte_at s end)) refl (eqb (byte_at s end) 47) refl
     where
       ok : y.ok ≡ true
       ok = p.text.ok ∙ r.ok
 
-      from_it : (z : Start) → z ≡ root_start s (moved_to y end) → Begun s list left xs x ys z
+      from_it : (z : Starting) → z ≡ root_start s (moved_to y end) → Begun s list left xs x ys z
           → Begun s list left xs x ys (root_start s (moved_to y end))
-      from_it z e m = subst (λ (u : Start). Begun s list left xs x ys u) e m
+      from_it z e m = subst (λ (u : Starting). Begun s list left xs x ys u) e m
 
       go : (k : Bool) → begins_step (byte_at s end) ≡ k → (n : Bool) → eqb (byte_at s end) 47 ≡ n
           → Begun s list left xs x ys (root_start s (moved_to y end))
@@ -605,19 +635,19 @@ module _ (s list : Bytes) (left : ℕ) (xs : List ℕ) (x : Reading) (r : Ready 
           (leads_root s list left xs x to q b d ys y end p v e))
       go false e true f =
           let g = eq_byte (byte_at s end) 47 f in
-          from_it (start_of (failed_at (moved_to y end) end) true false) (root_slash s (moved_to y end) e g)
-          (begun_alone ys (failed_at (moved_to y end) end) (path_second s list left xs x to q b d ys y end p v e g))
+          from_it (start_of (refused_at end) true false) (root_slash s (moved_to y end) e g)
+          (begun_alone ys (refused_at end) (path_second s list left xs x to q b d ys y end p v e g))
       go false e false f =
           let g : byte_at s end ≡ 47 → ⊥ = λ h. refuse true refl (rw h at f) in
           from_it (start_of (moved_to y end) true false) (root_alone s (moved_to y end) e g)
           (begun_alone ys (moved_to y end) (path_root s list left xs x to q b d ys y end p v e g ok))
 
   -- no `/`, one, or two
-  pub begun : (ys : List ℕ) (y : Start) → BeginPut s xs x ys y → Begun s list left xs x ys y
+  pub begun : (ys : List ℕ) (y : Starting) → BeginPut s xs x ys y → Begun s list left xs x ys y
   begun ys y p = go (eqb (byte_at s p.to) 47) refl (eqb (byte_at s (p.to + 1)) 47) refl
     where
-      from_it : (z : Start) → y ≡ z → Begun s list left xs x ys z → Begun s list left xs x ys y
-      from_it z e m = subst (λ (u : Start). Begun s list left xs x ys u) (sym e) m
+      from_it : (z : Starting) → y ≡ z → Begun s list left xs x ys z → Begun s list left xs x ys y
+      from_it z e m = subst (λ (u : Starting). Begun s list left xs x ys u) (sym e) m
 
       go : (k : Bool) → eqb (byte_at s p.to) 47 ≡ k → (n : Bool) → eqb (byte_at s (p.to + 1)) 47 ≡ n
           → Begun s list left xs x ys y
@@ -647,7 +677,7 @@ module _ (s list : Bytes) (left : ℕ) (xs : List ℕ) (x : Reading) (r : Ready 
           (leads_any s list left xs x p.to p.passed b d c.2 ys c.0 c.1 c.3 put grown c.6))
 
 -- paths joined by `|`: the last one, and what stands before it
-pub record Uniting (s list : Bytes) (left : ℕ) (xs : List ℕ) (x : Reading) (ys : List ℕ) (y : Reading) : Type 0 where
+pub record Uniting (s list : Bytes) (left : ℕ) (xs : List ℕ) (x : Standing) (ys : List ℕ) (y : Standing) : Type 0 where
   pub alt : Alt
   pub last : Path
   pub spaces : Bytes
@@ -657,13 +687,13 @@ pub record Uniting (s list : Bytes) (left : ℕ) (xs : List ℕ) (x : Reading) (
   pub runs : (c : Ctx) → room c ≡ left
       → run (drop x.at s) (need c first begin []) ≡ after_path c alt last spaces (drop y.at s)
 
-pub record UnionGot (s list : Bytes) (left : ℕ) (xs : List ℕ) (x : Reading) (ys : List ℕ) (y : Reading) : Type 0 where
+pub record UnionGot (s list : Bytes) (left : ℕ) (xs : List ℕ) (x : Standing) (ys : List ℕ) (y : Standing) : Type 0 where
   pub reached : Reached s x.at ys y
   pub read : y.ok ≡ true → Uniting s list left xs x ys y
   pub failed : y.ok ≡ false → UnionFails s left x.at y.at
 
 -- the first path
-pub union_first : (s list : Bytes) (left : ℕ) (xs : List ℕ) (x : Reading) (ys : List ℕ) (y : Reading)
+pub union_first : (s list : Bytes) (left : ℕ) (xs : List ℕ) (x : Standing) (ys : List ℕ) (y : Standing)
     → PathMet s list left xs x ys y → UnionGot s list left xs x ys y
 unfolding join_alt union_of union_names spell_union
 union_first s list left xs x ys y m =
@@ -681,8 +711,8 @@ union_first s list left xs x ys y m =
     }
 
 -- one more path after a `|`
-pub union_more : (s list : Bytes) (left : ℕ) (xs : List ℕ) (x : Reading) (ys : List ℕ) (y : Reading)
-    (zs : List ℕ) (z : Reading) (vs : List ℕ) (v : Reading) → y.ok ≡ true → byte_at s y.at ≡ 124
+pub union_more : (s list : Bytes) (left : ℕ) (xs : List ℕ) (x : Standing) (ys : List ℕ) (y : Standing)
+    (zs : List ℕ) (z : Standing) (vs : List ℕ) (v : Standing) → y.ok ≡ true → byte_at s y.at ≡ 124
     → PathMet s list left ys (moved_to y (y.at + 1)) zs z
     → PutMet (row 3 y.row z.row 0) (capped (suc (max y.nesting z.nesting))) zs z vs v
     → UnionGot s list left xs x ys y → UnionGot s list left xs x vs v
@@ -721,6 +751,29 @@ union_more s list left xs x ys y zs z vs v ok b m p got =
           (λ k. refuse (callable c (more u a.spaces) begin) k (more_not_callable c u a.spaces)));
     }
 
+-- the path after a `|` was refused
+pub union_refused : (s list : Bytes) (left : ℕ) (xs : List ℕ) (x : Standing) (ys : List ℕ) (y : Standing)
+    (zs : List ℕ) (z : Standing) → y.ok ≡ true → byte_at s y.at ≡ 124
+    → PathMet s list left ys (moved_to y (y.at + 1)) zs z → z.ok ≡ false
+    → UnionGot s list left xs x ys y → UnionMet s list left xs x zs z
+unfolding after_path path_byte follow
+union_refused s list left xs x ys y zs z ok b m e got =
+    let a = got.read ok in
+    let u = join_alt a.alt a.last in
+    let next : (c : Ctx) → room c ≡ left → run (drop x.at s) (need c first begin [])
+    ≡ run (drop (y.at + 1) s) (need c (more u a.spaces) begin []) =
+    λ c i. a.runs c i ∙ rw (drop-cons s y.at 0 (byte_there s y.at 124 refl b), b, add-one) refl in
+    record {
+      reached = record {
+        from = omega (arith, got.reached.from, m.reached.from);
+        fits = m.reached.fits;
+        sized = m.reached.sized;
+      };
+      read = λ f. refuse z.ok f e;
+      failed = λ _ c i n. next c i ∙ m.failed e c (more u a.spaces) i
+          (λ k. refuse (callable c (more u a.spaces) begin) k (more_not_callable c u a.spaces));
+    }
+
 -- a union ends where no `|` follows
 after_union_lem : (t : Bytes) (c : Ctx) (g : Alt) (p : Path) (w : Bytes) → eqb (get_or t 0 0) 124 ≡ false
     → after_path c g p w t ≡ after_union c (join_alt g p) w t
@@ -729,7 +782,7 @@ after_union_lem [] top g p w e = refl
 after_union_lem [] (inside o k) g p w e = refl
 after_union_lem (b ∷ t) c g p w e = rw e refl
 
-pub union_ends : (s list : Bytes) (left : ℕ) (xs : List ℕ) (x : Reading) (ys : List ℕ) (y : Reading)
+pub union_ends : (s list : Bytes) (left : ℕ) (xs : List ℕ) (x : Standing) (ys : List ℕ) (y : Standing)
     → (y.ok ≡ true → eqb (byte_at s y.at) 124 ≡ false) → UnionGot s list left xs x ys y
     → UnionMet s list left xs x ys y
 union_ends s list left xs x ys y stop got =

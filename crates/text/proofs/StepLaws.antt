@@ -1,10 +1,10 @@
 -- One law for each way through read_predicate and read_step. Assumes nothing.
 use Prim.Native.Nat.{ℕ, suc, ◌+◌, ◌-◌, ◌<◌, max}
 use mathlib.Core.Path.{◌≡◌, refl, sym, ap, ◌∙◌, subst}
-use mathlib.Core.Bool.{Bool, true, false, cond, ◌&&◌, ◌||◌}
+use mathlib.Core.Bool.{Bool, true, false, cond, ◌||◌}
 use mathlib.Core.List.{List, [], ◌∷◌, ◌++◌}
 use mathlib.Core.Option.{none, some}
-use mathlib.Core.Logic.{◌⊎◌, ⊎_elim}
+use mathlib.Core.Logic.{⊎_elim}
 use native.Mathlib.Omega.{arith}
 use native.Mathlib.Numerals.{add-one}
 use lib.Dec.{eqb, eqb_refl, ltb, lt→ltb}
@@ -17,11 +17,11 @@ use Rattle.grammar.specs.Denotes.{step_of, or_of, step_names, or_names, put_path
 use Rattle.grammar.specs.code.Reader.{State, after, Ctx, Open, bracket, Alt, Lead, step, follow, run, bad}
 use Rattle.grammar.specs.code.Reader.{room, room_of, enter, shut, after_byte, paren_byte_next, colon_byte_next}
 use Rattle.grammar.proofs.Basics.{is_true, eq_byte, or_out}
-use Rattle.readings.specs.declared.Reading.{Reading}
+use Rattle.std.specs.Prelude.{Ok, Err}
 use Rattle.heads.specs.declared.Head.{Head}
 use Rattle.words.specs.code.Scan.{byte_at, Passed}
 use Rattle.heads.specs.code.Head.{callable, NoCall, Due, HeadMet, proceed}
-use Rattle.readings.specs.code.Build.{capped, moved_to, failed_at, PutMet, HeadPut, only_in_step}
+use Rattle.readings.specs.code.Build.{Standing, capped, moved_to, refused_at, PutMet, HeadPut, only_in_step}
 use Rattle.readings.specs.code.Passing.{CloseMet}
 use Rattle.text.specs.code.Readers.{MadeQual, Ready, Reached, PredicateMet, StepRead, StepFails, StepMet, OrMet}
 use Rattle.words.proofs.Scanned.{there}
@@ -34,7 +34,7 @@ pub has_room : (n left : ℕ) → n ≡ left → 0 < left → ltb 0 n ≡ true
 has_room n left e h = is_true (ltb 0 n) (lt→ltb 0 n (omega arith))
 
 -- an expression that was opened at x, up to the byte b that closes it, and whitespace
-pub record EnclosedRead (s list : Bytes) (left b : ℕ) (xs : List ℕ) (x : Reading) (ys : List ℕ) (y : Reading)
+pub record EnclosedRead (s list : Bytes) (left b : ℕ) (xs : List ℕ) (x : Standing) (ys : List ℕ) (y : Standing)
     : Type 0 where
   pub tree : Or
   pub inner : Bytes
@@ -46,7 +46,7 @@ pub record EnclosedRead (s list : Bytes) (left b : ℕ) (xs : List ℕ) (x : Rea
       → run (drop x.at s) (enter o) ≡ run (drop y.at s) (f spaces)
   pub space : is_space (byte_at s y.at) ≡ false
 
-pub record Enclosed (s list : Bytes) (left b : ℕ) (xs : List ℕ) (x : Reading) (ys : List ℕ) (y : Reading)
+pub record Enclosed (s list : Bytes) (left b : ℕ) (xs : List ℕ) (x : Standing) (ys : List ℕ) (y : Standing)
     : Type 0 where
   pub reached : Reached s x.at ys y
   pub read : y.ok ≡ true → EnclosedRead s list left b xs x ys y
@@ -54,78 +54,82 @@ pub record Enclosed (s list : Bytes) (left b : ℕ) (xs : List ℕ) (x : Reading
       → ((e : Or) (w : Bytes) (k : ℕ) → eqb k b ≡ false → shut o e w k ≡ none)
       → run (drop x.at s) (enter o) ≡ bad (length s - y.at)
 
-module _ (s list : Bytes) (left b : ℕ) (xs : List ℕ) (x : Reading) (ys : List ℕ) (y z : Reading)
-    (m : OrMet s list left xs x ys y) (h : CloseMet s y b z) where
-  enclosed_kept : y.ok ≡ false → Enclosed s list left b xs x ys z
-  enclosed_kept e =
-      subst (λ (q : Reading). Enclosed s list left b xs x ys q) (sym (h.kept e)) record {
-        reached = m.reached;
-        read = λ f. refuse y.ok f e;
-        failed = λ _ o i _. m.failed e o i;
+-- the expression was refused
+pub enclosed_refused : (s list : Bytes) (left b : ℕ) (xs : List ℕ) (x : Standing) (ys : List ℕ) (y : Standing)
+    → OrMet s list left xs x ys y → y.ok ≡ false → Enclosed s list left b xs x ys y
+enclosed_refused s list left b xs x ys y m e =
+    record { reached = m.reached; read = λ f. refuse y.ok f e; failed = λ _ o i _. m.failed e o i }
+
+module _ (s list : Bytes) (left b : ℕ) (xs : List ℕ) (x : Standing) (ys : List ℕ) (y z : Standing)
+    (m : OrMet s list left xs x ys y) (e : y.ok ≡ true) (h : CloseMet s y b z) where
+  enclosed_wrong : (byte_at s y.at ≡ b → ⊥) → Enclosed s list left b xs x ys z
+  unfolding proceed follow
+  enclosed_wrong f =
+      let r = m.read e in
+      subst (λ (q : Standing). Enclosed s list left b xs x ys q) (sym (h.wrong f)) record {
+        reached = record {
+          from = m.reached.from;
+          fits = m.reached.fits;
+          sized = record { size = m.reached.sized.size; bound = omega arith };
+        };
+        read = λ g. refuse false g refl;
+        failed = λ _ o i n. r.runs o i ∙ rw (n r.tree r.spaces (byte_at s y.at) (differs _ b f)) refl;
       }
 
-  module _ (e : y.ok ≡ true) where
-    enclosed_wrong : (byte_at s y.at ≡ b → ⊥) → Enclosed s list left b xs x ys z
-    unfolding proceed follow
-    enclosed_wrong f =
-        let r = m.read e in
-        subst (λ (q : Reading). Enclosed s list left b xs x ys q) (sym (h.wrong e f)) record {
-          reached = record { from = m.reached.from; fits = m.reached.fits; sized = m.reached.sized };
-          read = λ g. refuse false g refl;
-          failed = λ _ o i n. r.runs o i ∙ rw (n r.tree r.spaces (byte_at s y.at) (differs _ b f)) refl;
-        }
+  -- the closing byte is there
+  enclosed_right : byte_at s y.at ≡ b → Enclosed s list left b xs x ys z
+  unfolding proceed follow
+  enclosed_right f =
+      let r = m.read e in
+      let c = h.right f in
+      let to = c.0 in
+      let q : Passed is_space s (y.at + 1) to = c.2 in
+      subst (λ (v : Standing). Enclosed s list left b xs x ys v) (sym c.1) record {
+        reached = record {
+          from = omega (arith, m.reached.from, q.from);
+          fits = q.fits;
+          sized = m.reached.sized;
+        };
+        read = λ _. record {
+          tree = r.tree;
+          inner = r.spaces;
+          spaces = q.bytes;
+          size = simp length-append (omega (
+            arith,
+            simp length-append at r.size,
+            passed_length is_space s (y.at + 1) to q,
+            q.from,
+          ));
+          made = made_to x y to r.made;
+          runs = λ o i st j k. r.runs o i ∙ rw (f, j, ← add-one) (over is_space st k s (y.at + 1) to q []);
+          space = q.stops;
+        };
+        failed = λ g. refuse y.ok e g;
+      }
 
-    -- the closing byte is there
-    enclosed_right : byte_at s y.at ≡ b → Enclosed s list left b xs x ys z
-    unfolding proceed follow
-    enclosed_right f =
-        let r = m.read e in
-        let c = h.right e f in
-        let to = c.0 in
-        let q : Passed is_space s (y.at + 1) to = c.2 in
-        subst (λ (v : Reading). Enclosed s list left b xs x ys v) (sym c.1) record {
-          reached = record {
-            from = omega (arith, m.reached.from, q.from);
-            fits = q.fits;
-            sized = m.reached.sized;
-          };
-          read = λ _. record {
-            tree = r.tree;
-            inner = r.spaces;
-            spaces = q.bytes;
-            size = simp length-append (omega (
-              arith,
-              simp length-append at r.size,
-              passed_length is_space s (y.at + 1) to q,
-              q.from,
-            ));
-            made = made_to x y to r.made;
-            runs = λ o i st j k. r.runs o i ∙ rw (f, j, ← add-one) (over is_space st k s (y.at + 1) to q []);
-            space = q.stops;
-          };
-          failed = λ g. refuse y.ok e g;
-        }
-
-  -- the inner reading failed, the closing byte is another one, or it is there
+  -- the closing byte is another one, or it is there
   pub enclosed : Enclosed s list left b xs x ys z
-  enclosed = go y.ok refl (eqb (byte_at s y.at) b) refl
+  enclosed = go (eqb (byte_at s y.at) b) refl
     where
-      go : (p : Bool) → y.ok ≡ p → (q : Bool) → eqb (byte_at s y.at) b ≡ q → Enclosed s list left b xs x ys z
-      go false e q f = enclosed_kept e
-      go true e true f = enclosed_right e (eq_byte (byte_at s y.at) b f)
-      go true e false f = enclosed_wrong e (λ g. refuse (eqb b b) (is_true (eqb b b) (eqb_refl b)) (rw g at f))
+      go : (q : Bool) → eqb (byte_at s y.at) b ≡ q → Enclosed s list left b xs x ys z
+      go true f = enclosed_right (eq_byte (byte_at s y.at) b f)
+      go false f = enclosed_wrong (λ g. refuse (eqb b b) (is_true (eqb b b) (eqb_refl b)) (rw g at f))
 
 -- read_predicate
-module _ (s list : Bytes) (left : ℕ) (xs : List ℕ) (x : Reading) (r : Ready s xs x) (b : byte_at s x.at ≡ 91) where
+module _ (s list : Bytes) (left : ℕ) (xs : List ℕ) (x : Standing) (r : Ready s xs x) (b : byte_at s x.at ≡ 91) where
   bracket_there : x.at < length s
   bracket_there = byte_there s x.at 91 refl b
 
   -- no level is left
-  pub predicate_full : left ≡ 0 → PredicateMet s list left xs x xs (failed_at x x.at)
+  pub predicate_full : left ≡ 0 → PredicateMet s list left xs x xs (refused_at x.at)
   unfolding step after_byte is_space
   predicate_full h =
       record {
-        reached = record { from = omega arith; fits = r.fits; sized = r.sized };
+        reached = record {
+          from = omega arith;
+          fits = r.fits;
+          sized = record { size = r.sized.size; bound = omega arith };
+        };
         further = λ e. refuse false e refl;
         read = λ e. refuse false e refl;
         failed = λ _ c g l t w i k. on_fail s x.at (after c g l t w) bracket_there (rw (b, k, i ∙ h) refl);
@@ -140,8 +144,21 @@ module _ (s list : Bytes) (left : ℕ) (xs : List ℕ) (x : Reading) (r : Ready 
         on_pass s x.at (after c g l t w) (enter (bracket c g l t w)) bracket_there
         (rw (b, k, has_room (room c) left i h) refl)
 
+    -- the expression or its `]` was refused
+    pub predicate_refused : (ys : List ℕ) (y : Standing) → Enclosed s list (left - 1) 93 xs (moved_to x (x.at + 1)) ys y
+        → y.ok ≡ false → PredicateMet s list left xs x ys y
+    unfolding room_of shut
+    predicate_refused ys y m e =
+        record {
+          reached = record { from = omega (arith, m.reached.from); fits = m.reached.fits; sized = m.reached.sized };
+          further = λ f. refuse y.ok f e;
+          read = λ f. refuse y.ok f e;
+          failed = λ _ c g l u w i k. bracket_opens c g l u w i k
+              ∙ m.failed e (bracket c g l u w) (ap (λ (n : ℕ). n - 1) i) (λ o v n j. rw j refl);
+        }
+
     -- the expression in `[ ]`, and a row over the step and it
-    pub predicate_joined : (ys : List ℕ) (y : Reading) (zs : List ℕ) (z : Reading)
+    pub predicate_joined : (ys : List ℕ) (y : Standing) (zs : List ℕ) (z : Standing)
         → Enclosed s list (left - 1) 93 xs (moved_to x (x.at + 1)) ys y
         → PutMet (row 5 x.row y.row 0) (capped (suc (max x.nesting y.nesting))) ys y zs z
         → PredicateMet s list left xs x zs z
@@ -173,7 +190,7 @@ module _ (s list : Bytes) (left : ℕ) (xs : List ℕ) (x : Reading) (r : Ready 
 
 -- the step so far: what may not follow it, and whether a predicate may
 pub record Stepping (s list : Bytes) (left : ℕ) (filters : Bool)
-    (xs : List ℕ) (x : Reading) (ys : List ℕ) (y : Reading) : Type 0 where
+    (xs : List ℕ) (x : Standing) (ys : List ℕ) (y : Standing) : Type 0 where
   pub tree : Bytes → LocationStep
   pub spaces : Bytes
   pub read : StepRead s list left tree spaces xs x ys y
@@ -184,43 +201,59 @@ pub record Stepping (s list : Bytes) (left : ℕ) (filters : Bool)
   pub takes : (w : Bytes) → takes_predicate (tree w) ≡ filters
 
 pub record StepGot (s list : Bytes) (left : ℕ) (filters : Bool)
-    (xs : List ℕ) (x : Reading) (ys : List ℕ) (y : Reading) : Type 0 where
+    (xs : List ℕ) (x : Standing) (ys : List ℕ) (y : Standing) : Type 0 where
   pub reached : Reached s x.at ys y
   pub read : y.ok ≡ true → Stepping s list left filters xs x ys y
   pub failed : y.ok ≡ false → StepFails s left x.at y.at
 
+-- no head was read
+pub step_refused : (s list : Bytes) (left : ℕ) (xs : List ℕ) (x : Standing) (i : ℕ) → Ready s xs x
+    → HeadMet s list x.at (Err i) → StepMet s list left xs x xs (refused_at i)
+step_refused s list left xs x i r m =
+    record {
+      reached = record {
+        from = m.between.from;
+        fits = m.between.fits;
+        sized = record { size = r.sized.size; bound = omega arith };
+      };
+      read = λ e. refuse false e refl;
+      stops = λ e. refuse false e refl;
+      failed = λ _ c g l w _ d. m.failed c g l w d;
+    }
+
 -- the head of a step
-pub step_head : (s list : Bytes) (left : ℕ) (xs : List ℕ) (x : Reading) (ys : List ℕ) (y : Reading) (h : Head)
-    (f : Bool) → h.filters ≡ f → Ready s xs x → HeadMet s list x.at h → HeadPut xs x h ys y
+pub step_head : (s list : Bytes) (left : ℕ) (xs : List ℕ) (x : Standing) (ys : List ℕ) (y : Standing) (h : Head)
+    (f : Bool) → h.filters ≡ f → Ready s xs x → HeadMet s list x.at (Ok h) → HeadPut xs x h ys y
     → StepGot s list left f xs x ys y
 unfolding put_path nest_path
 step_head s list left xs x ys y h f filters r m p =
-    let ok : y.ok ≡ h.ok = p.ok ∙ rw r.ok refl in
+    let ok : y.ok ≡ true = p.ok ∙ r.ok in
+    let t = m.read in
     record {
       reached = record {
         from = omega (arith, m.between.from, p.at);
         fits = rw p.at m.between.fits;
         sized = p.sized;
       };
-      read = λ e. let t = m.read (sym ok ∙ e) in record {
+      read = λ e. record {
         tree = t.tree;
         spaces = t.spaces;
         read = record {
           size = λ w. rw p.at (t.size w);
           runs = λ c g l w i. rw p.at (t.runs c g l w);
-          made = λ w i j. rw (t.term w, t.names w i j) (p.made (sym ok ∙ e));
+          made = λ w i j. rw (t.term w, t.names w i j) p.made;
           space = rw p.at t.stops;
         };
         paren = λ c g l w n b. t.paren c g l w n (rw p.at at b);
         colon = λ c g l w b. t.colon c g l w (rw p.at at b);
         takes = λ w. t.takes w ∙ filters;
       };
-      failed = λ e c g l w i d. rw p.at (m.failed (sym ok ∙ e) c g l w d);
+      failed = λ e. refuse y.ok ok e;
     }
 
 -- one more predicate
-pub step_filter : (s list : Bytes) (left : ℕ) (xs : List ℕ) (x : Reading) (ys : List ℕ) (y : Reading)
-    (zs : List ℕ) (z : Reading) → y.ok ≡ true → PredicateMet s list left ys y zs z
+pub step_filter : (s list : Bytes) (left : ℕ) (xs : List ℕ) (x : Standing) (ys : List ℕ) (y : Standing)
+    (zs : List ℕ) (z : Standing) → y.ok ≡ true → PredicateMet s list left ys y zs z
     → StepGot s list left true xs x ys y → StepGot s list left true xs x zs z
 unfolding spell_step step_of step_names put_path nest_path takes_predicate paren_byte_next colon_byte_next
 step_filter s list left xs x ys y zs z ok m got =
@@ -255,8 +288,19 @@ step_filter s list left xs x ys y zs z ok m got =
       failed = λ e c g l w i d. a.read.runs c g l w i ∙ m.failed e c g l (a.tree w) a.spaces i (a.takes w);
     }
 
+-- the step was refused after its head
+pub step_stopped : (s list : Bytes) (left : ℕ) (f : Bool) (xs : List ℕ) (x : Standing) (ys : List ℕ) (y : Standing)
+    → y.ok ≡ false → StepGot s list left f xs x ys y → StepMet s list left xs x ys y
+step_stopped s list left f xs x ys y e got =
+    record {
+      reached = got.reached;
+      read = λ g. refuse y.ok g e;
+      stops = λ g. refuse y.ok g e;
+      failed = got.failed;
+    }
+
 -- a step ends where nothing follows that only a step could take
-module _ (s list : Bytes) (left : ℕ) (filters : Bool) (xs : List ℕ) (x : Reading) (ys : List ℕ) (y : Reading)
+module _ (s list : Bytes) (left : ℕ) (filters : Bool) (xs : List ℕ) (x : Standing) (ys : List ℕ) (y : Standing)
     (got : StepGot s list left filters xs x ys y)
     (stop : filters ≡ true → y.ok ≡ true → eqb (byte_at s y.at) 91 ≡ false) where
   refused_byte : (a : Stepping s list left filters xs x ys y) → y.ok ≡ true
@@ -280,31 +324,24 @@ module _ (s list : Bytes) (left : ℕ) (filters : Bool) (xs : List ℕ) (x : Rea
   unfolding only_in_step
   refused_there e = there only_in_step s y.at refl e
 
-  -- by cases: refused before, refused here, or read
-  pub step_ends : StepMet s list left xs x ys (cond (y.ok && only_in_step (byte_at s y.at)) (failed_at y y.at) y)
-  step_ends = go y.ok refl (only_in_step (byte_at s y.at)) refl
+  -- by cases: refused here, or read
+  pub step_ends : y.ok ≡ true
+      → StepMet s list left xs x ys (cond (only_in_step (byte_at s y.at)) (refused_at y.at) y)
+  step_ends e = go (only_in_step (byte_at s y.at)) refl
     where
-      by : (k : Bool) → (y.ok && only_in_step (byte_at s y.at)) ≡ k
-          → StepMet s list left xs x ys (cond k (failed_at y y.at) y)
-          → StepMet s list left xs x ys (cond (y.ok && only_in_step (byte_at s y.at)) (failed_at y y.at) y)
-      by k e m = subst (λ (b : Bool). StepMet s list left xs x ys (cond b (failed_at y y.at) y)) (sym e) m
-
-      go : (p : Bool) → y.ok ≡ p → (q : Bool) → only_in_step (byte_at s y.at) ≡ q
-          → StepMet s list left xs x ys (cond (y.ok && only_in_step (byte_at s y.at)) (failed_at y y.at) y)
-      go false e q f = by false (rw e refl) record {
-        reached = got.reached;
-        read = λ g. refuse y.ok g e;
-        stops = λ g. refuse y.ok g e;
-        failed = got.failed;
-      }
-      go true e false f = by false (rw (e, f) refl) record {
+      go : (q : Bool) → only_in_step (byte_at s y.at) ≡ q → StepMet s list left xs x ys (cond q (refused_at y.at) y)
+      go false f = record {
         reached = got.reached;
         read = λ g. let a = got.read g in (a.tree, a.spaces, a.read);
         stops = λ _. f;
         failed = got.failed;
       }
-      go true e true f = by true (rw (e, f) refl) record {
-        reached = record { from = got.reached.from; fits = got.reached.fits; sized = got.reached.sized };
+      go true f = record {
+        reached = record {
+          from = got.reached.from;
+          fits = got.reached.fits;
+          sized = record { size = got.reached.sized.size; bound = omega arith };
+        };
         read = λ g. refuse false g refl;
         stops = λ g. refuse false g refl;
         failed = λ _ c g l w i d. let a = got.read e in

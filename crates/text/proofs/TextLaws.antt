@@ -19,12 +19,14 @@ use Rattle.grammar.specs.code.ReaderAnswer.{term_answer, names_answer, read_answ
 use Rattle.grammar.proofs.Basics.{so, is_true}
 use Rattle.grammar.proofs.Answered.{given}
 use Rattle.grammar.proofs.Longer.{answer_longer, refused_stays}
+use Rattle.std.specs.Prelude.{Result, Ok, Err}
 use Rattle.readings.specs.declared.Reading.{Reading}
-use Rattle.text.specs.declared.TextEnd.{TextEnd}
+use Rattle.text.specs.declared.TextRefusal.{TextRefusal}
+use Rattle.text.specs.declared.TextRefusal.TheVariants as Refusal
 use Rattle.heads.specs.code.Head.{callable}
-use Rattle.readings.specs.code.Build.{Sized, Holds, missing_of, first_of, nothing_read}
-use Rattle.text.specs.Promises.{held_rows, TextRead}
-use Rattle.text.specs.code.Readers.{after_union, union_at_top, refusal_of, UnionRead, UnionMet, TextMet}
+use Rattle.readings.specs.code.Build.{Standing, Sized, Holds, first_of, nothing_read}
+use Rattle.text.specs.Promises.{held_rows, refusal_number, refusal_value, TextRead}
+use Rattle.text.specs.code.Readers.{after_union, union_at_top, refusal_of, end_of, UnionRead, UnionMet, TextMet}
 use Rattle.common.specs.Lists.{joined as numbers_of}
 use Rattle.readings.proofs.Built.{refuse, table_count}
 use Rattle.text.proofs.Left.{left_table}
@@ -40,7 +42,7 @@ more_than m n h = go (leb m n) refl
     go true e = absurd (omega (arith, leb→le m n (so (leb m n) e)))
     go false e = e
 
-module _ (s list : Bytes) (xs : List ℕ) (count : ℕ) (z : Sized xs count) (ys : List ℕ) (y : Reading)
+module _ (s list : Bytes) (xs : List ℕ) (count : ℕ) (z : Sized xs count) (ys : List ℕ) (y : Standing)
     (m : UnionMet s list 32 xs (nothing_read count) ys y) where
   abbrev held : List Row
   held = held_rows xs count
@@ -91,25 +93,24 @@ module _ (s list : Bytes) (xs : List ℕ) (count : ℕ) (z : Sized xs count) (ys
           rw g refl
 
       -- the first unlisted name is the tree's
-      names_told : missing_of y ≡ unlisted (number_of list) (union_names read.tree 0)
-      unfolding missing_of first_of
+      names_told : y.missing ≡ unlisted (number_of list) (union_names read.tree 0)
+      unfolding first_of
       names_told = read.made.names
 
       -- a name is not listed
-      pub text_unlisted : y.listed ≡ false → TextMet s list xs count ys (refusal_of 19 y.missing count)
-      unfolding missing_of names_answer
-      text_unlisted f =
-          let g : unlisted (number_of list) (union_names read.tree 0) ≡ some y.missing =
-          sym names_told ∙ rw f refl in
-          let a : answer list s held ≡ reply 19 y.missing held = whole ∙ rw g refl in
-          refused_as 19 y.missing (λ i. omega (arith, i)) (ap (λ (r : Reply). r.number) a)
+      pub text_unlisted : (place : ℕ) → y.missing ≡ some place → TextMet s list xs count ys (refusal_of 19 place count)
+      unfolding names_answer
+      text_unlisted place f =
+          let g : unlisted (number_of list) (union_names read.tree 0) ≡ some place = sym names_told ∙ f in
+          let a : answer list s held ≡ reply 19 place held = whole ∙ rw g refl in
+          refused_as 19 place (λ i. omega (arith, i)) (ap (λ (r : Reply). r.number) a)
           (ap (λ (r : Reply). r.value) a)
 
-      module _ (f : y.listed ≡ true) where
+      module _ (f : y.missing ≡ none) where
         all_listed : answer list s held ≡ term_answer path held
-        unfolding missing_of names_answer
+        unfolding names_answer
         all_listed =
-            let g : unlisted (number_of list) (union_names read.tree 0) ≡ none = sym names_told ∙ rw f refl in
+            let g : unlisted (number_of list) (union_names read.tree 0) ≡ none = sym names_told ∙ f in
             whole ∙ rw g refl
 
         -- the term is nested too deep
@@ -160,46 +161,56 @@ module _ (s list : Bytes) (xs : List ℕ) (count : ℕ) (z : Sized xs count) (ys
                 beyond = λ _. read.made.puts.beyond g;
               }
 
+-- a refusal has a number
+pub refusal_some : (e : TextRefusal) → ¬ (refusal_number e ≡ 0)
+refusal_some (Refusal.OutsideGrammar at) h = omega (arith, h)
+refusal_some (Refusal.UnlistedName at) h = omega (arith, h)
+refusal_some Refusal.TooDeep h = omega (arith, h)
+refusal_some Refusal.TermsFull h = omega (arith, h)
+
 -- the table that is left: the rows of an accepted text stand in it, and nothing else has changed
 module _ (s list : Bytes) (xs : List ℕ) (count : ℕ) (n : ℕ) (few : n ≡ min count max_rows) (z : Sized xs n)
-    (ys : List ℕ) (a : TextEnd) (m : TextMet s list xs n ys a) where
+    (ys : List ℕ) (a : Result Reading TextRefusal) (m : TextMet s list xs n ys (end_of n a)) where
   abbrev rows : List Row
   rows = held_rows xs n
 
-  told : Answers list s rows a.number a.value (answer list s rows).rows
+  told : Answers list s rows (end_of n a).number (end_of n a).value (answer list s rows).rows
   told =
-      subst (λ (k : ℕ). Answers list s rows k a.value (answer list s rows).rows) (sym m.number)
+      subst (λ (k : ℕ). Answers list s rows k (end_of n a).value (answer list s rows).rows) (sym m.number)
       (subst (λ (k : ℕ). Answers list s rows (answer list s rows).number k (answer list s rows).rows)
       (sym m.value) (given list s rows))
 
-  pub read_refused : ¬ (a.number ≡ 0)
-      → TextRead list s xs (min count max_rows) (record { number = a.number; value = a.value; rows = xs; count = n })
+  pub read_refused : (e : TextRefusal) → a ≡ Err e → TextRead list s xs (min count max_rows) (Err e)
   unfolding table_with numbers_of
-  read_refused h =
+  read_refused e f =
       let all : length rows ≡ n = table_count xs n z in
-      let same : (answer list s rows).rows ≡ rows = refused_stays list s rows _ _ _ told h in
+      let here : Answers list s rows (refusal_number e) (refusal_value e) (answer list s rows).rows =
+      subst (λ (r : Result Reading TextRefusal). Answers list s rows (end_of n r).number (end_of n r).value
+      (answer list s rows).rows) f told in
+      let same : (answer list s rows).rows ≡ rows = refused_stays list s rows _ _ _ here (refusal_some e) in
       let none : drop n rows ≡ [] = drop_of_length-le rows {i = n} (omega (arith, all)) in
-      subst
-      (λ (k : ℕ). TextRead list s xs k (record { number = a.number; value = a.value; rows = xs; count = n })) few
+      subst (λ (k : ℕ). TextRead list s xs k (Err e)) few
       record {
         after = rows;
-        answers = subst (λ (q : List Row). Answers list s rows a.number a.value q) same told;
+        answers = subst (λ (q : List Row). Answers list s rows (refusal_number e) (refusal_value e) q) same here;
         rows = rw none refl;
         count = sym all;
       }
 
-  pub read_accepted : a.number ≡ 0
-      → TextRead list s xs (min count max_rows)
-      (record { number = a.number; value = a.value; rows = ys; count = a.count })
-  read_accepted e =
-      let left = m.accepted e in
-      let (new, grown) = answer_longer list s rows _ _ _ told in
+  pub read_accepted : (r : Reading) → a ≡ Ok r
+      → TextRead list s xs (min count max_rows) (Ok (record { row = r.row; rows = ys; count = r.count }))
+  read_accepted r f =
+      let met = subst (λ (q : Result Reading TextRefusal). TextMet s list xs n ys (end_of n q)) f m in
+      let here : Answers list s rows 0 r.row (answer list s rows).rows =
+      subst (λ (q : Result Reading TextRefusal). Answers list s rows (end_of n q).number (end_of n q).value
+      (answer list s rows).rows) f told in
+      let left = met.accepted refl in
+      let (new, grown) = answer_longer list s rows _ _ _ here in
       subst
-      (λ (k : ℕ). TextRead list s xs k
-      (record { number = a.number; value = a.value; rows = ys; count = a.count })) few
+      (λ (k : ℕ). TextRead list s xs k (Ok (record { row = r.row; rows = ys; count = r.count }))) few
       record {
         after = (answer list s rows).rows;
-        answers = told;
-        rows = left_table xs ys n a.count (answer list s rows).rows new z m.sized left grown (m.beyond e);
-        count = sym (table_count ys a.count m.sized) ∙ ap length left;
+        answers = here;
+        rows = left_table xs ys n r.count (answer list s rows).rows new z met.sized left grown (met.beyond refl);
+        count = sym (table_count ys r.count met.sized) ∙ ap length left;
       }

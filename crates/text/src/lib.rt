@@ -7,17 +7,17 @@ ghost use Rattle.std.specs.Prelude.{◌≡◌, true, false, min, ◌≤◌, leng
 ghost use Rattle.terms.specs.Row.{max_rows};
 ghost use Rattle.grammar.specs.Bytes.{is_space, open_bracket};
 ghost use Rattle.words.specs.code.Scan.{byte_at};
-ghost use Rattle.words.specs.code.Index.{max_length, Indexed};
-ghost use Rattle.readings.specs.code.Build.{Sized};
+ghost use Rattle.words.specs.code.Index.{max_length};
+ghost use Rattle.readings.specs.code.Build.{stands, ended, Sized};
 ghost use Rattle.text.specs.code.Readers.{Ready, PredicateMet, StepMet, PathMet, UnionMet, UnaryMet, AndMet};
-ghost use Rattle.text.specs.code.Readers.{OrMet, TextMet, refusal_of};
-ghost use Rattle.text.specs.Promises.{TextRead};
+ghost use Rattle.text.specs.code.Readers.{OrMet, TextMet, end_of};
+ghost use Rattle.text.specs.Promises.{refusal_number, refusal_value, TextRead};
 
 use common::{refusal, row_kind};
 use heads::Opens;
-use readings::Reading;
-use words::bytes;
-use words::bytes::skip;
+use readings::{Reading, Start};
+use words::Names;
+use words::bytes::{byte_at, skip};
 
 // How deep predicates, groups and negations may nest.
 const MAX_LEVELS: usize = 32;
@@ -32,20 +32,43 @@ const MIN_TEXT: usize = 32;
 
 const MAX_LIST: usize = 4294967295;
 
-// The answer to a text: 0 and the term's row, or a refusal and its value. `count` is how many rows are held
-// afterwards.
-#[derive(Drop)]
-struct TextEnd {
-    number: u16,
-    value: usize,
-    count: usize,
+// Why a text is refused: the place of the first byte that can't continue, or of the first name that is not listed; the
+// term is nested too deep, or its rows don't fit.
+#[derive(Clone, Copy, PartialEq, Eq, Debug)]
+pub enum TextRefusal {
+    OutsideGrammar(usize),
+    UnlistedName(usize),
+    TooDeep,
+    TermsFull,
 }
 
-// The answer, and the table afterwards, of which the first rows are held, as many as `count` says.
+impl TextRefusal {
+    pub fn number(self) -> u16
+        ensures { result ≡ refusal_number self }
+    {
+        match self {
+            TextRefusal::OutsideGrammar(_) => refusal::OUTSIDE_GRAMMAR,
+            TextRefusal::UnlistedName(_) => refusal::UNLISTED_NAME,
+            TextRefusal::TooDeep => refusal::TOO_DEEP,
+            TextRefusal::TermsFull => refusal::TERMS_FULL,
+        }
+    }
+
+    pub fn value(self) -> usize
+        ensures { result ≡ refusal_value self }
+    {
+        match self {
+            TextRefusal::OutsideGrammar(at) | TextRefusal::UnlistedName(at) => at,
+            TextRefusal::TooDeep | TextRefusal::TermsFull => 0,
+        }
+    }
+}
+
+// The row of a text's term, and the table with the rows that it needs, of which the first are held, as many as `count`
+// says.
 #[derive(Clone, Copy)]
-pub struct TextResult {
-    pub number: u16,
-    pub value: usize,
+pub struct TextHeld {
+    pub row: u16,
     pub rows: [u16; TABLE_SIZE],
     pub count: usize,
 }
@@ -54,58 +77,47 @@ pub struct TextResult {
 #[cycle(expression)]
 fn read_predicate(
     s: &[u8],
-    names: &[u8],
-    index: &[u32],
+    names: Names<'_>,
     rows: &mut [u16],
     from: Reading,
     left: usize,
-) -> Reading
-    requires ready { Ready s.now rows.old from }
+) -> Result<Reading, usize>
+    requires ready { Ready s.now rows.old (stands from) }
     requires at_value { byte_at s.now from.at ≡ open_bracket }
-    requires indexed { Indexed names.now index.now }
-    ensures { PredicateMet s.now names.now
-        left rows.old from rows.new result }
+    ensures { PredicateMet s.now names.entry.list.now
+        left rows.old (stands from) rows.new (ended result) }
 {
-    let open = from.at;
     if left == 0 {
-        return readings::fail(from, open);
+        return Err(from.at);
     }
-    let inner = read_or(
-        s,
-        names,
-        index,
-        rows,
-        readings::moved(from, open + 1),
-        left - 1,
-    );
-    let shut = readings::close(s, inner, bytes::CLOSE_BRACKET);
-    readings::join(rows, row_kind::FILTER, from, shut)
+    let at = from.at + 1;
+    let inner = read_or(s, names, rows, Reading { at, ..from }, left - 1)?;
+    let shut = readings::close(s, inner, b']')?;
+    Ok(readings::join(rows, row_kind::FILTER, from, shut))
 }
 
 // A step that begins at a place without whitespace: its head and predicates.
 #[cycle(expression)]
 fn read_step(
     s: &[u8],
-    names: &[u8],
-    index: &[u32],
+    names: Names<'_>,
     rows: &mut [u16],
     from: Reading,
     left: usize,
-) -> Reading
-    requires ready { Ready s.now rows.old from }
+) -> Result<Reading, usize>
+    requires ready { Ready s.now rows.old (stands from) }
     requires at_value { is_space (byte_at s.now from.at) ≡ false }
-    requires indexed { Indexed names.now index.now }
-    ensures { StepMet s.now names.now
-        left rows.old from rows.new result }
+    ensures { StepMet s.now names.entry.list.now
+        left rows.old (stands from) rows.new (ended result) }
 {
-    let head = heads::read_head(s, names, index, from.at);
+    let head = heads::read_head(s, names, from.at)?;
     let mut got = readings::put_head(rows, from, head);
     if !head.filters {
         return readings::step_end(s, got);
     }
-    while readings::next_is(s, got, bytes::OPEN_BRACKET) {
-        let next = read_predicate(s, names, index, rows, got, left);
-        got = next;
+    // By `while`: where the next predicate begins is known only when this one is read.
+    while byte_at(s, got.at) == b'[' {
+        got = read_predicate(s, names, rows, got, left)?;
     }
     readings::step_end(s, got)
 }
@@ -114,56 +126,56 @@ fn read_step(
 #[cycle(expression)]
 fn read_path(
     s: &[u8],
-    names: &[u8],
-    index: &[u32],
+    names: Names<'_>,
     rows: &mut [u16],
     from: Reading,
     left: usize,
-) -> Reading
-    requires ready { Ready s.now rows.old from }
-    requires indexed { Indexed names.now index.now }
-    ensures { PathMet s.now names.now
-        left rows.old from rows.new result }
+) -> Result<Reading, usize>
+    requires ready { Ready s.now rows.old (stands from) }
+    ensures { PathMet s.now names.entry.list.now
+        left rows.old (stands from) rows.new (ended result) }
 {
-    let start = readings::begin_path(s, rows, from);
-    let lead = start.lead;
-    if !start.steps {
-        return lead;
-    }
-    let first = read_step(s, names, index, rows, lead, left);
-    let mut got = readings::first_step(rows, start.rooted, lead, first);
-    while readings::next_is(s, got, bytes::SLASH) {
+    let mut got = match readings::begin_path(s, rows, from)? {
+        Start::Root(root) => {
+            return Ok(root);
+        }
+        Start::First(lead) => read_step(s, names, rows, lead, left)?,
+        Start::Below(lead) => {
+            let step = read_step(s, names, rows, lead, left)?;
+            readings::join(rows, row_kind::COMPOSITION, lead, step)
+        }
+    };
+    // By `while`: where the next step begins is known only when this one is read.
+    while byte_at(s, got.at) == b'/' {
         let before = readings::pass_slash(s, rows, got);
-        let step = read_step(s, names, index, rows, before, left);
-        let next = readings::join(rows, row_kind::COMPOSITION, before, step);
-        got = next;
+        let step = read_step(s, names, rows, before, left)?;
+        got = readings::join(rows, row_kind::COMPOSITION, before, step);
     }
-    got
+    Ok(got)
 }
 
-// Paths joined by `|`.
+// Paths joined by `|`. `read_and` and `read_or` are no one function with this: they share a loop of a few lines, and
+// each promises the tree of its own rule.
 #[cycle(expression)]
 fn read_union(
     s: &[u8],
-    names: &[u8],
-    index: &[u32],
+    names: Names<'_>,
     rows: &mut [u16],
     from: Reading,
     left: usize,
-) -> Reading
-    requires ready { Ready s.now rows.old from }
-    requires indexed { Indexed names.now index.now }
-    ensures { UnionMet s.now names.now
-        left rows.old from rows.new result }
+) -> Result<Reading, usize>
+    requires ready { Ready s.now rows.old (stands from) }
+    ensures { UnionMet s.now names.entry.list.now
+        left rows.old (stands from) rows.new (ended result) }
 {
-    let mut got = read_path(s, names, index, rows, from, left);
-    while readings::next_is(s, got, bytes::BAR) {
-        let bar = got.at;
-        let path = read_path(s, names, index, rows, readings::moved(got, bar + 1), left);
-        let next = readings::join(rows, row_kind::UNION, got, path);
-        got = next;
+    let mut got = read_path(s, names, rows, from, left)?;
+    // By `while`: where the next path begins is known only when this one is read.
+    while byte_at(s, got.at) == b'|' {
+        let at = got.at + 1;
+        let path = read_path(s, names, rows, Reading { at, ..got }, left)?;
+        got = readings::join(rows, row_kind::UNION, got, path);
     }
-    got
+    Ok(got)
 }
 
 // An operand of `and` or `or`: paths, of which there must be some; an expression in `( )` or `not ( )`; `true ( )` or
@@ -171,150 +183,117 @@ fn read_union(
 #[cycle(expression)]
 fn read_operand(
     s: &[u8],
-    names: &[u8],
-    index: &[u32],
+    names: Names<'_>,
     rows: &mut [u16],
     from: Reading,
     left: usize,
-) -> Reading
-    requires ready { Ready s.now rows.old from }
-    requires indexed { Indexed names.now index.now }
-    ensures { UnaryMet s.now names.now
-        left rows.old from rows.new result }
+) -> Result<Reading, usize>
+    requires ready { Ready s.now rows.old (stands from) }
+    ensures { UnaryMet s.now names.entry.list.now
+        left rows.old (stands from) rows.new (ended result) }
 {
-    let start = readings::moved(from, skip(s, from.at));
-    let operand = heads::operand_at(s, start.at);
-    let opens = operand.opens;
+    let operand = heads::operand_at(s, skip(s, from.at));
     let paren = operand.paren;
-    match opens {
+    match operand.opens {
         Opens::Paths => {
-            let paths = read_union(s, names, index, rows, from, left);
-            return readings::some_of(rows, paths);
+            let paths = read_union(s, names, rows, from, left)?;
+            return Ok(readings::some_of(rows, paths));
         }
         Opens::True => {
-            return readings::constant(s, rows, readings::moved(start, paren + 1), row_kind::TRUE);
+            let at = paren + 1;
+            return readings::constant(s, rows, Reading { at, ..from }, row_kind::TRUE);
         }
         Opens::False => {
-            return readings::constant(s, rows, readings::moved(start, paren + 1), row_kind::FALSE);
+            let at = paren + 1;
+            return readings::constant(s, rows, Reading { at, ..from }, row_kind::FALSE);
         }
-        Opens::Group => {}
-        Opens::Not => {}
+        Opens::Group | Opens::Not => {}
     }
     if left == 0 {
-        return readings::fail(start, paren);
+        return Err(paren);
     }
-    let inner = read_or(
-        s,
-        names,
-        index,
-        rows,
-        readings::moved(start, paren + 1),
-        left - 1,
-    );
-    let shut = readings::close(s, inner, bytes::CLOSE);
-    readings::negate_if(rows, opens, shut)
+    let at = paren + 1;
+    let inner = read_or(s, names, rows, Reading { at, ..from }, left - 1)?;
+    let shut = readings::close(s, inner, b')')?;
+    Ok(readings::negate_if(rows, operand.opens, shut))
 }
 
 // Operands joined by `and`.
 #[cycle(expression)]
 fn read_and(
     s: &[u8],
-    names: &[u8],
-    index: &[u32],
+    names: Names<'_>,
     rows: &mut [u16],
     from: Reading,
     left: usize,
-) -> Reading
-    requires ready { Ready s.now rows.old from }
-    requires indexed { Indexed names.now index.now }
-    ensures { AndMet s.now names.now left rows.old from rows.new result }
+) -> Result<Reading, usize>
+    requires ready { Ready s.now rows.old (stands from) }
+    ensures { AndMet s.now names.entry.list.now left rows.old (stands from) rows.new (ended result) }
 {
-    let mut got = read_operand(s, names, index, rows, from, left);
-    while readings::next_is(s, got, bytes::LETTER_A) {
-        let word = readings::pass_and(s, got);
-        if !word.ok {
-            return word;
-        }
-        let right = read_operand(s, names, index, rows, word, left);
-        let next = readings::join(rows, row_kind::AND, got, right);
-        got = next;
+    let mut got = read_operand(s, names, rows, from, left)?;
+    // By `while`: where the next operand begins is known only when this one is read.
+    while byte_at(s, got.at) == b'a' {
+        let word = readings::pass_word(s, got, b"and")?;
+        let right = read_operand(s, names, rows, word, left)?;
+        got = readings::join(rows, row_kind::AND, got, right);
     }
-    got
+    Ok(got)
 }
 
 // Those joined by `or`.
 #[cycle(expression)]
 fn read_or(
     s: &[u8],
-    names: &[u8],
-    index: &[u32],
+    names: Names<'_>,
     rows: &mut [u16],
     from: Reading,
     left: usize,
-) -> Reading
-    requires ready { Ready s.now rows.old from }
-    requires indexed { Indexed names.now index.now }
-    ensures { OrMet s.now names.now left rows.old from rows.new result }
+) -> Result<Reading, usize>
+    requires ready { Ready s.now rows.old (stands from) }
+    ensures { OrMet s.now names.entry.list.now left rows.old (stands from) rows.new (ended result) }
 {
-    let mut got = read_and(s, names, index, rows, from, left);
-    while readings::next_is(s, got, bytes::LETTER_O) {
-        let word = readings::pass_or(s, got);
-        if !word.ok {
-            return word;
-        }
-        let right = read_and(s, names, index, rows, word, left);
-        let next = readings::join(rows, row_kind::OR, got, right);
-        got = next;
+    let mut got = read_and(s, names, rows, from, left)?;
+    // By `while`: where the next operand begins is known only when this one is read.
+    while byte_at(s, got.at) == b'o' {
+        let word = readings::pass_word(s, got, b"or")?;
+        let right = read_and(s, names, rows, word, left)?;
+        got = readings::join(rows, row_kind::OR, got, right);
     }
-    got
+    Ok(got)
 }
 
-fn refused(number: u16, value: usize, count: usize) -> TextEnd
-    ensures { result ≡ refusal_of number value count }
-{
-    TextEnd {
-        number,
-        value,
-        count,
-    }
-}
-
-// The answer, where the first rows of the table are held, as many as `count` says. A refused text may leave other rows
-// after them.
-fn read_in(s: &[u8], names: &[u8], index: &[u32], rows: &mut [u16], count: usize) -> TextEnd
+// The reading of the whole text, where the first rows of the table are held, as many as `count` says. A refused text
+// may
+// leave other rows after them.
+fn read_in(
+    s: &[u8],
+    names: Names<'_>,
+    rows: &mut [u16],
+    count: usize,
+) -> Result<Reading, TextRefusal>
     requires sized { Sized rows.old count }
-    requires indexed { Indexed names.now index.now }
-    ensures { TextMet s.now names.now rows.old count rows.new result }
+    ensures { TextMet s.now names.entry.list.now rows.old count rows.new (end_of count result) }
 {
-    let got = read_union(
-        s,
-        names,
-        index,
-        rows,
-        readings::nothing_read(count),
-        MAX_LEVELS,
-    );
-    let at = got.at;
-    if !got.ok {
-        return refused(refusal::OUTSIDE_GRAMMAR, at, count);
+    let start = readings::nothing_read(count);
+    let got = match read_union(s, names, rows, start, MAX_LEVELS) {
+        Ok(got) => got,
+        Err(at) => {
+            return Err(TextRefusal::OutsideGrammar(at));
+        }
+    };
+    if got.at < s.len() {
+        return Err(TextRefusal::OutsideGrammar(got.at));
     }
-    if at < s.len() {
-        return refused(refusal::OUTSIDE_GRAMMAR, at, count);
-    }
-    if !got.listed {
-        return refused(refusal::UNLISTED_NAME, got.missing, count);
+    if let Some(place) = got.missing {
+        return Err(TextRefusal::UnlistedName(place));
     }
     if terms::MAX_NESTING < got.nesting {
-        return refused(refusal::TOO_DEEP, 0, count);
+        return Err(TextRefusal::TooDeep);
     }
     if !got.fits {
-        return refused(refusal::TERMS_FULL, 0, count);
+        return Err(TextRefusal::TermsFull);
     }
-    TextEnd {
-        number: 0,
-        value: got.row as usize,
-        count: got.count,
-    }
+    Ok(got)
 }
 
 // Whether the list is indexed: an index of a short list, or for a short text, takes longer than the searches that it
@@ -322,73 +301,55 @@ fn read_in(s: &[u8], names: &[u8], index: &[u32], rows: &mut [u16], count: usize
 fn is_indexed(s: &[u8], names: &[u8]) -> bool
     ensures { result ≡ true → length names.now ≤ max_length }
 {
-    if s.len() < MIN_TEXT {
-        return false;
-    }
-    if names.len() < MIN_LIST {
-        return false;
-    }
-    if MAX_LIST < names.len() {
-        return false;
-    }
-    true
+    MIN_TEXT <= s.len() && MIN_LIST <= names.len() && names.len() <= MAX_LIST
 }
 
-// The same answer, by an index of the list.
-fn read_indexed(s: &[u8], names: &[u8], rows: &mut [u16], count: usize) -> TextEnd
+// The same reading, by an index of the list.
+fn read_indexed(
+    s: &[u8],
+    names: &[u8],
+    rows: &mut [u16],
+    count: usize,
+) -> Result<Reading, TextRefusal>
     requires sized { Sized rows.old count }
     requires names_len_bound { length names.now ≤ max_length }
-    ensures { TextMet s.now names.now rows.old count rows.new result }
+    ensures { TextMet s.now names.now rows.old count rows.new (end_of count result) }
 {
     let mut index = words::index::blank_index();
     let size = words::index::index_lines(names, &mut index);
-    read_in(s, names, &index[..size], rows, count)
+    let index = &index[..size];
+    read_in(s, Names { list: names, index }, rows, count)
 }
 
-// The same answer, with an index or without.
-fn read_listed(s: &[u8], names: &[u8], rows: &mut [u16], count: usize) -> TextEnd
+// The same reading, with an index or without.
+fn read_listed(
+    s: &[u8],
+    names: &[u8],
+    rows: &mut [u16],
+    count: usize,
+) -> Result<Reading, TextRefusal>
     requires { Sized rows.old count }
-    ensures { TextMet s.now names.now rows.old count rows.new result }
+    ensures { TextMet s.now names.now rows.old count rows.new (end_of count result) }
 {
     if is_indexed(s, names) {
         return read_indexed(s, names, rows, count);
     }
-    read_in(s, names, &[0], rows, count)
+    let index = &[0];
+    read_in(s, Names { list: names, index }, rows, count)
 }
 
-// A count above the limit is read as the limit.
-fn rows_counted(count: usize) -> usize
-    ensures { result ≡ min count max_rows }
-{
-    if count <= terms::MAX_ROWS {
-        count
-    } else {
-        terms::MAX_ROWS
-    }
-}
-
-// The answer to the text `s` with the lent list of names, where the first rows of the table are held, as many as
-// `count` says.
-pub fn read_text(s: &[u8], names: &[u8], rows: [u16; TABLE_SIZE], count: usize) -> TextResult
+// The reading of the text `s` with the lent list of names, where the first rows of the table are held, as many as
+// `count`
+// says; a count above the limit is read as the limit.
+pub fn read_text(
+    s: &[u8],
+    names: &[u8],
+    mut rows: [u16; TABLE_SIZE],
+    count: usize,
+) -> Result<TextHeld, TextRefusal>
     ensures { TextRead names.now s.now rows (min count max_rows) result }
 {
-    let held = rows_counted(count);
-    let mut table = rows;
-    let end = read_listed(s, names, &mut table, held);
-    let number = end.number;
-    let value = end.value;
-    if number != 0 {
-        return TextResult {
-            number,
-            value,
-            rows,
-            count: held,
-        };
-    }
-    TextResult {
-        number,
-        value,
-        rows: table,
-        count: end.count,
-    }
+    let held = count.min(terms::MAX_ROWS);
+    let Reading { row, count, .. } = read_listed(s, names, &mut rows, held)?;
+    Ok(TextHeld { row, rows, count })
 }

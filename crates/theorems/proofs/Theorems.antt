@@ -48,13 +48,14 @@ use Rattle.terms.specs.AcceptedRows.{Built}
 use Rattle.terms.specs.Row.{Row}
 use Rattle.xpath.specs.Chain.{ChainVisits}
 use Rattle.xpath.specs.Climb.{CountEnds, CountLeast, AnswersAlike, RefusesAlike}
-use Rattle.session.specs.declared.read.ReadResult.{ReadResult}
-use Rattle.register.specs.declared.ReadResult as register-read
+use Rattle.session.specs.code.Results.{ReadResult}
+use Rattle.register.specs.code.Results as register-read
 use Rattle.auditing.specs.Audit.{report}
 use Rattle.calls.specs.StepCall.{step_numbered}
 use Rattle.calls.specs.Uses.{uses_of}
 use Rattle.calls.specs.Promises.{sides_of}
 use Rattle.matching.specs.code.MatchTypes.{sides_in}
+use Rattle.terms.specs.code.RowTypes.{PlaceIs}
 use Rattle.replacing.specs.Covered.{step_saying}
 use Rattle.tallies.specs.code.Tally.{TallyPromise}
 use Rattle.xpath.specs.OneName.{StepSameElsewhere}
@@ -117,10 +118,10 @@ pub record SessionTheorems : Type 0 where
   -- and the buffer as it was
   pub write : (s : Session) (buffer : List ℕ) (w : WriteAnswer) (left : List ℕ) → session.Write s buffer w left
       → WriteMet s buffer w left
-  -- the first step that says that one row is contained in another, the number of steps, that of a rule's steps, and the
-  -- rows of the last step are those of the steps held
+  -- the first step that says that one row is contained in another, if there is one, the number of steps, that of a
+  -- rule's steps, and the rows of the last step are those of the steps held
   pub step_saying_lem : (κs : _) (a : _) (r : _) (x : _) → step-saying-reads.Post κs a r x
-      → r ≡ step_saying (view a.0) a.1.0 a.1.1.0
+      → PlaceIs r (step_saying (view a.0) a.1.0 a.1.1.0)
   pub steps_held_lem : (κs : _) (a : _) (r : _) (x : _) → steps-held-reads.Post κs a r x
       → r ≡ length (view a.0).steps
   pub rule_uses : (κs : _) (a : _) (r : _) (x : _) → rule-uses-reads.Post κs a r x

@@ -3,14 +3,14 @@ use Prim.Native.Nat.{ℕ, ◌+◌, ◌≤◌, ◌<◌}
 use mathlib.Core.Path.{◌≡◌, refl, sym, ap, ◌∙◌}
 use mathlib.Core.Bool.{Bool, true, false, cond, ◌&&◌, false≢true}
 use mathlib.Core.List.{List, [], ◌∷◌}
-use mathlib.Core.Option.{Option, none, some, Option-elim}
+use mathlib.Core.Option.{Option, none, some, Option-elim, some-injective, some-ne-none}
 use lib.ListN.{length, drop}
 use Rattle.lines.specs.Line.{Line, lines}
 use Rattle.lines.specs.code.NumbersRead.{first_parts}
 use Rattle.lines.proofs.Cutting.{no_lines, some_line}
 use Rattle.script.specs.declared.CallLine.{CallLine}
 use Rattle.script.specs.Command.{Command, command_of}
-use Rattle.script.specs.code.CommandRead.{no_call, call_line, CallMet}
+use Rattle.script.specs.code.CommandRead.{call_line, CallMet}
 use Rattle.transcript.specs.declared.Style.{Style}
 use Rattle.transcript.specs.Transcript.{word_taken, is_taken, ending_line}
 
@@ -26,33 +26,29 @@ pub no_line_left : (style : Style) (n : ℕ) (xs : List ℕ) (at : ℕ) → leng
 unfolding ending_line
 no_line_left style n xs at h = rw (no_lines xs at h)
 
-module _ (style : Style) (n : ℕ) (xs : List ℕ) (at : ℕ) (inside : at < length xs) (r : CallLine)
-    (m : CallMet command_of xs at r) (word_is : Bool) (told-word : word_is ≡ word_taken style r.word) (taken : Bool)
-    (told : taken ≡ (r.ok && word_is))
-  where
-    first_taken : is_taken style (first_parts command_of (lines (drop at xs))) ≡ taken
-    unfolding call_line Option-elim
-    first_taken =
-        by_command (first_parts command_of (lines (drop at xs))) m.line ∙ ap (λ b. r.ok && b) (sym told-word)
-        ∙ sym told
-      where
-        by_command : (o : Option Command) → r ≡ Option-elim o (no_call (length xs)) (call_line r.next)
-            → is_taken style o ≡ (r.ok && word_taken style r.word)
-        by_command none e = sym (ap (λ l. l.ok && word_taken style l.word) e)
-        by_command (some k) e = sym (ap (λ l. l.ok && word_taken style l.word) e)
+module _ (style : Style) (n : ℕ) (xs : List ℕ) (at : ℕ) (inside : at < length xs) where
+  -- a line that is no call
+  pub no_call_ends : none ≡ first_parts command_of (lines (drop at xs)) → n ≡ ending_line style n (lines (drop at xs))
+  no_call_ends e =
+      sym (by_first_line style n _ (some_line xs at inside)
+      ∙ ap (λ o. cond (is_taken style o) (ending_line style (n + 1) (drop 1 (lines (drop at xs)))) n) (sym e))
 
-    pub line_ends : taken ≡ false → n ≡ ending_line style n (lines (drop at xs))
-    line_ends e = sym (by_first_line style n _ (some_line xs at inside) ∙ rw (first_taken, e))
+  module _ (r : CallLine) (m : CallMet command_of xs at r) (taken : Bool) (told : taken ≡ word_taken style r.word)
+    where
+      first_taken : is_taken style (first_parts command_of (lines (drop at xs))) ≡ taken
+      unfolding call_line Option-elim
+      first_taken = by_command (first_parts command_of (lines (drop at xs))) m.line ∙ sym told
+        where
+          by_command : (o : Option Command) → some r ≡ Option-elim o none (λ k. some (call_line r.next k))
+              → is_taken style o ≡ word_taken style r.word
+          by_command none e = absurd (some-ne-none _ e)
+          by_command (some k) e = ap (λ (l : CallLine). word_taken style l.word) (sym (some-injective _ _ e))
 
-    -- the lines after a command are those after its line
-    rest_of : (o : Option Command) → is_taken style o ≡ true
-        → Option-elim o [] (λ c. drop 1 (lines (drop at xs))) ≡ drop 1 (lines (drop at xs))
-    unfolding Option-elim
-    rest_of none e = absurd (false≢true e)
-    rest_of (some c) e = refl
+      pub line_ends : taken ≡ false → n ≡ ending_line style n (lines (drop at xs))
+      line_ends e = sym (by_first_line style n _ (some_line xs at inside) ∙ rw (first_taken, e))
 
-    pub line_passed : taken ≡ true
-        → ending_line style n (lines (drop at xs)) ≡ ending_line style (n + 1) (lines (drop r.next xs))
-    line_passed e =
-        by_first_line style n _ (some_line xs at inside)
-        ∙ rw (first_taken, e, m.rest) (ap (ending_line style (n + 1)) (sym (rest_of _ (first_taken ∙ e))))
+      pub line_passed : taken ≡ true
+          → ending_line style n (lines (drop at xs)) ≡ ending_line style (n + 1) (lines (drop r.next xs))
+      line_passed e =
+          by_first_line style n _ (some_line xs at inside)
+          ∙ rw (first_taken, e) (ap (ending_line style (n + 1)) (sym m.rest))

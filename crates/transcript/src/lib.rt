@@ -6,11 +6,11 @@ ghost use Rattle.lines.specs.Line.{lines};
 ghost use Rattle.script.specs.Command.{max_marks, max_room};
 ghost use Rattle.transcript.specs.Transcript.{prints_answers, prints_nodes, word_taken, ending_line};
 
-use common::and;
-use records::Record;
+use arrayvec::ArrayString;
 use register::{Records, Register};
 use script::{CallLine, Values};
 use script_words::Word;
+use std::fmt::Write;
 
 // What the lent marks hold before a select, and a lent buffer before a write.
 const FILL: u8 = 7;
@@ -24,7 +24,7 @@ const LINE: usize = 8192;
 // is no call. Other and what is lent print nothing. `Nodes`: the marked nodes of each accepted select, and `refused
 // NUMBER VALUE` for what is refused; `fresh` starts a new register, and `write`, `other`, `order`, `bundle-order` and
 // the listings are no calls.
-#[derive(Clone, Copy)]
+#[derive(Clone, Copy, Debug, PartialEq, Eq)]
 pub enum Style {
     Answers,
     Nodes,
@@ -37,6 +37,12 @@ struct NumberList {
     count: usize,
 }
 
+impl NumberList {
+    fn listed(&self) -> &[u16] {
+        calls::front(&self.numbers, self.count)
+    }
+}
+
 // What later calls are lent: the document, the old rows and the new rows; the names stand in the script, in the line at
 // `names`.
 #[derive(Clone, Copy)]
@@ -47,282 +53,159 @@ struct Lent {
     names: usize,
 }
 
-// Puts b behind the first `used` bytes, where there is room; gives how many are used now.
-fn put(line: &mut [u8], used: usize, b: u8) -> usize {
-    if line.len() <= used {
-        return used;
-    }
-    line[used] = b;
-    used + 1
-}
+// A line that is printed; what no longer fits is left out.
+type Line = ArrayString<LINE>;
 
-fn put_all(line: &mut [u8], used: usize, bytes: &[u8]) -> usize {
-    let mut end = used;
-    let mut i = 0;
-    while i < bytes.len() {
-        end = put(line, end, bytes[i]);
-        i += 1;
-    }
-    end
-}
-
-// A space, but none at the line's start.
-fn put_space(line: &mut [u8], used: usize) -> usize {
-    if used == 0 {
-        return 0;
-    }
-    put(line, used, lines::SPACE)
-}
-
-fn put_number(line: &mut [u8], used: usize, n: u64) -> usize {
-    let start = put_space(line, used);
-    let mut digits = [0u8; 20];
-    let count = io::decimal(n, &mut digits);
-    put_all(line, start, &digits[..count])
-}
-
-fn put_pair(line: &mut [u8], used: usize, number: u16, value: u64) -> usize {
-    let first = put_number(line, used, number as u64);
-    put_number(line, first, value)
+// Puts a number behind what the line has, and a space before it, but none at the line's start.
+fn put_number(line: &mut Line, n: u64) {
+    let _ = if line.is_empty() {
+        write!(line, "{n}")
+    } else {
+        write!(line, " {n}")
+    };
 }
 
 // An answer in a style: nothing where it is an accepted one that `Nodes` leaves out.
-fn put_answer(line: &mut [u8], style: Style, number: u16, value: u64) -> usize {
-    match style {
-        Style::Answers => put_pair(line, 0, number, value),
-        Style::Nodes => {
-            if number == 0 {
-                return 0;
-            }
-            let word = put_all(line, 0, b"refused");
-            put_pair(line, word, number, value)
-        }
+fn answer_line(style: Style, number: u16, value: u64) -> Line {
+    let mut line = Line::new();
+    if style == Style::Nodes && number == 0 {
+        return Line::new();
     }
+    if style == Style::Nodes {
+        let _ = line.try_push_str("refused");
+    }
+    put_number(&mut line, u64::from(number));
+    put_number(&mut line, value);
+    line
 }
 
-fn write_line(line: &mut [u8], used: usize) {
-    let end = put(line, used, lines::NEWLINE);
-    if end <= line.len() {
-        io::write_all(1, &line[..end]);
-    }
+fn write_line(mut line: Line) {
+    let _ = line.try_push('\n');
+    io::write_all(1, line.as_str().as_bytes());
 }
 
 // No line where the style leaves the answer out.
 fn print(style: Style, number: u16, value: u64) {
-    let mut line = [0u8; LINE];
-    let used = put_answer(&mut line, style, number, value);
-    if used != 0 {
-        write_line(&mut line, used);
+    let line = answer_line(style, number, value);
+    if !line.is_empty() {
+        write_line(line);
     }
 }
 
 fn term(r: Register, v: Values, style: Style) -> Register {
     let made = r.term(v.a, v.b, v.c, v.d);
-    let answer = made.answer;
-    print(style, answer.number(), answer.value() as u64);
+    print(style, made.answer.number(), u64::from(made.answer.value()));
     made.register
 }
 
 fn step(r: Register, v: Values, style: Style) -> Register {
     let made = r.step(v.a, v.b, v.c, v.d, v.e);
-    let answer = made.answer;
-    print(style, answer.number(), answer.value() as u64);
+    print(style, made.answer.number(), u64::from(made.answer.value()));
     made.register
 }
 
 fn point(r: Register, values: Values, style: Style) -> Register {
     let made = r.point(values.a);
-    let answer = made.answer;
-    print(style, answer.number(), answer.value() as u64);
+    print(style, made.answer.number(), u64::from(made.answer.value()));
     made.register
 }
 
 fn return_to(r: Register, values: Values, style: Style) -> Register {
     let made = r.return_to(values.a);
-    let answer = made.answer;
-    print(style, answer.number(), answer.value() as u64);
+    print(style, made.answer.number(), u64::from(made.answer.value()));
     made.register
-}
-
-fn first_bytes(bytes: &[u8], n: usize) -> &[u8] {
-    if n <= bytes.len() { &bytes[..n] } else { bytes }
 }
 
 // The selector of the line at `at`, with the names that the line at `names` lends.
 fn text(r: Register, input: &[u8], names: usize, at: usize, style: Style) -> Register {
     let mut list = [0u8; common::MAX_BYTES];
     let listed = script::put_names(script::rest_at(input, names), &mut list);
-    let made = r.text(first_bytes(&list, listed), script::rest_at(input, at));
+    let made = r.text(&list[..listed], script::rest_at(input, at));
     let answer = made.answer;
     print(style, answer.number, answer.value as u64);
     made.register
 }
 
-fn put_node(line: &mut [u8], used: usize, mark: u8, node: usize) -> usize {
-    if mark != 1 {
-        return used;
-    }
-    put_number(line, used, node as u64)
-}
-
-fn put_marked(line: &mut [u8], used: usize, marks: &[u8]) -> usize {
-    let mut end = used;
-    let mut i = 0;
-    while i < marks.len() {
-        end = put_node(line, end, marks[i], i);
-        i += 1;
-    }
-    end
-}
-
 fn select_into(r: Register, document: &[u16], v: Values, style: Style, marks: &mut [u8]) {
     let answer = r.select(v.a, document, v.b, v.limit, marks);
     let number = answer.number();
-    let mut line = [0u8; LINE];
-    let used = put_answer(&mut line, style, number, answer.value() as u64);
-    if number != 0 {
-        write_line(&mut line, used);
-        return;
+    let mut line = answer_line(style, number, u64::from(answer.value()));
+    if number == 0 {
+        for (node, mark) in marks.iter().enumerate() {
+            if *mark == 1 {
+                put_number(&mut line, node as u64);
+            }
+        }
     }
-    let end = put_marked(&mut line, used, marks);
-    write_line(&mut line, end);
-}
-
-fn filled_marks() -> [u8; script::MAX_MARKS]
-    ensures { max_marks ≡ length result }
-{
-    [FILL; script::MAX_MARKS]
+    write_line(line);
 }
 
 fn select(r: Register, document: NumberList, v: Values, style: Style) {
-    let numbers = document.numbers;
-    let mut buffer = filled_marks();
-    let size = calls::clamp(v.size, script::MAX_MARKS);
-    select_into(
-        r,
-        calls::front(&numbers, document.count),
-        v,
-        style,
-        &mut buffer[..size],
-    );
+    let mut marks = [FILL; script::MAX_MARKS];
+    let size = v.size.min(script::MAX_MARKS);
+    select_into(r, document.listed(), v, style, &mut marks[..size]);
 }
 
 fn replace(r: Register, old: NumberList, new: NumberList, by: NumberList, style: Style) {
-    let old_rows = old.numbers;
-    let new_rows = new.numbers;
-    let steps = by.numbers;
-    let answer = r.replace(
-        calls::front(&old_rows, old.count),
-        calls::front(&new_rows, new.count),
-        calls::front(&steps, by.count),
-    );
-    print(style, answer.number(), answer.value() as u64);
-}
-
-fn filled_room() -> [u8; script::MAX_ROOM]
-    ensures { max_room ≡ length result }
-{
-    [FILL; script::MAX_ROOM]
+    let answer = r.replace(old.listed(), new.listed(), by.listed());
+    print(style, answer.number(), u64::from(answer.value()));
 }
 
 // The bundle's own lines, behind the answer.
 fn write_into(r: Register, out: &mut [u8]) {
     let answer = r.write(out);
-    let number = answer.number();
-    let value = answer.value();
-    print(Style::Answers, number, value as u64);
-    if number == 0 {
-        if value <= out.len() {
-            io::write_all(1, &out[..value]);
-        }
+    print(Style::Answers, answer.number(), answer.value() as u64);
+    if answer.number() == 0 {
+        io::write_all(1, out.get(..answer.value()).unwrap_or(&[]));
     }
 }
 
 fn write(r: Register, room: usize) {
-    let mut buffer = filled_room();
-    let size = calls::clamp(room, script::MAX_ROOM);
+    let mut buffer = [FILL; script::MAX_ROOM];
+    let size = room.min(script::MAX_ROOM);
     write_into(r, &mut buffer[..size]);
 }
 
 fn record(r: Register, v: Values, style: Style) -> Register {
     let made = r.record(v.a, v.b, v.c, v.d);
-    let answer = made.answer;
-    print(style, answer.number(), answer.value() as u64);
+    print(style, made.answer.number(), u64::from(made.answer.value()));
     made.register
 }
 
 fn current(r: Register, v: Values, style: Style) {
-    print(style, 0, r.current(v.a) as u64);
+    print(style, 0, u64::from(r.current(v.a)));
 }
 
 fn release(r: Register, v: Values, style: Style) -> Register {
     let made = r.release(v.a);
-    let answer = made.answer;
-    print(style, answer.number(), answer.value() as u64);
+    print(style, made.answer.number(), u64::from(made.answer.value()));
     made.register
 }
 
 fn crew_current(r: Register, v: Values, style: Style) {
-    print(style, 0, r.crew_current(v.a) as u64);
-}
-
-fn put_record(line: &mut [u8], used: usize, shown: bool, given: Record) -> usize {
-    if !shown {
-        return used;
-    }
-    let series = put_number(line, used, given.series as u64);
-    let edition = put_number(line, series, given.edition as u64);
-    let row = put_number(line, edition, given.row as u64);
-    put_number(line, row, given.step as u64)
-}
-
-fn put_records(line: &mut [u8], used: usize, listing: Records) -> usize {
-    let n = listing.size();
-    let held = listing.held;
-    let mut end = used;
-    let mut i = 0;
-    while i < records::MAX_RECORDS {
-        let here = held[i];
-        end = put_record(line, end, i < n, here);
-        i += 1;
-    }
-    end
+    print(style, 0, u64::from(r.crew_current(v.a)));
 }
 
 // How many records are listed, and their numbers.
 fn print_listing(listing: Records) {
-    let mut line = [0u8; LINE];
-    let used = put_pair(&mut line, 0, 0, listing.size() as u64);
-    let end = put_records(&mut line, used, listing);
-    write_line(&mut line, end);
+    let size = listing.size();
+    let mut line = answer_line(Style::Answers, 0, size as u64);
+    for record in listing.held.iter().take(size) {
+        for n in [record.series, record.edition, record.row, record.step] {
+            put_number(&mut line, u64::from(n));
+        }
+    }
+    write_line(line);
 }
 
 fn order(other: Register, v: Values, r: Register) {
     let answer = other.order(v.a, r, v.b);
-    print(Style::Answers, answer.number(), answer.value() as u64);
+    print(Style::Answers, answer.number(), u64::from(answer.value()));
 }
 
 fn bundle_order(other: Register, r: Register) {
     let answer = other.bundle_order(r);
-    print(Style::Answers, answer.number(), answer.value() as u64);
-}
-
-fn prints_answers(style: Style) -> bool
-    ensures { result ≡ prints_answers style }
-{
-    match style {
-        Style::Answers => true,
-        Style::Nodes => false,
-    }
-}
-
-fn prints_nodes(style: Style) -> bool
-    ensures { result ≡ prints_nodes style }
-{
-    match style {
-        Style::Answers => false,
-        Style::Nodes => true,
-    }
+    print(Style::Answers, answer.number(), u64::from(answer.value()));
 }
 
 // Whether a style takes the word.
@@ -330,37 +213,31 @@ fn is_taken(word: Word, style: Style) -> bool
     ensures { result ≡ word_taken style word }
 {
     match word {
-        Word::Term => true,
-        Word::Step => true,
-        Word::Select => true,
-        Word::Document => true,
-        Word::Fresh => prints_nodes(style),
-        Word::Point => true,
-        Word::Return => true,
-        Word::Old => true,
-        Word::New => true,
-        Word::Replace => true,
-        Word::Write => prints_answers(style),
-        Word::Other => prints_answers(style),
-        Word::Order => prints_answers(style),
-        Word::BundleOrder => prints_answers(style),
-        Word::Names => true,
-        Word::Text => true,
-        Word::Record => true,
-        Word::Current => true,
-        Word::Release => true,
-        Word::Records => prints_answers(style),
-        Word::Released => prints_answers(style),
-        Word::CrewCurrent => true,
+        Word::Fresh => style == Style::Nodes,
+        Word::Write
+        | Word::Other
+        | Word::Order
+        | Word::BundleOrder
+        | Word::Records
+        | Word::Released => style == Style::Answers,
+        _ => true,
     }
 }
 
-fn list_of(numbers: [u16; script_words::MAX_NUMBERS], count: usize) -> NumberList {
-    NumberList { numbers, count }
+// The numbers that a call lists.
+fn list_of(read: CallLine) -> NumberList {
+    let numbers = read.numbers;
+    NumberList {
+        numbers,
+        count: read.values.size,
+    }
 }
 
 fn none_lent(input: &[u8]) -> Lent {
-    let none = list_of([0; script_words::MAX_NUMBERS], 0);
+    let none = NumberList {
+        numbers: [0; script_words::MAX_NUMBERS],
+        count: 0,
+    };
     Lent {
         document: none,
         old: none,
@@ -371,26 +248,21 @@ fn none_lent(input: &[u8]) -> Lent {
 
 // What is lent after the line at `at`.
 fn lent_after(lent: Lent, at: usize, read: CallLine) -> Lent {
-    let word = read.word;
-    let values = read.values;
-    let numbers = read.numbers;
-    let listed = list_of(numbers, values.size);
-    let mut document = lent.document;
-    let mut old = lent.old;
-    let mut new = lent.new;
-    let mut names = lent.names;
-    match word {
-        Word::Document => document = listed,
-        Word::Old => old = listed,
-        Word::New => new = listed,
-        Word::Names => names = at,
-        _ => {}
-    }
-    Lent {
-        document,
-        old,
-        new,
-        names,
+    match read.word {
+        Word::Document => Lent {
+            document: list_of(read),
+            ..lent
+        },
+        Word::Old => Lent {
+            old: list_of(read),
+            ..lent
+        },
+        Word::New => Lent {
+            new: list_of(read),
+            ..lent
+        },
+        Word::Names => Lent { names: at, ..lent },
+        _ => lent,
     }
 }
 
@@ -404,12 +276,10 @@ fn other_after(r: Register, other: Register, word: Word) -> Register {
 
 // Makes a call that leaves the register as it is, and prints its answer.
 fn ask(r: Register, other: Register, lent: Lent, read: CallLine, style: Style) {
-    let word = read.word;
     let values = read.values;
-    let numbers = read.numbers;
-    match word {
+    match read.word {
         Word::Select => select(r, lent.document, values, style),
-        Word::Replace => replace(r, lent.old, lent.new, list_of(numbers, values.size), style),
+        Word::Replace => replace(r, lent.old, lent.new, list_of(read), style),
         Word::Write => write(r, values.size),
         Word::Order => order(other, values, r),
         Word::BundleOrder => bundle_order(other, r),
@@ -431,9 +301,8 @@ fn make(
     read: CallLine,
     style: Style,
 ) -> Register {
-    let word = read.word;
     let values = read.values;
-    match word {
+    match read.word {
         Word::Term => term(r, values, style),
         Word::Step => step(r, values, style),
         Word::Text => text(r, input, lent.names, at, style),
@@ -461,19 +330,17 @@ pub fn run(input: &[u8], style: Style) -> usize
     let mut lent = none_lent(input);
     let mut at = 0;
     let mut line: usize = 0;
+    // By place: where the next line starts is known only when this one is read.
     while at < input.len() {
         line += 1;
-        let read = script::call_at(input, at);
-        let word = read.word;
-        if !and(read.ok, is_taken(word, style)) {
-            return line;
-        }
-        let after = make(r, other, lent, input, at, read, style);
-        let aside = other_after(r, other, word);
-        r = after;
-        other = aside;
-        let later = lent_after(lent, at, read);
-        lent = later;
+        let read = match script::call_at(input, at) {
+            Some(read) if is_taken(read.word, style) => read,
+            _ => return line,
+        };
+        let next = make(r, other, lent, input, at, read, style);
+        other = other_after(r, other, read.word);
+        r = next;
+        lent = lent_after(lent, at, read);
         at = read.next;
     }
     0

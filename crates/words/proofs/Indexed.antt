@@ -1,25 +1,39 @@
 -- The index of the lent list: how it is made, and the search in it. Assumes nothing.
-use Prim.Native.Nat.{ℕ, zero, suc, ◌+◌, ◌*◌, ◌<◌, ◌≤◌}
+use Prim.Native.Nat.{ℕ, suc, ◌+◌, ◌-◌, ◌*◌, ◌/◌, ◌<◌, ◌≤◌, min}
+use native.Mathlib.Decide.{dec_lt}
+use Rattle.std.specs.List.{fold}
+use Rattle.std.specs.Borrow.{Bor}
+use Rattle.std.specs.Prelude.{Option as Maybe, Some, None, MatchOption}
+use Rattle.std.proofs.Math.Seq.{take-append_seam}
 use mathlib.Core.Path.{◌≡◌, refl, sym, ap, ◌∙◌, subst}
-use mathlib.Core.Bool.{Bool, true, false}
+use mathlib.Core.Bool.{Bool, true, false, not, cond}
 use mathlib.Core.Logic.{◌⊎◌, inl, inr}
-use mathlib.Core.List.{List, [], ◌∷◌}
+use mathlib.Core.List.{List, [], ◌∷◌, ◌++◌, append-nil}
 use native.Mathlib.Omega.{arith}
-use lib.Dec.{eqb}
-use lib.ListN.{length, get_or, set, take, drop, length-set, drop_of_length-le}
+use lib.Dec.{eqb, leb}
+use lib.ListN.{length, get_or, set, take, drop, length-set, length-drop, length-append, drop_of_length-le}
 use lib.Seq.{drop-cons, drop-drop, get_or-take, get_or-set_same, get_or-set_other, length-take-le}
 use Rattle.common.proofs.Reflect.{le_or_lt}
 use Rattle.lines.specs.Line.{Line, lines, same_bytes}
-use Rattle.grammar.specs.Bytes.{Bytes, is_word}
+use Rattle.grammar.specs.Bytes.{Bytes, every, is_word}
 use Rattle.grammar.specs.Words.{find, next, bytes_of, number_of}
 use Rattle.lines.proofs.SameBytes.{same_bytes_lem}
-use Rattle.grammar.proofs.Basics.{never}
-use Rattle.words.specs.code.Scan.{byte_at}
+use Rattle.grammar.proofs.Basics.{never, and_out}
+use Rattle.words.specs.code.Scan.{byte_at, PassedOver}
 use Rattle.words.specs.code.Names.{first_line_is, numbered_from}
-use Rattle.words.specs.code.Index.{signed_by, signature_of, line_of, ended, LineMet, LineAt, IndexOf, Indexed}
-use Rattle.words.specs.code.Index.{IndexSearched}
+use Rattle.words.specs.code.Index.{signed_by, signature_of, line_of, ended}
+use Rattle.words.specs.code.Index.{not_newline, LineMet, LineAt, IndexOf, Indexed}
+use Rattle.words.specs.code.Index.{IndexMissed}
 use Rattle.words.proofs.Named.{first_bytes_lem, first_line}
 use Rattle.words.proofs.Listed.{after_byte_lem, after_end, find_past, numbered_one, next_from, first_hit}
+
+not_true : (b : Bool) → not b ≡ true → b ≡ false
+not_true true e = absurd (never e)
+not_true false e = refl
+
+not_false_is : (b : Bool) → not b ≡ false → b ≡ true
+not_false_is true e = refl
+not_false_is false e = absurd (never (sym e))
 
 cons_at : (t : Bytes) (i : ℕ) → i < length t → drop i t ≡ byte_at t i ∷ drop (i + 1) t
 cons_at t i h =
@@ -27,78 +41,90 @@ cons_at t i h =
     drop-cons t i 0 h ∙ ap (λ (k : ℕ). byte_at t i ∷ drop k t) e
 
 -- ends_at
-pub ends_here : (t : Bytes) (at : ℕ) → at < length t → eqb (byte_at t at) 10 ≡ ended (drop at t)
+ends_here : (t : Bytes) (at : ℕ) → at < length t → eqb (byte_at t at) 10 ≡ ended (drop at t)
 unfolding ended
 ends_here t at h = rw (cons_at t at h) refl
 
-pub ends_past : (t : Bytes) (at : ℕ) → length t ≤ at → true ≡ ended (drop at t)
+ends_past : (t : Bytes) (at : ℕ) → length t ≤ at → true ≡ ended (drop at t)
 unfolding ended
 ends_past t at h = rw (drop_of_length-le t {i = at} h) refl
 
-pub not_ended : (t : Bytes) (i : ℕ) → ended (drop i t) ≡ false → i < length t
-unfolding ended
-not_ended [] zero h = absurd (never (sym h))
-not_ended [] (suc i) h = absurd (never (sym h))
-not_ended (b ∷ t) zero h = omega arith
-not_ended (b ∷ t) (suc i) h = omega (arith, not_ended t i h)
+pub ended_get : (t : Bytes) (at : ℕ) (o : Maybe (Bor ℕ)) (r : Bool)
+    → MatchOption o (length t ≤ at) (λ b. (at < length t) × (b.now ≡ byte_at t at))
+    → MatchOption o (r ≡ true) (λ b. r ≡ eqb b.now 10) → r ≡ ended (drop at t)
+ended_get t at None r l e = e ∙ ends_past t at l
+ended_get t at (Some b) r l e = e ∙ ap (λ (x : ℕ). eqb x 10) l.1 ∙ ends_here t at l.0
 
--- signature: that of the whole is that of what is left, by what was passed
-pub signed_on : (t : Bytes) (h i : ℕ) → i < length t → signature_of h (drop i t)
-    ≡ signature_of (signed_by h (byte_at t i)) (drop (i + 1) t)
+-- pass_line
+module _ (list : Bytes) where
+  bytes_on : (w t : Bytes) → every not_newline w ≡ true → line_of (w ++ t) ≡ w ++ line_of t
+  unfolding every line_of
+  bytes_on [] t h = refl
+  bytes_on (b ∷ w) t h =
+      let u = and_out (not_newline b) (every not_newline w) h in
+      rw (not_true (eqb b 10) u.0) (ap (λ (x : Bytes). b ∷ x) (bytes_on w t u.1))
+
+  lines_on : (w t : Bytes) → every not_newline w ≡ true → drop 1 (lines (w ++ t)) ≡ drop 1 (lines t)
+  unfolding every
+  lines_on [] t h = refl
+  lines_on (b ∷ w) t h =
+      let u = and_out (not_newline b) (every not_newline w) h in
+      after_byte_lem b (w ++ t) (not_true (eqb b 10) u.0) ∙ lines_on w t u.1
+
+  module _ (at end : ℕ) (p : PassedOver not_newline list at end) (h : ℕ)
+      (e : h ≡ signature_of 0 (take (end - at) (drop at list))) (l : at < length list) where
+    -- the bytes passed over are those of the line
+    passed_bytes : take (end - at) (drop at list) ≡ p.bytes
+    passed_bytes =
+        let n : length p.bytes ≡ end - at =
+        omega (
+          arith,
+          length-append p.bytes (drop end list),
+          ap length p.split,
+          length-drop at list,
+          length-drop end list,
+          p.from,
+          p.fits,
+        ) in
+        rw (p.split, ← n) (take-append_seam p.bytes (drop end list))
+
+    signed : line_of (drop end list) ≡ [] → h ≡ signature_of 0 (line_of (drop at list))
+    signed x = e ∙ ap (signature_of 0) (passed_bytes ∙ sym (ap line_of p.split ∙ bytes_on p.bytes (drop end list) p.all
+        ∙ ap (λ (t : Bytes). p.bytes ++ t) x ∙ append-nil p.bytes))
+
+    on : drop 1 (lines (drop at list)) ≡ drop 1 (lines (drop end list))
+    on = ap (λ (t : Bytes). drop 1 (lines t)) p.split ∙ lines_on p.bytes (drop end list) p.all
+
+    pub line_met : (next : ℕ) → next ≡ min (end + 1) (length list) → LineMet list at next h
+    unfolding line_of lines
+    line_met next z = go (dec_lt end (length list))
+      where
+        go : Dec (end < length list) → LineMet list at next h
+        go (yes i) =
+            let n : next ≡ end + 1 = omega (arith, z, i) in
+            let b = not_false_is (eqb (byte_at list end) 10) (p.stops i) in
+            rw n (record {
+              on = omega (arith, p.from);
+              fits = omega (arith, i);
+              rest = sym (on ∙ ap (λ (t : Bytes). drop 1 (lines t)) (cons_at list end i)
+                  ∙ after_end (byte_at list end) (drop (end + 1) list) b);
+              signed = signed (rw (cons_at list end i, b) refl);
+            })
+        go (no i) =
+            let n : next ≡ end = omega (arith, z, i, p.fits) in
+            let d = drop_of_length-le list {i = end} (omega (arith, i)) in
+            rw n (record {
+              on = omega (arith, i, l);
+              fits = p.fits;
+              rest = ap lines d ∙ sym (on ∙ ap (λ (t : Bytes). drop 1 (lines t)) d);
+              signed = signed (rw d refl);
+            })
+
+-- signature: a fold over the bytes
+pub signed_all : (t : Bytes) (h : ℕ) → fold (λ (x b : ℕ). signed_by x b) h t ≡ signature_of h t
 unfolding signature_of
-signed_on t h i l = rw (cons_at t i l) refl
-
-pub signed_all : (t : Bytes) (h i : ℕ) → length t ≤ i → signature_of h (drop i t) ≡ h
-unfolding signature_of
-signed_all t h i l = rw (drop_of_length-le t {i = i} l) refl
-
--- pass_line: where it stands in a line
-pub record Passing (list : Bytes) (at i signature : ℕ) : Type 0 where
-  pub from : at ≤ i
-  pub fits : i ≤ length list
-  pub rest : drop 1 (lines (drop at list)) ≡ drop 1 (lines (drop i list))
-  pub signed : signature_of 0 (line_of (drop at list)) ≡ signature_of signature (line_of (drop i list))
-
-module _ (list : Bytes) (at : ℕ) where
-  pub passing_none : at < length list → Passing list at at 0
-  passing_none h = record { from = omega arith; fits = omega (arith, h); rest = refl; signed = refl }
-
-  module _ (i h : ℕ) (p : Passing list at i h) where
-    pub passing_on : ended (drop i list) ≡ false → Passing list at (i + 1) (signed_by h (byte_at list i))
-    unfolding line_of signature_of
-    passing_on e =
-        let l = not_ended list i e in
-        let q = ends_here list i l ∙ e in
-        record {
-          from = omega (arith, p.from);
-          fits = omega (arith, l);
-          rest = p.rest ∙ ap (λ (t : Bytes). drop 1 (lines t)) (cons_at list i l)
-              ∙ after_byte_lem (byte_at list i) (drop (i + 1) list) q;
-          signed = p.signed ∙ rw (cons_at list i l, q) refl;
-        }
-
-    pub passed_end : ended (drop i list) ≡ true → i < length list → LineMet list at (i + 1) h
-    unfolding line_of signature_of
-    passed_end e l =
-        let q = ends_here list i l ∙ e in
-        record {
-          on = omega (arith, p.from);
-          fits = omega (arith, l);
-          rest = sym (p.rest ∙ ap (λ (t : Bytes). drop 1 (lines t)) (cons_at list i l)
-              ∙ after_end (byte_at list i) (drop (i + 1) list) q);
-          signed = sym (p.signed ∙ rw (cons_at list i l, q) refl);
-        }
-
-    pub passed_last : at < length list → length list ≤ i → LineMet list at i h
-    unfolding line_of signature_of lines
-    passed_last b l =
-        let e = drop_of_length-le list {i = i} l in
-        record {
-          on = omega (arith, b, l);
-          fits = p.fits;
-          rest = ap lines e ∙ sym (p.rest ∙ ap (λ (t : Bytes). drop 1 (lines t)) e);
-          signed = sym (p.signed ∙ rw e refl);
-        }
+signed_all [] h = refl
+signed_all (b ∷ t) h = signed_all t (signed_by h b)
 
 -- index_lines
 module _ (list : Bytes) (xs : List ℕ) where
@@ -163,27 +189,28 @@ module _ (list : Bytes) (xs : List ℕ) where
 
   pub index_lent : (n : ℕ) → IndexOf list xs n → 2 * n + 1 ≤ length xs → Indexed list (take (2 * n + 1) xs)
   index_lent n x h =
+      let e = length-take-le (2 * n + 1) xs h in
+      let half : length (take (2 * n + 1) xs) / 2 ≡ n = omega (arith, e) in
       record {
-        count = n;
-        size = length-take-le (2 * n + 1) xs h;
-        index = record {
+        size = omega (arith, e);
+        index = rw half (record {
           places = λ k i. rw (get_or-take (2 * n + 1) xs (2 * k) 0 (omega (arith, i))) (x.places k i);
           signatures = λ k i. rw (
             get_or-take (2 * n + 1) xs (2 * k + 1) 0 (omega (arith, i)),
             get_or-take (2 * n + 1) xs (2 * k) 0 (omega (arith, i)),
           ) (x.signatures k i);
-        };
+        });
       }
 
 -- an index of no line
 pub unindexed : (list : Bytes) → Indexed list (0 ∷ [])
 unindexed list =
-    record { count = 0; size = refl; index = index_none list (0 ∷ []) (omega arith) }
+    record { size = refl; index = index_none list (0 ∷ []) (omega arith) }
 
 -- the search in an index
 module _ (list : Bytes) (xs : List ℕ) (n : Bytes) (x : Indexed list xs) where
   module _ (k : ℕ) (h : 2 * k + 1 < length xs) where
-    inside : k < x.count
+    inside : k < length xs / 2
     inside = omega (arith, h, x.size)
 
     pub place_fits : get_or xs (2 * k) 0 ≤ length list
@@ -229,22 +256,16 @@ module _ (list n : Bytes) where
       ∙ next_from (suc k) (find n (bytes_of (drop 1 (drop k (lines list)))))
       ∙ rw (z, drop-drop 1 k (lines list)) refl
 
-  module _ (xs : List ℕ) where
-    pub index_hit : (k : ℕ) → Before k → first_line_is n (drop k (lines list)) ≡ true → IndexSearched list xs n k true
-    index_hit k b e =
-        record { hit = λ _. first_hit list n k (drop k (lines list)) b e; none = λ q. absurd (never (sym q)) }
+  pub index_hit : (k : ℕ) → Before k → first_line_is n (drop k (lines list)) ≡ true → number_of list n
+      ≡ cond (leb (k + 1) 65535) (k + 1) 0
+  index_hit k b e = first_hit list n k (drop k (lines list)) b e
 
-    pub index_missed : (x : Indexed list xs) (k : ℕ) → Before k → k ≡ x.count → IndexSearched list xs n k false
-    index_missed x k b e =
-        let here = x.index.places k (omega (arith, e)) in
-        record {
-          hit = λ q. absurd (never q);
-          none = λ _. (
-            omega (arith, e, x.size),
-            record {
-              others = b ∙ ap (λ (ls : List Line). numbered_from (suc k) (find n (bytes_of ls))) (sym here.rest);
-              fits = here.fits;
-              few = here.few;
-            },
-          );
-        }
+  pub index_missed : (xs : List ℕ) → Indexed list xs → Before (length xs / 2) → IndexMissed list xs n
+  index_missed xs x b =
+      let here = x.index.places (length xs / 2) (omega arith) in
+      record {
+        others = b ∙ ap (λ (ls : List Line). numbered_from (suc (length xs / 2)) (find n (bytes_of ls)))
+            (sym here.rest);
+        fits = here.fits;
+        few = here.few;
+      }

@@ -1,6 +1,6 @@
 -- The search for a name in a list. Assumes nothing.
 use Prim.Native.Nat.{ℕ, zero, suc, ◌+◌, ◌-◌, ◌<◌, ◌≤◌}
-use mathlib.Core.Path.{◌≡◌, refl, sym, ap, ◌∙◌, subst}
+use mathlib.Core.Path.{◌≡◌, refl, sym, ap, ◌∙◌}
 use mathlib.Core.Bool.{Bool, true, false, cond, ◌&&◌, ◌||◌}
 use mathlib.Core.List.{List, [], ◌∷◌}
 use mathlib.Core.Option.{Option, none, some}
@@ -8,15 +8,22 @@ use native.Mathlib.Omega.{arith}
 use lib.Dec.{eqb, leb, le→leb, leb→le}
 use lib.ListN.{length, get_or, drop, drop_of_length-le}
 use lib.Seq.{drop-cons, drop-drop, get_or-drop}
-use Rattle.lines.specs.Line.{Line, line, lines, in_first_line}
+use Rattle.lines.specs.Line.{Line, lines, in_first_line}
 use Rattle.lines.specs.code.NumbersRead.{starts_with}
 use Rattle.grammar.specs.Bytes.{Bytes, is_word}
 use Rattle.grammar.specs.Words.{find, next, bytes_of, numbered, number_of}
 use Rattle.grammar.proofs.Basics.{so, is_true, never, and_out, and_in, eq_byte}
 use Rattle.words.specs.code.Scan.{byte_at}
-use Rattle.words.specs.code.Names.{first_line_is, numbered_from, LinesPassed, Sought, Searched, LookMet}
+use Rattle.words.specs.code.Names.{first_line_is, numbered_from, LinesPassed, Sought, Searched}
 use Rattle.words.specs.code.Index.{ended}
 use Rattle.words.proofs.Named.{line_is}
+
+pub differs : (b c : ℕ) → (b ≡ c → ⊥) → eqb b c ≡ false
+differs b c h = go (eqb b c) refl
+  where
+    go : (x : Bool) → eqb b c ≡ x → eqb b c ≡ false
+    go true e = absurd (h (eq_byte b c e))
+    go false e = e
 
 -- the lines after the first, one byte on
 pub after_byte_lem : (b : ℕ) (t : Bytes) → eqb b 10 ≡ false → drop 1 (lines (b ∷ t)) ≡ drop 1 (lines t)
@@ -87,16 +94,10 @@ numbered_out n h = sym (rw (go (leb (n + 1) 65535) refl) refl)
     go true e = absurd (omega (arith, h, leb→le (n + 1) 65535 (so (leb (n + 1) 65535) e)))
     go false e = e
 
--- is_name_after
-pub none_after : (b : ℕ) (f : Bool) → (b ≡ 10 → ⊥) → false ≡ (eqb b 10 && f)
-none_after b f h = go (eqb b 10) refl
-  where
-    go : (c : Bool) → eqb b 10 ≡ c → false ≡ (eqb b 10 && f)
-    go true e = absurd (h (eq_byte b 10 e))
-    go false e = rw e refl
-
-pub line_after : (b : ℕ) (r f : Bool) → b ≡ 10 → r ≡ f → r ≡ (eqb b 10 && f)
-line_after b r f e q = q ∙ ap (λ (j : ℕ). eqb j 10 && f) (sym e)
+-- a look so far, which may find that none of the lines is the name
+pub record LookMet (list name : Bytes) (from to ends : ℕ) (may : Bool) : Type 0 where
+  pub none : may ≡ false → Searched list name from to ends false
+  pub few : from + ends ≤ to
 
 module _ (list n : Bytes) where
   -- a newline at i, and the name after it
@@ -224,21 +225,22 @@ module _ (list n : Bytes) where
           few = omega (arith, s.few, one_is, l);
         }
 
-    -- one byte of a walk
-    pub walked : (b : Bool) → b ≡ (eqb (byte_at list i) 10 && Begins i) → b ≡ false
-        → Searched list n from (i + 1) (ends + one) false
-    walked b p e = searched_byte (λ x. go (Begins i) refl x)
-      where
-        go : (f : Bool) → Begins i ≡ f → byte_at list i ≡ 10 → Begins i ≡ false
-        go false x y = x
-        go true x y = absurd (never (sym e ∙ p
-            ∙ and_in (eqb (byte_at list i) 10) (Begins i) (ap (λ (j : ℕ). eqb j 10) y) x))
+  -- one byte of a walk
+  module _ (from i ends : ℕ) (s : Searched list n from i ends false) (h : i < length list) where
+    pub walk_hit : byte_at list i ≡ 10 → Begins i ≡ true → (to : ℕ) → i < to → Searched list n from to (ends + 1) true
+    walk_hit b f to l = searched_hit from i ends 1 s h (rw b refl) to l (rw b refl) f
 
-    pub walk_hit : (b : Bool) → b ≡ (eqb (byte_at list i) 10 && Begins i) → b ≡ true → (to : ℕ) → i < to
-        → Searched list n from to (ends + one) true
-    walk_hit b p e to l =
-        let u = and_out (eqb (byte_at list i) 10) (Begins i) (sym p ∙ e) in
-        searched_hit to l u.0 u.1
+    pub walk_miss : byte_at list i ≡ 10 → Begins i ≡ false → Searched list n from (i + 1) (ends + 1) false
+    walk_miss b f = searched_byte from i ends 1 s h (rw b refl) (λ _. f)
+
+    pub walk_byte : (byte_at list i ≡ 10 → ⊥) → Searched list n from (i + 1) ends false
+    walk_byte x = go (eqb (byte_at list i) 10) refl
+      where
+        go : (b : Bool) → eqb (byte_at list i) 10 ≡ b → Searched list n from (i + 1) ends false
+        go true e = absurd (x (eq_byte (byte_at list i) 10 e))
+        go false e =
+            let z : ends + 0 ≡ ends = omega arith in
+            rw z at (searched_byte from i ends 0 s h (rw e refl) (λ y. absurd (x y)))
 
   -- look
   pub look_none : (from to : ℕ) → to ≡ from → LookMet list n from to 0 false
@@ -252,10 +254,3 @@ module _ (list n : Bytes) where
         none = λ x. let u = or-false may here x in searched_byte from i ends one (l.none u.0) h q (f u.1);
         few = omega (arith, l.few, q, one_most (eqb (byte_at list i) 10));
       })
-
-  pub look_all : (from k ends : ℕ) (may : Bool) → LookMet list n from (from + k) ends may → k ≡ 128
-      → LookMet list n from (from + 128) ends may
-  look_all from k ends may l e = subst (λ (j : ℕ). LookMet list n from (from + j) ends may) e l
-
-  pub walk_all : (from i to ends : ℕ) → Searched list n from i ends false → i ≡ to → Searched list n from to ends false
-  walk_all from i to ends s e = subst (λ (j : ℕ). Searched list n from j ends false) e s

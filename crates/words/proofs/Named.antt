@@ -1,18 +1,21 @@
 -- Words, and the lines of the lent list. Assumes nothing.
-use Prim.Native.Nat.{ℕ, suc, ◌+◌, ◌-◌, ◌<◌, ◌≤◌}
+use Prim.Native.Nat.{ℕ, zero, suc, ◌+◌, ◌<◌, ◌≤◌}
 use mathlib.Core.Path.{◌≡◌, refl, sym, ap, ◌∙◌}
 use mathlib.Core.Bool.{Bool, true, false, cond, ◌&&◌}
 use mathlib.Core.List.{List, [], ◌∷◌}
 use native.Mathlib.Omega.{arith}
-use lib.Dec.{eqb}
-use lib.ListN.{length, drop, drop_of_length-le}
-use lib.Seq.{drop-cons, drop-drop}
+use lib.Dec.{eqb, eqb_refl}
+use lib.ListN.{length, drop, length-drop}
+use lib.Seq.{drop-drop}
+use Rattle.std.specs.Borrow.{Bor}
+use Rattle.std.specs.Prelude.{Option as Maybe, Some, None, MatchOption}
+use Rattle.std.specs.List.{AllWithin, HoldsAt}
 use Rattle.lines.specs.Line.{Line, line, lines, in_first_line, same_bytes}
 use Rattle.lines.specs.code.NumbersRead.{starts_with}
 use Rattle.grammar.specs.Bytes.{Bytes, is_start, is_name, every, is_word}
-use Rattle.grammar.proofs.Basics.{never, and_out, eq_byte, start_name}
-use Rattle.words.specs.code.Scan.{byte_at}
-use Rattle.words.specs.code.Names.{pick_from, first_line_is}
+use Rattle.grammar.proofs.Basics.{never, and_out, eq_byte, start_name, is_true}
+use Rattle.lines.proofs.SameBytes.{same_bytes_lem}
+use Rattle.words.specs.code.Names.{found, first_line_is}
 use Rattle.words.specs.code.Index.{line_of, ended}
 
 pub eqb_sym : (x y : ℕ) → eqb x y ≡ eqb y x
@@ -22,25 +25,6 @@ eqb_sym x y = go (eqb x y) (eqb y x) refl refl
     go true c e f = rw (eq_byte x y e) refl
     go false true e f = rw (eq_byte y x f) refl
     go false false e f = e ∙ sym f
-
--- words of different lengths
-pub same_apart : (t u : Bytes) → (length t ≡ length u → ⊥) → false ≡ same_bytes t u
-unfolding same_bytes
-same_apart [] [] h = absurd (h refl)
-same_apart [] (c ∷ u) h = refl
-same_apart (b ∷ t) [] h = refl
-same_apart (b ∷ t) (c ∷ u) h = rw (← same_apart t u (λ e. h (ap suc e))) (and_no (eqb b c))
-  where
-    and_no : (x : Bool) → false ≡ (x && false)
-    and_no true = refl
-    and_no false = refl
-
-pub same_starts : (t u : Bytes) → length t ≡ length u → starts_with u t ≡ same_bytes t u
-unfolding same_bytes starts_with
-same_starts [] [] h = refl
-same_starts [] (c ∷ u) h = absurd (omega (arith, h))
-same_starts (b ∷ t) [] h = absurd (omega (arith, h))
-same_starts (b ∷ t) (c ∷ u) h = ap (λ (x : Bool). eqb b c && x) (same_starts t u (omega (arith, h)))
 
 -- the bytes of the first line
 unfoldable pub first_bytes : List Line → Bytes
@@ -106,6 +90,12 @@ unfolding is_word every
 word_names [] h = absurd (never h)
 word_names (b ∷ n) h = let u = and_out (is_start b) (every is_name n) h in rw (start_name b u.0, u.1) refl
 
+starts_length : (n t : Bytes) → starts_with n t ≡ true → length n ≤ length t
+unfolding starts_with
+starts_length [] t h = omega arith
+starts_length (c ∷ n) [] h = absurd (never h)
+starts_length (c ∷ n) (x ∷ t) h = omega (arith, starts_length n t (and_out (eqb x c) (starts_with n t) h).1)
+
 -- is_name_line
 module _ (n list : Bytes) (at : ℕ) (h : is_word n ≡ true) where
   pub line_is : first_line_is n (lines (drop at list))
@@ -116,28 +106,72 @@ module _ (n list : Bytes) (at : ℕ) (h : is_word n ≡ true) where
   pub line_other : starts_with n (drop at list) ≡ false → false ≡ first_line_is n (lines (drop at list))
   line_other e = sym (line_is ∙ rw e refl)
 
-  pub line_none : length list ≤ at → false ≡ first_line_is n (lines (drop at list))
-  unfolding first_line_is lines
-  line_none e = rw (drop_of_length-le list e) refl
-
+  -- where the word stands, its line is the word if it ends there
   module _ (e : starts_with n (drop at list) ≡ true) where
-    pub line_last : at < length list → length list - at ≤ length n → true ≡ first_line_is n (lines (drop at list))
-    unfolding ended
-    line_last i j = sym (line_is
-        ∙ rw (e, drop-drop (length n) at list, drop_of_length-le list {i = at + length n} (omega (arith, i, j))) refl)
+    pub line_ends : ended (drop (at + length n) list) ≡ first_line_is n (lines (drop at list))
+    line_ends = sym (line_is ∙ rw (e, drop-drop (length n) at list) refl)
 
-    pub line_ends : at < length list → length n < length list - at → eqb (byte_at list (at + length n)) 10
-        ≡ first_line_is n (lines (drop at list))
-    unfolding ended
-    line_ends i j = sym (line_is
-        ∙ rw (e, drop-drop (length n) at list, drop-cons list (at + length n) 0 (omega (arith, i, j))) refl)
+    pub word_fits : at + length n ≤ length list
+    unfolding is_word
+    word_fits = go n h e
+      where
+        go : (m : Bytes) → is_word m ≡ true → starts_with m (drop at list) ≡ true → at + length m ≤ length list
+        go [] w x = absurd (never w)
+        go (b ∷ m) w x = omega (arith, starts_length (b ∷ m) (drop at list) x, length-drop at list)
 
--- axis_of, type_of
-pub pick_step : (other i : ℕ) (m : Bytes) (ms : List Bytes) (n : Bytes) (r rest : ℕ) (b : Bool) → r ≡ cond b i rest
-    → b ≡ same_bytes n m → rest ≡ pick_from other (suc i) ms n → r ≡ pick_from other i (m ∷ ms) n
-unfolding pick_from
-pick_step other i m ms n r rest b e f g = e ∙ rw (f, g) refl
+-- find
+pub same_of : (t u : Bytes) → t ≡ u → same_bytes t u ≡ true
+unfolding same_bytes
+same_of t u h = rw h (same_self u)
+  where
+    same_self : (v : Bytes) → same_bytes v v ≡ true
+    same_self [] = refl
+    same_self (b ∷ v) = rw (is_true (eqb b b) (eqb_refl b)) (same_self v)
 
-pub pick_none : (other i : ℕ) (n : Bytes) → other ≡ pick_from other i [] n
-unfolding pick_from
-pick_none other i n = refl
+pub not_same : (t u : Bytes) → (t ≡ u → ⊥) → same_bytes t u ≡ false
+not_same t u h = go (same_bytes t u) refl
+  where
+    go : (b : Bool) → same_bytes t u ≡ b → same_bytes t u ≡ false
+    go true f = absurd (h (same_bytes_lem t u f))
+    go false f = f
+
+-- same
+pub same_is : (t u : Bytes) (r : Bool) → (r ≡ true → t ≡ u) → (r ≡ false → t ≡ u → ⊥) → r ≡ same_bytes t u
+same_is t u true y n = sym (same_of t u (y refl))
+same_is t u false y n = sym (not_same t u (n refl))
+
+module _ (n : Bytes) where
+  abbrev pub Hit : Bor Bytes × ℕ → Type 0
+  Hit e = same_bytes n e.0.now ≡ true
+
+  abbrev pub Miss : Bor Bytes × ℕ → Type 0
+  Miss e = same_bytes n e.0.now ≡ false
+
+  pub hit : (e : Bor Bytes × ℕ) → e.0.now ≡ n → Hit e
+  hit e h = same_of n e.0.now (sym h)
+
+  pub miss : (e : Bor Bytes × ℕ) → (e.0.now ≡ n → ⊥) → Miss e
+  miss e h = not_same n e.0.now (λ f. h (sym f))
+
+  none_found : (t : List (Bor Bytes × ℕ)) → AllWithin Miss t 0 (length t) → None ≡ found n t
+  unfolding found
+  none_found [] a = refl
+  none_found (e ∷ t) a =
+      rw (a 0 e (omega arith) (omega arith)) (none_found t (λ k d l h. a (suc k) d (omega arith) (omega (arith, h))))
+
+  one_found : (t : List (Bor Bytes × ℕ)) (x : Bor Bytes × ℕ) (i : ℕ) → i < length t → HoldsAt (λ y. y ≡ x) t i
+      → AllWithin Miss t 0 i → Hit x → Some x.1 ≡ found n t
+  unfolding found
+  one_found [] x i h y a z = absurd (omega (arith, h))
+  one_found (e ∷ t) x zero h y a z = rw (y e, z) refl
+  one_found (e ∷ t) x (suc i) h y a z =
+      rw (a 0 e (omega arith) (omega arith)) (one_found t x i (omega (arith, h)) (λ d. y d)
+      (λ k d l j. a (suc k) d (omega arith) (omega (arith, j))) z)
+
+  -- what a search of the table finds
+  pub found_first : (t : List (Bor Bytes × ℕ)) (r : Maybe (Bor (Bor Bytes × ℕ))) (m : Maybe ℕ)
+      → MatchOption r (AllWithin Miss t 0 (length t))
+      (λ x. Hit x.now × (i : ℕ) × (i < length t) × HoldsAt (λ y. y ≡ x.now) t i × AllWithin Miss t 0 i)
+      → MatchOption r (m ≡ None) (λ x. m ≡ Some x.now.1) → m ≡ found n t
+  found_first t None m a e = e ∙ none_found t a
+  found_first t (Some x) m a e = e ∙ one_found t x.now a.1 a.2 a.3 a.4 a.0

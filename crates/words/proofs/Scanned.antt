@@ -1,16 +1,18 @@
 -- Bytes passed over. Assumes nothing.
-use Prim.Native.Nat.{ℕ, ◌+◌, ◌-◌, ◌<◌, ◌≤◌}
+use Prim.Native.Nat.{ℕ, zero, suc, ◌+◌, ◌-◌, ◌<◌, ◌≤◌}
 use mathlib.Core.Path.{◌≡◌, refl, ap, ◌∙◌}
 use mathlib.Core.Bool.{Bool, true, false}
-use mathlib.Core.List.{List, [], ◌∷◌, ◌++◌, append_assoc}
+use mathlib.Core.List.{[], ◌∷◌, ◌++◌, append_assoc}
 use native.Mathlib.Omega.{arith}
 use native.Mathlib.Decide.{dec_lt}
 use native.Mathlib.Numerals.{add-one}
-use lib.ListN.{length, get_or, drop, get_or-eq_default}
+use lib.ListN.{length, get_or, drop, length-drop, get_or-eq_default}
 use lib.Seq.{drop-cons, get_or-drop}
-use Rattle.grammar.specs.Bytes.{Bytes, is_space, is_start, is_name, every}
+use Rattle.std.specs.Prelude.{Option, Some, None, MatchOption}
+use Rattle.std.specs.List.{AllWithin, HoldsAt}
+use Rattle.grammar.specs.Bytes.{Bytes, every}
 use Rattle.grammar.proofs.Basics.{never, and_out, and_in}
-use Rattle.words.specs.code.Scan.{byte_at, Passed}
+use Rattle.words.specs.code.Scan.{byte_at, PassedOver, Passed}
 
 pub past : (s : Bytes) (at : ℕ) → length s ≤ at → byte_at s at ≡ 0
 past s at h = get_or-eq_default s 0 h
@@ -26,22 +28,6 @@ there p s at h e = go (dec_lt at (length s))
 pub head_drop : (s : Bytes) (at : ℕ) → get_or (drop at s) 0 0 ≡ byte_at s at
 head_drop s at = get_or-drop at s 0 0 ∙ ap (byte_at s) (omega arith)
 
--- what a loop has passed over so far
-pub record So-far (p : ℕ → Bool) (s : Bytes) (at i : ℕ) : Type 0 where
-  pub bytes : Bytes
-  pub all : every p bytes ≡ true
-  pub split : drop at s ≡ bytes ++ drop i s
-  pub from : at ≤ i
-  pub fits : i ≤ length s
-
-pub is_space_there : (s : Bytes) (i : ℕ) → is_space (byte_at s i) ≡ true → i < length s
-unfolding is_space
-is_space_there s i h = there is_space s i refl h
-
-pub is_name_there : (s : Bytes) (i : ℕ) → is_name (byte_at s i) ≡ true → i < length s
-unfolding is_name is_start
-is_name_there s i h = there is_name s i refl h
-
 every_snoc : (p : ℕ → Bool) (w : Bytes) (b : ℕ) → every p w ≡ true → p b ≡ true → every p (w ++ (b ∷ [])) ≡ true
 unfolding every
 every_snoc p [] b h e = rw e
@@ -49,20 +35,69 @@ every_snoc p (c ∷ w) b h e = let u =
     and_out (p c) (every p w) h in and_in (p c) (every p (w ++ (b ∷ []))) u.0 (every_snoc p w b u.1 e)
 
 module _ (p : ℕ → Bool) (s : Bytes) (at : ℕ) where
-  pub pass_none : at ≤ length s → So-far p s at at
+  -- the bytes up to a place, each of which passes the test
+  record So-far (i : ℕ) : Type 0 where
+    bytes : Bytes
+    all : every p bytes ≡ true
+    split : drop at s ≡ bytes ++ drop i s
+
+  so_far : (n : ℕ) → at + n ≤ length s → ((k : ℕ) → k < n → p (byte_at s (at + k)) ≡ true) → So-far (at + n)
   unfolding every
-  pass_none h = record { bytes = []; all = refl; split = refl; from = omega arith; fits = h }
+  so_far zero h a = let e : at + zero ≡ at = omega arith in
+      rw e (record { bytes = []; all = refl; split = refl })
+  so_far (suc n) h a =
+      let e : at + suc n ≡ at + n + 1 = omega arith in
+      let g = so_far n (omega (arith, h)) (λ k i. a k (omega (arith, i))) in
+      let i : at + n < length s = omega (arith, h) in
+      rw e (record {
+        bytes = g.bytes ++ (byte_at s (at + n) ∷ []);
+        all = every_snoc p g.bytes (byte_at s (at + n)) g.all (a n (omega arith));
+        split = g.split ∙ (rw (add-one, append_assoc, drop-cons s (at + n) 0) refl);
+      })
 
-  pub pass_one : (i : ℕ) → So-far p s at i → i < length s → p (byte_at s i) ≡ true → So-far p s at (i + 1)
-  pass_one i g h e =
-      record {
-        bytes = g.bytes ++ (byte_at s i ∷ []);
-        all = every_snoc p g.bytes (byte_at s i) g.all e;
-        split = g.split ∙ (rw (add-one, append_assoc, drop-cons s i 0) refl);
-        from = omega (arith, g.from);
+  -- where a search for the first byte that fails the test ends
+  pub passed_first : (r : Option ℕ) (to : ℕ) → at ≤ length s
+      → MatchOption r (AllWithin (λ b. p b ≡ true) (drop at s) 0 (length (drop at s)))
+      (λ i. (i < length (drop at s)) × HoldsAt (λ b. p b ≡ false) (drop at s) i
+      × AllWithin (λ b. p b ≡ true) (drop at s) 0 i)
+      → MatchOption r (to ≡ length s) (λ i. to ≡ at + i) → PassedOver p s at to
+  passed_first None to l a e =
+      let n : at + (length s - at) ≡ length s = omega (arith, l) in
+      let g = rw n at (so_far (length s - at) (omega (arith, l))
+      (λ k i. rw get_or-drop at (a k 0 (omega arith) (rw length-drop (omega (arith, i)))))) in
+      rw e (record {
+        bytes = g.bytes;
+        all = g.all;
+        split = g.split;
+        from = l;
         fits = omega arith;
-      }
+        stops = λ h. absurd (omega (arith, h));
+      })
+  passed_first (Some i) to l a e =
+      let h : at + i < length s = omega (arith, a.0, length-drop at s) in
+      let g = so_far i (omega (arith, h)) (λ k j. rw get_or-drop at (a.2 k 0 (omega arith) j)) in
+      rw e (record {
+        bytes = g.bytes;
+        all = g.all;
+        split = g.split;
+        from = omega arith;
+        fits = omega (arith, h);
+        stops = λ _. rw get_or-drop at (a.1 0);
+      })
 
-  pub pass_done : (i : ℕ) → So-far p s at i → p (byte_at s i) ≡ false → Passed p s at i
-  pass_done i g e = record
-      { bytes = g.bytes; all = g.all; split = g.split; from = g.from; fits = g.fits; stops = e }
+  -- a test that the end of the text fails
+  pub passed : (to : ℕ) → p 0 ≡ false → PassedOver p s at to → Passed p s at to
+  passed to z g =
+      record {
+        bytes = g.bytes;
+        all = g.all;
+        split = g.split;
+        from = g.from;
+        fits = g.fits;
+        stops = go
+            (dec_lt to (length s));
+      }
+    where
+      go : Dec (to < length s) → p (byte_at s to) ≡ false
+      go (yes i) = g.stops i
+      go (no i) = rw (past s to (omega (arith, i))) z

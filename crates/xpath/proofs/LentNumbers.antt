@@ -6,8 +6,9 @@ use mathlib.Core.List.{List, [], ◌∷◌}
 use native.Mathlib.Omega.{arith}
 use lib.Dec.{ltb}
 use lib.ListN.{length, get_or, get_or-eq_default}
+use Rattle.std.specs.Int.{div_ceil}
 use borrow.Author.Tests.{ltb-true, ltb-false, lt-ltb}
-use Rattle.xpath.specs.Document.{Node, node, root_node, kind_at, parent_at, name_at, document_of}
+use Rattle.xpath.specs.Document.{Node, node, root_node, kind_at, parent_at, name_at, document_of, lent_rows}
 
 -- a whole row is three numbers
 pub nodes_lent : (xs : List ℕ) → length (document_of xs) ≡ length xs / 3
@@ -67,3 +68,8 @@ module _ (xs : List ℕ) (n : ℕ) where
   -- in a whole row it is the number itself
   pub whole_lent : (v : ℕ) → n < length (document_of xs) → cond (ltb n (length xs / 3)) v 0 ≡ v
   whole_lent v l = let e = nodes_lent xs in let h : n < length xs / 3 = omega arith in rw (lt-ltb n (length xs / 3) h)
+
+-- a last row that is not whole counts
+pub rows_counted : (xs : List ℕ) → div_ceil (length xs) 3 ≡ lent_rows xs
+unfolding lent_rows
+rows_counted xs = omega arith

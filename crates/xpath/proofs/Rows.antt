@@ -1,29 +1,27 @@
 -- The check of lent numbers, row by row, up to its answer. Assumes nothing.
-use Prim.Native.Nat.{ℕ, zero, suc, ◌+◌, ◌*◌, ◌≤◌, ◌<◌}
+use Prim.Native.Nat.{ℕ, zero, suc, ◌+◌, ◌*◌, ◌%◌, ◌≤◌, ◌<◌}
 use mathlib.Core.Path.{◌≡◌, refl, sym, ap, subst, ◌∙◌}
-use mathlib.Core.Bool.{Bool, true, false, not, ◌&&◌, ◌||◌}
+use mathlib.Core.Bool.{Bool, true, false}
 use mathlib.Core.List.{List}
-use mathlib.Core.Logic.{inl, ⊎_elim}
-use mathlib.Core.Option.{none, some}
+use mathlib.Core.Logic.{inl}
+use mathlib.Core.Option.{none}
+use Rattle.std.specs.Prelude.{Some, None, Ok, Err}
 use native.Mathlib.Omega.{arith}
-use lib.Dec.{leb, ltb}
+use lib.Dec.{ltb}
 use lib.ListN.{length, length-set}
 use borrow.Author.Tests.{eq-eqb, ne_eqb, lt-ltb, le-ltb}
 use Rattle.common.specs.Bounded.{first_below}
-use Rattle.xpath.specs.Document.{Document, kind_at, parent_at, name_at, is_attribute, attribute_placed}
-use Rattle.xpath.specs.Document.{kind_and_name_ok}
+use Rattle.xpath.specs.Document.{Document, parent_at}
 use Rattle.xpath.specs.Document.{row_ok_by, document_of, lent_rows, bad_row_by, max_nodes, document_refusal}
 use Rattle.xpath.specs.Climb.{above, climb_met}
 use Rattle.xpath.specs.code.Ends.{Filled}
 use Rattle.xpath.specs.code.Check.{closed, closed_before, closed_in_turn, ClimbMade, Placed, FirstBad}
 use Rattle.xpath.specs.code.Check.{DocumentChecked}
-use Rattle.xpath.specs.declared.Climb.{Climb}
-use Rattle.xpath.specs.declared.DocumentCheck.TheVariants.{Accepted, Refused}
-use Rattle.common.proofs.Reflect.{le_or_lt}
-use Rattle.common.proofs.Search.{first_not_yet, first_found}
+use Rattle.xpath.specs.declared.document.Climb.{Climb}
+use Rattle.common.proofs.Search.{first_not_yet, first_found, found_below}
 use Rattle.xpath.proofs.LentNumbers.{nodes_lent}
 use Rattle.xpath.proofs.Refusal.{accepted_iff}
-use Rattle.xpath.proofs.Climbing.{takes_none, not_met, refuses_alike}
+use Rattle.xpath.proofs.Climbing.{takes_none, refuses_alike}
 use Rattle.xpath.proofs.Ends.{ends_found}
 
 -- closing subtrees changes no length
@@ -75,34 +73,44 @@ module _ (xs es : List ℕ) where
             ends = e ∙ rw p.ends;
           }
 
-      pub bad_found : (next : List ℕ) → row_ok_by climb_met (document_of xs) n ≡ false → FirstBad xs es n next
+      pub bad_found : (next : List ℕ) → row_ok_by climb_met (document_of xs) n ≡ false → FirstBad xs es (Some n) next
       unfolding lent_rows
       bad_found next fails =
           let l = nodes_lent xs in
           let h : n < lent_rows xs = omega arith in
           record {
-            first =
-                first_found (bad_row_by climb_met xs) n (lent_rows xs) h p.sound (rw (complete, fails))
-                ∙ rw (lt-ltb n (lent_rows xs) h);
-            ends = λ g. absurd (omega arith);
+            first = sym (first_found (bad_row_by climb_met xs) n (lent_rows xs) h p.sound (rw (complete, fails)));
+            ends = tt;
           }
 
-    -- after the whole rows stands an incomplete one, or none
-    pub all_passed : n ≡ length (document_of xs) → FirstBad xs es n left
-    unfolding lent_rows
-    all_passed e =
-        let l = nodes_lent xs in
-        record {
-          first =
-              ⊎_elim
-              (λ h. let q : lent_rows xs ≡ n = omega arith in
-              rw (le-ltb n (lent_rows xs) h) (ap (λ m. first_below m (bad_row_by climb_met xs)) q ∙ p.sound))
-              (λ h. let g : length xs < 3 * n + 3 = omega arith in
-              let bad : bad_row_by climb_met xs n ≡ true = rw (lt-ltb (length xs) (3 * n + 3) g) in
-              rw (lt-ltb n (lent_rows xs) h) (first_found (bad_row_by climb_met xs) n (lent_rows xs) h p.sound bad))
-              (le_or_lt (lent_rows xs) n);
-          ends = λ _. p.ends ∙ rw e;
-        }
+    module _ (e : n ≡ length (document_of xs)) where
+      -- no row stands after the whole ones
+      pub all_passed : length xs % 3 ≡ 0 → FirstBad xs es None left
+      unfolding lent_rows
+      all_passed h =
+          let l = nodes_lent xs in
+          let q : lent_rows xs ≡ n = omega arith in
+          record {
+            first = sym (ap (λ m. first_below m (bad_row_by climb_met xs)) q ∙ p.sound);
+            ends = p.ends ∙ rw e;
+          }
+
+      -- an incomplete one does
+      pub incomplete_found : ¬ (length xs % 3 ≡ 0) → FirstBad xs es (Some n) left
+      unfolding lent_rows
+      incomplete_found f =
+          let l = nodes_lent xs in
+          let h : n < lent_rows xs = omega arith in
+          let g : length xs < 3 * n + 3 = omega arith in
+          let bad : bad_row_by climb_met xs n ≡ true = rw (lt-ltb (length xs) (3 * n + 3) g) in
+          record {
+            first = sym (first_found (bad_row_by climb_met xs) n (lent_rows xs) h p.sound bad);
+            ends = tt;
+          }
+
+-- a bad row is one of those lent
+pub bad_below : (xs es : List ℕ) (n : ℕ) (left : List ℕ) → FirstBad xs es (Some n) left → n < lent_rows xs
+bad_below xs es n left b = found_below (bad_row_by climb_met xs) (lent_rows xs) n b.first
 
 -- whether row p is row n or an ancestor of it: the same row, or the climb
 module _ (d : Document) (p n : ℕ) (es : List ℕ) where
@@ -114,63 +122,43 @@ module _ (d : Document) (p n : ℕ) (es : List ℕ) where
       Placed d p n es r.met left
   climb_placed e r left q ne m = record { placed = m.met ∙ rw (ne_eqb p n ne); ends = m.ends ∙ rw q }
 
-  -- such a row is no later one
-  pub placed_below : (r : Bool) (left : List ℕ) → Placed d p n es r left → r ≡ true → p ≤ n
-  placed_below r left w e =
-      ⊎_elim
-      (λ h. h)
-      (λ h. let ne = ne_eqb p n (λ q. omega arith) in
-      let no : climb_met d p n ≡ false = not_met d p n (omega arith) in
-      let f : r ≡ false = w.placed ∙ rw (ne, no) in
-      let z : ◌≡◌ {A = ℕ} 0 1 = cc in absurd (omega arith))
-      (le_or_lt p n)
-
--- row n + 1, i by its number and p by its parent's, test by test
+-- row n + 1, i by its number and p by its parent's
 module _ (d : Document) (n i p : ℕ) (es left : List ℕ) (placed : Bool)
     (number : i ≡ suc n) (parent : p ≡ parent_at d i) (w : Placed d p n es placed left) where
   pub row_closed : left ≡ closed_before d (suc n) es
   unfolding closed_before
   row_closed = w.ends ∙ rw (parent, number)
 
-  pub row_by_tests : row_ok_by climb_met d (suc n)
-      ≡ (placed
-      && leb (kind_at d p) 1
-      && kind_and_name_ok (kind_at d i) (name_at d i)
-      && (not (is_attribute d (suc n)) || attribute_placed d n))
-  row_by_tests = rw (w.placed, parent, number)
-
 -- The answer of the check, in the order of the definition.
 module _ (xs : List ℕ) where
-  -- the ends of what is refused are any
-  refused : (v : ℕ) (es : List ℕ) → some v ≡ document_refusal xs →
-      DocumentChecked xs (record { answer = Refused v; ends = es })
-  refused v es e = record { refusal = e; ends = λ f. let z : ◌≡◌ {A = ℕ} 0 1 = cc in absurd (omega arith) }
-
-  pub no_rows : (es : List ℕ) → lent_rows xs ≡ 0 → DocumentChecked xs (record { answer = Refused 0; ends = es })
+  pub no_rows : lent_rows xs ≡ 0 → DocumentChecked xs (Err 0)
   unfolding document_refusal
-  no_rows es e = refused 0 es (rw (eq-eqb (lent_rows xs) 0 e))
+  no_rows e = record { refusal = rw (eq-eqb (lent_rows xs) 0 e); ends = tt }
 
   module _ (some_row : ¬ (lent_rows xs ≡ 0)) where
-    pub too_many : (es : List ℕ) → max_nodes < lent_rows xs →
-        DocumentChecked xs (record { answer = Refused max_nodes; ends = es })
+    pub too_many : max_nodes < lent_rows xs → DocumentChecked xs (Err max_nodes)
     unfolding document_refusal
-    too_many es h = refused max_nodes es (rw (ne_eqb (lent_rows xs) 0 some_row, lt-ltb max_nodes (lent_rows xs) h))
+    too_many h =
+        record {
+          refusal = rw (ne_eqb (lent_rows xs) 0 some_row, lt-ltb max_nodes (lent_rows xs) h);
+          ends = tt;
+        }
 
-    module _ (few : lent_rows xs ≤ max_nodes) (es : List ℕ) (r : ℕ) (left : List ℕ) (b : FirstBad xs es r left) where
+    module _ (few : lent_rows xs ≤ max_nodes) where
       -- refusal 8 is the first bad row, by either climb
       refusal_is : first_below (lent_rows xs) (bad_row_by climb_met xs) ≡ document_refusal xs
       refusal_is =
           sym (rw (ne_eqb (lent_rows xs) 0 some_row, le-ltb max_nodes (lent_rows xs) few) at (sym (refuses_alike xs)))
 
-      pub row_refused : r < lent_rows xs → DocumentChecked xs (record { answer = Refused r; ends = left })
-      row_refused h = refused r left (sym (rw (lt-ltb r (lent_rows xs) h) at b.first) ∙ refusal_is)
+      module _ (es left : List ℕ) where
+        pub row_refused : (n : ℕ) → FirstBad xs es (Some n) left → DocumentChecked xs (Err n)
+        row_refused n b = record { refusal = b.first ∙ refusal_is; ends = tt }
 
-      pub all_accepted : lent_rows xs ≤ r → Filled (lent_rows xs) es →
-          DocumentChecked xs (record { answer = Accepted; ends = left })
-      unfolding lent_rows
-      all_accepted h f =
-          let e : none ≡ document_refusal xs = sym (rw (le-ltb r (lent_rows xs) h) at b.first) ∙ refusal_is in
-          let (whole, small, formed) = (accepted_iff xs).0 (sym e) in
-          let n : lent_rows xs ≡ length (document_of xs) = omega arith in
-          let g : Filled (length (document_of xs)) es = subst (λ (v : ℕ). Filled v es) n f in
-          record { refusal = e; ends = λ _. rw (b.ends h) (ends_found (document_of xs) formed small es g) }
+        pub all_accepted : FirstBad xs es None left → Filled (lent_rows xs) es → DocumentChecked xs (Ok left)
+        unfolding lent_rows
+        all_accepted b f =
+            let e : none ≡ document_refusal xs = b.first ∙ refusal_is in
+            let (whole, small, formed) = (accepted_iff xs).0 (sym e) in
+            let n : lent_rows xs ≡ length (document_of xs) = omega arith in
+            let g : Filled (length (document_of xs)) es = subst (λ (v : ℕ). Filled v es) n f in
+            record { refusal = e; ends = rw b.ends (ends_found (document_of xs) formed small es g) }

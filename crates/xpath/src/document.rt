@@ -4,11 +4,11 @@ ghost use Rattle.std.specs.Prelude.{◌≡◌, ◌||◌, not, cond, suc, ◌+◌
 ghost use Rattle.xpath.specs.Document.{kind_at, parent_at, name_at, is_attribute, attribute_placed, kind_and_name_ok};
 ghost use Rattle.xpath.specs.Document.{row_ok_by, document_of, node_width, max_nodes};
 ghost use Rattle.xpath.specs.Climb.{climb_met};
-ghost use Rattle.xpath.specs.code.Ends.{Filled};
 ghost use Rattle.xpath.specs.code.Check.{DocumentChecked, ClimbMade, Placed, FirstBad, closed_before};
 
-use crate::{Checked, Climb, DocumentCheck, MAX_NODES, NODE_WIDTH};
+use crate::{MAX_NODES, NODE_WIDTH};
 use common::node_kind;
+use common::node_kind::NodeKind;
 
 // The number of whole rows.
 pub fn node_count(d: &[u16]) -> usize
@@ -17,29 +17,29 @@ pub fn node_count(d: &[u16]) -> usize
     d.len() / NODE_WIDTH
 }
 
-// Number j of a whole row.
-fn number_of(d: &[u16], y: usize, j: usize) -> usize
+// Number j of a whole row: without a test, which would make the climb and with it the check slower.
+fn number_of(d: &[u16], y: usize, j: usize) -> u16
     requires y_in_bounds { y < length d.now / node_width }
     requires j_lt_node_width { j < node_width }
     ensures { result ≡ get_or d.now (node_width * y + j) 0 }
 {
-    let i = NODE_WIDTH * y + j;
-    common::wide(d[i])
+    d[NODE_WIDTH * y + j]
 }
 
 // Number j of row y, if that row is whole.
-fn number_at(d: &[u16], y: usize, j: usize) -> usize
+fn number_at(d: &[u16], y: usize, j: usize) -> u16
     requires { j < node_width }
     ensures { result ≡ cond (ltb y (length d.now / node_width))
         (get_or d.now (node_width * y + j) 0) 0 }
 {
     if y < d.len() / NODE_WIDTH {
-        return number_of(d, y, j);
+        number_of(d, y, j)
+    } else {
+        0
     }
-    0
 }
 
-pub fn kind_at(d: &[u16], y: usize) -> usize
+pub fn kind_at(d: &[u16], y: usize) -> u16
     ensures { result ≡ kind_at (document_of d.now) y }
 {
     number_at(d, y, 0)
@@ -48,15 +48,7 @@ pub fn kind_at(d: &[u16], y: usize) -> usize
 pub fn parent_at(d: &[u16], y: usize) -> usize
     ensures { result ≡ parent_at (document_of d.now) y }
 {
-    number_at(d, y, 1)
-}
-
-// The kind of a whole row.
-fn kind_of(d: &[u16], y: usize) -> usize
-    requires { y < length (document_of d.now) }
-    ensures { result ≡ kind_at (document_of d.now) y }
-{
-    number_of(d, y, 0)
+    usize::from(number_at(d, y, 1))
 }
 
 // The parent of a whole row.
@@ -64,19 +56,28 @@ fn parent_of(d: &[u16], y: usize) -> usize
     requires { y < length (document_of d.now) }
     ensures { result ≡ parent_at (document_of d.now) y }
 {
-    number_of(d, y, 1)
+    usize::from(number_of(d, y, 1))
 }
 
-pub fn name_at(d: &[u16], y: usize) -> usize
+pub fn name_at(d: &[u16], y: usize) -> u16
     ensures { result ≡ name_at (document_of d.now) y }
 {
     number_at(d, y, 2)
 }
 
+// By its number, as the rows have it: a kind that is compared once isn't read as a NodeKind, here and below.
 pub fn is_attribute(d: &[u16], y: usize) -> bool
     ensures { result ≡ is_attribute (document_of d.now) y }
 {
     kind_at(d, y) == node_kind::ATTRIBUTE
+}
+
+// What the climb toward a row gives: whether it met that row, and how many parents it took, which it also has where it
+// didn't meet it.
+#[derive(Clone, Copy, Debug, PartialEq, Eq)]
+struct Climb {
+    met: bool,
+    parents: usize,
 }
 
 // The ancestor test: the climb from row y toward x. It ends once it is at or below x, and where a parent is not the
@@ -87,7 +88,8 @@ fn climb_toward(d: &[u16], x: usize, y: usize, end: u16, ends: &mut [u16]) -> Cl
     ensures { ClimbMade (document_of d.now) x y end ends.old result ends.new }
 {
     let mut at = y;
-    let mut parents: usize = 0;
+    let mut parents = 0;
+    // By `while`: each row is read from the one before it.
     while x < at {
         let parent = parent_of(d, at);
         if at <= parent {
@@ -101,22 +103,27 @@ fn climb_toward(d: &[u16], x: usize, y: usize, end: u16, ends: &mut [u16]) -> Cl
         parents += 1;
     }
     Climb {
-        met: common::and(x < y, at == x),
+        met: x < y && at == x,
         parents,
     }
 }
 
-// The kinds from TEXT to INSTRUCTION may have no name, the kinds but TEXT and COMMENT may have one.
-fn kind_and_name_ok(kind: usize, name: usize) -> bool
+// The kinds that may have no name, and those that may have one: a row after row 0 has a kind other than root's.
+fn kind_and_name_ok(kind: u16, name: u16) -> bool
     ensures { result ≡ kind_and_name_ok kind name }
 {
+    let Ok(kind) = NodeKind::try_from(kind) else {
+        return false;
+    };
     if name == 0 {
-        common::and(node_kind::TEXT <= kind, kind <= node_kind::INSTRUCTION)
+        matches!(
+            kind,
+            NodeKind::Text | NodeKind::Comment | NodeKind::Instruction
+        )
     } else {
-        let named = common::or(kind == node_kind::ELEMENT, kind == node_kind::ATTRIBUTE);
-        common::and(
-            common::or(named, kind == node_kind::INSTRUCTION),
-            name <= common::MAX_NUMBER,
+        matches!(
+            kind,
+            NodeKind::Element | NodeKind::Attribute | NodeKind::Instruction
         )
     }
 }
@@ -127,24 +134,17 @@ fn attribute_placed(d: &[u16], n: usize) -> bool
     ensures { result ≡ attribute_placed (document_of d.now) n }
 {
     let parent = parent_at(d, n + 1);
-    let after = common::and(is_attribute(d, n), parent_at(d, n) == parent);
-    common::and(
-        kind_at(d, parent) == node_kind::ELEMENT,
-        common::or(parent == n, after),
-    )
+    kind_at(d, parent) == node_kind::ELEMENT
+        && (parent == n || is_attribute(d, n) && parent_at(d, n) == parent)
 }
 
-// Whether row n + 1 stands where it must if it is an attribute. It looks further only where it is one.
+// Whether row n + 1 stands where it must if it is an attribute.
 fn attribute_ok(d: &[u16], n: usize) -> bool
     requires { n < max_nodes }
     ensures { result ≡ (not (is_attribute (document_of d.now) (suc n))
         || attribute_placed (document_of d.now) n) }
 {
-    if is_attribute(d, n + 1) {
-        attribute_placed(d, n)
-    } else {
-        true
-    }
+    !is_attribute(d, n + 1) || attribute_placed(d, n)
 }
 
 // Whether row `parent` is row n or an ancestor of it, which the climb from row n tells. It closes the subtrees that end
@@ -155,12 +155,8 @@ fn is_placed(d: &[u16], parent: usize, n: usize, ends: &mut [u16]) -> bool
     requires n_lt_max_nodes { n < max_nodes }
     ensures { Placed (document_of d.now) parent n ends.old result ends.new }
 {
-    if parent == n {
-        return true;
-    }
     let end = n + 1;
-    let climb = climb_toward(d, parent, n, end as u16, ends);
-    climb.met
+    parent == n || climb_toward(d, parent, n, end as u16, ends).met
 }
 
 // Whether row n + 1 is as it must be; a parent's kind is the root's or the next one, an element's. It closes the
@@ -174,85 +170,69 @@ fn later_row_ok(d: &[u16], n: usize, ends: &mut [u16]) -> bool
 {
     let i = n + 1;
     let parent = parent_at(d, i);
-    if !is_placed(d, parent, n, ends) {
-        return false;
-    }
-    if node_kind::ELEMENT < kind_of(d, parent) {
-        return false;
-    }
-    if !kind_and_name_ok(kind_at(d, i), name_at(d, i)) {
-        return false;
-    }
-    attribute_ok(d, n)
+    is_placed(d, parent, n, ends)
+        && kind_at(d, parent) <= node_kind::ELEMENT
+        && kind_and_name_ok(kind_at(d, i), name_at(d, i))
+        && attribute_ok(d, n)
 }
 
 // Whether row 0 is as it must be.
 fn root_ok(d: &[u16]) -> bool
     ensures { result ≡ row_ok_by climb_met (document_of d.now) 0 }
 {
-    let sound = common::and(kind_at(d, 0) == node_kind::ROOT, parent_at(d, 0) == 0);
-    common::and(sound, name_at(d, 0) == 0)
+    kind_at(d, 0) == node_kind::ROOT && parent_at(d, 0) == 0 && name_at(d, 0) == 0
 }
 
-// The first bad row. If each whole row is as it must be, that is their number, and every subtree that ends before the
-// last row is closed.
-fn first_bad_row(d: &[u16], ends: &mut [u16]) -> usize
+// Whether a whole row is as it must be. It closes the subtrees that end before it.
+fn row_ok(d: &[u16], i: usize, ends: &mut [u16]) -> bool
+    requires i_in_bounds { i < length (document_of d.now) }
+    requires i_in_bounds_2 { i ≤ length ends.old }
+    requires i_le_max_nodes { i ≤ max_nodes }
+    ensures value { result ≡ row_ok_by climb_met (document_of d.now) i }
+    ensures ends_after { ends.new ≡ closed_before (document_of d.now) i ends.old }
+{
+    if i == 0 {
+        root_ok(d)
+    } else {
+        later_row_ok(d, i - 1, ends)
+    }
+}
+
+// The first bad row, if there is one; an incomplete row is. If there is none, every subtree that ends before the last
+// row is closed.
+fn first_bad_row(d: &[u16], ends: &mut [u16]) -> Option<usize>
     requires d_len_bound { length (document_of d.now) ≤ max_nodes }
     requires max_nodes_in_bounds { max_nodes ≤ length ends.old }
     ensures { FirstBad d.now ends.old result ends.new }
 {
     let n = node_count(d);
-    if n == 0 {
-        return 0;
-    }
-    if !root_ok(d) {
-        return 0;
-    }
-    let mut last: usize = 0;
-    while last + 1 < n {
-        if !later_row_ok(d, last, ends) {
-            return last + 1;
+    for i in 0..n {
+        if !row_ok(d, i, ends) {
+            return Some(i);
         }
-        last += 1;
     }
-    n
+    if d.len() % NODE_WIDTH == 0 {
+        None
+    } else {
+        Some(n)
+    }
 }
 
-// Room for every row, and each number is v.
-fn filled(v: u16) -> [u16; MAX_NODES]
-    ensures { Filled v result }
-{
-    [v; MAX_NODES]
-}
-
-// The check, and where the subtree of each row ends, in one pass over the rows. The ends of what is refused are left
-// open.
-pub fn check_document(d: &[u16]) -> Checked
+// The check, and where the subtree of each row ends, in one pass over the rows; the error is the value of refusal 8.
+// What the ends are past the last row is left open.
+pub fn check_document(d: &[u16]) -> Result<[u16; MAX_NODES], u16>
     ensures { DocumentChecked d.now result }
 {
-    let n = (d.len() + (NODE_WIDTH - 1)) / NODE_WIDTH;
+    let n = d.len().div_ceil(NODE_WIDTH);
     if n == 0 {
-        return Checked {
-            answer: DocumentCheck::Refused(0),
-            ends: filled(0),
-        };
+        return Err(0);
     }
     if MAX_NODES < n {
-        return Checked {
-            answer: DocumentCheck::Refused(MAX_NODES as u16),
-            ends: filled(0),
-        };
+        return Err(MAX_NODES as u16);
     }
-    let mut ends = filled(n as u16);
-    let bad = first_bad_row(d, &mut ends);
-    if bad < n {
-        return Checked {
-            answer: DocumentCheck::Refused(bad as u16),
-            ends,
-        };
-    }
-    Checked {
-        answer: DocumentCheck::Accepted,
-        ends,
+    let mut ends = [n as u16; MAX_NODES];
+    match first_bad_row(d, &mut ends) {
+        Some(bad) => Err(bad as u16),
+        None => Ok(ends),
     }
 }

@@ -1,56 +1,73 @@
 // The node tests.
-ghost use Rattle.std.specs.Prelude.{◌≡◌, ◌<◌};
+ghost use Rattle.std.specs.Prelude.{◌≡◌};
+ghost use Rattle.common.specs.code.Numbers.{kind_number};
 ghost use Rattle.xpath.specs.Document.{document_of};
 ghost use Rattle.xpath.specs.Axis.{principal, passes};
-ghost use Rattle.xpath.specs.code.Check.{kind_of_test};
+ghost use Rattle.xpath.specs.code.Tests.{picks, Asks};
 
 use crate::document;
-use common::{axis, node_kind, node_test};
+use common::axis;
+use common::node_kind::NodeKind;
+use common::node_test::NodeTest;
 
-// The kind of node that a name or `*` selects on an axis.
-fn principal_kind(axis: u16) -> usize
-    ensures { result ≡ principal axis }
+// The nodes that a step's test selects, by their kinds and names: the test is read once, and asked of one node after
+// the other.
+#[derive(Clone, Copy, Debug, PartialEq, Eq)]
+pub enum StepTest {
+    Everything,
+    Kind(NodeKind),
+    Named(NodeKind, usize),
+}
+
+// The kind of node that a name or `*` selects on an axis, which is compared by its number: one axis is another than all
+// others.
+fn principal_kind(axis: u16) -> NodeKind
+    ensures { kind_number result ≡ principal axis }
 {
     if axis == axis::ATTRIBUTE {
-        node_kind::ATTRIBUTE
+        NodeKind::Attribute
     } else {
-        node_kind::ELEMENT
+        NodeKind::Element
     }
 }
 
-// The kind of node that a test other than node() selects on an axis. The numbers of text(), comment() and
-// processing-instruction() are one above those of their kinds.
-fn kind_of_test(axis: u16, test: u16) -> usize
-    ensures { result ≡ kind_of_test axis test }
-{
-    if test <= node_test::STAR {
-        return principal_kind(axis);
+impl StepTest {
+    // None where the test selects nothing.
+    pub fn new(axis: u16, test: u16, name: usize) -> Option<StepTest>
+        ensures { Asks axis test name result }
+    {
+        let Ok(test) = NodeTest::try_from(test) else {
+            return None;
+        };
+        let test = match test {
+            NodeTest::Name => StepTest::Named(principal_kind(axis), name),
+            NodeTest::Star => StepTest::Kind(principal_kind(axis)),
+            NodeTest::Node => StepTest::Everything,
+            NodeTest::Text => StepTest::Kind(NodeKind::Text),
+            NodeTest::Comment => StepTest::Kind(NodeKind::Comment),
+            NodeTest::Instruction => StepTest::Kind(NodeKind::Instruction),
+            NodeTest::Target if name == 0 => return None,
+            NodeTest::Target => StepTest::Named(NodeKind::Instruction, name),
+        };
+        Some(test)
     }
-    if test == node_test::TARGET {
-        return node_kind::INSTRUCTION;
+
+    pub fn passes(self, d: &[u16], y: usize) -> bool
+        ensures { result ≡ picks self (document_of d.now) y }
+    {
+        match self {
+            StepTest::Everything => true,
+            StepTest::Kind(kind) => document::kind_at(d, y) == u16::from(kind),
+            StepTest::Named(kind, name) => {
+                document::kind_at(d, y) == u16::from(kind)
+                    && usize::from(document::name_at(d, y)) == name
+            }
+        }
     }
-    common::wide(test - 1)
 }
 
-// Comparisons are quicker than a `match` where a step asks the same test of one node after the other.
 pub fn passes_test(d: &[u16], axis: u16, test: u16, name: usize, y: usize) -> bool
     ensures { result ≡ passes axis test name (document_of d.now) y }
 {
-    if test == node_test::NODE {
-        return true;
-    }
-    if node_test::LAST < test {
-        return false;
-    }
-    let fits = document::kind_at(d, y) == kind_of_test(axis, test);
-    if test == node_test::NAME {
-        return common::and(fits, document::name_at(d, y) == name);
-    }
-    if test == node_test::TARGET {
-        return common::and(
-            common::and(fits, 1 <= name),
-            document::name_at(d, y) == name,
-        );
-    }
-    fits
+    StepTest::new(axis, test, name).is_some_and(|test| test.passes(d, y))
 }

@@ -8,5 +8,5 @@ returns-then-bytes-gt-MAX_BYTES c = too_long c.args.bytes.now c.if-bytes-gt-MAX_
 pub returns : goal.returns
 returns c =
     reported c.args.bytes.now c.if-bytes-gt-MAX_BYTES.false _ c.read-read.ensures _ _ _ _ _
-    c.number-number.ensures c.value.ensures c.refused_line-line.ensures
-    c.steps_held-steps.ensures c.last_step-last.ensures
+    c.number-number.ensures c.value.ensures c.refused_line.ensures
+    c.steps_held.ensures c.last_step-last.ensures

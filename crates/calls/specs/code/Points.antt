@@ -1,5 +1,6 @@
 -- A session's points: of each its name, and how many rows and steps were held. Assumes nothing.
 use Rattle.std.specs.Prelude.{ℕ, ◌-◌, ◌*◌, min, List, [], ◌∷◌, ◌++◌, map, length, get_or, take, replicate}
+pub use Rattle.terms.specs.code.RowTypes.{FoundIs}
 use Rattle.calls.specs.declared.points.PointCounts.{PointCounts}
 use Rattle.calls.specs.declared.points.PointAnswer.{PointAnswer}
 use Rattle.calls.specs.declared.points.PointAnswer.TheVariants as PointCases
@@ -28,6 +29,10 @@ counts_of [] = []
 counts_of (n ∷ []) = []
 counts_of (n ∷ r ∷ []) = []
 counts_of (n ∷ r ∷ p ∷ xs) = counts n r p ∷ counts_of xs
+
+-- three numbers as a point
+abbrev pub counts_in : List ℕ → PointCounts
+counts_in xs = counts (get_or xs 0 0) (get_or xs 1 0) (get_or xs 2 0)
 
 -- the numbers of a point, in order
 abbrev pub counts_numbers : PointCounts → List ℕ

@@ -1,5 +1,5 @@
 -- Tables of numbers as rows and as steps. Assumes nothing.
-use Rattle.std.specs.Prelude.{ℕ, ◌*◌, min, List, [], ◌∷◌, take}
+use Rattle.std.specs.Prelude.{ℕ, ◌*◌, min, List, [], ◌∷◌, get_or, take}
 use Rattle.terms.specs.Row.{Row, table_of, max_rows}
 pub use Rattle.terms.specs.Row.{row_width}
 use Rattle.calls.specs.Book.{Step, step, max_steps}
@@ -16,6 +16,10 @@ steps_of (n ∷ l ∷ []) = []
 steps_of (n ∷ l ∷ r ∷ []) = []
 steps_of (n ∷ l ∷ r ∷ i ∷ []) = []
 steps_of (n ∷ l ∷ r ∷ i ∷ j ∷ xs) = step n l r i j ∷ steps_of xs
+
+-- five numbers as a step
+abbrev pub step_in : List ℕ → Step
+step_in xs = step (get_or xs 0 0) (get_or xs 1 0) (get_or xs 2 0) (get_or xs 3 0) (get_or xs 4 0)
 
 -- how many rows and steps a count says are held: one above the limit is read as the limit
 abbrev pub rows_counted : ℕ → ℕ

@@ -2,10 +2,9 @@
 use Rattle.filing.proofs.CallLaws.{file_refused, file_written}
 use Rattle.filing.proofs.file.Goals as goal
 
-pub returns-then-number-ne0 : goal.returns-then-number-ne0
-returns-then-number-ne0 c = file_refused _ _ _ c.make_lines-made.ensures c.if-number-ne0.true
+pub returns-in-Ok : goal.returns-in-Ok
+returns-in-Ok c =
+    file_written _ _ _ c.in-Ok.ensures _ _ c.write-answer.ensures _ c.number.ensures _ c.value.ensures
 
-pub returns : goal.returns
-returns c =
-    file_written _ _ _ c.make_lines-made.ensures c.if-number-ne0.false _ _ c.write-answer.ensures
-    _ c.number.ensures _ c.value.ensures
+pub returns-in-Err : goal.returns-in-Err
+returns-in-Err c = file_refused _ _ c.in-Err.field-0 c.in-Err.ensures

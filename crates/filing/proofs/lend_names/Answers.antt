@@ -5,8 +5,7 @@ use Rattle.filing.proofs.lend_names.Goals as goal
 pub returns-then-rest-gt-MAX_BYTES : goal.returns-then-rest-gt-MAX_BYTES
 returns-then-rest-gt-MAX_BYTES c =
     let a = c.args in
-    not_lent a.s a.script.now a.at c.rest_at-rest.ensures c.if-rest-gt-MAX_BYTES.true _
-    c.not_taken.ensures
+    not_lent a.s a.script.now a.at c.rest_at-rest.ensures c.if-rest-gt-MAX_BYTES.true
 
 pub returns : goal.returns
 returns c =

@@ -20,23 +20,19 @@ slice_bounds-axis_of-end c =
       c.requires.name_at.names.from,
     )
 
-pub returns-then-axis-eq-NO_AXIS : goal.returns-then-axis-eq-NO_AXIS
-returns-then-axis-eq-NO_AXIS c =
-    rw c.no_head.ensures
-    (axis_no c.args.s.now c.args.names.now c.args.at c.args.end
-    c.args.colon c.requires.name_at c.requires.colon_value
-    (axis_none _ _ c.axis_of-axis.ensures c.if-axis-eq-NO_AXIS.true))
+pub returns-in-None : goal.returns-in-None
+returns-in-None c =
+    axis_no c.args.s.now c.args.names.list.now c.args.at c.args.end
+    c.args.colon c.requires.name_at c.requires.colon_value (axis_none _ c.in-None.ensures)
 
 pub overflow_add-second : goal.overflow_add-second
 overflow_add-second c = omega (arith, byte_there c.args.s.now c.args.colon 58 refl c.requires.colon_value)
 
 pub returns-then-byte_at-ne-COLON : goal.returns-then-byte_at-ne-COLON
 returns-then-byte_at-ne-COLON c =
-    rw c.no_head-then-byte_at-ne-COLON.ensures
-    (axis_one c.args.s.now c.args.names.now c.args.at c.args.end
+    (axis_one c.args.s.now c.args.names.list.now c.args.at c.args.end
     c.args.colon c.requires.name_at c.requires.colon_value
-    (axis_some _ _ c.axis_of-axis.ensures
-    c.if-axis-eq-NO_AXIS.false).0
+    (axis_some _ _ c.in-Some.ensures).0
     (λ e. c.if-byte_at-ne-COLON.true (c.byte_at.ensures ∙ e)))
 
 pub overflow_add-second-2 : goal.overflow_add-second-2
@@ -56,12 +52,12 @@ skip-requires c =
     )
 
 pub test_head-requires : goal.test_head-requires
-test_head-requires c = record { at_in_bounds = c.skip.ensures.fits; indexed = c.requires.indexed }
+test_head-requires c = record { at_in_bounds = c.skip.ensures.fits }
 
 pub returns : goal.returns
 returns c =
-    let z = axis_some _ _ c.axis_of-axis.ensures c.if-axis-eq-NO_AXIS.false in axis_two
-    c.args.s.now c.args.names.now c.args.at c.args.end c.args.colon
+    let z = axis_some _ _ c.in-Some.ensures in axis_two
+    c.args.s.now c.args.names.list.now c.args.at c.args.end c.args.colon
     c.requires.name_at c.requires.colon_value z.0 _ _ _ _ z.1
     (sym c.byte_at.ensures ∙ c.if-byte_at-ne-COLON.false)
     c.skip.ensures c.test_head.ensures

@@ -13,13 +13,12 @@ named_head-requires c = record {
   );
   to_value = part_is c.args.s.now c.args.at c.args.end c.requires.name_at.begins
       c.requires.name_at.names;
-  indexed = c.requires.indexed;
 }
 
 pub returns-then-byte_at-ne-OPEN : goal.returns-then-byte_at-ne-OPEN
 returns-then-byte_at-ne-OPEN c =
     rw c.named_head.ensures
-    (name_plain c.args.s.now c.args.names.now c.args.at c.args.end
+    (name_plain c.args.s.now c.args.names.list.now c.args.at c.args.end
     c.args.to c.args.axis c.requires.name_at
     (λ e. c.if-byte_at-ne-OPEN.true (c.byte_at.ensures ∙ e)))
 
@@ -38,25 +37,6 @@ slice_bounds-type_of-end c =
       c.requires.name_at.names.from,
     )
 
-pub named_head-requires-then-test-eq-NO_TYPE : goal.named_head-requires-then-test-eq-NO_TYPE
-named_head-requires-then-test-eq-NO_TYPE c = record {
-  from_le_to = (
-    omega (arith, c.requires.name_at.names.from),
-    omega (arith, c.requires.name_at.spaces.from, c.requires.name_at.spaces.fits),
-  );
-  to_value = part_is c.args.s.now c.args.at c.args.end c.requires.name_at.begins
-      c.requires.name_at.names;
-  indexed = c.requires.indexed;
-}
-
-pub returns-then-test-eq-NO_TYPE : goal.returns-then-test-eq-NO_TYPE
-returns-then-test-eq-NO_TYPE c =
-    rw c.named_head-then-test-eq-NO_TYPE.ensures
-    (name_call c.args.s.now c.args.names.now c.args.at c.args.end
-    c.args.to c.args.axis c.requires.name_at
-    (sym c.byte_at.ensures ∙ c.if-byte_at-ne-OPEN.false)
-    (type_none _ _ c.type_of-test.ensures c.if-test-eq-NO_TYPE.true))
-
 pub overflow_add-to : goal.overflow_add-to
 overflow_add-to c =
     omega (
@@ -72,13 +52,26 @@ type_head-requires c = record {
     byte_there c.args.s.now c.args.to 40 refl
         (sym c.byte_at.ensures ∙ c.if-byte_at-ne-OPEN.false),
   );
-  indexed = c.requires.indexed;
 }
 
-pub returns : goal.returns
-returns c =
-    let z = type_some _ _ c.type_of-test.ensures c.if-test-eq-NO_TYPE.false in name_type
-    c.args.s.now c.args.names.now c.args.at c.args.end c.args.to
-    c.args.axis c.requires.name_at _ _
-    (sym c.byte_at.ensures ∙ c.if-byte_at-ne-OPEN.false) z.0 z.1
-    c.type_head.ensures
+pub returns-in-Some : goal.returns-in-Some
+returns-in-Some c =
+    let z = type_some _ _ c.in-Some.ensures in
+    name_type c.args.s.now c.args.names.list.now c.args.at c.args.end c.args.to c.args.axis c.requires.name_at _ _
+    (sym c.byte_at.ensures ∙ c.if-byte_at-ne-OPEN.false) z.0 z.1 c.type_head.ensures
+
+pub named_head-requires-in-None : goal.named_head-requires-in-None
+named_head-requires-in-None c = record {
+  from_le_to = (
+    omega (arith, c.requires.name_at.names.from),
+    omega (arith, c.requires.name_at.spaces.from, c.requires.name_at.spaces.fits),
+  );
+  to_value = part_is c.args.s.now c.args.at c.args.end c.requires.name_at.begins
+      c.requires.name_at.names;
+}
+
+pub returns-in-None : goal.returns-in-None
+returns-in-None c =
+    rw c.named_head-in-None.ensures
+    (name_call c.args.s.now c.args.names.list.now c.args.at c.args.end c.args.to c.args.axis c.requires.name_at
+    (sym c.byte_at.ensures ∙ c.if-byte_at-ne-OPEN.false) (type_none _ c.in-None.ensures))

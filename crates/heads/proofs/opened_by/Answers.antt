@@ -12,7 +12,7 @@ unfolding ascii
 returns-then-same-2 c =
     sym (rw (
       sym c.same.ensures ∙ c.if-same.false,
-      sym c.same-2.ensures ∙ c.if-same-2.true,
+      sym c.same-else-same.ensures ∙ c.if-same-2.true,
     ) refl)
 
 pub returns-then-same-3 : goal.returns-then-same-3
@@ -20,17 +20,15 @@ unfolding ascii
 returns-then-same-3 c =
     sym (rw (
       sym c.same.ensures ∙ c.if-same.false,
-      sym c.same-2.ensures
-          ∙ c.if-same-2.false,
-      sym c.same-3.ensures ∙ c.if-same-3.true,
+      sym c.same-else-same.ensures ∙ c.if-same-2.false,
+      sym c.same-else-same-2.ensures ∙ c.if-same-3.true,
     ) refl)
 
-pub returns : goal.returns
+pub returns-else-same-3 : goal.returns-else-same-3
 unfolding ascii
-returns c =
+returns-else-same-3 c =
     sym (rw (
       sym c.same.ensures ∙ c.if-same.false,
-      sym c.same-2.ensures
-          ∙ c.if-same-2.false,
-      sym c.same-3.ensures ∙ c.if-same-3.false,
+      sym c.same-else-same.ensures ∙ c.if-same-2.false,
+      sym c.same-else-same-2.ensures ∙ c.if-same-3.false,
     ) refl)

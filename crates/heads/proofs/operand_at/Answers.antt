@@ -1,6 +1,5 @@
 -- `operand_at` meets its contract. Assumes nothing.
 use mathlib.Core.Path.{sym, ◌∙◌}
-use mathlib.Core.Bool.{true, false}
 use native.Mathlib.Omega.{arith}
 use borrow.Author.Tests.{not-true, not-false}
 use Rattle.heads.proofs.Headed.{operand_group, operand_other, operand_named, operand_opened, start_there}

@@ -1,6 +1,5 @@
 -- `read_head` meets its contract. Assumes nothing.
 use mathlib.Core.Path.{refl, sym, ◌∙◌}
-use mathlib.Core.Bool.{true, false}
 use native.Mathlib.Omega.{arith}
 use borrow.Author.Tests.{not-true, not-false}
 use Rattle.heads.proofs.Headed.{head_dot, head_at, head_test, byte_there, start_there}
@@ -10,7 +9,7 @@ pub dot_head-requires : goal.dot_head-requires
 dot_head-requires c = sym c.byte_at-b.ensures ∙ c.if-b-eq-DOT.true
 
 pub returns-then-b-eq-DOT : goal.returns-then-b-eq-DOT
-returns-then-b-eq-DOT c = head_dot c.args.s.now c.args.names.now c.args.at _ c.dot_head.ensures
+returns-then-b-eq-DOT c = head_dot c.args.s.now c.args.names.list.now c.args.at _ c.dot_head.ensures
 
 pub overflow_add-at : goal.overflow_add-at
 overflow_add-at c =
@@ -29,20 +28,20 @@ skip-requires c =
     )
 
 pub test_head-requires : goal.test_head-requires
-test_head-requires c = record { at_in_bounds = c.skip.ensures.fits; indexed = c.requires.indexed }
+test_head-requires c = record { at_in_bounds = c.skip.ensures.fits }
 
 pub returns-then-b-eq-AT : goal.returns-then-b-eq-AT
 returns-then-b-eq-AT c =
-    head_at c.args.s.now c.args.names.now c.args.at _ _ _
+    head_at c.args.s.now c.args.names.list.now c.args.at _ _ _
     (sym c.byte_at-b.ensures ∙ c.if-b-eq-AT.true)
     c.skip.ensures c.test_head.ensures
 
 pub test_head-requires-then-not-is_start : goal.test_head-requires-then-not-is_start
-test_head-requires-then-not-is_start c = record { at_in_bounds = c.requires.at_in_bounds; indexed = c.requires.indexed }
+test_head-requires-then-not-is_start c = record { at_in_bounds = c.requires.at_in_bounds }
 
 pub returns-then-not-is_start : goal.returns-then-not-is_start
 returns-then-not-is_start c =
-    head_test c.args.s.now c.args.names.now c.args.at c.requires.at_value
+    head_test c.args.s.now c.args.names.list.now c.args.at c.requires.at_value
     (λ e. c.if-b-eq-DOT.false (c.byte_at-b.ensures ∙ e))
     (λ e. c.if-b-eq-AT.false (c.byte_at-b.ensures ∙ e)) _ _
     (rw c.byte_at-b.ensures at
@@ -80,7 +79,6 @@ axis_head-requires c = record {
     spaces = c.skip-to.ensures;
   };
   colon_value = sym c.byte_at.ensures ∙ c.if-byte_at-eq-COLON.true;
-  indexed = c.requires.indexed;
 }
 
 pub returns-then-byte_at-eq-COLON : goal.returns-then-byte_at-eq-COLON
@@ -94,12 +92,11 @@ name_test-requires c = record {
     names = c.name_end-end.ensures;
     spaces = c.skip-to.ensures;
   };
-  indexed = c.requires.indexed;
 }
 
 pub returns : goal.returns
 returns c =
-    head_test c.args.s.now c.args.names.now c.args.at c.requires.at_value
+    head_test c.args.s.now c.args.names.list.now c.args.at c.requires.at_value
     (λ e. c.if-b-eq-DOT.false (c.byte_at-b.ensures ∙ e))
     (λ e. c.if-b-eq-AT.false (c.byte_at-b.ensures ∙ e)) _ _
     (λ e. c.if-byte_at-eq-COLON.false (c.byte_at.ensures ∙ e)) c.name_test.ensures

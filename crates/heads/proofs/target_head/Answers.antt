@@ -1,6 +1,5 @@
 -- `target_head` meets its contract. Assumes nothing.
 use mathlib.Core.Path.{refl, sym, ◌∙◌}
-use mathlib.Core.Bool.{true, false}
 use native.Mathlib.Omega.{arith}
 use Prim.Native.Nat.{◌+◌}
 use borrow.Author.Tests.{not-true, not-false}
@@ -19,8 +18,7 @@ overflow_add-from c =
 
 pub returns-then-not-is_start : goal.returns-then-not-is_start
 returns-then-not-is_start c =
-    rw c.no_head.ensures
-    (target_none c.args.s.now c.args.names.now c.args.at c.args.axis
+    (target_none c.args.s.now c.args.names.list.now c.args.at c.args.axis
     c.requires.at_value (rw c.byte_at.ensures at
     (sym c.is_start.ensures ∙ not-true _ c.if-not-is_start.true-raw)))
 
@@ -44,8 +42,7 @@ name_end-end-requires c =
 
 pub returns-then-byte_at-quote : goal.returns-then-byte_at-quote
 returns-then-byte_at-quote c =
-    rw c.no_head-then-byte_at-quote.ensures
-    (target_open c.args.s.now c.args.names.now c.args.at c.args.axis
+    (target_open c.args.s.now c.args.names.list.now c.args.at c.args.axis
     c.requires.at_value (rw c.byte_at.ensures at
     (sym c.is_start.ensures ∙ not-false _ c.if-not-is_start.false-raw)) _
     c.name_end-end.ensures
@@ -70,8 +67,7 @@ skip-close-requires c =
 
 pub returns-then-byte_at-ne-CLOSE : goal.returns-then-byte_at-ne-CLOSE
 returns-then-byte_at-ne-CLOSE c =
-    rw c.no_head-then-byte_at-ne-CLOSE.ensures
-    (target_unclosed c.args.s.now c.args.names.now c.args.at c.args.axis
+    (target_unclosed c.args.s.now c.args.names.list.now c.args.at c.args.axis
     c.requires.at_value (rw c.byte_at.ensures at
     (sym c.is_start.ensures ∙ not-false _ c.if-not-is_start.false-raw)) _
     c.name_end-end.ensures
@@ -87,8 +83,8 @@ overflow_add-close c =
           (sym c.byte_at-3.ensures ∙ c.if-byte_at-ne-CLOSE.false),
     )
 
-pub skip-requires : goal.skip-requires
-skip-requires c =
+pub skip-at-requires : goal.skip-at-requires
+skip-at-requires c =
     omega (
       arith,
       byte_there c.args.s.now c.skip-close.result 41 refl
@@ -102,17 +98,16 @@ named_head-requires c = record {
       (rw c.byte_at.ensures at
       (sym c.is_start.ensures ∙ not-false _ c.if-not-is_start.false-raw))
       c.name_end-end.ensures;
-  indexed = c.requires.indexed;
 }
 
 pub returns : goal.returns
 returns c =
     rw c.named_head.ensures
-    (target_read c.args.s.now c.args.names.now c.args.at c.args.axis
+    (target_read c.args.s.now c.args.names.list.now c.args.at c.args.axis
     c.requires.at_value (rw c.byte_at.ensures at
     (sym c.is_start.ensures ∙ not-false _ c.if-not-is_start.false-raw)) _
     c.name_end-end.ensures
     (sym c.byte_at-2.ensures ∙ c.if-byte_at-quote.false ∙ c.byte_at-quote.ensures) _
     c.skip-close.ensures _
     (sym c.byte_at-3.ensures ∙ c.if-byte_at-ne-CLOSE.false)
-    c.skip.ensures)
+    c.skip-at.ensures)

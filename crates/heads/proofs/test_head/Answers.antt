@@ -1,6 +1,5 @@
 -- `test_head` meets its contract. Assumes nothing.
 use mathlib.Core.Path.{refl, sym, ◌∙◌}
-use mathlib.Core.Bool.{true, false}
 use native.Mathlib.Omega.{arith}
 use borrow.Author.Tests.{not-true, not-false}
 use Rattle.heads.proofs.Headed.{test_star, test_none, test_name, byte_there, start_there}
@@ -25,14 +24,13 @@ skip-requires c =
 pub returns-then-b-eq-STAR : goal.returns-then-b-eq-STAR
 returns-then-b-eq-STAR c =
     rw c.plain_head.ensures
-    (test_star c.args.s.now c.args.names.now c.args.at c.args.axis _
+    (test_star c.args.s.now c.args.names.list.now c.args.at c.args.axis _
     (sym c.byte_at-b.ensures ∙ c.if-b-eq-STAR.true)
     c.skip.ensures)
 
 pub returns-then-not-is_start : goal.returns-then-not-is_start
 returns-then-not-is_start c =
-    rw c.no_head.ensures
-    (test_none c.args.s.now c.args.names.now c.args.at c.args.axis (omega arith)
+    (test_none c.args.s.now c.args.names.list.now c.args.at c.args.axis (omega arith)
     (λ e. c.if-b-eq-STAR.false (c.byte_at-b.ensures ∙ e))
     (rw c.byte_at-b.ensures at
     (sym c.is_start.ensures ∙ not-true _ c.if-not-is_start.true-raw)))
@@ -66,12 +64,11 @@ name_test-requires c = record {
     names = c.name_end-end.ensures;
     spaces = c.skip-to.ensures;
   };
-  indexed = c.requires.indexed;
 }
 
 pub returns : goal.returns
 returns c =
-    test_name c.args.s.now c.args.names.now c.args.at c.args.axis _ _
+    test_name c.args.s.now c.args.names.list.now c.args.at c.args.axis _ _
     (rw c.byte_at-b.ensures at
     (sym c.is_start.ensures
     ∙ not-false _ c.if-not-is_start.false-raw)) c.name_test.ensures

@@ -1,7 +1,8 @@
 -- What the functions that read the head of a step promise, as a run of the grammar's reader. Assumes nothing.
-use Rattle.std.specs.Prelude.{ℕ, suc, ◌+◌, ◌-◌, ◌≤◌, ◌≡◌, Bool, true, false, not, cond, ◌||◌, [], ◌∷◌, ◌++◌}
+use Rattle.std.specs.Prelude.{ℕ, suc, ◌+◌, ◌-◌, ◌≤◌, ◌≡◌, Bool, true, false, cond, ◌||◌, [], ◌∷◌, ◌++◌}
 use Rattle.std.specs.Prelude.{eqb, length, drop, take}
-use Rattle.std.proofs.Math.Option.{none, some}
+use Rattle.std.specs.Prelude.{Option as Maybe, Some, None, Result, Ok, Err, IfOk, IfErr}
+use Rattle.std.proofs.Math.Option.{Option, none, some}
 use Rattle.common.specs.NodeTests.{target_test}
 use Rattle.xpath.specs.Term as term
 use Rattle.lines.specs.Line.{same_bytes}
@@ -25,24 +26,31 @@ use Rattle.words.specs.code.Scan.{byte_at, Passed, begins_step}
 unfoldable pub proceed : Bytes → ℕ → Next → Outcome
 proceed s at n = follow n (bad (length s - at)) (λ st. run (drop (suc at) s) st)
 
-abbrev pub no_head : ℕ → Head
-no_head i = record { ok = false; at = i; axis = 0; test = 0; name = 0; filters = false; listed = true; place = 0 }
-
+-- a head without a name
 abbrev pub plain_head : (i a t : ℕ) → Bool → Head
-plain_head i a t f = record { ok = true; at = i; axis = a; test = t; name = 0; filters = f; listed = true; place = 0 }
+plain_head i a t f = record { at = i; axis = a; test = t; name = 0; filters = f; unlisted = None }
 
+-- a head with a name whose number is 0 where it is not listed
 abbrev pub named_head : (i a t number place : ℕ) → Head
 named_head i a t number p =
     record {
-      ok = true;
       at = i;
       axis = a;
       test = t;
       name = number;
       filters = true;
-      listed = not (eqb number 0);
-      place = p;
+      unlisted = cond (eqb number 0) (Some p) None;
     }
+
+-- the first place after a head; or the first byte that can't continue
+abbrev pub end_of : Result Head ℕ → ℕ
+end_of (Ok h) = h.at
+end_of (Err i) = i
+
+-- the place of a name that is not listed
+abbrev pub place_of : Maybe ℕ → Option ℕ
+place_of None = none
+place_of (Some p) = some p
 
 -- the bytes from one place up to another
 abbrev pub part : Bytes → (from to : ℕ) → Bytes
@@ -101,7 +109,7 @@ pub record TestTold (s list : Bytes) (at : ℕ) (noColon : Type 0) (tree : Bytes
     (h : Head) : Type 0 where
   pub term : (k : ℕ) (w : Bytes) → test_of (number_of list) k (tree w) ≡ term.AxisStep k h.test h.name
   pub names : (w : Bytes) (i : ℕ) → i + length w ≡ at → unlisted (number_of list) (test_names i (tree w))
-      ≡ cond h.listed none (some h.place)
+      ≡ place_of h.unlisted
   pub paren : (c : Ctx) (g : Alt) (l : Lead) (a : Axis) (w : Bytes)
       → (is_implied a ≡ true → callable c g l ≡ true → NoCall s at) → byte_at s h.at ≡ open_byte
       → paren_byte_next c g l (test a (tree w)) spaces ≡ none
@@ -118,12 +126,12 @@ pub record TestRead (s list : Bytes) (at : ℕ) (noColon : Type 0) (h : Head) : 
       → run (drop at s) st ≡ run (drop h.at s) (after c g l (test a (tree w)) spaces)
   pub told : TestTold s list at noColon tree spaces h
 
-pub record TestMet (s list : Bytes) (at ax : ℕ) (noColon : Type 0) (h : Head) : Type 0 where
-  pub between : Between s at h.at
-  pub axis : h.ok ≡ true → h.axis ≡ ax
-  pub read : h.ok ≡ true → TestRead s list at noColon h
-  pub failed : h.ok ≡ false → (st : State) (c : Ctx) (g : Alt) (l : Lead) (a : Axis) (w : Bytes)
-      → Begins st c g l a w (byte_at s at) → Stuck st (byte_at s at) → run (drop at s) st ≡ bad (length s - h.at)
+pub record TestMet (s list : Bytes) (at ax : ℕ) (noColon : Type 0) (r : Result Head ℕ) : Type 0 where
+  pub between : Between s at (end_of r)
+  pub axis : IfOk r (λ h. h.axis ≡ ax)
+  pub read : IfOk r (TestRead s list at noColon)
+  pub failed : IfErr r (λ i. (st : State) (c : Ctx) (g : Alt) (l : Lead) (a : Axis) (w : Bytes)
+      → Begins st c g l a w (byte_at s at) → Stuck st (byte_at s at) → run (drop at s) st ≡ bad (length s - i))
 
 -- the same after a node type n, whitespace v and `(`
 pub record TypeRead (s list : Bytes) (at : ℕ) (n v : Bytes) (h : Head) : Type 0 where
@@ -133,7 +141,7 @@ pub record TypeRead (s list : Bytes) (at : ℕ) (n v : Bytes) (h : Head) : Type 
       ≡ run (drop h.at s) (after c g l (test a (tree w)) spaces)
   pub term : (k : ℕ) (w : Bytes) → test_of (number_of list) k (tree w) ≡ term.AxisStep k h.test h.name
   pub names : (w : Bytes) (i : ℕ) → i + length (w ++ (n ++ (v ++ (open_byte ∷ [])))) ≡ at
-      → unlisted (number_of list) (test_names i (tree w)) ≡ cond h.listed none (some h.place)
+      → unlisted (number_of list) (test_names i (tree w)) ≡ place_of h.unlisted
   pub paren : (c : Ctx) (g : Alt) (l : Lead) (a : Axis) (w : Bytes)
       → paren_byte_next c g l (test a (tree w)) spaces ≡ none
   pub colon : (c : Ctx) (g : Alt) (l : Lead) (a : Axis) (w : Bytes)
@@ -143,13 +151,13 @@ pub record TypeRead (s list : Bytes) (at : ℕ) (n v : Bytes) (h : Head) : Type 
       ≡ length (w ++ (n ++ (v ++ (open_byte ∷ [])))) + h.at
   pub stops : is_space (byte_at s h.at) ≡ false
 
-pub record TypeMet (s list : Bytes) (at ax t : ℕ) (h : Head) : Type 0 where
-  pub between : Between s at h.at
-  pub axis : h.ok ≡ true → h.axis ≡ ax
-  pub read : h.ok ≡ true → (n v : Bytes) → is_type n ≡ true → t ≡ type_code n → TypeRead s list at n v h
-  pub failed : h.ok ≡ false → (n v : Bytes) → is_type n ≡ true → t ≡ type_code n
+pub record TypeMet (s list : Bytes) (at ax t : ℕ) (r : Result Head ℕ) : Type 0 where
+  pub between : Between s at (end_of r)
+  pub axis : IfOk r (λ h. h.axis ≡ ax)
+  pub read : IfOk r (λ h. (n v : Bytes) → is_type n ≡ true → t ≡ type_code n → TypeRead s list at n v h)
+  pub failed : IfErr r (λ i. (n v : Bytes) → is_type n ≡ true → t ≡ type_code n
       → (c : Ctx) (g : Alt) (l : Lead) (a : Axis) (w : Bytes) → run (drop at s) (type_open c g l a w n v [])
-      ≡ bad (length s - h.at)
+      ≡ bad (length s - i))
 
 -- the same after the quote of a target
 pub record TargetRead (s list : Bytes) (at : ℕ) (h : Head) : Type 0 where
@@ -161,18 +169,17 @@ pub record TargetRead (s list : Bytes) (at : ℕ) (h : Head) : Type 0 where
       ≡ run (drop h.at s) (after c g l (test a (target w v u (byte_at s at) word inner)) spaces)
   pub test : h.test ≡ target_test
   pub name : h.name ≡ number_of list word
-  pub listed : h.listed ≡ not (eqb (number_of list word) 0)
-  pub place : h.place ≡ at + 1
+  pub place : h.unlisted ≡ cond (eqb (number_of list word) 0) (Some (at + 1)) None
   pub takes : h.filters ≡ true
   pub size : at + length word + length inner + length spaces + 3 ≡ h.at
   pub stops : is_space (byte_at s h.at) ≡ false
 
-pub record TargetMet (s list : Bytes) (at ax : ℕ) (h : Head) : Type 0 where
-  pub between : Between s (at + 1) h.at
-  pub axis : h.ok ≡ true → h.axis ≡ ax
-  pub read : h.ok ≡ true → TargetRead s list at h
-  pub failed : h.ok ≡ false → (c : Ctx) (g : Alt) (l : Lead) (a : Axis) (w v u : Bytes)
-      → run (drop (at + 1) s) (quote c g l a w v u (byte_at s at)) ≡ bad (length s - h.at)
+pub record TargetMet (s list : Bytes) (at ax : ℕ) (r : Result Head ℕ) : Type 0 where
+  pub between : Between s (at + 1) (end_of r)
+  pub axis : IfOk r (λ h. h.axis ≡ ax)
+  pub read : IfOk r (TargetRead s list at)
+  pub failed : IfErr r (λ i. (c : Ctx) (g : Alt) (l : Lead) (a : Axis) (w v u : Bytes)
+      → run (drop (at + 1) s) (quote c g l a w v u (byte_at s at)) ≡ bad (length s - i))
 
 -- what stands before a step: no call is due, and a byte that begins no step can't follow
 pub record Due (s : Bytes) (at : ℕ) (c : Ctx) (g : Alt) (l : Lead) (w : Bytes) : Type 0 where
@@ -187,7 +194,7 @@ pub record HeadRead (s list : Bytes) (at : ℕ) (h : Head) : Type 0 where
       ≡ run (drop h.at s) (after c g l (tree w) spaces)
   pub term : (w : Bytes) → step_of (number_of list) (tree w) ≡ term.AxisStep h.axis h.test h.name
   pub names : (w : Bytes) (i : ℕ) → i + length w ≡ at → unlisted (number_of list) (step_names (tree w) i)
-      ≡ cond h.listed none (some h.place)
+      ≡ place_of h.unlisted
   pub paren : (c : Ctx) (g : Alt) (l : Lead) (w : Bytes) → (callable c g l ≡ true → NoCall s at) → byte_at s h.at
       ≡ open_byte → paren_byte_next c g l (tree w) spaces ≡ none
   pub colon : (c : Ctx) (g : Alt) (l : Lead) (w : Bytes) → byte_at s h.at ≡ colon_byte
@@ -196,15 +203,14 @@ pub record HeadRead (s list : Bytes) (at : ℕ) (h : Head) : Type 0 where
   pub size : (w : Bytes) → at + length (spell_step (tree w) ++ spaces) ≡ length w + h.at
   pub stops : is_space (byte_at s h.at) ≡ false
 
-pub record HeadMet (s list : Bytes) (at : ℕ) (h : Head) : Type 0 where
-  pub between : Between s at h.at
-  pub read : h.ok ≡ true → HeadRead s list at h
-  pub failed : h.ok ≡ false → (c : Ctx) (g : Alt) (l : Lead) (w : Bytes) → Due s at c g l w
-      → run (drop at s) (need c g l w) ≡ bad (length s - h.at)
+pub record HeadMet (s list : Bytes) (at : ℕ) (r : Result Head ℕ) : Type 0 where
+  pub between : Between s at (end_of r)
+  pub read : IfOk r (HeadRead s list at)
+  pub failed : IfErr r (λ i. (c : Ctx) (g : Alt) (l : Lead) (w : Bytes) → Due s at c g l w
+      → run (drop at s) (need c g l w) ≡ bad (length s - i))
 
 -- `.` or `..`: always read
 pub record DotMet (s : Bytes) (at : ℕ) (h : Head) : Type 0 where
-  pub ok : h.ok ≡ true
   pub between : Between s at h.at
   pub read : (list : Bytes) → HeadRead s list at h
 

@@ -3,10 +3,10 @@ use borrow.Author.Tests.{le-leb, lt-leb}
 use Rattle.lines.specs.Number.{digit0, is_digit}
 use Rattle.lines.proofs.is_digit.Goals as goal
 
-pub returns-then-b-lt-DIGIT_0 : goal.returns-then-b-lt-DIGIT_0
+pub returns-then-b-ge-DIGIT_0 : goal.returns-then-b-ge-DIGIT_0
 unfolding is_digit
-returns-then-b-lt-DIGIT_0 c = rw (lt-leb digit0 _ c.if-b-lt-DIGIT_0.true)
+returns-then-b-ge-DIGIT_0 c = rw (le-leb digit0 _ c.if-b-ge-DIGIT_0.true)
 
-pub returns : goal.returns
+pub returns-else-b-ge-DIGIT_0 : goal.returns-else-b-ge-DIGIT_0
 unfolding is_digit
-returns c = rw (le-leb digit0 _ c.if-b-lt-DIGIT_0.false)
+returns-else-b-ge-DIGIT_0 c = rw (lt-leb digit0 _ c.if-b-ge-DIGIT_0.false)

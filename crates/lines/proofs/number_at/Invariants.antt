@@ -1,15 +1,12 @@
 -- `number_at` meets its contract. The loop's invariant:
 -- the number at `at` is the value so far with the digits from i on. Assumes nothing.
-use Prim.Native.Nat.{◌-◌, ◌≤◌, ◌<◌}
+use Prim.Native.Nat.{◌≤◌}
 use mathlib.Core.Path.{◌≡◌}
-use lib.ListN.{length, drop}
+use lib.ListN.{drop}
 use Rattle.lines.specs.code.NumbersRead.{number_cut}
 use Rattle.lines.proofs.Scan.{scan}
 use Rattle.lines.proofs.number_at.Given as goal
 
 abbrev pub invariant-loop-i : goal.invariant-loop-i
-invariant-loop-i l = (l.at < l.i) × (l.i ≤ length l.bytes) × (l.value ≤ l.most)
+invariant-loop-i l = (l.value ≤ l.most)
     × (number_cut l.most l.end (drop l.at l.bytes) ≡ scan l.most l.end l.value (drop l.i l.bytes))
-
-abbrev pub decreases-loop-i : goal.decreases-loop-i
-decreases-loop-i l = length l.bytes - l.i

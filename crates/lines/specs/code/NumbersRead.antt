@@ -1,9 +1,8 @@
 -- What the functions that read a text promise. Assumes nothing.
 use Rattle.std.specs.Prelude.{ℕ, ◌-◌, ◌≤◌, ◌<◌, ◌≡◌, Bool, true, false, cond, not, ◌&&◌, List, [], ◌∷◌, leb, ltb, eqb}
 use Rattle.std.specs.Prelude.{length, take, drop, replicate}
+use Rattle.std.specs.Prelude.{Option as Optional, Some, None}
 use Rattle.std.proofs.Math.Option.{Option, none, some, Option-elim}
-use Rattle.lines.specs.declared.Digits.{Digits}
-use Rattle.lines.specs.declared.Digits.TheVariants as DigitsCases
 use Rattle.lines.specs.declared.NumbersLine.{NumbersLine}
 use Rattle.lines.specs.Line.{Line, lines, parts_read}
 use Rattle.lines.specs.Number.{digit0, is_digit, append_digit, number_up_to, line_numbers}
@@ -19,9 +18,10 @@ first_digit most end x = cond (not (eqb x end) && is_digit x && leb (x - digit0)
 unfoldable pub one_more : (most n x : ℕ) → Option ℕ
 one_more most n x = cond (ltb 0 n && is_digit x && leb (append_digit n x) most) (some (append_digit n x)) none
 
-abbrev pub written_number : Digits → Option ℕ
-written_number (DigitsCases.Write n) = some n
-written_number DigitsCases.Nothing = none
+-- the number that the code gives, if it gives one
+abbrev pub written_number : Optional ℕ → Option ℕ
+written_number (Some n) = some n
+written_number None = none
 
 -- bytes, and the text after them
 pub record Cut : Type 0 where
@@ -52,13 +52,11 @@ number_cut most end xs =
     Option-elim (cut end xs) none (λ c. Option-elim (number_up_to most c.bytes) none
     (λ n. some (number_before n c.rest)))
 
--- the number up to `most` that stands at `at` of the text xs and that the byte `end` ends: whether there is one, which,
--- and where the text goes on
-pub record NumberMet (most end : ℕ) (xs : List ℕ) (at : ℕ) (ok : Bool) (value next : ℕ) : Type 0 where
-  pub number : cond ok (some (number_before value (drop next xs))) none ≡ number_cut most end (drop at xs)
+-- the number up to `most` that stands at `at` of the text xs and that the byte `end` ends, and where the text goes on
+pub record NumberMet (most end : ℕ) (xs : List ℕ) (at value next : ℕ) : Type 0 where
+  pub number : some (number_before value (drop next xs)) ≡ number_cut most end (drop at xs)
   pub fits : value ≤ most
-  pub right : ok ≡ true → (at < next) × (next ≤ length xs)
-  pub wrong : ok ≡ false → (value ≡ 0) × (next ≡ length xs)
+  pub right : (at < next) × (next ≤ length xs)
 
 -- what `read` makes of the parts of the first line
 unfoldable pub first_parts : {A : Type 0} → (read : List (List ℕ) → Option A) → List Line → Option A
@@ -76,20 +74,18 @@ max_count = 5
 abbrev pub no_counted : List ℕ
 no_counted = replicate max_count 0
 
--- what is given where a line is none of those asked for: zeros, and the text's length
-abbrev pub no_line : (size : ℕ) → NumbersLine
-no_line size = record { ok = false; numbers = no_counted; next = size }
+-- the numbers of a text's first line, where it has `count`, at most five
+abbrev pub counted_numbers : (count : ℕ) → List ℕ → Option (List ℕ)
+counted_numbers count xs = cond (leb count max_count) (first_numbers count (lines xs)) none
 
--- the line that starts at `at` of the text xs: whether it has `count` numbers, at most five, which, and where the next
--- line starts
+-- the line that starts at `at` of the text xs: it has `count` numbers, at most five, which are these, and where the
+-- next line starts
 pub record LineMet (count : ℕ) (xs : List ℕ) (at : ℕ) (r : NumbersLine) : Type 0 where
-  pub numbers : cond r.ok (some (take count r.numbers)) none
-      ≡ cond (leb count max_count) (first_numbers count (lines (drop at xs))) none
+  pub numbers : some (take count r.numbers) ≡ counted_numbers count (drop at xs)
   pub size : length r.numbers ≡ max_count
   pub zeros : drop count r.numbers ≡ drop count no_counted
-  pub rest : r.ok ≡ true → lines (drop r.next xs) ≡ drop 1 (lines (drop at xs))
-  pub right : r.ok ≡ true → (at < r.next) × (r.next ≤ length xs)
-  pub wrong : r.ok ≡ false → r ≡ no_line (length xs)
+  pub rest : lines (drop r.next xs) ≡ drop 1 (lines (drop at xs))
+  pub right : (at < r.next) × (r.next ≤ length xs)
 
 -- the text xs starts with the bytes ys
 unfoldable pub starts_with : (ys xs : List ℕ) → Bool

@@ -2,7 +2,8 @@
 use Rattle.std.specs.Prelude.{ℕ, ◌≤◌, ◌<◌, ◌≡◌, Bool, true, not, cond, ◌&&◌, ◌||◌, List, eqb, length, get_or}
 use Rattle.xpath.specs.Document.{Document, is_attribute, is_child, max_nodes}
 use Rattle.common.specs.Axes.{attribute}
-use Rattle.xpath.specs.Axis.{passes}
+use Rattle.xpath.specs.declared.node_tests.StepTest.{StepTest}
+use Rattle.xpath.specs.code.Tests.{picks}
 use Rattle.xpath.specs.code.Ends.{Prepared}
 
 -- y is marked
@@ -19,9 +20,9 @@ pub record Added (n : ℕ) (old new : List ℕ) (s : ℕ → Bool) : Type 0 wher
 unfoldable pub may_hold : ℕ → Document → ℕ → Bool
 may_hold a d y = cond (eqb a attribute) (is_attribute d y) (not (is_attribute d y))
 
--- axis a may hold y, and y passes the test
-abbrev pub candidate : ℕ → ℕ → ℕ → Document → ℕ → Bool
-candidate a t c d y = may_hold a d y && passes a t c d y
+-- axis a may hold y, and y is one of the nodes of the test
+abbrev pub candidate : ℕ → StepTest → Document → ℕ → Bool
+candidate a t d y = may_hold a d y && picks t d y
 
 -- lo is a child of p unless hi is reached; hi is no further than the end of p's subtree
 pub record ChildrenFrom (d : Document) (es : List ℕ) (p lo hi : ℕ) : Type 0 where

@@ -26,6 +26,6 @@ returns c =
     let s = sides a.left a.right in
     let ss = sides_in a.first ∷ sides_in a.second ∷ [] in (
       λ e. other_rule_way rs s _ a.rule c.if-rule-eq-WAY_BACK_RULE.false
-          (rule_way rs s ss a.rule e c.rule_at-e.ensures c.some_form_yields.ensures),
+          (rule_way rs s ss a.rule e c.rule_at.ensures c.some_form_yields.ensures),
       c.requires,
     )

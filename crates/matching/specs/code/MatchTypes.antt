@@ -1,10 +1,10 @@
 -- The code's types as the definitions have them. Assumes nothing.
-use Rattle.std.specs.Prelude.{ℕ, ◌≡◌, Bool, ◌&&◌, ◌||◌, List, map, length, get_or}
+use Rattle.std.specs.Prelude.{ℕ, ◌≡◌, Bool, true, false, ◌&&◌, List, map, get_or, Option, None, Some}
 use Rattle.terms.specs.Row.{Row}
 use Rattle.matching.specs.declared.matcher.Sides.{Sides as CodeSides}
-use Rattle.matching.specs.declared.matcher.Entry.{Entry as CodeEntry}
+use Rattle.matching.specs.declared.matcher.Letters.{Letters}
 use Rattle.matching.specs.declared.way_back.Reversal.{Reversal}
-use Rattle.matching.specs.code.Pattern.{letter_count}
+use Rattle.matching.specs.declared.way_back.Reversal.TheVariants.{Never, Always, Operands}
 use Rattle.matching.specs.code.RowYields.{Sides, sides, Match}
 use Rattle.matching.specs.code.RowWayBack.{is_back_by}
 use Rattle.matching.specs.code.Unpack.{Entry}
@@ -12,23 +12,40 @@ use Rattle.matching.specs.code.Unpack.{Entry}
 abbrev pub sides_in : CodeSides → Sides
 sides_in s = sides s.left s.right
 
--- what was matched so far: whether it fits, and the two lent lists
-abbrev pub matched : Bool → List Bool → List ℕ → Match
-matched fits known value = record { fits = fits; known = known; value = value }
+-- a letter stands for something
+abbrev pub has_value : Option ℕ → Bool
+has_value None = false
+has_value (Some v) = true
 
--- they have a place for each letter
-abbrev pub ForLetters : List Bool → List ℕ → Type 0
-ForLetters known value = (length known ≡ letter_count) × (length value ≡ letter_count)
+-- what it stands for, 0 where that is nothing
+abbrev pub value_or_0 : Option ℕ → ℕ
+value_or_0 None = 0
+value_or_0 (Some v) = v
 
-abbrev pub entry_of : CodeEntry → Entry
-entry_of f = record { first = f.0; second = f.1; third = f.2; fourth = f.3 }
+abbrev pub values_in : Letters → List ℕ
+values_in l = map value_or_0 l.values
+
+-- all that was compared so far fits: what the letters stand for
+abbrev pub matched : Letters → Match
+matched l = record { fits = true; known = map has_value l.values; value = values_in l }
+
+-- the answer of a comparison, and the letters after it, which don't matter where it doesn't fit
+pub record Matches (fits : Bool) (l : Letters) (m : Match) : Type 0 where
+  pub answer : fits ≡ m.fits
+  pub letters : fits ≡ true → matched l ≡ m
+
+abbrev pub entry_of : List ℕ → Entry
+entry_of f = record { first = get_or f 0 0; second = get_or f 1 0; third = get_or f 2 0; fourth = get_or f 3 0 }
 
 unfoldable pub pairs_of : List (List ℕ) → List (ℕ × ℕ)
 pairs_of ps = map (λ p. (get_or p 0 0, get_or p 1 0)) ps
 
+-- what is seen is a way back, by a test for the operands
+abbrev pub reversed_by : (ℕ → ℕ → Bool) → Reversal → Bool
+reversed_by back Never = false
+reversed_by back Always = true
+reversed_by back (Operands s t) = back s.left s.right && back t.left t.right
+
 -- r is what is to be seen of x and y for y to be the way back of x, by any test for their operands
 unfoldable pub Reverses : List Row → Row → Row → Reversal → Type 0
-Reverses rs x y r =
-    (back : ℕ → ℕ → Bool) →
-    is_back_by rs back x y
-    ≡ (r.fits && (r.ends || back r.first.left r.first.right && back r.second.left r.second.right))
+Reverses rs x y r = (back : ℕ → ℕ → Bool) → is_back_by rs back x y ≡ reversed_by back r

@@ -4,21 +4,15 @@ use native.Mathlib.Omega.{arith}
 use Rattle.names.proofs.Walk.{one_counted, none_left}
 use Rattle.names.proofs.count.Goals as goal
 
-pub loop-at-init : goal.loop-at-init
-loop-at-init c = (omega arith, omega arith, omega arith)
-
-pub overflow_add-n : goal.overflow_add-n
-overflow_add-n c = omega arith
-
 pub loop-at-smaller : goal.loop-at-smaller
 loop-at-smaller c =
-    let m = c.next_line-next.ensures in
+    let m = c.next_line-at.ensures in
     omega (arith, m.further c.loop-at-test.true, m.inside)
 
 pub loop-at-preserved : goal.loop-at-preserved
 loop-at-preserved c =
     let l = c.loop-at in
-    let m = c.next_line-next.ensures in
+    let m = c.next_line-at.ensures in
     let inside = c.loop-at-test.true in
     let xs = c.args.list.now in
     (omega (arith, m.further inside), m.inside, one_counted xs l.n l.at _ m l.invariant.2 inside)

@@ -1,10 +1,7 @@
--- `line_start` meets its contract. The loop's invariant: line i starts at `at`. Assumes nothing.
-use Prim.Native.Nat.{◌-◌, ◌≤◌}
+-- `line_start` meets its contract. The loop's invariant: so many lines are passed, and the next starts at `at`.
+-- Assumes nothing.
 use Rattle.names.specs.code.LineStarts.{StartMet}
 use Rattle.names.proofs.line_start.Given as goal
 
-abbrev pub invariant-loop-i : goal.invariant-loop-i
-invariant-loop-i l = (l.i ≤ l.k) × StartMet l.list l.i l.at
-
-abbrev pub decreases-loop-i : goal.decreases-loop-i
-decreases-loop-i l = l.k - l.i
+abbrev pub invariant-loop : goal.invariant-loop
+invariant-loop l = StartMet l.list l.counter l.at

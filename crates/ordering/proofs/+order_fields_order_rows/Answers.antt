@@ -1,11 +1,13 @@
 -- `order_fields` and `order_rows` meet their contracts: a measure, the row of the left, and the ways of Rows.antt and
 -- of Compared.antt. Assumes nothing.
 use Prim.Native.Nat.{◌<◌}
-use mathlib.Core.Path.{sym, ap, ap₂, ◌∙◌}
+use mathlib.Core.Path.{◌≡◌, sym, ap, ap₂, ◌∙◌}
+use mathlib.Core.Bool.{false, ◌&&◌}
 use native.Mathlib.Omega.{arith}
+use Rattle.std.proofs.lemmas.Grind.{common_steps}
 use Rattle.terms.specs.Row.{table_of}
 use Rattle.ordering.specs.Order.{number_order}
-use Rattle.ordering.specs.OrderCall.{order_value}
+use Rattle.ordering.specs.code.Sorts.{order_of, sorts_of, is_operand}
 use Rattle.ordering.proofs.Rows as ways
 use Rattle.ordering.proofs.Compared as law
 use Rattle.ordering.proofs.+order_fields_order_rows.Goals as goal
@@ -13,126 +15,153 @@ use Rattle.ordering.proofs.+order_fields_order_rows.Goals as goal
 pub order_fields-order_rows-requires : goal.order_fields-order_rows-requires
 order_fields-order_rows-requires t c =
     let a = c.args in
-    let (left, right) =
-    ways.two_operands (table_of a.left.now) a.i a.x (table_of a.right.now) a.j a.y a.sort
-    c.is_operand-first.ensures c.is_operand-second.ensures c.and.ensures
-    c.if-and.true in
-    let l : a.x < a.i = ways.operand_before (table_of a.left.now) a.i a.x a.sort left in
+    let l : a.x < a.i =
+    ways.operand_before (table_of a.left.now) a.i a.x a.sort (sym c.is_operand.ensures ∙ c.if-is_operand.true) in
     (omega arith, c.requires)
 
-pub order_fields-returns-then-and : goal.order_fields-returns-then-and
-order_fields-returns-then-and t c =
+pub order_fields-returns-then-is_operand-2 : goal.order_fields-returns-then-is_operand-2
+order_fields-returns-then-is_operand-2 t c =
     let a = c.args in
-    let (left, right) =
-    ways.two_operands (table_of a.left.now) a.i a.x (table_of a.right.now) a.j a.y a.sort
-    c.is_operand-first.ensures c.is_operand-second.ensures
-    c.and.ensures c.if-and.true in
+    let left = sym c.is_operand.ensures ∙ c.if-is_operand.true in
+    let right = sym c.is_operand-then-is_operand.ensures ∙ c.if-is_operand-2.true in
     record {
       answer = c.order_rows.ensures.answer
-          ∙ ap order_value (ways.both_operands (table_of a.left.now) a.i a.x (table_of a.right.now) a.j
-          a.y a.sort left right);
+          ∙ ways.both_operands (table_of a.left.now) a.i a.x (table_of a.right.now) a.j a.y a.sort left right;
       noted = c.order_rows.ensures.noted;
     }
 
 pub order_fields-returns : goal.order_fields-returns
 order_fields-returns t c =
     let a = c.args in
-    let none =
-    ways.not_two (table_of a.left.now) a.i a.x (table_of a.right.now) a.j a.y a.sort
-    c.is_operand-first.ensures c.is_operand-second.ensures c.and.ensures
-    c.if-and.false in
+    let rs = table_of a.left.now in
+    let ss = table_of a.right.now in
+    let none : (is_operand rs a.i a.sort a.x && is_operand ss a.j a.sort a.y) ≡ false = grind (arith, common_steps) in
     record {
-      answer = c.order_numbers.ensures
-          ∙ ap₂ (λ n m. order_value (number_order n m)) (c.wide.ensures ∙ c.number_of-n.ensures)
-          (c.wide-2.ensures ∙ c.number_of-m.ensures)
-          ∙ ap order_value (ways.not_both (table_of a.left.now) a.i a.x (table_of a.right.now) a.j
-          a.y
-          a.sort none);
+      answer = ap order_of c.cmp.ensures ∙ law.numbers_compared c.number_of.result c.number_of-2.result
+          ∙ ap₂ number_order c.number_of.ensures c.number_of-2.ensures
+          ∙ ways.not_both rs a.i a.x ss a.j a.y a.sort none;
       noted = c.requires;
     }
 
 pub order_rows-returns-then-is_noted : goal.order_rows-returns-then-is_noted
 order_rows-returns-then-is_noted t c =
     let a = c.args in
-    let rs = table_of a.left.now in
-    let ss = table_of a.right.now in
-    law.noted_equal rs ss _ a.i a.j c.requires
+    law.noted_equal (table_of a.left.now) (table_of a.right.now) _ a.i a.j c.requires
     (sym c.if-is_noted.true ∙ c.is_noted.ensures)
 
-pub order_rows-returns-then-kinds-ne-EQUAL : goal.order_rows-returns-then-kinds-ne-EQUAL
-order_rows-returns-then-kinds-ne-EQUAL t c =
+pub order_rows-returns-then-is_ne : goal.order_rows-returns-then-is_ne
+order_rows-returns-then-is_ne t c =
     let a = c.args in
     let rs = table_of a.left.now in
     let ss = table_of a.right.now in
-    let pair = c.pair_of-pair in
+    let left = ways.row_there rs c.row_at-x.ensures c.from.ensures in
+    let right = ways.row_there ss c.row_at-y.ensures c.from-2.ensures in
+    let kind = c.term_kind-kind.ensures in
+    let kinds =
+    ap order_of c.cmp-kinds.ensures ∙ law.numbers_compared c.term_kind-kind.result c.term_kind-other.result
+    ∙ ap₂ number_order kind c.term_kind-other.ensures in
     record {
-      answer = law.kinds_differ rs ss a.i a.j pair.result pair.ensures c.if-kinds-ne-EQUAL.true;
+      answer = law.kinds_differ rs ss a.i a.j left right c.cmp-kinds.result kinds (sym c.is_ne.ensures ∙
+          c.if-is_ne.true);
       noted = c.requires;
     }
 
 pub order_rows-order_fields-first-requires : goal.order_rows-order_fields-first-requires
 order_rows-order_fields-first-requires t c = (omega arith, c.requires)
 
-pub order_rows-returns-then-first-ne-EQUAL : goal.order_rows-returns-then-first-ne-EQUAL
-order_rows-returns-then-first-ne-EQUAL t c =
+pub order_rows-returns-then-is_ne-2 : goal.order_rows-returns-then-is_ne-2
+order_rows-returns-then-is_ne-2 t c =
     let a = c.args in
     let rs = table_of a.left.now in
     let ss = table_of a.right.now in
-    let pair = c.pair_of-pair in
+    let left = ways.row_there rs c.row_at-x.ensures c.from.ensures in
+    let right = ways.row_there ss c.row_at-y.ensures c.from-2.ensures in
+    let kind = c.term_kind-kind.ensures in
+    let kinds =
+    ap order_of c.cmp-kinds.ensures ∙ law.numbers_compared c.term_kind-kind.result c.term_kind-other.result
+    ∙ ap₂ number_order kind c.term_kind-other.ensures in
+    let same = sym c.is_ne.ensures ∙ c.if-is_ne.false in
+    let sorts = c.sorts_of.ensures ∙ ap sorts_of kind in
     record {
-      answer = law.firsts_differ rs ss a.i a.j pair.result pair.ensures c.if-kinds-ne-EQUAL.false
-          c.order_fields-first.ensures.answer c.if-first-ne-EQUAL.true;
+      answer = law.firsts_differ rs ss a.i a.j left right c.cmp-kinds.result kinds same c.sorts_of.result
+          sorts c.order_fields-first.result c.order_fields-first.ensures.answer (sym c.is_ne-2.ensures ∙
+          c.if-is_ne-2.true);
       noted = c.order_fields-first.ensures.noted;
     }
 
 pub order_rows-order_fields-second-requires : goal.order_rows-order_fields-second-requires
 order_rows-order_fields-second-requires t c = (omega arith, c.order_fields-first.ensures.noted)
 
-pub order_rows-returns-then-second-ne-EQUAL : goal.order_rows-returns-then-second-ne-EQUAL
-order_rows-returns-then-second-ne-EQUAL t c =
+pub order_rows-returns-then-is_ne-3 : goal.order_rows-returns-then-is_ne-3
+order_rows-returns-then-is_ne-3 t c =
     let a = c.args in
     let rs = table_of a.left.now in
     let ss = table_of a.right.now in
-    let pair = c.pair_of-pair in
+    let left = ways.row_there rs c.row_at-x.ensures c.from.ensures in
+    let right = ways.row_there ss c.row_at-y.ensures c.from-2.ensures in
+    let kind = c.term_kind-kind.ensures in
+    let kinds =
+    ap order_of c.cmp-kinds.ensures ∙ law.numbers_compared c.term_kind-kind.result c.term_kind-other.result
+    ∙ ap₂ number_order kind c.term_kind-other.ensures in
+    let same = sym c.is_ne.ensures ∙ c.if-is_ne.false in
+    let sorts = c.sorts_of.ensures ∙ ap sorts_of kind in
     record {
-      answer = law.seconds_differ rs ss a.i a.j pair.result pair.ensures c.if-kinds-ne-EQUAL.false
-          c.order_fields-first.ensures.answer c.if-first-ne-EQUAL.false
-          c.order_fields-second.ensures.answer c.if-second-ne-EQUAL.true;
+      answer = law.seconds_differ rs ss a.i a.j left right c.cmp-kinds.result kinds same c.sorts_of.result
+          sorts c.order_fields-first.result c.order_fields-first.ensures.answer (sym c.is_ne-2.ensures ∙
+          c.if-is_ne-2.false) c.order_fields-second.result c.order_fields-second.ensures.answer (sym
+          c.is_ne-3.ensures ∙ c.if-is_ne-3.true);
       noted = c.order_fields-second.ensures.noted;
     }
 
 pub order_rows-order_fields-third-requires : goal.order_rows-order_fields-third-requires
 order_rows-order_fields-third-requires t c = (omega arith, c.order_fields-second.ensures.noted)
 
-pub order_rows-returns-then-third-eq-EQUAL : goal.order_rows-returns-then-third-eq-EQUAL
-order_rows-returns-then-third-eq-EQUAL t c =
+pub order_rows-returns-then-is_eq : goal.order_rows-returns-then-is_eq
+order_rows-returns-then-is_eq t c =
     let a = c.args in
     let rs = table_of a.left.now in
     let ss = table_of a.right.now in
-    let pair = c.pair_of-pair in
+    let left = ways.row_there rs c.row_at-x.ensures c.from.ensures in
+    let right = ways.row_there ss c.row_at-y.ensures c.from-2.ensures in
+    let kind = c.term_kind-kind.ensures in
+    let kinds =
+    ap order_of c.cmp-kinds.ensures ∙ law.numbers_compared c.term_kind-kind.result c.term_kind-other.result
+    ∙ ap₂ number_order kind c.term_kind-other.ensures in
+    let same = sym c.is_ne.ensures ∙ c.if-is_ne.false in
+    let sorts = c.sorts_of.ensures ∙ ap sorts_of kind in
     record {
-      answer = law.thirds_decide rs ss a.i a.j pair.result pair.ensures c.if-kinds-ne-EQUAL.false
-          c.order_fields-first.ensures.answer c.if-first-ne-EQUAL.false
-          c.order_fields-second.ensures.answer c.if-second-ne-EQUAL.false
+      answer = law.thirds_decide rs ss a.i a.j left right c.cmp-kinds.result kinds same c.sorts_of.result
+          sorts c.order_fields-first.result c.order_fields-first.ensures.answer (sym c.is_ne-2.ensures ∙
+          c.if-is_ne-2.false) c.order_fields-second.result c.order_fields-second.ensures.answer (sym
+          c.is_ne-3.ensures ∙ c.if-is_ne-3.false) c.order_fields-third.result
           c.order_fields-third.ensures.answer;
-      noted = law.all_equal rs ss a.i a.j pair.result pair.ensures c.if-kinds-ne-EQUAL.false
-          c.order_fields-first.ensures.answer c.if-first-ne-EQUAL.false
-          c.order_fields-second.ensures.answer c.if-second-ne-EQUAL.false
-          c.order_fields-third.ensures.answer c.if-third-eq-EQUAL.true _ _
-          c.order_fields-third.ensures.noted
-          c.note.ensures;
+      noted = law.all_equal rs ss a.i a.j left right
+          c.cmp-kinds.result kinds same c.sorts_of.result sorts c.order_fields-first.result
+          c.order_fields-first.ensures.answer (sym c.is_ne-2.ensures ∙ c.if-is_ne-2.false)
+          c.order_fields-second.result c.order_fields-second.ensures.answer (sym
+          c.is_ne-3.ensures ∙ c.if-is_ne-3.false) c.order_fields-third.result
+          c.order_fields-third.ensures.answer (sym c.is_eq.ensures ∙ c.if-is_eq.true) _
+          _ c.order_fields-third.ensures.noted c.note.ensures;
     }
 
-pub order_rows-returns-else-third-eq-EQUAL : goal.order_rows-returns-else-third-eq-EQUAL
-order_rows-returns-else-third-eq-EQUAL t c =
+pub order_rows-returns-else-is_eq : goal.order_rows-returns-else-is_eq
+order_rows-returns-else-is_eq t c =
     let a = c.args in
     let rs = table_of a.left.now in
     let ss = table_of a.right.now in
-    let pair = c.pair_of-pair in
+    let left = ways.row_there rs c.row_at-x.ensures c.from.ensures in
+    let right = ways.row_there ss c.row_at-y.ensures c.from-2.ensures in
+    let kind = c.term_kind-kind.ensures in
+    let kinds =
+    ap order_of c.cmp-kinds.ensures ∙ law.numbers_compared c.term_kind-kind.result c.term_kind-other.result
+    ∙ ap₂ number_order kind c.term_kind-other.ensures in
+    let same = sym c.is_ne.ensures ∙ c.if-is_ne.false in
+    let sorts = c.sorts_of.ensures ∙ ap sorts_of kind in
     record {
-      answer = law.thirds_decide rs ss a.i a.j pair.result pair.ensures c.if-kinds-ne-EQUAL.false
-          c.order_fields-first.ensures.answer c.if-first-ne-EQUAL.false
-          c.order_fields-second.ensures.answer c.if-second-ne-EQUAL.false
+      answer = law.thirds_decide rs ss a.i a.j left right c.cmp-kinds.result kinds same c.sorts_of.result
+          sorts c.order_fields-first.result c.order_fields-first.ensures.answer (sym c.is_ne-2.ensures ∙
+          c.if-is_ne-2.false) c.order_fields-second.result c.order_fields-second.ensures.answer (sym
+          c.is_ne-3.ensures ∙ c.if-is_ne-3.false) c.order_fields-third.result
           c.order_fields-third.ensures.answer;
       noted = c.order_fields-third.ensures.noted;
     }

@@ -1,8 +1,6 @@
 -- `bundle_order_on` meets its contract. The loop's invariant: the order is that of the steps from k on, and what is
 -- noted is so. Assumes nothing.
-use Prim.Native.Nat.{◌-◌, ◌≤◌}
 use mathlib.Core.Path.{◌≡◌}
-use lib.ListN.{length}
 use Rattle.terms.specs.Row.{table_of}
 use Rattle.calls.specs.code.Tables.{steps_of}
 use Rattle.ordering.specs.code.Sorts.{Noted}
@@ -12,8 +10,4 @@ use Rattle.ordering.proofs.bundle_order_on.Given as goal
 abbrev pub invariant-loop-k : goal.invariant-loop-k
 invariant-loop-k l =
     let order = from (table_of l.left) (table_of l.right) (steps_of l.left_steps) (steps_of l.right_steps) in
-    (l.k ≤ l.both) × Noted (table_of l.left) (table_of l.right) l.noted × (order 0 ≡ order l.k)
-    × (length l.noted ≡ 1024)
-
-abbrev pub decreases-loop-k : goal.decreases-loop-k
-decreases-loop-k l = l.both - l.k
+    Noted (table_of l.left) (table_of l.right) l.noted × (order 0 ≡ order l.k)

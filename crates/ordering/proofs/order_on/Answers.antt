@@ -1,54 +1,37 @@
 -- `order_on` meets its contract: refusal 5 by the counts of rows, then the comparison, with nothing noted.
 -- Assumes nothing.
-use mathlib.Core.Path.{ap}
+use mathlib.Core.Path.{ap, ◌∙◌}
 use native.Mathlib.Omega.{arith}
 use borrow.Author.Tests.{le-leb, lt-leb}
 use lib.ListN.{length}
 use Rattle.terms.specs.Row.{table_of}
 use Rattle.calls.specs.Book.{answer}
-use Rattle.ordering.specs.OrderCall.{order_answer}
+use Rattle.ordering.specs.OrderCall.{order_value, order_answer}
 use Rattle.ordering.proofs.Compared.{none_noted}
 use Rattle.ordering.proofs.order_on.Goals as goal
 
-pub returns-then-row_count-wide : goal.returns-then-row_count-wide
+pub returns-then-row_count-from : goal.returns-then-row_count-from
 unfolding order_answer
-returns-then-row_count-wide c =
-    let a = c.args in
-    let e = c.row_count.ensures in
-    let f = c.wide.ensures in
-    let l = c.if-row_count-wide.true in
-    rw (le-leb (length (table_of a.left.now)) a.i (omega arith))
+returns-then-row_count-from c = let a = c.args in rw (le-leb (length (table_of a.left.now)) a.i (omega arith))
 
-pub returns-then-row_count-wide-2 : goal.returns-then-row_count-wide-2
+pub returns-then-row_count-from-2 : goal.returns-then-row_count-from-2
 unfolding order_answer
-returns-then-row_count-wide-2 c =
+returns-then-row_count-from-2 c =
     let a = c.args in
-    let e = c.row_count.ensures in
-    let f = c.wide.ensures in
-    let l = c.if-row_count-wide.false in
-    let e₂ = c.row_count-2.ensures in
-    let f₂ = c.wide-2.ensures in
-    let l₂ = c.if-row_count-wide-2.true in
     rw (
       lt-leb (length (table_of a.left.now)) a.i (omega arith),
       le-leb (length (table_of a.right.now)) a.j (omega arith),
     )
 
-pub order_rows-order-requires : goal.order_rows-order-requires
-order_rows-order-requires c = none_noted _ _ 1024
+pub order_rows-requires : goal.order_rows-requires
+order_rows-requires c = none_noted _ _ 1024
 
 pub returns : goal.returns
 unfolding order_answer
 returns c =
     let a = c.args in
-    let e = c.row_count.ensures in
-    let f = c.wide.ensures in
-    let l = c.if-row_count-wide.false in
-    let e₂ = c.row_count-2.ensures in
-    let f₂ = c.wide-2.ensures in
-    let l₂ = c.if-row_count-wide-2.false in
     rw (
       lt-leb (length (table_of a.left.now)) a.i (omega arith),
       lt-leb (length (table_of a.right.now)) a.j (omega arith),
     )
-    (ap (answer 0) c.order_rows-order.ensures.answer)
+    (ap (answer 0) (c.value_of.ensures ∙ ap order_value c.order_rows.ensures.answer))

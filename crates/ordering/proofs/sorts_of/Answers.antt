@@ -1,5 +1,7 @@
 -- `sorts_of` meets its contract, kind by kind. Assumes nothing.
 use mathlib.Core.Path.{sym}
+use native.Mathlib.Omega.{arith}
+use Rattle.std.proofs.lemmas.Grind.{common_steps}
 use Rattle.terms.specs.Fields.{fields_of}
 use Rattle.ordering.specs.code.Sorts.{sort_of, sorts_of}
 use Rattle.ordering.proofs.Rows.{sorts_rest}
@@ -8,14 +10,6 @@ use Rattle.ordering.proofs.sorts_of.Goals as goal
 pub returns-in-2 : goal.returns-in-2
 unfolding sorts_of sort_of fields_of
 returns-in-2 c = rw c.in-2.is
-
-pub returns-in-3 : goal.returns-in-3
-unfolding sorts_of sort_of fields_of
-returns-in-3 c = rw c.in-3.is
-
-pub returns-in-4 : goal.returns-in-4
-unfolding sorts_of sort_of fields_of
-returns-in-4 c = rw c.in-4.is
 
 pub returns-in-5 : goal.returns-in-5
 unfolding sorts_of sort_of fields_of
@@ -27,15 +21,14 @@ returns-in-8 c = rw c.in-8.is
 
 pub returns-in-9 : goal.returns-in-9
 unfolding sorts_of sort_of fields_of
-returns-in-9 c = rw c.in-9.is
+returns-in-9 c = grind (arith, common_steps)
 
-pub returns-in-10 : goal.returns-in-10
+pub returns-in-3 : goal.returns-in-3
 unfolding sorts_of sort_of fields_of
-returns-in-10 c = rw c.in-10.is
-
-pub returns-in-11 : goal.returns-in-11
-unfolding sorts_of sort_of fields_of
-returns-in-11 c = rw c.in-11.is
+returns-in-3 c = grind (arith, common_steps)
 
 pub returns-in_default : goal.returns-in_default
-returns-in_default c = sym (sorts_rest _ c.in_default.in_default-own.rest)
+returns-in_default c =
+    sym (sorts_rest c.args.kind (λ e. grind (arith, common_steps)) (λ e. grind (arith, common_steps))
+    (λ e. grind (arith, common_steps)) (λ e. grind (arith, common_steps)) (λ e. grind (arith, common_steps))
+    (λ e. grind (arith, common_steps)) (λ e. grind (arith, common_steps)) (λ e. grind (arith, common_steps)))

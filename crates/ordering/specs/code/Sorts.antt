@@ -1,21 +1,25 @@
 -- How the fields of a row are compared, by its kind, and what a row stands for. Assumes nothing.
 use Rattle.std.specs.Prelude.{ℕ, suc, ◌≡◌, Bool, false, cond, ◌&&◌, List, leb, ltb, get_or}
+use Rattle.std.specs.declared.cmp.Ordering.{Ordering}
+use Rattle.std.specs.declared.cmp.Ordering.TheVariants.{Less, Equal, Greater}
 use Rattle.common.specs.RowKinds.{void_row, false_row}
 use Rattle.terms.specs.Row.{Row, row_at}
-use Rattle.terms.specs.code.RowTypes.{row_of}
 use Rattle.terms.specs.Fields.{Field, fields_of, max_kind, is_path, is_qualifier}
 use Rattle.terms.specs.Fields as field
 use Rattle.terms.specs.Terms.{Term, path_in, qualifier_in, term_at}
 use Rattle.ordering.specs.declared.Sort.{Sort}
 use Rattle.ordering.specs.declared.Sort.TheVariants.{Nothing, Number, Path, Qualifier}
-use Rattle.ordering.specs.declared.Sorts.{Sorts}
-use Rattle.ordering.specs.declared.Pair.{Pair}
-use Rattle.ordering.specs.Order.{Order, number_order}
+use Rattle.ordering.specs.Order.{Order, less, equal, greater}
 use Rattle.ordering.specs.TermOrder.{TermField, number, operand, unused, path_row, qualifier_row}
-use Rattle.ordering.specs.OrderCall.{order_value}
 
-abbrev pub sorts_in : Sorts → Sort × Sort × Sort
-sorts_in s = (s.0, s.1, s.2)
+-- what the code's comparisons return
+abbrev pub order_of : Ordering → Order
+order_of Less = less
+order_of Equal = equal
+order_of Greater = greater
+
+abbrev pub sorts_in : List Sort → Sort × Sort × Sort
+sorts_in s = (get_or s 0 Nothing, get_or s 1 Nothing, get_or s 2 Nothing)
 
 abbrev pub no_sorts : Sort × Sort × Sort
 no_sorts = (Nothing, Nothing, Nothing)
@@ -58,19 +62,12 @@ number_as rs i Number x = x
 number_as rs i Path x = cond (is_operand rs i Path x) (row_at rs x).kind void_row
 number_as rs i Qualifier x = cond (is_operand rs i Qualifier x) (row_at rs x).kind false_row
 
--- the rows i and j, the order of the kinds of their terms, and what the fields of the first are
-pub record Paired (rs : List Row) (i : ℕ) (ss : List Row) (j : ℕ) (p : Pair) : Type 0 where
-  pub left : row_of p.x ≡ row_at rs i
-  pub right : row_of p.y ≡ row_at ss j
-  pub kinds : p.kinds ≡ order_value (number_order (term_kind p.x.kind) (term_kind p.y.kind))
-  pub fields : sorts_in p.sorts ≡ sorts_of (term_kind p.x.kind)
-
 module _ (rs ss : List Row) where
   -- what a table of noted rows says is so: at i stands j + 1 where rows i and j have the same term, or 0
   unfoldable pub Noted : List ℕ → Type 0
   Noted xs = (i j : ℕ) → get_or xs i 0 ≡ suc j → term_at rs i ≡ term_at ss j
 
   -- a comparison's answer, and what is noted then
-  pub record Compared (o : Order) (r : ℕ) (xs : List ℕ) : Type 0 where
-    pub answer : r ≡ order_value o
+  pub record Compared (o : Order) (r : Ordering) (xs : List ℕ) : Type 0 where
+    pub answer : order_of r ≡ o
     pub noted : Noted xs

@@ -1,43 +1,15 @@
--- `place_in` meets its contract. The loop's invariant: the place is i and that in the names from i on. Assumes nothing.
-use native.Mathlib.Omega.{arith}
-use Rattle.calls.proofs.PointTables.{points_lent, place_here, place_later, place_none}
+-- `place_in` meets its contract: the first point that passes the test is the first of that name. Assumes nothing.
+use Rattle.std.proofs.Common.{◌≡◌, ℕ, List, rules, tests, eqb, get_or, position}
+use Rattle.std.proofs.lemmas.Iterator.{YieldsList-from_slice}
+use Rattle.std.proofs.lemmas.Iterator.Search.{position_from_yields_List}
+use Rattle.calls.proofs.PointTables.{place_found}
 use Rattle.point_calls.proofs.place_in.Goals as goal
-
-pub loop-i-init : goal.loop-i-init
-loop-i-init c = (omega arith, omega arith)
-
-pub overflow_mul-held : goal.overflow_mul-held
-overflow_mul-held c = omega (arith, points_lent c.args.points.now)
-
-pub offset_bounds-points-i : goal.offset_bounds-points-i
-offset_bounds-points-i c = omega (arith, points_lent c.args.points.now)
-
-pub bounds-points-i : goal.bounds-points-i
-bounds-points-i c = omega (arith, points_lent c.args.points.now)
-
-pub returns-then-held-name : goal.returns-then-held-name
-returns-then-held-name c =
-    let a = c.args in
-    let l = c.loop-i in
-    let here = place_here a.points.now a.name l.i (omega arith) c.if-held-name.true in
-    omega (arith, l.invariant.1, here)
-
-pub overflow_add-i : goal.overflow_add-i
-overflow_add-i c = omega arith
-
-pub loop-i-smaller : goal.loop-i-smaller
-loop-i-smaller c = omega arith
-
-pub loop-i-preserved : goal.loop-i-preserved
-loop-i-preserved c =
-    let a = c.args in
-    let l = c.loop-i in
-    let later = place_later a.points.now a.name l.i (omega arith) c.if-held-name.false in
-    (omega arith, omega (arith, l.invariant.1, later))
 
 pub returns : goal.returns
 returns c =
-    let a = c.args in
-    let l = c.loop-i in
-    let none = place_none a.points.now a.name l.i (omega arith) in
-    omega (arith, l.invariant.1, none)
+    let points = c.whole_points.result.now in
+    let name = c.args.name in
+    let first : c.position.result ≡ position (λ p. eqb (get_or p 0 0) name) points =
+    position_from_yields_List (λ (p : List ℕ). eqb (get_or p 0 0) name) _ _ c.position.result c.position.ensures.ran
+    (YieldsList-from_slice _ c.iter.ensures.rest) (λ x b q k. search (rules, tests)) in
+    rw (first, ← c.whole_points.ensures) (place_found points name)

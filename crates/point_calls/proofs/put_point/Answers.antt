@@ -1,14 +1,10 @@
--- `put_point` meets its contract. Assumes nothing.
+-- `put_point` meets its contract: the point's numbers are copied. Assumes nothing.
+use Prim.Native.Nat.{◌*◌}
 use native.Mathlib.Omega.{arith}
-use native.Mathlib.Numerals.{add-one, add-two}
-use lib.ListN.{length-set}
+use Rattle.calls.proofs.Tables.{copied}
 use Rattle.point_calls.proofs.put_point.Goals as goal
 
-pub bounds-points-at-2 : goal.bounds-points-at-2
-bounds-points-at-2 c = simp length-set (omega arith)
-
-pub bounds-points-at-3 : goal.bounds-points-at-3
-bounds-points-at-3 c = simp length-set (omega arith)
-
 pub returns : goal.returns
-returns c = rw (add-one, add-two)
+returns c =
+    let a = c.args in
+    copied (3 * a.k) _ a.points.now _ _ c.copy_from_slice.ensures.after (omega arith) (omega arith)

@@ -1,24 +1,17 @@
 -- `constant` meets its contract. Assumes nothing.
+use mathlib.Core.Path.{refl}
 use native.Mathlib.Omega.{arith}
+use Rattle.readings.specs.code.Build.{stands}
+use Rattle.readings.proofs.Worded.{const_read}
 use Rattle.readings.proofs.constant.Goals as goal
 
 pub put_leaf-requires : goal.put_leaf-requires
 put_leaf-requires c = record {
   size = c.requires.sized.size;
-  bound = omega (
-    arith,
-    c.requires.sized.bound,
-    rw c.moved-inside.ensures at c.close-shut.ensures.count,
-  );
+  bound = omega (arith, c.requires.sized.bound, c.in_ok-shut.ensures.count refl);
 }
 
 pub returns : goal.returns
-returns c = record {
-  to = c.skip.result;
-  passed = c.skip.ensures;
-  shut = c.close-shut.result;
-  closes =
-      rw c.moved-inside.ensures at c.close-shut.ensures;
-  puts =
-      c.put_leaf.ensures;
-}
+returns c =
+    const_read c.args.s.now c.args.kind _ _ (stands c.args.from) (stands c.in_ok-shut.shut) _ c.skip-at.result refl
+    c.skip-at.ensures c.in_ok-shut.ensures c.put_leaf.ensures

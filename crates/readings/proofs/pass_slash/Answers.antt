@@ -2,6 +2,7 @@
 use mathlib.Core.Path.{refl, sym, ◌∙◌}
 use native.Mathlib.Omega.{arith}
 use Prim.Native.Nat.{◌+◌}
+use Rattle.readings.specs.code.Build.{stands}
 use Rattle.readings.proofs.Worded.{slash_two, slash_one}
 use Rattle.heads.proofs.Headed.{byte_there}
 use Rattle.readings.proofs.pass_slash.Goals as goal
@@ -14,36 +15,34 @@ overflow_add-next c =
           c.requires.0,
     )
 
-pub overflow_add-next-then-byte_at-eq-SLASH : goal.overflow_add-next-then-byte_at-eq-SLASH
-overflow_add-next-then-byte_at-eq-SLASH c =
+pub overflow_add-next-then-byte_at-eq47 : goal.overflow_add-next-then-byte_at-eq47
+overflow_add-next-then-byte_at-eq47 c =
     omega (
       arith,
       byte_there c.args.s.now (c.args.path.at + 1) 47 refl
-          (sym c.byte_at.ensures ∙ c.if-byte_at-eq-SLASH.true),
+          (sym c.byte_at.ensures ∙ c.if-byte_at-eq47.true),
     )
 
-pub skip-requires : goal.skip-requires
-skip-requires c =
+pub skip-at-requires : goal.skip-at-requires
+skip-at-requires c =
     omega (
       arith,
       byte_there c.args.s.now (c.args.path.at + 1) 47 refl
-          (sym c.byte_at.ensures ∙ c.if-byte_at-eq-SLASH.true),
+          (sym c.byte_at.ensures ∙ c.if-byte_at-eq47.true),
     )
 
-pub returns-then-byte_at-eq-SLASH : goal.returns-then-byte_at-eq-SLASH
-returns-then-byte_at-eq-SLASH c =
-    rw c.moved.ensures
-    (slash_two c.args.s.now _ _ c.args.path
-    c.every_below-below.result c.skip.result
-    (sym c.byte_at.ensures ∙ c.if-byte_at-eq-SLASH.true) c.skip.ensures
-    c.every_below-below.ensures)
+pub returns-then-byte_at-eq47 : goal.returns-then-byte_at-eq47
+returns-then-byte_at-eq47 c =
+    slash_two c.args.s.now _ _ (stands c.args.path)
+    (stands c.every_below-below.result) c.skip-at.result
+    (sym c.byte_at.ensures ∙ c.if-byte_at-eq47.true) c.skip-at.ensures
+    c.every_below-below.ensures
 
-pub skip-requires-2 : goal.skip-requires-2
-skip-requires-2 c = omega (arith, byte_there c.args.s.now c.args.path.at 47 refl c.requires.0)
+pub skip-at-requires-2 : goal.skip-at-requires-2
+skip-at-requires-2 c = omega (arith, byte_there c.args.s.now c.args.path.at 47 refl c.requires.0)
 
 pub returns : goal.returns
 returns c =
-    rw c.moved-2.ensures
-    (slash_one c.args.s.now _ c.args.path c.skip-2.result
-    (λ e. c.if-byte_at-eq-SLASH.false (c.byte_at.ensures ∙ e))
-    c.skip-2.ensures c.requires.1)
+    slash_one c.args.s.now _ (stands c.args.path) c.skip-at-2.result
+    (λ e. c.if-byte_at-eq47.false (c.byte_at.ensures ∙ e))
+    c.skip-at-2.ensures c.requires.1

@@ -1,6 +1,6 @@
 -- What the functions that put rows promise. Assumes nothing.
 use Rattle.std.specs.Prelude.{ℕ, suc, ◌*◌, ◌<◌, ◌≤◌, min, max, ◌≡◌, Bool, true, false, cond, ◌||◌, ◌&&◌, List}
-use Rattle.std.specs.Prelude.{eqb, length, take, drop}
+use Rattle.std.specs.Prelude.{eqb, length, take, drop, Result, Ok, Err}
 use Rattle.std.proofs.Math.Option.{Option, none, some}
 use Rattle.grammar.specs.Bytes.{open_byte, colon_byte, open_bracket}
 use Rattle.common.specs.RowKinds.{void_row, step_row, composition_row, not_row, inclusion_row}
@@ -12,6 +12,7 @@ pub use Rattle.terms.specs.Row.{row_width, row_numbers}
 use Rattle.grammar.specs.Denotes.{Put, put}
 use Rattle.readings.specs.declared.Reading.{Reading}
 use Rattle.heads.specs.declared.Head.{Head}
+use Rattle.heads.specs.code.Head.{place_of}
 
 -- one more than the deepest nesting of a row; a nesting above is counted as this
 abbrev pub too_deep_nesting : ℕ
@@ -20,8 +21,38 @@ too_deep_nesting = suc max_nesting
 abbrev pub capped : ℕ → ℕ
 capped n = min too_deep_nesting n
 
+-- where a reading stands, and what it has read; or, if not `ok`, `at` is the first byte that can't continue, and the
+-- rest says nothing
+pub record Standing : Type 0 where
+  pub ok : Bool
+  pub at : ℕ
+  pub row : ℕ
+  pub nesting : ℕ
+  pub count : ℕ
+  pub fits : Bool
+  pub missing : Option ℕ
+
+abbrev pub stands : Reading → Standing
+stands r = record {
+  ok = true;
+  at = r.at;
+  row = r.row;
+  nesting = r.nesting;
+  count = r.count;
+  fits = r.fits;
+  missing = place_of r.missing;
+}
+
+abbrev pub refused_at : ℕ → Standing
+refused_at to = record { ok = false; at = to; row = 0; nesting = 0; count = 0; fits = false; missing = none }
+
+-- what a function gave that may refuse
+abbrev pub ended : Result Reading ℕ → Standing
+ended (Ok r) = stands r
+ended (Err to) = refused_at to
+
 -- the same reading elsewhere
-abbrev pub moved_to : Reading → ℕ → Reading
+abbrev pub moved_to : Standing → ℕ → Standing
 moved_to r to = record {
   ok = r.ok;
   at = to;
@@ -29,23 +60,10 @@ moved_to r to = record {
   nesting = r.nesting;
   count = r.count;
   fits = r.fits;
-  listed = r.listed;
   missing = r.missing;
 }
 
-abbrev pub failed_at : Reading → ℕ → Reading
-failed_at r to = record {
-  ok = false;
-  at = to;
-  row = r.row;
-  nesting = r.nesting;
-  count = r.count;
-  fits = r.fits;
-  listed = r.listed;
-  missing = r.missing;
-}
-
-abbrev pub row_taken : Reading → (n count nesting : ℕ) → Reading
+abbrev pub row_taken : Standing → (n count nesting : ℕ) → Standing
 row_taken r n count nesting =
     record {
       ok = r.ok;
@@ -54,11 +72,10 @@ row_taken r n count nesting =
       nesting = nesting;
       count = count;
       fits = r.fits;
-      listed = r.listed;
       missing = r.missing;
     }
 
-abbrev pub no_room : Reading → (nesting : ℕ) → Reading
+abbrev pub no_room : Standing → (nesting : ℕ) → Standing
 no_room r nesting = record {
   ok = r.ok;
   at = r.at;
@@ -66,7 +83,6 @@ no_room r nesting = record {
   nesting = nesting;
   count = r.count;
   fits = false;
-  listed = r.listed;
   missing = r.missing;
 }
 
@@ -88,29 +104,24 @@ pub record Beyond (xs : List ℕ) (m : ℕ) (ys : List ℕ) (n : ℕ) : Type 0 w
 
 -- from the reading x with the table xs to the reading y with the table ys f has put rows, and the term's row is the
 -- last one's
-pub record Puts (f : List Row → Put) (xs : List ℕ) (x : Reading) (ys : List ℕ) (y : Reading) : Type 0 where
+pub record Puts (f : List Row → Put) (xs : List ℕ) (x : Standing) (ys : List ℕ) (y : Standing) : Type 0 where
   pub held : (rs : List Row) → Holds rs xs x.count x.fits → Holds (f rs).rows ys y.count y.fits
   pub at : (rs : List Row) → Holds rs xs x.count x.fits → y.fits ≡ true → y.row ≡ (f rs).at
   pub keeps : y.fits ≡ true → x.fits ≡ true
   pub beyond : y.fits ≡ true → Beyond xs x.count ys y.count
 
 -- the same text and names
-pub record SameText (x y : Reading) : Type 0 where
+pub record SameText (x y : Standing) : Type 0 where
   pub ok : y.ok ≡ x.ok
   pub at : y.at ≡ x.at
-  pub listed : y.listed ≡ x.listed
   pub missing : y.missing ≡ x.missing
 
 -- one row was put
-pub record PutMet (r : Row) (nesting : ℕ) (xs : List ℕ) (x : Reading) (ys : List ℕ) (y : Reading) : Type 0 where
+pub record PutMet (r : Row) (nesting : ℕ) (xs : List ℕ) (x : Standing) (ys : List ℕ) (y : Standing) : Type 0 where
   pub sized : Sized ys y.count
   pub puts : Puts (λ rs. put rs r) xs x ys y
   pub text : SameText x y
   pub nest : y.nesting ≡ nesting
-
--- the first unlisted name so far
-unfoldable pub missing_of : Reading → Option ℕ
-missing_of r = cond r.listed none (some r.missing)
 
 -- the first of two places
 unfoldable pub first_of : Option ℕ → Option ℕ → Option ℕ
@@ -118,11 +129,11 @@ first_of none y = y
 first_of (some i) y = some i
 
 -- a term that f puts, of nesting n, was read, and m is the first of its names that is not listed
-pub record Made (f : List Row → Put) (n : ℕ) (m : Option ℕ) (xs : List ℕ) (x : Reading) (ys : List ℕ)
-    (y : Reading) : Type 0 where
+pub record Made (f : List Row → Put) (n : ℕ) (m : Option ℕ) (xs : List ℕ) (x : Standing) (ys : List ℕ)
+    (y : Standing) : Type 0 where
   pub puts : Puts f xs x ys y
   pub nest : y.nesting ≡ capped n
-  pub names : missing_of y ≡ first_of (missing_of x) m
+  pub names : y.missing ≡ first_of x.missing m
 
 -- the rows of a term of two operands, and of one
 abbrev pub joined : ℕ → (List Row → Put) → (List Row → Put) → List Row → Put
@@ -135,11 +146,11 @@ abbrev pub leaf : ℕ → List Row → Put
 leaf kind rs = put rs (row kind 0 0 0)
 
 -- one more term was made of one that was read: whatever f, n and m it had, it now has F, N and the same names
-pub record Grown (F : (List Row → Put) → List Row → Put) (N : ℕ → ℕ) (xs : List ℕ) (x : Reading) (ys : List ℕ)
-    (y : Reading) : Type 0 where
+pub record Grown (F : (List Row → Put) → List Row → Put) (N : ℕ → ℕ) (xs : List ℕ) (x : Standing) (ys : List ℕ)
+    (y : Standing) : Type 0 where
   pub sized : Sized ys y.count
   pub text : SameText x y
-  pub made : (f : List Row → Put) (n : ℕ) (m : Option ℕ) (zs : List ℕ) (z : Reading) → Made f n m zs z xs x
+  pub made : (f : List Row → Put) (n : ℕ) (m : Option ℕ) (zs : List ℕ) (z : Standing) → Made f n m zs z xs x
       → Made (F f) (N n) m zs z ys y
 
 -- p/descendant-or-self::node(), some p, not f
@@ -153,28 +164,12 @@ some_of_put f = over not_row (joined inclusion_row f (leaf void_row))
 unfoldable pub only_in_step : ℕ → Bool
 only_in_step b = eqb b open_byte || (eqb b colon_byte || eqb b open_bracket)
 
--- the step of a head was put, where there is one
-pub record HeadPut (xs : List ℕ) (x : Reading) (h : Head) (ys : List ℕ) (y : Reading) : Type 0 where
+-- the step of a head was put
+pub record HeadPut (xs : List ℕ) (x : Standing) (h : Head) (ys : List ℕ) (y : Standing) : Type 0 where
   pub sized : Sized ys y.count
   pub at : y.at ≡ h.at
-  pub ok : y.ok ≡ (x.ok && h.ok)
-  pub made : h.ok ≡ true
-      → Made (λ rs. put rs (row step_row h.axis h.test h.name)) 1
-      (cond h.listed none (some h.place)) xs x ys y
+  pub ok : y.ok ≡ x.ok
+  pub made : Made (λ rs. put rs (row step_row h.axis h.test h.name)) 1 (place_of h.unlisted) xs x ys y
 
--- a name at a place that is not listed is the first such, unless there was one
-unfoldable pub unlisted_at : Reading → ℕ → Reading
-unlisted_at r p = cond r.listed
-    (record {
-      ok = r.ok;
-      at = r.at;
-      row = r.row;
-      nesting = r.nesting;
-      count = r.count;
-      fits = r.fits;
-      listed = false;
-      missing = p;
-    }) r
-
-abbrev pub nothing_read : ℕ → Reading
-nothing_read n = record { ok = true; at = 0; row = 0; nesting = 0; count = n; fits = true; listed = true; missing = 0 }
+abbrev pub nothing_read : ℕ → Standing
+nothing_read n = record { ok = true; at = 0; row = 0; nesting = 0; count = n; fits = true; missing = none }

@@ -1,9 +1,8 @@
 -- `first_saying` meets its contract. The loop's invariant: none of the first n steps says so. Assumes nothing.
-use Prim.Native.Nat.{suc, ◌-◌, ◌≤◌}
+use Prim.Native.Nat.{suc}
 use mathlib.Core.Path.{◌≡◌}
 use mathlib.Core.List.{[], ◌∷◌}
 use mathlib.Core.Option.{none}
-use lib.ListN.{length}
 use Rattle.common.specs.Bounded.{first_below}
 use Rattle.terms.specs.Row.{table_of}
 use Rattle.calls.specs.Book.{book}
@@ -13,8 +12,4 @@ use Rattle.replacing.proofs.first_saying.Given as goal
 
 abbrev pub invariant-loop-n : goal.invariant-loop-n
 invariant-loop-n l =
-    (first_below l.n (λ j. is_replaced (book (table_of l.rows) (steps_of l.steps)) (l.new ∷ []) l.old (suc j)) ≡ none)
-    × (l.n ≤ l.held) × (l.held ≡ length (steps_of l.steps))
-
-abbrev pub decreases-loop-n : goal.decreases-loop-n
-decreases-loop-n l = l.held - l.n
+    first_below l.n (λ j. is_replaced (book (table_of l.rows) (steps_of l.steps)) (l.new ∷ []) l.old (suc j)) ≡ none

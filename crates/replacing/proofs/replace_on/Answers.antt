@@ -15,24 +15,12 @@ returns-then-are_bad_lists c = lists_refused _ _ _ _ (sym c.are_bad_lists.ensure
 
 pub loop-k-init : goal.loop-k-init
 unfolding first_below
-loop-k-init c = (refl, omega arith)
-
-pub offset_bounds-old-k : goal.offset_bounds-old-k
-offset_bounds-old-k c = omega arith
-
-pub bounds-old-k : goal.bounds-old-k
-bounds-old-k c = omega arith
-
-pub offset_bounds-by-k : goal.offset_bounds-by-k
-offset_bounds-by-k c = omega arith
+loop-k-init c = refl
 
 pub bounds-by-k : goal.bounds-by-k
 bounds-by-k c =
     let fit = sym c.are_bad_lists.ensures ∙ c.if-are_bad_lists.false in
     omega (arith, as_many _ _ _ fit)
-
-pub overflow_add-place : goal.overflow_add-place
-overflow_add-place c = omega arith
 
 pub overflow_cast-result : goal.overflow_cast-result
 overflow_cast-result c =
@@ -44,27 +32,19 @@ unfolding is_replaced_at
 returns-then-not-is_replaced c =
     let l = c.loop-k in
     let fit = sym c.are_bad_lists.ensures ∙ c.if-are_bad_lists.false in
-    place_refused _ _ _ _ fit l.k l.invariant.0 c.loop-k-test.true
+    place_refused _ _ _ _ fit l.k l.invariant c.loop-k-test.true
     (sym c.is_replaced.ensures ∙ not-true _ c.if-not-is_replaced.true-raw)
-
-pub overflow_add-k : goal.overflow_add-k
-overflow_add-k c = omega arith
-
-pub loop-k-smaller : goal.loop-k-smaller
-loop-k-smaller c = omega arith
 
 pub loop-k-preserved : goal.loop-k-preserved
 unfolding is_replaced_at
 loop-k-preserved c =
     let l = c.loop-k in
-    let a = c.args in (
-      place_passed (book (table_of a.rows.now) (steps_of a.steps.now)) a.old.now a.new.now a.by.now
-          l.k l.invariant.0 (sym c.is_replaced.ensures ∙ not-false _ c.if-not-is_replaced.false-raw),
-      omega arith,
-    )
+    let a = c.args in
+    place_passed (book (table_of a.rows.now) (steps_of a.steps.now)) a.old.now a.new.now a.by.now
+    l.k l.invariant (sym c.is_replaced.ensures ∙ not-false _ c.if-not-is_replaced.false-raw)
 
 pub returns : goal.returns
 returns c =
     let l = c.loop-k in
     let fit = sym c.are_bad_lists.ensures ∙ c.if-are_bad_lists.false in
-    all_passed _ _ _ _ fit l.k l.invariant.0 (omega arith)
+    all_passed _ _ _ _ fit l.k l.invariant (omega arith)

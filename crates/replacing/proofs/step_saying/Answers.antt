@@ -1,5 +1,4 @@
 -- `step_saying` meets its contract. Assumes nothing.
-use mathlib.Core.Path.{◌∙◌}
 use Rattle.calls.proofs.Tables.{few_steps}
 use Rattle.replacing.proofs.step_saying.Goals as goal
 
@@ -9,4 +8,4 @@ first_saying-requires c =
     few_steps a.m a.steps.now _ c.first_steps-held_steps.ensures
 
 pub returns : goal.returns
-returns c = c.first_saying.ensures ∙ rw (c.first_rows-held_rows.ensures, c.first_steps-held_steps.ensures)
+returns c = rw (← c.first_rows-held_rows.ensures, ← c.first_steps-held_steps.ensures) c.first_saying.ensures

@@ -1,35 +1,30 @@
 -- `counted_call` meets its contract. Assumes nothing.
-use mathlib.Core.Path.{refl}
-use native.Mathlib.Omega.{arith}
-use borrow.Author.Tests.{not-true, not-false}
-use Rattle.lines.proofs.LineRead.{parts_met}
+use mathlib.Core.Path.{refl, ap, ◌∙◌}
+use lib.ListN.{get_or, take}
+use Rattle.lines.proofs.LineRead.{parts_met, no_parts_met}
 use Rattle.script_words.specs.declared.Shape.TheVariants.{Counted}
-use Rattle.script.proofs.Calls.{if_not_read, if_read, counted_values}
+use Rattle.script.specs.declared.Values.{Values}
+use Rattle.script.proofs.Calls.{no_numbers_call, plain_call, counted_values}
 use Rattle.script.proofs.counted_call.Goals as goal
 
-pub returns-then-not-line : goal.returns-then-not-line
-returns-then-not-line c =
-    let m = parts_met c.args.count c.args.bytes.now _ c.requires.1 _ c.numbers_line-line.ensures in
-    if_not_read _ _ c.requires.0 _ _ _ _ _ m _ (not-true _ c.if-not-line.true) c.no_call.ensures
-
-pub bounds-numbers-0 : goal.bounds-numbers-0
-bounds-numbers-0 c = omega (arith, c.numbers_line-line.ensures.size)
-
-pub bounds-numbers-1 : goal.bounds-numbers-1
-bounds-numbers-1 c = omega (arith, c.numbers_line-line.ensures.size)
-
-pub bounds-numbers-2 : goal.bounds-numbers-2
-bounds-numbers-2 c = omega (arith, c.numbers_line-line.ensures.size)
-
-pub bounds-numbers-3 : goal.bounds-numbers-3
-bounds-numbers-3 c = omega (arith, c.numbers_line-line.ensures.size)
-
-pub bounds-numbers-4 : goal.bounds-numbers-4
-bounds-numbers-4 c = omega (arith, c.numbers_line-line.ensures.size)
+pub returns-in_err-line : goal.returns-in_err-line
+returns-in_err-line c =
+    let a = c.args in
+    rw c.from_residual.ensures
+    (no_numbers_call a.word (Counted a.count) c.requires.0 a.bytes.now a.at
+    (no_parts_met a.count a.bytes.now a.at c.requires.1 c.in_err-line.ensures))
 
 pub returns : goal.returns
 returns c =
-    let line = c.numbers_line-line.ensures in
-    let m = parts_met c.args.count c.args.bytes.now _ c.requires.1 _ line in
-    if_read _ (Counted c.args.count) c.requires.0 _ _ _ _ _ m _ (not-false _ c.if-not-line.false) _
-    c.plain_line.ensures (counted_values c.args.count _ line.zeros) refl
+    let a = c.args in
+    let line = c.in_ok-line.line in
+    let met = c.in_ok-line.ensures in
+    plain_call a.word (Counted a.count) c.requires.0 a.bytes.now a.at (take a.count line.numbers) line.next
+    (parts_met a.count a.bytes.now a.at c.requires.1 line met) _ _ c.plain_line.ensures
+    (ap (λ (v : Values). record v {
+      a = get_or line.numbers 0 0;
+      b = get_or line.numbers 1 0;
+      c = get_or line.numbers 2 0;
+      d = get_or line.numbers 3 0;
+      e = get_or line.numbers 4 0;
+    }) c.size_only.ensures ∙ counted_values a.count line.numbers met.zeros) refl

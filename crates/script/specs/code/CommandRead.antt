@@ -1,11 +1,10 @@
 -- What the functions that read a line promise. Assumes nothing.
-use Rattle.std.specs.Prelude.{ℕ, ◌+◌, ◌≤◌, min, ◌≡◌, Bool, true, false, List, [], ◌++◌, eqb, length, get_or, drop}
-use Rattle.std.specs.Prelude.{replicate}
-use Rattle.std.proofs.Math.Option.{Option, Option-elim}
+use Rattle.std.specs.Prelude.{ℕ, ◌≤◌, ◌<◌, ◌≡◌, Bool, true, false, List, ◌++◌, eqb, length, get_or, drop}
+use Rattle.std.specs.Prelude.{replicate, Option as Optional, Some, None}
+use Rattle.std.proofs.Math.Option.{Option, none, some, Option-elim}
 use Rattle.lines.specs.Line.{lines}
 use Rattle.lines.specs.code.NumbersRead.{first_parts}
 use Rattle.script_words.specs.declared.Word.{Word}
-use Rattle.script_words.specs.declared.Word.TheVariants.{Term}
 use Rattle.script_words.specs.declared.Shape.{Shape}
 use Rattle.script_words.specs.declared.Shape.TheVariants.{Counted, Listed, Selection, Room, Rest}
 use Rattle.script.specs.declared.Values.{Values}
@@ -48,31 +47,29 @@ listed_of Rest ns = no_numbers
 
 -- a call that lists no numbers
 abbrev pub plain_line : Word → Values → ℕ → CallLine
-plain_line word values next = record { ok = true; word = word; values = values; numbers = no_numbers; next = next }
-
--- what is given for a line that is no call
-abbrev pub no_call : ℕ → CallLine
-no_call next = record { ok = false; word = Term; values = size_only 0; numbers = no_numbers; next = next }
+plain_line word values next = record { word = word; values = values; numbers = no_numbers; next = next }
 
 -- what is given for a command
 unfoldable pub call_line : ℕ → Command → CallLine
 call_line next k =
     record {
-      ok = true;
       word = k.word;
       values = values_of (shape_of k.word) k.numbers;
       numbers = listed_of (shape_of k.word) k.numbers;
       next = next;
     }
 
--- the line that starts at `at` of the text xs, read by its parts: which call it is, and where the next line starts;
--- after a line that is no call, the text's end
+-- the line that starts at `at` of the text xs, read by its parts, is this call, and where the next line starts
 pub record CallMet (read : List (List ℕ) → Option Command) (xs : List ℕ) (at : ℕ) (r : CallLine) : Type 0 where
-  pub line : r ≡ Option-elim (first_parts read (lines (drop at xs))) (no_call (length xs)) (call_line r.next)
-  pub rest : lines (drop r.next xs)
-      ≡ Option-elim (first_parts read (lines (drop at xs))) [] (λ c. drop 1 (lines (drop at xs)))
-  pub further : min (at + 1) (length xs) ≤ r.next
+  pub line : some r ≡ Option-elim (first_parts read (lines (drop at xs))) none (λ k. some (call_line r.next k))
+  pub rest : lines (drop r.next xs) ≡ drop 1 (lines (drop at xs))
+  pub further : at < r.next
   pub inside : r.next ≤ length xs
+
+-- the call of the line that starts at `at`; none where it is no call
+abbrev pub CallRead : (read : List (List ℕ) → Option Command) (xs : List ℕ) (at : ℕ) → Optional CallLine → Type 0
+CallRead read xs at None = none ≡ first_parts read (lines (drop at xs))
+CallRead read xs at (Some r) = CallMet read xs at r
 
 -- whether a word may be all of its line
 abbrev pub stands_alone : Shape → Bool

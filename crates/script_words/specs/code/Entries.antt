@@ -1,13 +1,15 @@
--- The code's table of words. Assumes nothing.
-use Rattle.std.specs.Prelude.{ℕ, ◌+◌, ◌-◌, ◌≤◌, ◌≡◌, List, [], ◌∷◌, ◌++◌, length, take, replicate}
-use Rattle.lines.specs.Line.{space}
+-- The code's words. Assumes nothing.
+use Rattle.std.specs.Prelude.{ℕ, ◌≤◌, List, []}
+use Rattle.lines.specs.Ascii.{ascii}
 use Rattle.lines.specs.code.NumbersRead.{max_count}
 use Rattle.script_words.specs.declared.Word.{Word}
-use Rattle.script_words.specs.declared.Word.TheVariants.{Term}
+use Rattle.script_words.specs.declared.Word.TheVariants.{Term, Step, Select, Document, Fresh, Old, New, Replace}
+use Rattle.script_words.specs.declared.Word.TheVariants.{Write, Point, Return, Other, Order, BundleOrder, Names}
+use Rattle.script_words.specs.declared.Word.TheVariants.{Text, Record, Current, Release, Records, Released}
+use Rattle.script_words.specs.declared.Word.TheVariants.{CrewCurrent}
 use Rattle.script_words.specs.declared.Shape.{Shape}
 use Rattle.script_words.specs.declared.Shape.TheVariants.{Counted, Listed, Selection, Room, Rest}
-use Rattle.script_words.specs.declared.Entry.{Entry}
-use Rattle.script_words.specs.Words.{max_numbers, shape_of}
+use Rattle.script_words.specs.Words.{max_numbers}
 
 -- there is room for what stands after a word
 abbrev pub Fits : Shape → Type 0
@@ -17,29 +19,35 @@ Fits Selection = Unit {0}
 Fits Room = Unit {0}
 Fits Rest = Unit {0}
 
+-- the bytes of a word
+unfoldable pub text_of : Word → List ℕ
+text_of Term = ascii "term"
+text_of Step = ascii "step"
+text_of Select = ascii "select"
+text_of Document = ascii "document"
+text_of Fresh = ascii "fresh"
+text_of Old = ascii "old"
+text_of New = ascii "new"
+text_of Replace = ascii "replace"
+text_of Write = ascii "write"
+text_of Point = ascii "point"
+text_of Return = ascii "return"
+text_of Other = ascii "other"
+text_of Order = ascii "order"
+text_of BundleOrder = ascii "bundle-order"
+text_of Names = ascii "names"
+text_of Text = ascii "text"
+text_of Record = ascii "record"
+text_of Current = ascii "current"
+text_of Release = ascii "release"
+text_of Records = ascii "records"
+text_of Released = ascii "released"
+text_of CrewCurrent = ascii "crew-current"
+
+-- the entry of a word in the table of words
+abbrev pub entry_of : Word → List ℕ × Word
+entry_of w = (text_of w, w)
+
 -- an entry past the last one
 abbrev pub no_entry : List ℕ × Word
 no_entry = ([], Term)
-
-abbrev pub word_width : ℕ
-word_width = 13
-
--- the code's entry of a word
-unfoldable pub entry_of : (List ℕ × Word) → Entry
-entry_of e =
-    record {
-      0 = e.0 ++ replicate (word_width - length e.0) space;
-      1 = length e.0;
-      2 = e.1;
-      3 = shape_of e.1;
-    }
-
--- what is used of it: the bytes without and with a space after them, the word, and what stands after it
-pub record EntryMet (e : List ℕ × Word) (r : Entry) : Type 0 where
-  pub bytes : take r.1 r.0 ≡ e.0
-  pub and_space : take (r.1 + 1) r.0 ≡ e.0 ++ space ∷ []
-  pub size : r.1 ≡ length e.0
-  pub width : length r.0 ≡ word_width
-  pub inside : r.1 + 1 ≤ word_width
-  pub word : r.2 ≡ e.1
-  pub shape : r.3 ≡ shape_of e.1

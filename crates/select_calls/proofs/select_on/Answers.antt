@@ -1,40 +1,37 @@
 -- `select_on` meets its contract, test by test in the order of the definition. Assumes nothing.
 use borrow.Author.Tests.{not-true, not-false}
-use mathlib.Core.Path.{sym, ap, ◌∙◌}
+use mathlib.Core.Path.{sym, ◌∙◌}
 use native.Mathlib.Omega.{arith}
-use Rattle.xpath.specs.code.Check.{refusal_of}
 use Rattle.xpath.proofs.Refusal.{accepted_iff}
 use Rattle.select_calls.proofs.SelectJudged.{bad_document, bad_context, bad_row_lem, select_evaluated}
 use Rattle.select_calls.proofs.select_on.Goals as goal
 
-pub returns-in-Refused : goal.returns-in-Refused
-returns-in-Refused c =
-    let taken = sym (ap refusal_of c.in-Refused.is) ∙ c.check_document-checked.ensures.refusal in
-    bad_document _ _ _ _ _ _ _ taken
+pub returns-in-Err : goal.returns-in-Err
+returns-in-Err c = bad_document _ _ _ _ _ _ _ c.in-Err.ensures.refusal
 
 pub returns-then-node_count-x : goal.returns-then-node_count-x
 returns-then-node_count-x c =
-    let taken = sym (ap refusal_of c.in_default.is) ∙ c.check_document-checked.ensures.refusal in
+    let taken = c.in-Ok.ensures.refusal in
     bad_context _ _ _ _ _ _ taken (omega arith)
 
 pub returns-then-not-is_held_path : goal.returns-then-not-is_held_path
 returns-then-not-is_held_path c =
-    let taken = sym (ap refusal_of c.in_default.is) ∙ c.check_document-checked.ensures.refusal in
+    let taken = c.in-Ok.ensures.refusal in
     bad_row_lem _ _ _ _ _ _ taken (omega arith) (sym c.is_held_path.ensures ∙ not-true _ c.if-not-is_held_path.true-raw)
 
 pub evaluate-done-requires : goal.evaluate-done-requires
 evaluate-done-requires c =
-    let taken = sym (ap refusal_of c.in_default.is) ∙ c.check_document-checked.ensures.refusal in
+    let taken = c.in-Ok.ensures.refusal in
     let (whole, few, formed) = (accepted_iff _).0 (sym taken) in
     record {
       prepared =
-          record { few = few; formed = formed; ends = c.check_document-checked.ensures.ends (sym taken) };
+          record { few = few; formed = formed; ends = c.in-Ok.ensures.ends };
       row = omega arith;
     }
 
 pub returns : goal.returns
 returns c =
-    let taken = sym (ap refusal_of c.in_default.is) ∙ c.check_document-checked.ensures.refusal in
+    let taken = c.in-Ok.ensures.refusal in
     let path = sym c.is_held_path.ensures ∙ not-false _ c.if-not-is_held_path.false-raw in
     select_evaluated _ _ _ _ _ _ taken (omega arith) path _ _ _ c.select_answer.ensures
-    (c.evaluate-done.ensures ∙ rw (c.wide.ensures, c.wide-x.ensures))
+    (c.evaluate-done.ensures ∙ rw (c.from.ensures, c.from-x.ensures))

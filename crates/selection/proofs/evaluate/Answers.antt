@@ -1,26 +1,27 @@
 -- `selection::evaluate` meets its contract, test by test. Assumes nothing.
 use native.Mathlib.Omega.{arith}
-use borrow.Author.Tests.{not-true, not-false}
-use Rattle.selection.proofs.Outcome.{row_found, too_short, passed, copied}
+use mathlib.Core.Path.{◌≡◌}
+use Rattle.std.specs.Prelude.{Err}
+use Rattle.std.proofs.lemmas.Result.{err_from_is_err_and}
+use Rattle.selection.specs.declared.EvaluationError.TheVariants.{LimitPassed}
+use Rattle.selection.proofs.Outcome.{too_short, passed, copied}
 use Rattle.selection.proofs.evaluate.Goals as goal
 
 pub returns-then-marks-n : goal.returns-then-marks-n
-returns-then-marks-n c = too_short _ _ _ _ _ c.requires.prepared.few (omega arith)
+returns-then-marks-n c = too_short _ _ _ _ _ _ c.requires.prepared.few (omega arith)
 
-pub returns-then-not-found : goal.returns-then-not-found
-returns-then-not-found c =
-    let e = c.eval_path-found in
-    passed _ _ _ _ _ c.requires.prepared.few (omega (arith, c.node_count-n.ensures)) _ _
-    c.empty_marks-out.ensures
-    (row_found _ _ _ _ _ _ _ _ c.row_count-top.ensures e.ensures)
-    (not-true e.result.finished c.if-not-found.true)
+pub returns-in_err-visits : goal.returns-in_err-visits
+returns-in_err-visits c =
+    let p = err_from_is_err_and c.from_residual.result c.from_residual.ensures.1 in
+    let z = c.in_err-visits.ensures in
+    let v = rw z.ok_part at z.value in
+    let e : c.from_residual.result ≡ Err LimitPassed = cc (p.1, p.2) in
+    rw e
+    (passed _ _ _ _ _ _ c.requires.prepared.few (omega (arith, c.node_count-n.ensures)) _ c.row_count-top.ensures
+    (rw z.ok_part at c.eval_path.ensures))
 
 pub returns : goal.returns
 returns c =
-    let e = c.eval_path-found in
-    let n = c.node_count-n in
-    copied _ _ _ _ _ c.requires.prepared.few (omega (arith, n.ensures)) _ _
-    c.empty_marks-out.ensures
-    (row_found _ _ _ _ _ _ _ _ c.row_count-top.ensures e.ensures)
-    n.result _ (not-false e.result.finished c.if-not-found.false) n.ensures
-    c.copy_out.ensures
+    let z = c.in_ok-visits.ensures in
+    copied _ _ _ _ _ _ c.requires.prepared.few (omega (arith, c.node_count-n.ensures)) _ c.row_count-top.ensures
+    _ (rw z.ok_part at c.eval_path.ensures) _ _ c.node_count-n.ensures c.copy_out.ensures

@@ -1,9 +1,10 @@
--- The answer of each case of the code's enum. Assumes nothing.
-use Rattle.selection.specs.declared.Evaluated.{Evaluated}
-use Rattle.selection.specs.declared.Evaluated.TheVariants.{Selected, NoRoom, LimitPassed}
+-- The answer of each result of the code. Assumes nothing.
+use Rattle.std.specs.Prelude.{ℕ, Result, Ok, Err}
+use Rattle.selection.specs.declared.EvaluationError.{EvaluationError}
+use Rattle.selection.specs.declared.EvaluationError.TheVariants.{NoRoom, LimitPassed}
 use Rattle.selection.specs.Evaluation.{EvaluationAnswer, selected, no_room, too_many_visits}
 
-abbrev pub answer_of : Evaluated → EvaluationAnswer
-answer_of (Selected made) = selected made
-answer_of NoRoom = no_room
-answer_of LimitPassed = too_many_visits
+abbrev pub answer_of : Result ℕ EvaluationError → EvaluationAnswer
+answer_of (Ok made) = selected made
+answer_of (Err NoRoom) = no_room
+answer_of (Err LimitPassed) = too_many_visits

@@ -7,11 +7,11 @@ use Rattle.common.specs.Lists.{Every}
 use Rattle.calls.specs.Book.{Book, Answer, answer}
 use Rattle.calls.specs.PointCall.{point_names}
 use Rattle.calls.specs.Runs.{next, final, Run}
-use Rattle.calls.specs.Calls.{Call, step, point, return, CallSeen, book_answer, book_after, plain_book}
+use Rattle.calls.specs.Calls.{Call, point, return, CallSeen, book_answer, book_after, plain_book}
 use Rattle.calls.specs.PointLaws.{KeepsPoints}
 use Rattle.calls.proofs.Returns.{return_restores}
 use Rattle.session.specs.declared.session.Session.{Session}
-use Rattle.session.specs.declared.read.ReadResult.{ReadResult}
+use Rattle.session.specs.code.Results.{ReadResult}
 use Rattle.session.specs.declared.write.WriteAnswer.{WriteAnswer}
 use Rattle.session.specs.View.{view, fresh_session}
 use Rattle.session.specs.SessionLaws.{session_of, without_points, SetsNoPoint}

@@ -1,11 +1,14 @@
 -- From the reading of a text on a session's table to a text call on the session. Assumes nothing.
-use mathlib.Core.Path.{◌≡◌, ap, ◌∙◌}
+use mathlib.Core.Path.{◌≡◌, refl, ap, ◌∙◌}
 use lib.ListN.{length}
 use Rattle.terms.specs.Row.{table_with}
 use Rattle.grammar.specs.Bytes.{Bytes}
 use Rattle.grammar.specs.Answer.{Reply, reply}
-use Rattle.text.specs.declared.TextResult.{TextResult}
-use Rattle.text.specs.Promises.{TextRead}
+use Rattle.std.specs.Prelude.{Result, Ok, Err}
+use Rattle.text.specs.declared.TextHeld.{TextHeld}
+use Rattle.text.specs.declared.TextRefusal.{TextRefusal}
+use Rattle.text.specs.Promises.{refusal_number, refusal_value, text_number, text_value, TextRead}
+use Rattle.text.proofs.TextLaws.{refusal_some}
 use Rattle.calls.specs.Book.{answer}
 use Rattle.calls.specs.TextCall.{text_reply, text_answer}
 use Rattle.calls.specs.Calls.{text}
@@ -15,32 +18,35 @@ use Rattle.session.specs.declared.session.Session.{Session}
 use Rattle.session.specs.View.{rows_held, view, with_rows}
 use Rattle.session.specs.Promises.{Met}
 
-module _ (s : Session) (names t : Bytes) (r : TextResult) (m : TextRead names t s.rows (rows_held s) r) where
+module _ (s : Session) (names t : Bytes) (r : Result TextHeld TextRefusal)
+    (m : TextRead names t s.rows (rows_held s) r) where
   -- the reading gives the book's reply
-  replied : reply r.number r.value m.after ≡ text_reply names t (view s).rows
+  replied : reply (text_number r) (text_value r) m.after ≡ text_reply names t (view s).rows
   unfolding view
   replied = (answers_as_defined names t _ _ _ _).0 m.answers
 
-  judged : answer r.number r.value ≡ text_answer (view s).rows names t
+  judged : answer (text_number r) (text_value r) ≡ text_answer (view s).rows names t
   unfolding text_answer
   judged = ap (λ (q : Reply). answer q.number q.value) replied
 
-  pub text_made_held : r.number ≡ 0 → Met s (text names t) (answer r.number r.value)
+module _ (s : Session) (names t : Bytes) (h : TextHeld) (m : TextRead names t s.rows (rows_held s) (Ok h)) where
+  pub text_made_held : Met s (text names t) (answer 0 h.row)
       (record {
-        rows = r.rows;
-        row_count = r.count;
+        rows = h.rows;
+        row_count = h.count;
         steps = s.steps;
         step_count = s.step_count;
         points = s.points;
         point_count = s.point_count;
       })
   unfolding with_rows
-  text_made_held e =
-      let rows = m.rows ∙ ap (λ (q : Reply). table_with s.rows (rows_held s) q.rows) replied in
-      let count : r.count ≡ length (text_reply names t (view s).rows).rows =
-      m.count ∙ ap (λ (q : Reply). length q.rows) replied in
+  text_made_held =
+      let told = replied s names t (Ok h) m in
+      let rows = m.rows ∙ ap (λ (q : Reply). table_with s.rows (rows_held s) q.rows) told in
+      let count : h.count ≡ length (text_reply names t (view s).rows).rows =
+      m.count ∙ ap (λ (q : Reply). length q.rows) told in
       record {
-        answer = judged;
+        answer = judged s names t (Ok h) m;
         left =
             (λ i. record {
               rows = rows i;
@@ -50,8 +56,12 @@ module _ (s : Session) (names t : Bytes) (r : TextResult) (m : TextRead names t 
               points = s.points;
               point_count = s.point_count;
             })
-            ∙ if_accepted _ _ judged (with_rows s (text_reply names t (view s).rows).rows) s e;
+            ∙ if_accepted _ _ (judged s names t (Ok h) m) (with_rows s (text_reply names t (view s).rows).rows) s refl;
       }
 
-  pub text_made_refused : ¬ (r.number ≡ 0) → Met s (text names t) (answer r.number r.value) s
-  text_made_refused f = record { answer = judged; left = if_refused _ _ judged _ s f }
+pub text_made_refused : (s : Session) (names t : Bytes) (e : TextRefusal)
+    → TextRead names t s.rows (rows_held s) (Err e)
+    → Met s (text names t) (answer (refusal_number e) (refusal_value e)) s
+text_made_refused s names t e m =
+    let told = judged s names t (Err e) m in
+    record { answer = told; left = if_refused _ _ told _ s (refusal_some e) }

@@ -2,42 +2,30 @@
 use mathlib.Core.Path.{◌≡◌, refl, sym, ◌∙◌}
 use native.Mathlib.Omega.{arith}
 use Rattle.common.specs.Bounded.{first_below}
-use Rattle.tallies.specs.NameList.{is_bad_name}
 use Rattle.tallies.proofs.Listed.{line_refused, line_taken, all_taken}
 use Rattle.tallies.proofs.judge_list.Goals as goal
 
 pub loop-k-init : goal.loop-k-init
 unfolding first_below
-loop-k-init c = (omega arith, refl)
-
-pub overflow_add-result : goal.overflow_add-result
-overflow_add-result c = omega arith
+loop-k-init c = refl
 
 pub returns-then-is_bad_name : goal.returns-then-is_bad_name
 returns-then-is_bad_name c =
     let l = c.loop-k in
     let a = c.args in
-    line_refused a.list.now a.opened.now _ c.count-count.ensures l.k l.invariant.1
+    line_refused a.list.now a.opened.now _ c.count-count.ensures l.k l.invariant
     c.loop-k-test.true (sym c.is_bad_name.ensures ∙ c.if-is_bad_name.true)
-
-pub overflow_add-k : goal.overflow_add-k
-overflow_add-k c = omega arith
-
-pub loop-k-smaller : goal.loop-k-smaller
-loop-k-smaller c = omega arith
 
 pub loop-k-preserved : goal.loop-k-preserved
 loop-k-preserved c =
     let l = c.loop-k in
-    let a = c.args in (
-      omega arith,
-      line_taken a.list.now a.opened.now _ c.count-count.ensures l.k l.invariant.1
-          (sym c.is_bad_name.ensures ∙ c.if-is_bad_name.false),
-    )
+    let a = c.args in
+    line_taken a.list.now a.opened.now _ c.count-count.ensures l.k l.invariant
+    (sym c.is_bad_name.ensures ∙ c.if-is_bad_name.false)
 
 pub returns : goal.returns
 returns c =
     let l = c.loop-k in
     let a = c.args in
     let e : l.k ≡ c.count-count.result = omega arith in
-    all_taken a.list.now a.opened.now _ c.count-count.ensures l.k l.invariant.1 e
+    all_taken a.list.now a.opened.now _ c.count-count.ensures l.k l.invariant e

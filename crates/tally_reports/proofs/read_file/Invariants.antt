@@ -1,5 +1,5 @@
 -- The loop of `read_file` goes on while bytes are left to fill.
-use Rattle.std.proofs.Common.{length, ◌-◌, ◌≡◌, ℕ, ◌≤◌, ◌*◌}
+use Rattle.std.proofs.Common.{length, ◌-◌, ◌≤◌}
 use Rattle.tally_reports.proofs.read_file.Given as goal
 
 abbrev pub invariant-loop-length : goal.invariant-loop-length

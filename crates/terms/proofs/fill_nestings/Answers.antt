@@ -12,7 +12,7 @@ use Rattle.terms.proofs.fill_nestings.Goals as goal
 
 pub loop-i-init : goal.loop-i-init
 unfolding nestings entries_from
-loop-i-init c = (search rules, search rules, refl)
+loop-i-init c = (search rules, refl)
 
 pub slice_bounds-deeper_operand-end-in-loop-i : goal.slice_bounds-deeper_operand-end-in-loop-i
 slice_bounds-deeper_operand-end-in-loop-i c = sym (length-take-le c.loop-i.i c.loop-i.table (omega arith))
@@ -22,8 +22,8 @@ overflow_add-table c =
     let rs = table_of c.args.rows.now in
     let t = c.loop-i in
     let l =
-    deeper_le (take t.i rs) (take t.i t.table) _ _ _ t.invariant.2 c.row_at.ensures
-    c.deeper_operand-deeper.ensures in
+    deeper_le (take t.i rs) (take t.i t.table) _ _ _ t.invariant.1 c.row_at.ensures
+    c.deeper_operand.ensures in
     omega (arith, length-take t.i rs, l)
 
 pub loop-i-preserved : goal.loop-i-preserved
@@ -31,13 +31,13 @@ loop-i-preserved c =
     let rs = table_of c.args.rows.now in
     let t = c.loop-i in
     let e =
-    nesting_from (take t.i rs) (take t.i t.table) _ _ _ t.invariant.2 c.row_at.ensures
-    c.deeper_operand-deeper.ensures in
-    (search rules, search rules, nestings_put rs t.table t.i _ (omega arith) (omega arith) t.invariant.2 e)
+    nesting_from (take t.i rs) (take t.i t.table) _ _ _ t.invariant.1 c.row_at.ensures
+    c.deeper_operand.ensures in
+    (search rules, nestings_put rs t.table t.i _ (omega arith) (omega arith) t.invariant.1 e)
 
 pub returns : goal.returns
 returns c =
     let rs = table_of c.args.rows.now in
     let t = c.loop-i in
     let e : t.i ≡ length rs = omega arith in
-    (rw e at t.invariant.2) ∙ ap nestings (take-length rs)
+    (rw e at t.invariant.1) ∙ ap nestings (take-length rs)

@@ -1,6 +1,5 @@
 -- `fill_nestings` meets its contract. The invariant: the table's first i numbers are the nestings of the first i
 -- rows. Assumes nothing.
-use Prim.Native.Nat.{◌-◌, ◌≤◌}
 use mathlib.Core.Path.{◌≡◌}
 use lib.ListN.{length, take}
 use Rattle.terms.specs.Row.{table_of, max_rows}
@@ -8,8 +7,5 @@ use Rattle.terms.specs.Nesting.{nestings}
 use Rattle.terms.proofs.fill_nestings.Given as goal
 
 abbrev pub invariant-loop-i : goal.invariant-loop-i
-invariant-loop-i l = (l.i ≤ l.n) × (length l.table ≡ max_rows)
+invariant-loop-i l = (length l.table ≡ max_rows)
     × (take l.i l.table ≡ nestings (take l.i (table_of l.rows)))
-
-abbrev pub decreases-loop-i : goal.decreases-loop-i
-decreases-loop-i l = l.n - l.i

@@ -1,17 +1,11 @@
--- `put_row` meets its contract. Assumes nothing.
+-- `put_row` meets its contract: the row's numbers are copied. Assumes nothing.
+use Prim.Native.Nat.{◌*◌}
+use mathlib.Core.Path.{◌∙◌}
 use native.Mathlib.Omega.{arith}
-use native.Mathlib.Numerals.{add-one, add-two, add-three}
-use lib.ListN.{length-set}
+use Rattle.terms.proofs.LentRows.{copied}
 use Rattle.terms.proofs.put_row.Goals as goal
 
-pub bounds-rows-at-2 : goal.bounds-rows-at-2
-bounds-rows-at-2 c = simp length-set (omega arith)
-
-pub bounds-rows-at-3 : goal.bounds-rows-at-3
-bounds-rows-at-3 c = simp length-set (omega arith)
-
-pub bounds-rows-at-4 : goal.bounds-rows-at-4
-bounds-rows-at-4 c = simp length-set (omega arith)
-
 pub returns : goal.returns
-returns c = rw (add-one, add-two, add-three)
+returns c =
+    let a = c.args in
+    copied (4 * a.n) _ a.rows.now _ _ (c.copy_from_slice.ensures.after ∙ c.numbers.ensures) (omega arith) (omega arith)

@@ -1,13 +1,17 @@
--- The code's rows and fields as the definitions have them. Assumes nothing.
+-- The code's rows, fields and results of searches as the definitions have them. Assumes nothing.
+use Rattle.std.specs.Prelude.{ℕ, ◌<◌, ◌≡◌, List, get_or, Option, Some, None}
 use Rattle.terms.specs.declared.Row.{Row as CodeRow}
 use Rattle.terms.specs.declared.Field.{Field as CodeField}
 use Rattle.terms.specs.declared.Field.TheVariants.{Unused, Axis, Test, Name, Path, Qualifier}
-use Rattle.terms.specs.declared.Fields.{Fields as CodeFields}
-use Rattle.terms.specs.Row.{Row}
+use Rattle.terms.specs.Row.{Row, row}
 use Rattle.terms.specs.Fields.{Field, unused, axis, test, name, path, qualifier, Fields, fields}
 
 abbrev pub row_of : CodeRow → Row
 row_of r = record { kind = r.kind; a = r.a; b = r.b; c = r.c }
+
+-- four numbers as a row
+abbrev pub row_in : List ℕ → Row
+row_in xs = row (get_or xs 0 0) (get_or xs 1 0) (get_or xs 2 0) (get_or xs 3 0)
 
 abbrev pub field_of : CodeField → Field
 field_of Unused = unused
@@ -18,5 +22,15 @@ field_of Path = path
 field_of Qualifier = qualifier
 
 -- what the three fields must be
-abbrev pub fields_in : CodeFields → Fields
-fields_in r = fields (field_of r.0) (field_of r.1) (field_of r.2)
+abbrev pub fields_in : CodeField → CodeField → CodeField → Fields
+fields_in x y z = fields (field_of x) (field_of y) (field_of z)
+
+-- o is the place n, counted from 1; none where n is 0
+abbrev pub PlaceIs : Option ℕ → (n : ℕ) → Type 0
+PlaceIs None n = n ≡ 0
+PlaceIs (Some place) n = (n ≡ place) × (0 < place)
+
+-- o is the number n that a search gives; none where n is how many there are, `count`
+abbrev pub FoundIs : Option ℕ → (n count : ℕ) → Type 0
+FoundIs None n count = n ≡ count
+FoundIs (Some i) n count = (n ≡ i) × (i < count)

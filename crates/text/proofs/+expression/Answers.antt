@@ -1,777 +1,504 @@
 -- The functions that read an expression meet their contracts: what each reads is what the laws of StepLaws, PathLaws,
--- OperandLaws and ExpressionLaws say, and a loop carries its reading on by those of LoopLaws. Assumes nothing.
-use mathlib.Core.Path.{refl}
+-- OperandLaws and ExpressionLaws say. Assumes nothing.
+use mathlib.Core.Path.{refl, sym, ◌∙◌}
 use mathlib.Core.Bool.{true, false}
+use mathlib.Core.Logic.{⊎_elim}
 use native.Mathlib.Omega.{arith}
-use Prim.Native.Nat.{◌+◌, ◌-◌}
+use Rattle.std.proofs.lemmas.Result.{err_from_is_err_and}
+use Prim.Native.Nat.{◌+◌, ◌-◌, ◌<◌}
 use borrow.Author.Tests.{not-true, not-false}
-use Rattle.words.specs.code.Scan.{byte_at}
-use Rattle.readings.specs.code.Build.{moved_to}
-use Rattle.readings.specs.code.Passing.{after_and, after_or}
+use Rattle.readings.specs.code.Build.{stands, ended, moved_to}
 use Rattle.readings.proofs.Built.{refuse}
-use Rattle.heads.proofs.Headed.{byte_there}
-use Rattle.text.proofs.LoopLaws.{carried_none, carried_on, next_taken, next_left, next_ready, close_sized, after_slash}
-use Rattle.text.proofs.LoopLaws.{predicate_falls}
-use Rattle.text.proofs.StepLaws.{enclosed, predicate_full, predicate_joined, StepGot, step_head, step_filter, step_ends}
-use Rattle.text.proofs.PathLaws.{PathGot, begun, path_more, path_ends, UnionGot, union_first, union_more, union_ends}
-use Rattle.text.proofs.OperandLaws.{unary_paths, unary_true, unary_false, Encloses, enclosing_there, unary_full}
-use Rattle.text.proofs.OperandLaws.{unary_enclosed}
-use Rattle.text.proofs.ExpressionLaws.{word_ready, AndGot, and_first, and_refused, and_more, and_ends, OrGot, or_first}
-use Rattle.text.proofs.ExpressionLaws.{or_refused, or_more, or_ends}
+use Rattle.readings.proofs.Worded.{and_word, or_word, first_joins, first_stays}
+use Rattle.heads.proofs.Headed.{differs}
+use Rattle.text.proofs.LoopLaws.{after_slash}
+use Rattle.text.proofs.StepLaws.{enclosed_refused, enclosed, predicate_full, predicate_refused, predicate_joined}
+use Rattle.text.proofs.StepLaws.{step_refused, step_head, step_filter, step_stopped, step_ends}
+use Rattle.text.proofs.PathLaws.{begun, path_more, more_refused, path_ends, union_first, union_refused, union_more}
+use Rattle.text.proofs.PathLaws.{union_ends}
+use Rattle.text.proofs.OperandLaws.{unary_paths, paths_refused, unary_true, unary_false, Encloses, unary_full}
+use Rattle.text.proofs.OperandLaws.{enclosed_fails, unary_enclosed}
+use Rattle.text.proofs.ExpressionLaws.{and_first, and_refused, and_stopped, and_more, or_first, or_refused, or_stopped}
+use Rattle.text.proofs.ExpressionLaws.{or_more, or_ends}
 use Rattle.text.proofs.+expression.Goals as goal
-use Rattle.text.proofs.+expression.Goals.{read_operand-in-Group, read_operand-in-Not}
+use Rattle.text.proofs.+expression.Goals.{read_path-in-First+in_ok-got-in-First}
+use Rattle.text.proofs.+expression.Goals.{read_path-in-Below+in_ok-step-in-Below}
 
-pub read_and-read_operand-got-requires : goal.read_and-read_operand-got-requires
-read_and-read_operand-got-requires t c = (omega (arith, c.requires.ready), (c.requires.ready, c.requires.indexed))
-
-pub read_and-loop-word-init : goal.read_and-loop-word-init
-read_and-loop-word-init t c =
-    let names = c.args.names.now in
+pub read_and-loop-got-init : goal.read_and-loop-got-init
+read_and-loop-got-init t c =
+    let names = c.args.names.list.now in
     let s = c.args.s.now in
     let left = c.args.left in
-    carried_none s (AndGot s names left) _ _ _
-    c.read_operand-got.ensures.reached
+    let from = stands c.args.from in
+    and_first s names left _ from _ (stands c.in_ok-got.got) c.in_ok-got.ensures
 
-pub read_and-pass_and-word-requires : goal.read_and-pass_and-word-requires
-read_and-pass_and-word-requires t c =
-    let y = c.loop-word.got in
-    next_taken y.ok (byte_at c.args.s.now y.at) 97 _ c.next_is.ensures c.loop-word-test.true
-
-pub read_and-shape_of-rows-then-not-word : goal.read_and-shape_of-rows-then-not-word
-read_and-shape_of-rows-then-not-word t c =
-    omega (arith, c.loop-word.invariant.reached.sized.size, c.requires.ready.sized.size)
-
-pub read_and-returns-then-not-word : goal.read_and-returns-then-not-word
-read_and-returns-then-not-word t c =
-    let names = c.args.names.now in
+pub read_and-returns-in_err-word : goal.read_and-returns-in_err-word
+read_and-returns-in_err-word t c =
+    let names = c.args.names.list.now in
     let s = c.args.s.now in
     let left = c.args.left in
-    let from = c.args.from in
-    let y = c.loop-word.got in
-    let next = next_taken y.ok (byte_at s y.at) 97 _ c.next_is.ensures
-    c.loop-word-test.true in
-    and_refused s names left _ from _ y next.0 c.pass_and-word.result
-    c.pass_and-word.ensures (not-true _ c.if-not-word.true) (c.loop-word.invariant.on _ from (and_first s
-    names left _ from _ c.read_operand-got.result c.read_operand-got.ensures))
+    let from = stands c.args.from in
+    let y = stands c.loop-got.got in
+    let there = sym c.byte_at.ensures ∙ c.loop-got-test.true in
+    let p = err_from_is_err_and c.from_residual-in_err-word.result c.from_residual-in_err-word.ensures.1 in
+    rw (p.1, p.2)
+    (and_refused s names left _ from _ y refl _ (and_word s y _ refl there c.in_err-word.ensures) refl
+    c.loop-got.invariant)
 
-pub read_and-read_operand-right-requires : goal.read_and-read_operand-right-requires
-read_and-read_operand-right-requires t c =
-    let word = c.pass_and-word.ensures in (
-      omega (arith, c.requires.ready),
-      (
-        word_ready c.args.s.now c.loop-word.got
-            c.pass_and-word.result 3 after_and word _ _
-            (not-false _ c.if-not-word.false) c.loop-word.invariant.reached,
-        c.requires.indexed,
-      ),
-    )
-
-pub read_and-join-next-requires : goal.read_and-join-next-requires
-read_and-join-next-requires t c = c.read_operand-right.ensures.reached.sized
-
-pub read_and-loop-word-smaller : goal.read_and-loop-word-smaller
-read_and-loop-word-smaller t c =
-    let to = c.read_operand-right.ensures.reached in
-    omega (
-      arith,
-      c.pass_and-word.ensures.between.from,
-      to.from,
-      to.fits,
-      c.join-next.ensures.text.at,
-    )
-
-pub read_and-loop-word-preserved : goal.read_and-loop-word-preserved
-read_and-loop-word-preserved t c =
-    let names = c.args.names.now in
+pub read_and-returns-in_err-right : goal.read_and-returns-in_err-right
+read_and-returns-in_err-right t c =
+    let names = c.args.names.list.now in
     let s = c.args.s.now in
     let left = c.args.left in
-    let y = c.loop-word.got in
-    let next = next_taken y.ok (byte_at s y.at) 97 _ c.next_is.ensures c.loop-word-test.true in
-    let word = c.pass_and-word.ensures in
-    let to = c.read_operand-right.ensures.reached in
-    let put = c.join-next.ensures in
-    carried_on s (AndGot s names left) _ _ _ y _ c.join-next.result
-    c.loop-word.invariant record {
-      from = omega (arith, word.between.from, to.from, put.text.at);
-      fits = rw put.text.at to.fits;
-      sized = put.sized;
-    } (λ xs x h. and_more s names left xs x _ y next.0 c.pass_and-word.result word
-    _ c.read_operand-right.result _ c.join-next.result (not-false _ c.if-not-word.false)
-    c.read_operand-right.ensures put h)
+    let from = stands c.args.from in
+    let y = stands c.loop-got.got in
+    let there = sym c.byte_at.ensures ∙ c.loop-got-test.true in
+    let word = stands c.in_ok-word.word in
+    let passed = and_word s y word refl there c.in_ok-word.ensures in
+    let p = err_from_is_err_and c.from_residual-in_err-right.result c.from_residual-in_err-right.ensures.1 in
+    rw (p.1, p.2)
+    (and_stopped s names left _ from _ y refl word passed _ _ refl c.in_err-right.ensures refl c.loop-got.invariant)
 
-pub read_and-shape_of-rows : goal.read_and-shape_of-rows
-read_and-shape_of-rows t c = omega (arith, c.loop-word.invariant.reached.sized.size, c.requires.ready.sized.size)
-
-pub read_and-returns : goal.read_and-returns
-read_and-returns t c =
-    let names = c.args.names.now in
+pub read_and-loop-got-preserved : goal.read_and-loop-got-preserved
+read_and-loop-got-preserved t c =
+    let names = c.args.names.list.now in
     let s = c.args.s.now in
     let left = c.args.left in
-    let from = c.args.from in
-    let y = c.loop-word.got in
-    and_ends s names left _ from _ y
-    (λ e. next_left y.ok (byte_at s y.at) 97 _ c.next_is.ensures c.loop-word-test.false e)
-    (c.loop-word.invariant.on _ from (and_first s names left _ from _
-    c.read_operand-got.result c.read_operand-got.ensures))
+    let from = stands c.args.from in
+    let y = stands c.loop-got.got in
+    let there = sym c.byte_at.ensures ∙ c.loop-got-test.true in
+    let word = stands c.in_ok-word.word in
+    let passed = and_word s y word refl there c.in_ok-word.ensures in
+    and_more s names left _ from _ y refl word passed _ (stands c.in_ok-right.right) _ (stands c.join-got.result) refl
+    c.in_ok-right.ensures c.join-got.ensures c.loop-got.invariant
 
-pub read_operand-skip-requires : goal.read_operand-skip-requires
-read_operand-skip-requires t c = c.requires.ready.fits
-
-pub read_operand-operand_at-operand-requires : goal.read_operand-operand_at-operand-requires
-read_operand-operand_at-operand-requires t c = rw c.moved-start.ensures c.skip.ensures.fits
-
-pub read_operand-read_union-paths-requires : goal.read_operand-read_union-paths-requires
-read_operand-read_union-paths-requires t c = (omega (arith, c.requires.ready), (c.requires.ready, c.requires.indexed))
-
-pub read_operand-some_of-requires : goal.read_operand-some_of-requires
-read_operand-some_of-requires t c = c.read_union-paths.ensures.reached.sized
-
-pub read_operand-shape_of-rows-in-Paths : goal.read_operand-shape_of-rows-in-Paths
-read_operand-shape_of-rows-in-Paths t c = omega (arith, c.some_of.ensures.sized.size, c.requires.ready.sized.size)
-
-pub read_operand-returns-in-Paths : goal.read_operand-returns-in-Paths
-read_operand-returns-in-Paths t c =
-    let names = c.args.names.now in
+pub read_or-loop-got-init : goal.read_or-loop-got-init
+read_or-loop-got-init t c =
+    let names = c.args.names.list.now in
     let s = c.args.s.now in
     let left = c.args.left in
-    let from = c.args.from in
-    unary_paths s names left _ from c.skip.result c.skip.ensures _
-    c.read_union-paths.result _ c.some_of.result
-    (rw (c.moved-start.ensures, c.in-Paths.is) at c.operand_at-operand.ensures)
-    c.read_union-paths.ensures c.some_of.ensures
+    let from = stands c.args.from in
+    or_first s names left _ from _ (stands c.in_ok-got.got) c.in_ok-got.ensures
 
-pub read_operand-overflow_add-paren : goal.read_operand-overflow_add-paren
-read_operand-overflow_add-paren t c =
-    let call = rw (c.moved-start.ensures, c.in-True.is) at
-    c.operand_at-operand.ensures in
-    omega (
-      arith,
-      byte_there c.args.s.now c.operand_at-operand.result.paren 40 refl
-          call.byte,
-    )
-
-pub read_operand-constant-requires : goal.read_operand-constant-requires
-read_operand-constant-requires t c =
-    let call = rw (c.moved-start.ensures, c.in-True.is) at
-    c.operand_at-operand.ensures in
-    let there = byte_there c.args.s.now
-    c.operand_at-operand.result.paren 40 refl call.byte in
-    record {
-      at_in_bounds = rw c.moved.ensures (omega (arith, there));
-      sized = rw (c.moved.ensures, c.moved-start.ensures) c.requires.ready.sized;
-    }
-
-pub read_operand-shape_of-rows-in-True : goal.read_operand-shape_of-rows-in-True
-read_operand-shape_of-rows-in-True t c =
-    omega (arith, c.constant.ensures.puts.sized.size, c.requires.ready.sized.size)
-
-pub read_operand-returns-in-True : goal.read_operand-returns-in-True
-read_operand-returns-in-True t c =
-    let names = c.args.names.now in
+pub read_or-returns-in_err-word : goal.read_or-returns-in_err-word
+read_or-returns-in_err-word t c =
+    let names = c.args.names.list.now in
     let s = c.args.s.now in
     let left = c.args.left in
-    let from = c.args.from in
-    unary_true s names left _ from c.skip.result c.skip.ensures
-    c.operand_at-operand.result.paren
-    (rw (c.moved-start.ensures, c.in-True.is) at c.operand_at-operand.ensures)
-    c.requires.ready.ok
-    _ c.constant.result
-    (rw (c.moved.ensures, c.moved-start.ensures) at
-    c.constant.ensures)
+    let from = stands c.args.from in
+    let y = stands c.loop-got.got in
+    let there = sym c.byte_at.ensures ∙ c.loop-got-test.true in
+    let p = err_from_is_err_and c.from_residual-in_err-word.result c.from_residual-in_err-word.ensures.1 in
+    rw (p.1, p.2)
+    (or_refused s names left _ from _ y refl _ (or_word s y _ refl there c.in_err-word.ensures) refl
+    c.loop-got.invariant)
 
-pub read_operand-overflow_add-paren-in-False : goal.read_operand-overflow_add-paren-in-False
-read_operand-overflow_add-paren-in-False t c =
-    let call = rw (c.moved-start.ensures, c.in-False.is) at
-    c.operand_at-operand.ensures in
-    omega (
-      arith,
-      byte_there c.args.s.now c.operand_at-operand.result.paren 40 refl
-          call.byte,
-    )
-
-pub read_operand-constant-requires-in-False : goal.read_operand-constant-requires-in-False
-read_operand-constant-requires-in-False t c =
-    let call = rw (c.moved-start.ensures, c.in-False.is) at
-    c.operand_at-operand.ensures in
-    let there = byte_there c.args.s.now
-    c.operand_at-operand.result.paren 40 refl call.byte in
-    record {
-      at_in_bounds = rw c.moved-in-False.ensures (omega (arith, there));
-      sized = rw (c.moved-in-False.ensures, c.moved-start.ensures) c.requires.ready.sized;
-    }
-
-pub read_operand-shape_of-rows-in-False : goal.read_operand-shape_of-rows-in-False
-read_operand-shape_of-rows-in-False t c =
-    omega (arith, c.constant-in-False.ensures.puts.sized.size, c.requires.ready.sized.size)
-
-pub read_operand-returns-in-False : goal.read_operand-returns-in-False
-read_operand-returns-in-False t c =
-    let names = c.args.names.now in
+pub read_or-returns-in_err-right : goal.read_or-returns-in_err-right
+read_or-returns-in_err-right t c =
+    let names = c.args.names.list.now in
     let s = c.args.s.now in
     let left = c.args.left in
-    let from = c.args.from in
-    unary_false s names left _ from c.skip.result c.skip.ensures
-    c.operand_at-operand.result.paren
-    (rw (c.moved-start.ensures, c.in-False.is) at c.operand_at-operand.ensures)
-    c.requires.ready.ok
-    _ c.constant-in-False.result
-    (rw (c.moved-in-False.ensures, c.moved-start.ensures) at
-    c.constant-in-False.ensures)
+    let from = stands c.args.from in
+    let y = stands c.loop-got.got in
+    let there = sym c.byte_at.ensures ∙ c.loop-got-test.true in
+    let word = stands c.in_ok-word.word in
+    let passed = or_word s y word refl there c.in_ok-word.ensures in
+    let p = err_from_is_err_and c.from_residual-in_err-right.result c.from_residual-in_err-right.ensures.1 in
+    rw (p.1, p.2)
+    (or_stopped s names left _ from _ y refl word passed _ _ refl c.in_err-right.ensures refl c.loop-got.invariant)
 
-pub read_operand-returns-then-left-eq0 : goal.read_operand-returns-then-left-eq0
-read_operand-returns-then-left-eq0 t c =
-    let names = c.args.names.now in
+pub read_or-loop-got-preserved : goal.read_or-loop-got-preserved
+read_or-loop-got-preserved t c =
+    let names = c.args.names.list.now in
     let s = c.args.s.now in
     let left = c.args.left in
-    let from = c.args.from in
-    let opens = c.operand_at-operand.result.opens in
-    let met = rw c.moved-start.ensures at
-    c.operand_at-operand.ensures in
-    let inner : Encloses opens =
-    elim c.match-opens.branch [
-      | read_operand-in-Group w ↦ rw w.in-Group.is tt
-      | read_operand-in-Not w ↦ rw w.in-Not.is tt
-    ] in
-    rw (c.fail.ensures, c.moved-start.ensures) (unary_full s names left _ from
-    c.skip.result c.skip.ensures opens
-    c.operand_at-operand.result.paren inner met
-    c.if-left-eq0.true c.requires.ready.sized)
-
-pub read_operand-overflow_add-paren-2 : goal.read_operand-overflow_add-paren-2
-read_operand-overflow_add-paren-2 t c =
-    let names = c.args.names.now in
-    let s = c.args.s.now in
-    let left = c.args.left in
-    let from = c.args.from in
-    let opens = c.operand_at-operand.result.opens in
-    let met = rw c.moved-start.ensures at
-    c.operand_at-operand.ensures in
-    let inner : Encloses opens =
-    elim c.match-opens.branch [
-      | read_operand-in-Group w ↦ rw w.in-Group.is tt
-      | read_operand-in-Not w ↦ rw w.in-Not.is tt
-    ] in
-    omega (
-      arith,
-      (enclosing_there s names left c.args.rows.now from
-          c.skip.result c.skip.ensures opens
-          c.operand_at-operand.result.paren inner
-          met).1,
-    )
-
-pub read_operand-overflow_sub-left : goal.read_operand-overflow_sub-left
-read_operand-overflow_sub-left t c = omega (arith, c.if-left-eq0.false)
-
-pub read_operand-read_or-inner-requires : goal.read_operand-read_or-inner-requires
-read_operand-read_or-inner-requires t c =
-    let names = c.args.names.now in
-    let s = c.args.s.now in
-    let left = c.args.left in
-    let from = c.args.from in
-    let opens = c.operand_at-operand.result.opens in
-    let met = rw c.moved-start.ensures at c.operand_at-operand.ensures in
-    let inner : Encloses opens =
-    elim c.match-opens.branch [
-      | read_operand-in-Group w ↦ rw w.in-Group.is tt
-      | read_operand-in-Not w ↦ rw w.in-Not.is tt
-    ] in
-    let there = enclosing_there s names left c.args.rows.now from
-    c.skip.result c.skip.ensures opens
-    c.operand_at-operand.result.paren inner met in (
-      omega (arith, c.requires.ready, c.if-left-eq0.false),
-      (
-        rw (c.moved-2.ensures, c.moved-start.ensures)
-            record { ok = c.requires.ready.ok; fits = omega (arith, there.1); sized = c.requires.ready.sized },
-        c.requires.indexed,
-      ),
-    )
-
-pub read_operand-close-shut-requires : goal.read_operand-close-shut-requires
-read_operand-close-shut-requires t c = refl
-
-pub read_operand-negate_if-requires : goal.read_operand-negate_if-requires
-read_operand-negate_if-requires t c =
-    close_sized c.args.s.now c.read_or-inner.result 41
-    c.close-shut.result _ c.close-shut.ensures
-    c.read_or-inner.ensures.reached.sized
-
-pub read_operand-shape_of-rows : goal.read_operand-shape_of-rows
-read_operand-shape_of-rows t c =
-    let names = c.args.names.now in
-    let s = c.args.s.now in
-    let left = c.args.left in
-    let from = c.args.from in
-    let opens = c.operand_at-operand.result.opens in
-    let met = rw c.moved-start.ensures at c.operand_at-operand.ensures in
-    let inner : Encloses opens =
-    elim c.match-opens.branch [
-      | read_operand-in-Group w ↦ rw w.in-Group.is tt
-      | read_operand-in-Not w ↦ rw w.in-Not.is tt
-    ] in
-    let whole = unary_enclosed s names left _ from c.skip.result
-    c.skip.ensures opens c.operand_at-operand.result.paren inner met
-    (omega (arith, c.if-left-eq0.false)) _ c.close-shut.result _
-    c.negate_if.result
-    (enclosed s names (left - 1) 41 _
-    (moved_to from (c.operand_at-operand.result.paren + 1)) _ c.read_or-inner.result
-    c.close-shut.result
-    (rw (c.moved-2.ensures, c.moved-start.ensures) at c.read_or-inner.ensures)
-    c.close-shut.ensures) c.negate_if.ensures in
-    omega (arith, whole.reached.sized.size, c.requires.ready.sized.size)
-
-pub read_operand-returns : goal.read_operand-returns
-read_operand-returns t c =
-    let names = c.args.names.now in
-    let s = c.args.s.now in
-    let left = c.args.left in
-    let from = c.args.from in
-    let opens = c.operand_at-operand.result.opens in
-    let met = rw c.moved-start.ensures at c.operand_at-operand.ensures in
-    let inner : Encloses opens =
-    elim c.match-opens.branch [
-      | read_operand-in-Group w ↦ rw w.in-Group.is tt
-      | read_operand-in-Not w ↦ rw w.in-Not.is tt
-    ] in
-    unary_enclosed s names left _ from c.skip.result
-    c.skip.ensures opens c.operand_at-operand.result.paren inner met
-    (omega (arith, c.if-left-eq0.false)) _ c.close-shut.result _
-    c.negate_if.result
-    (enclosed s names (left - 1) 41 _
-    (moved_to from (c.operand_at-operand.result.paren + 1)) _ c.read_or-inner.result
-    c.close-shut.result
-    (rw (c.moved-2.ensures, c.moved-start.ensures) at c.read_or-inner.ensures)
-    c.close-shut.ensures) c.negate_if.ensures
-
-pub read_or-read_and-got-requires : goal.read_or-read_and-got-requires
-read_or-read_and-got-requires t c = (omega (arith, c.requires.ready), (c.requires.ready, c.requires.indexed))
-
-pub read_or-loop-word-init : goal.read_or-loop-word-init
-read_or-loop-word-init t c =
-    let names = c.args.names.now in
-    let s = c.args.s.now in
-    let left = c.args.left in
-    carried_none s (OrGot s names left) _ _ _
-    c.read_and-got.ensures.reached
-
-pub read_or-pass_or-word-requires : goal.read_or-pass_or-word-requires
-read_or-pass_or-word-requires t c =
-    let y = c.loop-word.got in
-    next_taken y.ok (byte_at c.args.s.now y.at) 111 _ c.next_is.ensures c.loop-word-test.true
-
-pub read_or-shape_of-rows-then-not-word : goal.read_or-shape_of-rows-then-not-word
-read_or-shape_of-rows-then-not-word t c =
-    omega (arith, c.loop-word.invariant.reached.sized.size, c.requires.ready.sized.size)
-
-pub read_or-returns-then-not-word : goal.read_or-returns-then-not-word
-read_or-returns-then-not-word t c =
-    let names = c.args.names.now in
-    let s = c.args.s.now in
-    let left = c.args.left in
-    let from = c.args.from in
-    let y = c.loop-word.got in
-    let next = next_taken y.ok (byte_at s y.at) 111 _ c.next_is.ensures
-    c.loop-word-test.true in
-    or_refused s names left _ from _ y next.0 c.pass_or-word.result
-    c.pass_or-word.ensures (not-true _ c.if-not-word.true) (c.loop-word.invariant.on _ from (or_first s
-    names left _ from _ c.read_and-got.result c.read_and-got.ensures))
-
-pub read_or-read_and-right-requires : goal.read_or-read_and-right-requires
-read_or-read_and-right-requires t c =
-    let word = c.pass_or-word.ensures in (
-      omega (arith, c.requires.ready),
-      (
-        word_ready c.args.s.now c.loop-word.got
-            c.pass_or-word.result 2 after_or word _ _
-            (not-false _ c.if-not-word.false) c.loop-word.invariant.reached,
-        c.requires.indexed,
-      ),
-    )
-
-pub read_or-join-next-requires : goal.read_or-join-next-requires
-read_or-join-next-requires t c = c.read_and-right.ensures.reached.sized
-
-pub read_or-loop-word-smaller : goal.read_or-loop-word-smaller
-read_or-loop-word-smaller t c =
-    let to = c.read_and-right.ensures.reached in
-    omega (
-      arith,
-      c.pass_or-word.ensures.between.from,
-      to.from,
-      to.fits,
-      c.join-next.ensures.text.at,
-    )
-
-pub read_or-loop-word-preserved : goal.read_or-loop-word-preserved
-read_or-loop-word-preserved t c =
-    let names = c.args.names.now in
-    let s = c.args.s.now in
-    let left = c.args.left in
-    let y = c.loop-word.got in
-    let next = next_taken y.ok (byte_at s y.at) 111 _ c.next_is.ensures c.loop-word-test.true in
-    let word = c.pass_or-word.ensures in
-    let to = c.read_and-right.ensures.reached in
-    let put = c.join-next.ensures in
-    carried_on s (OrGot s names left) _ _ _ y _ c.join-next.result
-    c.loop-word.invariant record {
-      from = omega (arith, word.between.from, to.from, put.text.at);
-      fits = rw put.text.at to.fits;
-      sized = put.sized;
-    } (λ xs x h. or_more s names left xs x _ y next.0 c.pass_or-word.result word
-    _ c.read_and-right.result _ c.join-next.result (not-false _ c.if-not-word.false)
-    c.read_and-right.ensures put h)
-
-pub read_or-shape_of-rows : goal.read_or-shape_of-rows
-read_or-shape_of-rows t c = omega (arith, c.loop-word.invariant.reached.sized.size, c.requires.ready.sized.size)
+    let from = stands c.args.from in
+    let y = stands c.loop-got.got in
+    let there = sym c.byte_at.ensures ∙ c.loop-got-test.true in
+    let word = stands c.in_ok-word.word in
+    let passed = or_word s y word refl there c.in_ok-word.ensures in
+    or_more s names left _ from _ y refl word passed _ (stands c.in_ok-right.right) _ (stands c.join-got.result) refl
+    c.in_ok-right.ensures c.join-got.ensures c.loop-got.invariant
 
 pub read_or-returns : goal.read_or-returns
 read_or-returns t c =
-    let names = c.args.names.now in
+    let names = c.args.names.list.now in
     let s = c.args.s.now in
     let left = c.args.left in
-    let from = c.args.from in
-    let y = c.loop-word.got in
-    or_ends s names left _ from _ y
-    (λ e. next_left y.ok (byte_at s y.at) 111 _ c.next_is.ensures c.loop-word-test.false e)
-    (c.loop-word.invariant.on _ from (or_first s names left _ from _
-    c.read_and-got.result c.read_and-got.ensures))
+    let from = stands c.args.from in
+    or_ends s names left _ from _ (stands c.loop-got.got)
+    (λ _. differs _ 111 (λ e. c.loop-got-test.false (c.byte_at.ensures ∙ e))) c.loop-got.invariant
 
-pub read_path-begin_path-start-requires : goal.read_path-begin_path-start-requires
-read_path-begin_path-start-requires t c =
-    record { at_in_bounds = c.requires.ready.fits; sized = c.requires.ready.sized }
-
-pub read_path-shape_of-rows-then-not-start : goal.read_path-shape_of-rows-then-not-start
-read_path-shape_of-rows-then-not-start t c =
-    let names = c.args.names.now in
+pub read_operand-returns-in_err-paths-in-Paths : goal.read_operand-returns-in_err-paths-in-Paths
+read_operand-returns-in_err-paths-in-Paths t c =
+    let names = c.args.names.list.now in
     let s = c.args.s.now in
     let left = c.args.left in
-    let from = c.args.from in
-    let all = (begun s names left _ from c.requires.ready _ c.begin_path-start.result
-    c.begin_path-start.ensures).alone (not-true _ c.if-not-start.true) in
-    omega (arith, all.reached.sized.size, c.requires.ready.sized.size)
+    let from = stands c.args.from in
+    let p = err_from_is_err_and c.from_residual.result c.from_residual.ensures.1 in
+    rw (p.1, p.2)
+    (paths_refused s names left _ from c.skip.result c.skip.ensures _ _
+    (rw c.in-Paths.is at c.operand_at-operand.ensures) c.in_err-paths-in-Paths.ensures refl)
 
-pub read_path-returns-then-not-start : goal.read_path-returns-then-not-start
-read_path-returns-then-not-start t c =
-    let names = c.args.names.now in
+pub read_operand-returns-in-Paths : goal.read_operand-returns-in-Paths
+read_operand-returns-in-Paths t c =
+    let names = c.args.names.list.now in
     let s = c.args.s.now in
     let left = c.args.left in
-    let from = c.args.from in
-    (begun s names left _ from c.requires.ready _ c.begin_path-start.result
-    c.begin_path-start.ensures).alone (not-true _ c.if-not-start.true)
+    let from = stands c.args.from in
+    unary_paths s names left _ from c.skip.result c.skip.ensures _ (stands c.in_ok-paths-in-Paths.paths) _
+    (stands c.some_of.result) (rw c.in-Paths.is at c.operand_at-operand.ensures) c.in_ok-paths-in-Paths.ensures
+    c.some_of.ensures
 
-pub read_path-read_step-first-requires : goal.read_path-read_step-first-requires
-read_path-read_step-first-requires t c =
-    let names = c.args.names.now in
+pub read_operand-returns-in-True : goal.read_operand-returns-in-True
+read_operand-returns-in-True t c =
+    let names = c.args.names.list.now in
     let s = c.args.s.now in
     let left = c.args.left in
-    let from = c.args.from in
-    let start_of_lem = begun s names left _ from c.requires.ready _
-    c.begin_path-start.result c.begin_path-start.ensures in (
-      omega (arith, c.requires.ready),
-      (
-        start_of_lem.ready (not-false _ c.if-not-start.false),
-        (start_of_lem.space (not-false _ c.if-not-start.false), c.requires.indexed),
-      ),
-    )
+    let from = stands c.args.from in
+    unary_true s names left _ from c.skip.result c.skip.ensures c.operand_at-operand.result.paren
+    (rw c.in-True.is at c.operand_at-operand.ensures) refl _ (ended c.constant.result) c.constant.ensures
 
-pub read_path-first_step-got-requires : goal.read_path-first_step-got-requires
-read_path-first_step-got-requires t c = c.read_step-first.ensures.reached.sized
+pub read_operand-returns-in-False : goal.read_operand-returns-in-False
+read_operand-returns-in-False t c =
+    let names = c.args.names.list.now in
+    let s = c.args.s.now in
+    let left = c.args.left in
+    let from = stands c.args.from in
+    unary_false s names left _ from c.skip.result c.skip.ensures c.operand_at-operand.result.paren
+    (rw c.in-False.is at c.operand_at-operand.ensures) refl _
+    (ended c.constant-in-False.result) c.constant-in-False.ensures
+
+pub read_operand-returns-then-left-eq0 : goal.read_operand-returns-then-left-eq0
+read_operand-returns-then-left-eq0 t c =
+    let names = c.args.names.list.now in
+    let s = c.args.s.now in
+    let left = c.args.left in
+    let from = stands c.args.from in
+    let opens = c.operand_at-operand.result.opens in
+    let paren = c.operand_at-operand.result.paren in
+    let met = c.operand_at-operand.ensures in
+    let inner : Encloses opens = ⊎_elim (λ e. rw e tt) (λ e. rw e tt) c.in-Group.is in
+    unary_full s names left _ from c.skip.result c.skip.ensures opens paren inner met c.if-left-eq0.true
+    c.requires.ready.sized
+
+pub read_operand-returns-in_err-inner : goal.read_operand-returns-in_err-inner
+read_operand-returns-in_err-inner t c =
+    let names = c.args.names.list.now in
+    let s = c.args.s.now in
+    let left = c.args.left in
+    let from = stands c.args.from in
+    let opens = c.operand_at-operand.result.opens in
+    let paren = c.operand_at-operand.result.paren in
+    let met = c.operand_at-operand.ensures in
+    let inner : Encloses opens = ⊎_elim (λ e. rw e tt) (λ e. rw e tt) c.in-Group.is in
+    let room : 0 < left = omega (arith, c.if-left-eq0.false) in
+    let p = err_from_is_err_and c.from_residual-in_err-inner.result c.from_residual-in_err-inner.ensures.1 in
+    rw (p.1, p.2)
+    (enclosed_fails s names left _ from c.skip.result c.skip.ensures opens paren inner met room _ _
+    (enclosed_refused s names (left - 1) 41 _ _ _ _ c.in_err-inner.ensures refl) refl)
+
+pub read_operand-returns-in_err-shut : goal.read_operand-returns-in_err-shut
+read_operand-returns-in_err-shut t c =
+    let names = c.args.names.list.now in
+    let s = c.args.s.now in
+    let left = c.args.left in
+    let from = stands c.args.from in
+    let opens = c.operand_at-operand.result.opens in
+    let paren = c.operand_at-operand.result.paren in
+    let met = c.operand_at-operand.ensures in
+    let inner : Encloses opens = ⊎_elim (λ e. rw e tt) (λ e. rw e tt) c.in-Group.is in
+    let room : 0 < left = omega (arith, c.if-left-eq0.false) in
+    let p = err_from_is_err_and c.from_residual-in_err-shut.result c.from_residual-in_err-shut.ensures.1 in
+    rw (p.1, p.2)
+    (enclosed_fails s names left _ from c.skip.result c.skip.ensures opens paren inner met room _ _
+    (enclosed s names (left - 1) 41 _ (moved_to from (paren + 1)) _ (stands c.in_ok-inner.inner) _
+    c.in_ok-inner.ensures refl c.in_err-shut.ensures) refl)
+
+pub read_operand-returns : goal.read_operand-returns
+read_operand-returns t c =
+    let names = c.args.names.list.now in
+    let s = c.args.s.now in
+    let left = c.args.left in
+    let from = stands c.args.from in
+    let opens = c.operand_at-operand.result.opens in
+    let paren = c.operand_at-operand.result.paren in
+    let met = c.operand_at-operand.ensures in
+    let inner : Encloses opens = ⊎_elim (λ e. rw e tt) (λ e. rw e tt) c.in-Group.is in
+    let room : 0 < left = omega (arith, c.if-left-eq0.false) in
+    unary_enclosed s names left _ from c.skip.result c.skip.ensures opens paren inner met room _
+    (stands c.in_ok-shut.shut) _ (stands c.negate_if.result)
+    (enclosed s names (left - 1) 41 _ (moved_to from (paren + 1)) _ (stands c.in_ok-inner.inner) _
+    c.in_ok-inner.ensures refl c.in_ok-shut.ensures) c.negate_if.ensures
+
+pub read_path-returns-in_err-root : goal.read_path-returns-in_err-root
+read_path-returns-in_err-root t c =
+    let names = c.args.names.list.now in
+    let s = c.args.s.now in
+    let left = c.args.left in
+    let from = stands c.args.from in
+    let p = err_from_is_err_and c.from_residual.result c.from_residual.ensures.1 in
+    rw (p.1, p.2)
+    ((begun s names left _ from c.requires.ready _ _ c.in_err-root.ensures).alone refl)
+
+pub read_path-returns-in-Root : goal.read_path-returns-in-Root
+read_path-returns-in-Root t c =
+    let names = c.args.names.list.now in
+    let s = c.args.s.now in
+    let left = c.args.left in
+    let from = stands c.args.from in
+    let b = begun s names left _ from c.requires.ready _ _ (rw c.in-Root.is at c.in_ok-root.ensures) in
+    b.alone refl
+
+pub read_path-read_step-requires : goal.read_path-read_step-requires
+read_path-read_step-requires t c =
+    let names = c.args.names.list.now in
+    let s = c.args.s.now in
+    let left = c.args.left in
+    let from = stands c.args.from in
+    let b = begun s names left _ from c.requires.ready _ _ (rw c.in-First.is at c.in_ok-root.ensures) in
+    (omega (arith, c.requires.ready), (b.ready refl, b.space refl))
+
+pub read_path-returns-in_err-got-in-First : goal.read_path-returns-in_err-got-in-First
+read_path-returns-in_err-got-in-First t c =
+    let names = c.args.names.list.now in
+    let s = c.args.s.now in
+    let left = c.args.left in
+    let from = stands c.args.from in
+    let b = begun s names left _ from c.requires.ready _ _ (rw c.in-First.is at c.in_ok-root.ensures) in
+    let p = err_from_is_err_and c.from_residual-in_err-got-in-First.result
+    c.from_residual-in_err-got-in-First.ensures.1 in
+    rw (p.1, p.2) (b.refused refl _ _ c.in_err-got-in-First.ensures refl)
+
+pub read_path-read_step-requires-in-Below : goal.read_path-read_step-requires-in-Below
+read_path-read_step-requires-in-Below t c =
+    let names = c.args.names.list.now in
+    let s = c.args.s.now in
+    let left = c.args.left in
+    let from = stands c.args.from in
+    let b = begun s names left _ from c.requires.ready _ _ (rw c.in-Below.is at c.in_ok-root.ensures) in
+    (omega (arith, c.requires.ready), (b.ready refl, b.space refl))
+
+pub read_path-returns-in_err-step-in-Below : goal.read_path-returns-in_err-step-in-Below
+read_path-returns-in_err-step-in-Below t c =
+    let names = c.args.names.list.now in
+    let s = c.args.s.now in
+    let left = c.args.left in
+    let from = stands c.args.from in
+    let b = begun s names left _ from c.requires.ready _ _ (rw c.in-Below.is at c.in_ok-root.ensures) in
+    let p = err_from_is_err_and c.from_residual-in_err-step-in-Below.result
+    c.from_residual-in_err-step-in-Below.ensures.1 in
+    rw (p.1, p.2) (b.refused refl _ _ c.in_err-step-in-Below.ensures refl)
 
 pub read_path-loop-rows-init : goal.read_path-loop-rows-init
 read_path-loop-rows-init t c =
-    let names = c.args.names.now in
+    let names = c.args.names.list.now in
     let s = c.args.s.now in
     let left = c.args.left in
-    let from = c.args.from in
-    carried_none s (PathGot s names left) from.at _
-    c.first_step-got.result ((begun s names left _ from c.requires.ready _
-    c.begin_path-start.result c.begin_path-start.ensures).first
-    (not-false _ c.if-not-start.false) _ c.read_step-first.result _
-    c.first_step-got.result c.read_step-first.ensures
-    c.first_step-got.ensures).reached
+    let from = stands c.args.from in
+    elim c.match-branch-2.branch [
+      | read_path-in-First+in_ok-got-in-First w ↦
+          let b = begun s names left _ from c.requires.ready _ _ (rw w.in-First.is at c.in_ok-root.ensures) in
+          let step = stands w.in_ok-got-in-First.got in
+          let met = w.in_ok-got-in-First.ensures in
+          rw (w.rows-is, w.got-is) (b.first refl _ step _ step met
+          (first_stays (stands w.in-First.lead) step _ false refl met.reached.sized))
+      | read_path-in-Below+in_ok-step-in-Below w ↦
+          let b = begun s names left _ from c.requires.ready _ _ (rw w.in-Below.is at c.in_ok-root.ensures) in
+          let lead = stands w.in-Below.lead in
+          let step = stands w.in_ok-step-in-Below.step in
+          let got = stands w.join-got.result in
+          rw (w.rows-is, w.got-is) (b.first refl _ step _ got w.in_ok-step-in-Below.ensures
+          (first_joins lead step _ _ got true refl w.join-got.ensures))
+    ]
 
-pub read_path-pass_slash-before-requires : goal.read_path-pass_slash-before-requires
-read_path-pass_slash-before-requires t c =
-    let y = c.loop-rows.got in
-    let next = next_taken y.ok (byte_at c.args.s.now y.at) 47 _ c.next_is.ensures
-    c.loop-rows-test.true in
-    (next.1, c.loop-rows.invariant.reached.sized)
-
-pub read_path-read_step-step-requires : goal.read_path-read_step-step-requires
-read_path-read_step-step-requires t c =
+pub read_path-returns-in_err-step : goal.read_path-returns-in_err-step
+read_path-returns-in_err-step t c =
+    let names = c.args.names.list.now in
     let s = c.args.s.now in
-    let y = c.loop-rows.got in
-    let next = next_taken y.ok (byte_at s y.at) 47 _ c.next_is.ensures c.loop-rows-test.true in
-    let after = after_slash s _ y _ c.pass_slash-before.result next.0
-    c.pass_slash-before.ensures in
-    (omega (arith, c.requires.ready), (after.ready, (after.space, c.requires.indexed)))
-
-pub read_path-join-next-requires : goal.read_path-join-next-requires
-read_path-join-next-requires t c = c.read_step-step.ensures.reached.sized
+    let left = c.args.left in
+    let from = stands c.args.from in
+    let y = stands c.loop-rows.got in
+    let there = sym c.byte_at.ensures ∙ c.loop-rows-test.true in
+    let p = err_from_is_err_and c.from_residual-in_err-step.result c.from_residual-in_err-step.ensures.1 in
+    rw (p.1, p.2)
+    (more_refused s names left _ from _ y _ (stands c.pass_slash-before.result) _ _ refl there
+    c.pass_slash-before.ensures
+    c.in_err-step.ensures refl c.loop-rows.invariant)
 
 pub read_path-loop-rows-smaller : goal.read_path-loop-rows-smaller
 read_path-loop-rows-smaller t c =
+    let names = c.args.names.list.now in
     let s = c.args.s.now in
-    let y = c.loop-rows.got in
-    let next = next_taken y.ok (byte_at s y.at) 47 _ c.next_is.ensures c.loop-rows-test.true in
-    let after = after_slash s _ y _ c.pass_slash-before.result next.0
-    c.pass_slash-before.ensures in
-    let to = c.read_step-step.ensures.reached in
-    omega (arith, after.from, to.from, to.fits, c.join-next.ensures.text.at)
+    let left = c.args.left in
+    let from = stands c.args.from in
+    let y = stands c.loop-rows.got in
+    let slash = after_slash s _ y _ (stands c.pass_slash-before.result) c.pass_slash-before.ensures in
+    let to = c.in_ok-step.ensures.reached in
+    omega (arith, slash, to.from, to.fits, c.join-got-in-loop-rows.ensures.text.at)
 
 pub read_path-loop-rows-preserved : goal.read_path-loop-rows-preserved
 read_path-loop-rows-preserved t c =
-    let names = c.args.names.now in
+    let names = c.args.names.list.now in
     let s = c.args.s.now in
     let left = c.args.left in
-    let y = c.loop-rows.got in
-    let next = next_taken y.ok (byte_at s y.at) 47 _ c.next_is.ensures c.loop-rows-test.true in
-    let after = after_slash s _ y _ c.pass_slash-before.result next.0
-    c.pass_slash-before.ensures in
-    let to = c.read_step-step.ensures.reached in
-    let put = c.join-next.ensures in
-    carried_on s (PathGot s names left) _ _ _ y _ c.join-next.result
-    c.loop-rows.invariant
-    record {
-      from = omega (arith, after.from, to.from, put.text.at);
-      fits = rw put.text.at to.fits;
-      sized = put.sized;
-    }
-    (λ xs x h. path_more s names left xs x _ y _ c.pass_slash-before.result _
-    c.read_step-step.result _ c.join-next.result next.0 next.1
-    c.pass_slash-before.ensures c.read_step-step.ensures put h)
-
-pub read_path-shape_of-rows : goal.read_path-shape_of-rows
-read_path-shape_of-rows t c = omega (arith, c.loop-rows.invariant.reached.sized.size, c.requires.ready.sized.size)
+    let from = stands c.args.from in
+    let y = stands c.loop-rows.got in
+    let there = sym c.byte_at.ensures ∙ c.loop-rows-test.true in
+    path_more s names left _ from _ y _ (stands c.pass_slash-before.result) _ (stands c.in_ok-step.step) _
+    (stands c.join-got-in-loop-rows.result) refl there c.pass_slash-before.ensures c.in_ok-step.ensures
+    c.join-got-in-loop-rows.ensures c.loop-rows.invariant
 
 pub read_path-returns : goal.read_path-returns
 read_path-returns t c =
-    let names = c.args.names.now in
+    let names = c.args.names.list.now in
     let s = c.args.s.now in
     let left = c.args.left in
-    let from = c.args.from in
-    let y = c.loop-rows.got in
-    let one = (begun s names left _ from c.requires.ready _
-    c.begin_path-start.result c.begin_path-start.ensures).first
-    (not-false _ c.if-not-start.false) _ c.read_step-first.result _
-    c.first_step-got.result c.read_step-first.ensures c.first_step-got.ensures in
-    path_ends s names left _ from _ y
-    (λ e. next_left y.ok (byte_at s y.at) 47 _ c.next_is.ensures c.loop-rows-test.false e)
-    (c.loop-rows.invariant.on _ from one)
+    let from = stands c.args.from in
+    path_ends s names left _ from _ (stands c.loop-rows.got)
+    (λ _. differs _ 47 (λ e. c.loop-rows-test.false (c.byte_at.ensures ∙ e))) c.loop-rows.invariant
 
 pub read_predicate-returns-then-left-eq0 : goal.read_predicate-returns-then-left-eq0
 read_predicate-returns-then-left-eq0 t c =
-    let names = c.args.names.now in
+    let names = c.args.names.list.now in
     let s = c.args.s.now in
     let left = c.args.left in
-    let from = c.args.from in
-    rw c.fail.ensures (predicate_full s names left _ from
-    c.requires.ready c.requires.at_value c.if-left-eq0.true)
+    let from = stands c.args.from in
+    predicate_full s names left _ from c.requires.ready c.requires.at_value c.if-left-eq0.true
 
-pub read_predicate-overflow_add-open : goal.read_predicate-overflow_add-open
-read_predicate-overflow_add-open t c =
+pub read_predicate-returns-in_err-inner : goal.read_predicate-returns-in_err-inner
+read_predicate-returns-in_err-inner t c =
+    let names = c.args.names.list.now in
     let s = c.args.s.now in
-    let from = c.args.from in
-    omega (arith, byte_there s from.at 91 refl c.requires.at_value)
+    let left = c.args.left in
+    let from = stands c.args.from in
+    let room : 0 < left = omega (arith, c.if-left-eq0.false) in
+    let p = err_from_is_err_and c.from_residual.result c.from_residual.ensures.1 in
+    rw (p.1, p.2)
+    (predicate_refused s names left _ from c.requires.ready c.requires.at_value room _ _
+    (enclosed_refused s names (left - 1) 93 _ _ _ _ c.in_err-inner.ensures refl) refl)
 
-pub read_predicate-overflow_sub-left : goal.read_predicate-overflow_sub-left
-read_predicate-overflow_sub-left t c = omega (arith, c.if-left-eq0.false)
-
-pub read_predicate-read_or-inner-requires : goal.read_predicate-read_or-inner-requires
-read_predicate-read_or-inner-requires t c =
+pub read_predicate-returns-in_err-shut : goal.read_predicate-returns-in_err-shut
+read_predicate-returns-in_err-shut t c =
+    let names = c.args.names.list.now in
     let s = c.args.s.now in
-    let from = c.args.from in (
-      omega (arith, c.requires.ready, c.if-left-eq0.false),
-      (
-        rw c.moved.ensures (next_ready s _ from
-            from.at 91 refl c.requires.ready.ok c.requires.ready.sized c.requires.at_value),
-        c.requires.indexed,
-      ),
-    )
-
-pub read_predicate-close-shut-requires : goal.read_predicate-close-shut-requires
-read_predicate-close-shut-requires t c = refl
-
-pub read_predicate-join-requires : goal.read_predicate-join-requires
-read_predicate-join-requires t c =
-    close_sized c.args.s.now c.read_or-inner.result 93
-    c.close-shut.result _ c.close-shut.ensures
-    c.read_or-inner.ensures.reached.sized
-
-pub read_predicate-shape_of-rows : goal.read_predicate-shape_of-rows
-read_predicate-shape_of-rows t c = omega (arith, c.join.ensures.sized.size, c.requires.ready.sized.size)
+    let left = c.args.left in
+    let from = stands c.args.from in
+    let room : 0 < left = omega (arith, c.if-left-eq0.false) in
+    let p = err_from_is_err_and c.from_residual-in_err-shut.result c.from_residual-in_err-shut.ensures.1 in
+    rw (p.1, p.2)
+    (predicate_refused s names left _ from c.requires.ready c.requires.at_value room _ _
+    (enclosed s names (left - 1) 93 _ (moved_to from (from.at + 1)) _ (stands c.in_ok-inner.inner) _
+    c.in_ok-inner.ensures refl c.in_err-shut.ensures) refl)
 
 pub read_predicate-returns : goal.read_predicate-returns
 read_predicate-returns t c =
-    let names = c.args.names.now in
+    let names = c.args.names.list.now in
     let s = c.args.s.now in
     let left = c.args.left in
-    let from = c.args.from in
-    predicate_joined s names left _ from c.requires.ready c.requires.at_value
-    (omega (arith, c.if-left-eq0.false)) _ c.close-shut.result _ _
-    (enclosed s names (left - 1) 93 _ (moved_to from (from.at + 1)) _
-    c.read_or-inner.result c.close-shut.result
-    (rw c.moved.ensures at c.read_or-inner.ensures)
-    c.close-shut.ensures) c.join.ensures
+    let from = stands c.args.from in
+    let room : 0 < left = omega (arith, c.if-left-eq0.false) in
+    predicate_joined s names left _ from c.requires.ready c.requires.at_value room _ (stands c.in_ok-shut.shut) _
+    (stands c.join.result)
+    (enclosed s names (left - 1) 93 _ (moved_to from (from.at + 1)) _ (stands c.in_ok-inner.inner) _
+    c.in_ok-inner.ensures refl c.in_ok-shut.ensures) c.join.ensures
 
-pub read_step-read_head-head-requires : goal.read_step-read_head-head-requires
-read_step-read_head-head-requires t c = record
-    { at_in_bounds = c.requires.ready.fits; at_value = c.requires.at_value; indexed = c.requires.indexed }
-
-pub read_step-put_head-got-requires : goal.read_step-put_head-got-requires
-read_step-put_head-got-requires t c = c.requires.ready.sized
-
-pub read_step-shape_of-rows-then-not-head : goal.read_step-shape_of-rows-then-not-head
-read_step-shape_of-rows-then-not-head t c =
-    omega (arith, c.put_head-got.ensures.sized.size, c.requires.ready.sized.size)
+pub read_step-returns-in_err-head : goal.read_step-returns-in_err-head
+read_step-returns-in_err-head t c =
+    let names = c.args.names.list.now in
+    let s = c.args.s.now in
+    let left = c.args.left in
+    let from = stands c.args.from in
+    let p = err_from_is_err_and c.from_residual.result c.from_residual.ensures.1 in
+    rw (p.1, p.2) (step_refused s names left _ from _ c.requires.ready c.in_err-head.ensures)
 
 pub read_step-returns-then-not-head : goal.read_step-returns-then-not-head
 read_step-returns-then-not-head t c =
-    let names = c.args.names.now in
+    let names = c.args.names.list.now in
     let s = c.args.s.now in
     let left = c.args.left in
-    let from = c.args.from in
-    rw c.step_end.ensures (step_ends s names left false _ from _
-    c.put_head-got.result (step_head s names left _ from _ c.put_head-got.result
-    c.read_head-head.result false (not-true _ c.if-not-head.true) c.requires.ready
-    c.read_head-head.ensures c.put_head-got.ensures)
-    (λ e. refuse false e refl))
+    let from = stands c.args.from in
+    rw c.step_end.ensures
+    (step_ends s names left false _ from _ (stands c.put_head-got.result)
+    (step_head s names left _ from _ (stands c.put_head-got.result) _ false (not-true _ c.if-not-head.true)
+    c.requires.ready c.in_ok-head.ensures c.put_head-got.ensures)
+    (λ e. refuse false e refl) refl)
 
-pub read_step-loop-rows-init : goal.read_step-loop-rows-init
-read_step-loop-rows-init t c =
-    let names = c.args.names.now in
+pub read_step-loop-names-init : goal.read_step-loop-names-init
+read_step-loop-names-init t c =
+    let names = c.args.names.list.now in
     let s = c.args.s.now in
     let left = c.args.left in
-    let from = c.args.from in
-    carried_none s (StepGot s names left true) from.at _
-    c.put_head-got.result
-    (step_head s names left _ from _ c.put_head-got.result
-    c.read_head-head.result true (not-false _ c.if-not-head.false) c.requires.ready
-    c.read_head-head.ensures c.put_head-got.ensures).reached
+    let from = stands c.args.from in
+    step_head s names left _ from _ (stands c.put_head-got.result) _ true (not-false _ c.if-not-head.false)
+    c.requires.ready c.in_ok-head.ensures c.put_head-got.ensures
 
-pub read_step-read_predicate-next-requires : goal.read_step-read_predicate-next-requires
-read_step-read_predicate-next-requires t c =
-    let y = c.loop-rows.got in
-    let next = next_taken y.ok (byte_at c.args.s.now y.at) 91 _ c.next_is.ensures
-    c.loop-rows-test.true in (
-      omega (arith, c.requires.ready),
-      (
-        record {
-          ok = next.0;
-          fits = c.loop-rows.invariant.reached.fits;
-          sized = c.loop-rows.invariant.reached.sized;
-        },
-        (next.1, c.requires.indexed),
-      ),
-    )
-
-pub read_step-loop-rows-smaller : goal.read_step-loop-rows-smaller
-read_step-loop-rows-smaller t c =
-    let names = c.args.names.now in
+pub read_step-loop-names-preserved : goal.read_step-loop-names-preserved
+read_step-loop-names-preserved t c =
+    let names = c.args.names.list.now in
     let s = c.args.s.now in
     let left = c.args.left in
-    let y = c.loop-rows.got in
-    let next = next_taken y.ok (byte_at s y.at) 91 _ c.next_is.ensures
-    c.loop-rows-test.true in
-    predicate_falls s names left _ y _ _ next.0 c.read_predicate-next.ensures
+    let from = stands c.args.from in
+    step_filter s names left _ from _ (stands c.loop-names.got) _ (stands c.in_ok-got.got) refl c.in_ok-got.ensures
+    c.loop-names.invariant
 
-pub read_step-loop-rows-preserved : goal.read_step-loop-rows-preserved
-read_step-loop-rows-preserved t c =
-    let names = c.args.names.now in
+pub read_step-returns-in_err-got : goal.read_step-returns-in_err-got
+read_step-returns-in_err-got t c =
+    let names = c.args.names.list.now in
     let s = c.args.s.now in
     let left = c.args.left in
-    let y = c.loop-rows.got in
-    let next = next_taken y.ok (byte_at s y.at) 91 _ c.next_is.ensures
-    c.loop-rows-test.true in
-    carried_on s (StepGot s names left true) _ _ _ y _ _ c.loop-rows.invariant
-    c.read_predicate-next.ensures.reached (λ xs x h. step_filter s names left xs x _ y _ _
-    next.0 c.read_predicate-next.ensures h)
-
-pub read_step-shape_of-rows : goal.read_step-shape_of-rows
-read_step-shape_of-rows t c = omega (arith, c.loop-rows.invariant.reached.sized.size, c.requires.ready.sized.size)
+    let from = stands c.args.from in
+    let p = err_from_is_err_and c.from_residual-in_err-got.result c.from_residual-in_err-got.ensures.1 in
+    rw (p.1, p.2)
+    (step_stopped s names left true _ from _ _ refl
+    (step_filter s names left _ from _ (stands c.loop-names.got) _ _ refl c.in_err-got.ensures c.loop-names.invariant))
 
 pub read_step-returns : goal.read_step-returns
 read_step-returns t c =
-    let names = c.args.names.now in
+    let names = c.args.names.list.now in
     let s = c.args.s.now in
     let left = c.args.left in
-    let from = c.args.from in
-    let y = c.loop-rows.got in
-    let head = step_head s names left _ from _ c.put_head-got.result
-    c.read_head-head.result true (not-false _ c.if-not-head.false)
-    c.requires.ready c.read_head-head.ensures c.put_head-got.ensures in
-    rw c.step_end-2.ensures (step_ends s names left true _ from _ y
-    (c.loop-rows.invariant.on _ from head)
-    (λ _ e. next_left y.ok (byte_at s y.at) 91 _ c.next_is.ensures c.loop-rows-test.false e))
+    let from = stands c.args.from in
+    rw c.step_end-2.ensures
+    (step_ends s names left true _ from _ (stands c.loop-names.got) c.loop-names.invariant
+    (λ _ _. differs _ 91 (λ e. c.loop-names-test.false (c.byte_at.ensures ∙ e))) refl)
 
-pub read_union-read_path-got-requires : goal.read_union-read_path-got-requires
-read_union-read_path-got-requires t c = (omega (arith, c.requires.ready), (c.requires.ready, c.requires.indexed))
-
-pub read_union-loop-bar-init : goal.read_union-loop-bar-init
-read_union-loop-bar-init t c =
-    let names = c.args.names.now in
+pub read_union-loop-at-init : goal.read_union-loop-at-init
+read_union-loop-at-init t c =
+    let names = c.args.names.list.now in
     let s = c.args.s.now in
     let left = c.args.left in
-    carried_none s (UnionGot s names left) _ _ _
-    c.read_path-got.ensures.reached
+    let from = stands c.args.from in
+    union_first s names left _ from _ (stands c.in_ok-got.got) c.in_ok-got.ensures
 
-pub read_union-overflow_add-bar : goal.read_union-overflow_add-bar
-read_union-overflow_add-bar t c =
-    let s = c.args.s.now in
-    let y = c.loop-bar.got in
-    let next = next_taken y.ok (byte_at s y.at) 124 _ c.next_is.ensures
-    c.loop-bar-test.true in
-    omega (arith, byte_there s y.at 124 refl next.1)
-
-pub read_union-read_path-path-requires : goal.read_union-read_path-path-requires
-read_union-read_path-path-requires t c =
-    let s = c.args.s.now in
-    let y = c.loop-bar.got in
-    let next = next_taken y.ok (byte_at s y.at) 124 _ c.next_is.ensures
-    c.loop-bar-test.true in (
-      omega (arith, c.requires.ready),
-      (
-        rw c.moved.ensures (next_ready s _ y y.at 124 refl next.0
-            c.loop-bar.invariant.reached.sized next.1),
-        c.requires.indexed,
-      ),
-    )
-
-pub read_union-join-next-requires : goal.read_union-join-next-requires
-read_union-join-next-requires t c = c.read_path-path.ensures.reached.sized
-
-pub read_union-loop-bar-smaller : goal.read_union-loop-bar-smaller
-read_union-loop-bar-smaller t c =
-    let to = rw c.moved.ensures at c.read_path-path.ensures.reached.from in
-    omega (arith, to, c.read_path-path.ensures.reached.fits, c.join-next.ensures.text.at)
-
-pub read_union-loop-bar-preserved : goal.read_union-loop-bar-preserved
-read_union-loop-bar-preserved t c =
-    let names = c.args.names.now in
+pub read_union-returns-in_err-path : goal.read_union-returns-in_err-path
+read_union-returns-in_err-path t c =
+    let names = c.args.names.list.now in
     let s = c.args.s.now in
     let left = c.args.left in
-    let y = c.loop-bar.got in
-    let next = next_taken y.ok (byte_at s y.at) 124 _ c.next_is.ensures c.loop-bar-test.true in
-    let path = rw c.moved.ensures at c.read_path-path.ensures in
-    let put = c.join-next.ensures in
-    carried_on s (UnionGot s names left) _ _ _ y _ c.join-next.result
-    c.loop-bar.invariant record {
-      from = omega (arith, path.reached.from, put.text.at);
-      fits = rw put.text.at path.reached.fits;
-      sized = put.sized;
-    } (λ xs x h. union_more s names left xs x _ y _ c.read_path-path.result _
-    c.join-next.result next.0 next.1 path put h)
+    let from = stands c.args.from in
+    let y = stands c.loop-at.got in
+    let there = sym c.byte_at.ensures ∙ c.loop-at-test.true in
+    let p = err_from_is_err_and c.from_residual-in_err-path.result c.from_residual-in_err-path.ensures.1 in
+    rw (p.1, p.2)
+    (union_refused s names left _ from _ y _ _ refl there c.in_err-path.ensures refl c.loop-at.invariant)
 
-pub read_union-shape_of-rows : goal.read_union-shape_of-rows
-read_union-shape_of-rows t c = omega (arith, c.loop-bar.invariant.reached.sized.size, c.requires.ready.sized.size)
+pub read_union-loop-at-preserved : goal.read_union-loop-at-preserved
+read_union-loop-at-preserved t c =
+    let names = c.args.names.list.now in
+    let s = c.args.s.now in
+    let left = c.args.left in
+    let from = stands c.args.from in
+    let y = stands c.loop-at.got in
+    let there = sym c.byte_at.ensures ∙ c.loop-at-test.true in
+    union_more s names left _ from _ y _ (stands c.in_ok-path.path) _ (stands c.join-got.result) refl there
+    c.in_ok-path.ensures c.join-got.ensures c.loop-at.invariant
 
 pub read_union-returns : goal.read_union-returns
 read_union-returns t c =
-    let names = c.args.names.now in
+    let names = c.args.names.list.now in
     let s = c.args.s.now in
     let left = c.args.left in
-    let from = c.args.from in
-    let y = c.loop-bar.got in
-    union_ends s names left _ from _ y
-    (λ e. next_left y.ok (byte_at s y.at) 124 _ c.next_is.ensures c.loop-bar-test.false e)
-    (c.loop-bar.invariant.on _ from (union_first s names left _ from _
-    c.read_path-got.result c.read_path-got.ensures))
+    let from = stands c.args.from in
+    union_ends s names left _ from _ (stands c.loop-at.got)
+    (λ _. differs _ 124 (λ e. c.loop-at-test.false (c.byte_at.ensures ∙ e))) c.loop-at.invariant

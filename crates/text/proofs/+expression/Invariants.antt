@@ -2,7 +2,7 @@
 use mathlib.Core.Bool.{true}
 use Prim.Native.Nat.{◌+◌, ◌-◌, ◌*◌}
 use lib.ListN.{length}
-use Rattle.text.proofs.LoopLaws.{Carried, leftover}
+use Rattle.readings.specs.code.Build.{stands}
 use Rattle.text.proofs.StepLaws.{StepGot}
 use Rattle.text.proofs.PathLaws.{PathGot, UnionGot}
 use Rattle.text.proofs.ExpressionLaws.{AndGot, OrGot}
@@ -29,33 +29,33 @@ decreases-read_step l = 8 * l.left + 1
 abbrev pub decreases-read_union : goal.decreases-read_union
 decreases-read_union l = 8 * l.left + 3
 
-abbrev pub invariant-read_and-loop-word : goal.invariant-read_and-loop-word
-invariant-read_and-loop-word l = Carried l.s (AndGot l.s l.names l.left) l.initial.rows l.initial.got l.rows l.got
+abbrev pub invariant-read_and-loop-got : goal.invariant-read_and-loop-got
+invariant-read_and-loop-got l = AndGot l.s l.names.list.now l.left l.fn.rows (stands l.fn.from) l.rows (stands l.got)
 
-abbrev pub decreases-read_and-loop-word : goal.decreases-read_and-loop-word
-decreases-read_and-loop-word l = length l.s - l.got.at
+abbrev pub decreases-read_and-loop-got : goal.decreases-read_and-loop-got
+decreases-read_and-loop-got l = length l.s - l.got.at
 
-abbrev pub invariant-read_or-loop-word : goal.invariant-read_or-loop-word
-invariant-read_or-loop-word l = Carried l.s (OrGot l.s l.names l.left) l.initial.rows l.initial.got l.rows l.got
+abbrev pub invariant-read_or-loop-got : goal.invariant-read_or-loop-got
+invariant-read_or-loop-got l = OrGot l.s l.names.list.now l.left l.fn.rows (stands l.fn.from) l.rows (stands l.got)
 
-abbrev pub decreases-read_or-loop-word : goal.decreases-read_or-loop-word
-decreases-read_or-loop-word l = length l.s - l.got.at
+abbrev pub decreases-read_or-loop-got : goal.decreases-read_or-loop-got
+decreases-read_or-loop-got l = length l.s - l.got.at
 
 abbrev pub invariant-read_path-loop-rows : goal.invariant-read_path-loop-rows
-invariant-read_path-loop-rows l = Carried l.s (PathGot l.s l.names l.left) l.initial.rows l.initial.got l.rows l.got
+invariant-read_path-loop-rows l = PathGot l.s l.names.list.now l.left l.fn.rows (stands l.fn.from) l.rows (stands l.got)
 
 abbrev pub decreases-read_path-loop-rows : goal.decreases-read_path-loop-rows
 decreases-read_path-loop-rows l = length l.s - l.got.at
 
-abbrev pub invariant-read_step-loop-rows : goal.invariant-read_step-loop-rows
-invariant-read_step-loop-rows l =
-    Carried l.s (StepGot l.s l.names l.left true) l.initial.rows l.initial.got l.rows l.got
+abbrev pub invariant-read_step-loop-names : goal.invariant-read_step-loop-names
+invariant-read_step-loop-names l =
+    StepGot l.s l.names.list.now l.left true l.fn.rows (stands l.fn.from) l.rows (stands l.got)
 
-abbrev pub decreases-read_step-loop-rows : goal.decreases-read_step-loop-rows
-decreases-read_step-loop-rows l = leftover l.s l.got
+abbrev pub decreases-read_step-loop-names : goal.decreases-read_step-loop-names
+decreases-read_step-loop-names l = length l.s - l.got.at
 
-abbrev pub invariant-read_union-loop-bar : goal.invariant-read_union-loop-bar
-invariant-read_union-loop-bar l = Carried l.s (UnionGot l.s l.names l.left) l.initial.rows l.initial.got l.rows l.got
+abbrev pub invariant-read_union-loop-at : goal.invariant-read_union-loop-at
+invariant-read_union-loop-at l = UnionGot l.s l.names.list.now l.left l.fn.rows (stands l.fn.from) l.rows (stands l.got)
 
-abbrev pub decreases-read_union-loop-bar : goal.decreases-read_union-loop-bar
-decreases-read_union-loop-bar l = length l.s - l.got.at
+abbrev pub decreases-read_union-loop-at : goal.decreases-read_union-loop-at
+decreases-read_union-loop-at l = length l.s - l.got.at

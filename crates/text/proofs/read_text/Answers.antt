@@ -1,19 +1,22 @@
 -- `read_text` meets its contract: a refused text leaves the table that was given. Assumes nothing.
 use native.Mathlib.Omega.{arith}
-use Rattle.text.proofs.TextLaws.{read_refused, read_accepted}
+use Rattle.std.proofs.lemmas.Result.{err_from_is_err_and}
 use borrow.Author.Rules.{rules}
+use Rattle.text.proofs.TextLaws.{read_refused, read_accepted}
 use Rattle.text.proofs.read_text.Goals as goal
 
-pub returns-then-number-ne0 : goal.returns-then-number-ne0
-returns-then-number-ne0 c =
+pub returns-in_err-row : goal.returns-in_err-row
+returns-in_err-row c =
     let a = c.args in
-    read_refused a.s.now a.names.now a.rows a.count _ c.rows_counted-held.ensures
-    (record { size = search rules; bound = omega (arith, c.rows_counted-held.ensures) })
-    _ c.read_listed-end.result c.read_listed-end.ensures c.if-number-ne0.true
+    let p = err_from_is_err_and c.from_residual.result c.from_residual.ensures.1 in
+    rw (p.1, p.2)
+    (read_refused a.s.now a.names.now a.rows a.count c.min-held.result (omega (arith, c.min-held.ensures))
+    (record { size = search rules; bound = omega (arith, c.min-held.ensures) })
+    _ c.read_listed.result c.read_listed.ensures _ c.in_err-row.was)
 
 pub returns : goal.returns
 returns c =
     let a = c.args in
-    read_accepted a.s.now a.names.now a.rows a.count _ c.rows_counted-held.ensures
-    (record { size = search rules; bound = omega (arith, c.rows_counted-held.ensures) })
-    _ c.read_listed-end.result c.read_listed-end.ensures (omega (arith, c.if-number-ne0.false))
+    read_accepted a.s.now a.names.now a.rows a.count c.min-held.result (omega (arith, c.min-held.ensures))
+    (record { size = search rules; bound = omega (arith, c.min-held.ensures) })
+    _ c.read_listed.result c.read_listed.ensures c.in_ok-row.field-0 c.in_ok-row.was

@@ -1,7 +1,7 @@
 -- What the readers promise: a run of the grammar's reader from one place is one from another, and the rows, the
 -- nesting and the first unlisted name are those of the tree that was read. Assumes nothing.
 use Rattle.std.specs.Prelude.{ℕ, suc, ◌+◌, ◌-◌, ◌<◌, ◌≤◌, max, ◌≡◌, true, false, List, [], ◌∷◌, ◌++◌, eqb}
-use Rattle.std.specs.Prelude.{length, drop}
+use Rattle.std.specs.Prelude.{length, drop, Result, Ok, Err}
 use Rattle.std.proofs.Math.Option.{Option, none, some}
 use Rattle.xpath.specs.Term as term
 use Rattle.common.specs.RowKinds.{filter_row}
@@ -20,11 +20,11 @@ use Rattle.grammar.specs.code.Reader.{follow, run, outcome, Outcome, bad, at_top
 use Rattle.grammar.specs.code.Reader.{shut, Text}
 use Rattle.grammar.specs.code.ReaderAnswer.{answer}
 use Rattle.readings.specs.declared.Reading.{Reading}
-use Rattle.text.specs.declared.TextEnd.{TextEnd}
-use Rattle.text.specs.Promises.{held_rows}
+use Rattle.text.specs.declared.TextRefusal.{TextRefusal}
+use Rattle.text.specs.Promises.{held_rows, refusal_number, refusal_value}
 use Rattle.words.specs.code.Scan.{byte_at, Passed}
 use Rattle.heads.specs.code.Head.{proceed, callable, NoCall, Due}
-use Rattle.readings.specs.code.Build.{Sized, Made, joined}
+use Rattle.readings.specs.code.Build.{Standing, Sized, Made, joined}
 use Rattle.readings.specs.code.Build.{only_in_step, first_of, Beyond}
 
 -- what follows a path, and a union
@@ -41,26 +41,26 @@ after_union c u w [] = outcome (union_at_top c u w)
 after_union c u w (b ∷ t) = follow (union_byte c u w b) (bad (suc (length t))) (λ st. run t st)
 
 -- a path, or a qualifier, was made of a text with these names
-abbrev pub MadePath : Bytes → term.Path → List Named → List ℕ → Reading → List ℕ → Reading → Type 0
+abbrev pub MadePath : Bytes → term.Path → List Named → List ℕ → Standing → List ℕ → Standing → Type 0
 MadePath list p ns xs x ys y = Made (put_path p) (nest_path p) (unlisted (number_of list) ns) xs x ys y
 
-abbrev pub MadeQual : Bytes → term.Qualifier → List Named → List ℕ → Reading → List ℕ → Reading → Type 0
+abbrev pub MadeQual : Bytes → term.Qualifier → List Named → List ℕ → Standing → List ℕ → Standing → Type 0
 MadeQual list f ns xs x ys y = Made (put_qual f) (nest_qual f) (unlisted (number_of list) ns) xs x ys y
 
 -- before a reader: nothing was refused, the place is in the text, the table has its size
-pub record Ready (s : Bytes) (xs : List ℕ) (x : Reading) : Type 0 where
+pub record Ready (s : Bytes) (xs : List ℕ) (x : Standing) : Type 0 where
   pub ok : x.ok ≡ true
   pub fits : x.at ≤ length s
   pub sized : Sized xs x.count
 
 -- after one: the place is not before the first, and in the text; the table has its size
-pub record Reached (s : Bytes) (at : ℕ) (ys : List ℕ) (y : Reading) : Type 0 where
+pub record Reached (s : Bytes) (at : ℕ) (ys : List ℕ) (y : Standing) : Type 0 where
   pub from : at ≤ y.at
   pub fits : y.at ≤ length s
   pub sized : Sized ys y.count
 
 -- a predicate, after any step that takes one: the expression in it, and whitespace after its `]`
-pub record PredicateRead (s list : Bytes) (left : ℕ) (xs : List ℕ) (x : Reading) (ys : List ℕ) (y : Reading)
+pub record PredicateRead (s list : Bytes) (left : ℕ) (xs : List ℕ) (x : Standing) (ys : List ℕ) (y : Standing)
     : Type 0 where
   pub tree : Or
   pub inner : Bytes
@@ -68,13 +68,13 @@ pub record PredicateRead (s list : Bytes) (left : ℕ) (xs : List ℕ) (x : Read
   pub size : x.at + length (spell_or tree ++ (inner ++ spaces)) + 2 ≡ y.at
   pub runs : (c : Ctx) (g : Alt) (l : Lead) (t : LocationStep) (w : Bytes) → room c ≡ left → takes_predicate t ≡ true
       → run (drop x.at s) (after c g l t w) ≡ run (drop y.at s) (after c g l (filter t w tree inner) spaces)
-  pub made : (f : List Row → Put) (n : ℕ) (m : Option ℕ) (zs : List ℕ) (z : Reading) → Made f n m zs z xs x
+  pub made : (f : List Row → Put) (n : ℕ) (m : Option ℕ) (zs : List ℕ) (z : Standing) → Made f n m zs z xs x
       → Made (joined filter_row f (put_qual (or_of (number_of list) tree)))
       (suc (max n (nest_qual (or_of (number_of list) tree))))
       (first_of m (unlisted (number_of list) (or_names tree (x.at + 1)))) zs z ys y
   pub space : is_space (byte_at s y.at) ≡ false
 
-pub record PredicateMet (s list : Bytes) (left : ℕ) (xs : List ℕ) (x : Reading) (ys : List ℕ) (y : Reading)
+pub record PredicateMet (s list : Bytes) (left : ℕ) (xs : List ℕ) (x : Standing) (ys : List ℕ) (y : Standing)
     : Type 0 where
   pub reached : Reached s x.at ys y
   pub further : y.ok ≡ true → x.at < y.at
@@ -84,7 +84,7 @@ pub record PredicateMet (s list : Bytes) (left : ℕ) (xs : List ℕ) (x : Readi
 
 -- a step, from a place without whitespace: its tree by the whitespace before it, and whitespace after it
 pub record StepRead (s list : Bytes) (left : ℕ) (tree : Bytes → LocationStep) (spaces : Bytes)
-    (xs : List ℕ) (x : Reading) (ys : List ℕ) (y : Reading) : Type 0 where
+    (xs : List ℕ) (x : Standing) (ys : List ℕ) (y : Standing) : Type 0 where
   pub size : (w : Bytes) → x.at + length (spell_step (tree w) ++ spaces) ≡ length w + y.at
   pub runs : (c : Ctx) (g : Alt) (l : Lead) (w : Bytes) → room c ≡ left
       → run (drop x.at s) (need c g l w) ≡ run (drop y.at s) (after c g l (tree w) spaces)
@@ -96,7 +96,7 @@ abbrev pub StepFails : Bytes → (left at to : ℕ) → Type 0
 StepFails s left at to = (c : Ctx) (g : Alt) (l : Lead) (w : Bytes) → room c ≡ left → Due s at c g l w
     → run (drop at s) (need c g l w) ≡ bad (length s - to)
 
-pub record StepMet (s list : Bytes) (left : ℕ) (xs : List ℕ) (x : Reading) (ys : List ℕ) (y : Reading)
+pub record StepMet (s list : Bytes) (left : ℕ) (xs : List ℕ) (x : Standing) (ys : List ℕ) (y : Standing)
     : Type 0 where
   pub reached : Reached s x.at ys y
   pub read : y.ok ≡ true
@@ -110,7 +110,7 @@ NoOperand s at c g = callable c g begin ≡ true → (to : ℕ) → Passed is_sp
     → NoCall s to × (byte_at s to ≡ open_byte → ⊥)
 
 -- a path, and whitespace after it
-pub record PathRead (s list : Bytes) (left : ℕ) (xs : List ℕ) (x : Reading) (ys : List ℕ) (y : Reading)
+pub record PathRead (s list : Bytes) (left : ℕ) (xs : List ℕ) (x : Standing) (ys : List ℕ) (y : Standing)
     : Type 0 where
   pub tree : Path
   pub spaces : Bytes
@@ -123,14 +123,14 @@ abbrev pub PathFails : Bytes → (left at to : ℕ) → Type 0
 PathFails s left at to = (c : Ctx) (g : Alt) → room c ≡ left → NoOperand s at c g
     → run (drop at s) (need c g begin []) ≡ bad (length s - to)
 
-pub record PathMet (s list : Bytes) (left : ℕ) (xs : List ℕ) (x : Reading) (ys : List ℕ) (y : Reading)
+pub record PathMet (s list : Bytes) (left : ℕ) (xs : List ℕ) (x : Standing) (ys : List ℕ) (y : Standing)
     : Type 0 where
   pub reached : Reached s x.at ys y
   pub read : y.ok ≡ true → PathRead s list left xs x ys y
   pub failed : y.ok ≡ false → PathFails s left x.at y.at
 
 -- a union, and whitespace after it
-pub record UnionRead (s list : Bytes) (left : ℕ) (xs : List ℕ) (x : Reading) (ys : List ℕ) (y : Reading)
+pub record UnionRead (s list : Bytes) (left : ℕ) (xs : List ℕ) (x : Standing) (ys : List ℕ) (y : Standing)
     : Type 0 where
   pub tree : Union
   pub spaces : Bytes
@@ -143,14 +143,14 @@ abbrev pub UnionFails : Bytes → (left at to : ℕ) → Type 0
 UnionFails s left at to = (c : Ctx) → room c ≡ left → NoOperand s at c first
     → run (drop at s) (need c first begin []) ≡ bad (length s - to)
 
-pub record UnionMet (s list : Bytes) (left : ℕ) (xs : List ℕ) (x : Reading) (ys : List ℕ) (y : Reading)
+pub record UnionMet (s list : Bytes) (left : ℕ) (xs : List ℕ) (x : Standing) (ys : List ℕ) (y : Standing)
     : Type 0 where
   pub reached : Reached s x.at ys y
   pub read : y.ok ≡ true → UnionRead s list left xs x ys y
   pub failed : y.ok ≡ false → UnionFails s left x.at y.at
 
 -- an operand of `and` or `or`, and whitespace after it
-pub record UnaryRead (s list : Bytes) (left : ℕ) (xs : List ℕ) (x : Reading) (ys : List ℕ) (y : Reading)
+pub record UnaryRead (s list : Bytes) (left : ℕ) (xs : List ℕ) (x : Standing) (ys : List ℕ) (y : Standing)
     : Type 0 where
   pub tree : Unary
   pub spaces : Bytes
@@ -164,14 +164,14 @@ abbrev pub UnaryFails : Bytes → (left at to : ℕ) → Type 0
 UnaryFails s left at to = (o : Open) (p : Pend) → room_of o ≡ left
     → run (drop at s) (need (inside o p) first begin []) ≡ bad (length s - to)
 
-pub record UnaryMet (s list : Bytes) (left : ℕ) (xs : List ℕ) (x : Reading) (ys : List ℕ) (y : Reading)
+pub record UnaryMet (s list : Bytes) (left : ℕ) (xs : List ℕ) (x : Standing) (ys : List ℕ) (y : Standing)
     : Type 0 where
   pub reached : Reached s x.at ys y
   pub read : y.ok ≡ true → UnaryRead s list left xs x ys y
   pub failed : y.ok ≡ false → UnaryFails s left x.at y.at
 
 -- operands joined by `and`: the last one, and what stands before it
-pub record AndRead (s list : Bytes) (left : ℕ) (xs : List ℕ) (x : Reading) (ys : List ℕ) (y : Reading)
+pub record AndRead (s list : Bytes) (left : ℕ) (xs : List ℕ) (x : Standing) (ys : List ℕ) (y : Standing)
     : Type 0 where
   pub tree : And
   pub pend : Left → Pend
@@ -188,7 +188,7 @@ abbrev pub AndFails : Bytes → (left at to : ℕ) → Type 0
 AndFails s left at to = (o : Open) (l : Left) → room_of o ≡ left
     → run (drop at s) (need (inside o (plain l)) first begin []) ≡ bad (length s - to)
 
-pub record AndMet (s list : Bytes) (left : ℕ) (xs : List ℕ) (x : Reading) (ys : List ℕ) (y : Reading)
+pub record AndMet (s list : Bytes) (left : ℕ) (xs : List ℕ) (x : Standing) (ys : List ℕ) (y : Standing)
     : Type 0 where
   pub reached : Reached s x.at ys y
   pub read : y.ok ≡ true → AndRead s list left xs x ys y
@@ -196,7 +196,7 @@ pub record AndMet (s list : Bytes) (left : ℕ) (xs : List ℕ) (x : Reading) (y
   pub failed : y.ok ≡ false → AndFails s left x.at y.at
 
 -- a whole expression, up to the byte that closes it
-pub record OrRead (s list : Bytes) (left : ℕ) (xs : List ℕ) (x : Reading) (ys : List ℕ) (y : Reading)
+pub record OrRead (s list : Bytes) (left : ℕ) (xs : List ℕ) (x : Standing) (ys : List ℕ) (y : Standing)
     : Type 0 where
   pub tree : Or
   pub spaces : Bytes
@@ -208,14 +208,25 @@ pub record OrRead (s list : Bytes) (left : ℕ) (xs : List ℕ) (x : Reading) (y
 abbrev pub OrFails : Bytes → (left at to : ℕ) → Type 0
 OrFails s left at to = (o : Open) → room_of o ≡ left → run (drop at s) (enter o) ≡ bad (length s - to)
 
-pub record OrMet (s list : Bytes) (left : ℕ) (xs : List ℕ) (x : Reading) (ys : List ℕ) (y : Reading)
+pub record OrMet (s list : Bytes) (left : ℕ) (xs : List ℕ) (x : Standing) (ys : List ℕ) (y : Standing)
     : Type 0 where
   pub reached : Reached s x.at ys y
   pub read : y.ok ≡ true → OrRead s list left xs x ys y
   pub failed : y.ok ≡ false → OrFails s left x.at y.at
 
+-- an answer, and how many rows are held
+pub record TextEnd : Type 0 where
+  pub number : ℕ
+  pub value : ℕ
+  pub count : ℕ
+
 abbrev pub refusal_of : (number value count : ℕ) → TextEnd
 refusal_of n v k = record { number = n; value = v; count = k }
+
+-- that of the reading of a whole text
+abbrev pub end_of : ℕ → Result Reading TextRefusal → TextEnd
+end_of count (Ok r) = record { number = 0; value = r.row; count = r.count }
+end_of count (Err e) = refusal_of (refusal_number e) (refusal_value e) count
 
 -- the whole text on a table: the answer, and where it is accepted the rows, and what stands past them as it was
 pub record TextMet (s list : Bytes) (xs : List ℕ) (count : ℕ) (ys : List ℕ) (a : TextEnd) : Type 0 where

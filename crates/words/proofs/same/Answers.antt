@@ -1,10 +1,9 @@
 -- `same` meets its contract. Assumes nothing.
-use mathlib.Core.Path.{◌∙◌}
-use Rattle.words.proofs.Named.{same_apart, same_starts}
+use borrow.Author.Tests.{tests}
+use Rattle.std.proofs.Common.{rules}
+use Rattle.words.proofs.Named.{same_is}
 use Rattle.words.proofs.same.Goals as goal
 
-pub returns-then-word-other : goal.returns-then-word-other
-returns-then-word-other c = same_apart _ _ c.if-word-other.true
-
 pub returns : goal.returns
-returns c = c.starts_with.ensures ∙ same_starts _ _ c.if-word-other.false
+returns c =
+    same_is c.args.word.now c.args.other.now c.eq.result (λ e. search (rules, tests)) (λ e. search (rules, tests))

@@ -1,10 +1,8 @@
 -- What the functions on the index of the lent list promise. Assumes nothing.
-use Rattle.std.specs.Prelude.{ℕ, ◌+◌, ◌*◌, ◌%◌, ◌<◌, ◌≤◌, ◌≡◌, Bool, true, false, cond, List, [], ◌∷◌, eqb}
-use Rattle.std.specs.Prelude.{leb, length, get_or, drop}
+use Rattle.std.specs.Prelude.{ℕ, ◌+◌, ◌*◌, ◌/◌, ◌%◌, ◌<◌, ◌≤◌, ◌≡◌, Bool, true, not, cond, List, [], ◌∷◌, eqb}
+use Rattle.std.specs.Prelude.{length, get_or, drop}
 use Rattle.lines.specs.Line.{newline, lines}
-use Rattle.lines.specs.Number.{max_number}
 use Rattle.grammar.specs.Bytes.{Bytes}
-use Rattle.grammar.specs.Words.{number_of}
 use Rattle.words.specs.code.Names.{LinesPassed}
 
 -- the longest list that is indexed: a place in it is a number of 32 bits
@@ -32,6 +30,9 @@ unfoldable pub ended : Bytes → Bool
 ended [] = true
 ended (b ∷ t) = eqb b newline
 
+abbrev pub not_newline : ℕ → Bool
+not_newline b = not (eqb b newline)
+
 -- a line is passed
 pub record LineMet (list : Bytes) (at next signature : ℕ) : Type 0 where
   pub on : at < next
@@ -52,11 +53,9 @@ pub record IndexOf (list : Bytes) (xs : List ℕ) (n : ℕ) : Type 0 where
       → get_or xs (2 * k + 1) 0 ≡ signature_of 0 (line_of (drop (get_or xs (2 * k) 0) list))
 
 pub record Indexed (list : Bytes) (xs : List ℕ) : Type 0 where
-  pub count : ℕ
-  pub size : length xs ≡ 2 * count + 1
-  pub index : IndexOf list xs count
+  pub size : length xs ≡ 2 * (length xs / 2) + 1
+  pub index : IndexOf list xs (length xs / 2)
 
--- the index was searched: line k is the name, if it was found; else it is the first one that is not indexed
-pub record IndexSearched (list : Bytes) (xs : List ℕ) (name : Bytes) (k : ℕ) (found : Bool) : Type 0 where
-  pub hit : found ≡ true → number_of list name ≡ cond (leb (k + 1) max_number) (k + 1) 0
-  pub none : found ≡ false → (length xs ≡ 2 * k + 1) × LinesPassed list name (get_or xs (2 * k) 0) k
+-- no indexed line is the name
+abbrev pub IndexMissed : (list : Bytes) (xs : List ℕ) (name : Bytes) → Type 0
+IndexMissed list xs name = LinesPassed list name (get_or xs (2 * (length xs / 2)) 0) (length xs / 2)

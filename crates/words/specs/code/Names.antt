@@ -1,15 +1,27 @@
 -- What the functions on words and on the lent list of names promise. Assumes nothing.
-use Rattle.std.specs.Prelude.{ℕ, suc, ◌+◌, ◌≤◌, ◌≡◌, Bool, true, false, cond, List, [], ◌∷◌, leb, length, drop}
+use Rattle.std.specs.Prelude.{ℕ, zero, suc, ◌+◌, ◌≤◌, ◌≡◌, Bool, true, false, cond, List, [], ◌∷◌, leb, length, drop}
+use Rattle.std.specs.Borrow.{Bor}
+use Rattle.std.specs.Prelude.{Option as Maybe, Some, None}
 use Rattle.std.proofs.Math.Option.{Option, none, some}
 use Rattle.lines.specs.Line.{Line, lines, same_bytes}
 use Rattle.lines.specs.Number.{max_number}
 use Rattle.grammar.specs.Bytes.{Bytes}
 use Rattle.grammar.specs.Words.{find, next, bytes_of, number_of}
 
--- the place of a word in a list, counted from i; `other` if it is not there
-unfoldable pub pick_from : (other i : ℕ) → List Bytes → Bytes → ℕ
-pick_from other i [] n = other
-pick_from other i (m ∷ ms) n = cond (same_bytes n m) i (pick_from other (suc i) ms n)
+-- the place of a word in a list, counted from i, where it is there
+unfoldable pub pick_from : ℕ → List Bytes → Bytes → Maybe ℕ
+pick_from i [] n = None
+pick_from i (m ∷ ms) n = cond (same_bytes n m) (Some i) (pick_from (suc i) ms n)
+
+-- what a table of words with numbers has for a word
+unfoldable pub found : Bytes → List (Bor Bytes × ℕ) → Maybe ℕ
+found n [] = None
+found n (e ∷ es) = cond (same_bytes n e.0.now) (Some e.1) (found n es)
+
+-- the number of a name, where it has one: 0 is none
+abbrev pub given : ℕ → Maybe ℕ
+given zero = None
+given (suc n) = Some (suc n)
 
 -- the first line is the word
 unfoldable pub first_line_is : Bytes → List Line → Bool
@@ -42,9 +54,4 @@ pub record Searched (list name : Bytes) (from to ends : ℕ) (found : Bool) : Ty
   pub on : found ≡ false → (n : ℕ) → Sought list name from n → Sought list name to (n + ends)
   pub hit : found ≡ true → (n : ℕ) → Sought list name from n → number_of list name
       ≡ cond (leb (n + ends + 1) max_number) (n + ends + 1) 0
-  pub few : from + ends ≤ to
-
--- a look, which may find that none of the lines is the name
-pub record LookMet (list name : Bytes) (from to ends : ℕ) (may : Bool) : Type 0 where
-  pub none : may ≡ false → Searched list name from to ends false
   pub few : from + ends ≤ to

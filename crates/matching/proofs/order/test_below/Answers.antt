@@ -1,16 +1,13 @@
--- The test is that of the definition. Assumes nothing.
-use mathlib.Core.Path.{◌∙◌}
+-- Each test is that of the definition. Assumes nothing.
+use native.Mathlib.Omega.{arith}
+use Rattle.std.proofs.lemmas.Grind.{common_steps}
 use Rattle.rules.specs.Order.{test_below}
 use Rattle.matching.proofs.order.test_below.Goals as goal
 
-pub returns : goal.returns
+pub returns-then-targeted : goal.returns-then-targeted
 unfolding test_below
-returns c =
-    c.or-3.ensures
-    ∙ rw (
-      c.or-2.ensures,
-      c.or.ensures,
-      c.and-targeted.ensures,
-      c.and-named.ensures,
-      c.and-same.ensures,
-    )
+returns-then-targeted c = grind (arith, common_steps)
+
+pub returns-else-targeted : goal.returns-else-targeted
+unfolding test_below
+returns-else-targeted c = grind (arith, common_steps)

@@ -1,12 +1,13 @@
 -- The row of y's first operand is .[f]. Assumes nothing.
-use Rattle.terms.specs.Row.{table_of}
-use Rattle.terms.specs.code.RowTypes.{row_of}
-use Rattle.matching.proofs.RowWayBack.{filter_back_way}
+use native.Mathlib.Omega.{arith}
+use Rattle.std.proofs.lemmas.Grind.{common_steps}
+use Rattle.matching.specs.code.RowWayBack.{is_filter_back}
 use Rattle.matching.proofs.way_back.is_filter_back.Goals as goal
 
-pub returns : goal.returns
-returns c =
-    let a = c.args in
-    filter_back_way (table_of a.rows.now) (row_of a.x) (row_of a.y) c.wide.ensures
-    c.row_at-z.ensures
-    c.and-filter.ensures c.is_step-self_node.ensures c.and.ensures c.and-2.ensures
+pub returns-then-z-x : goal.returns-then-z-x
+unfolding is_filter_back
+returns-then-z-x c = grind (arith, common_steps)
+
+pub returns-else-z-x : goal.returns-else-z-x
+unfolding is_filter_back
+returns-else-z-x c = grind (arith, common_steps)

@@ -1,10 +1,14 @@
 -- The fields of the row are those of the step. Assumes nothing.
-use Rattle.terms.specs.Row.{table_of}
-use Rattle.matching.proofs.RowWayBack.{step_way}
+use native.Mathlib.Omega.{arith}
+use Rattle.std.proofs.lemmas.Grind.{common_steps}
+use Rattle.terms.specs.Row.{same_row}
+use Rattle.matching.specs.code.RowWayBack.{is_step}
 use Rattle.matching.proofs.way_back.is_step.Goals as goal
 
-pub returns : goal.returns
-returns c =
-    let a = c.args in
-    step_way (table_of a.rows.now) a.i _ a.a a.t a.c c.wide.ensures c.row_at-x.ensures
-    c.and.ensures c.and-2.ensures c.and-3.ensures
+pub returns-then-x-t : goal.returns-then-x-t
+unfolding is_step same_row
+returns-then-x-t c = grind (arith, common_steps)
+
+pub returns-else-x-t : goal.returns-else-x-t
+unfolding is_step same_row
+returns-else-x-t c = grind (arith, common_steps)

@@ -11,8 +11,8 @@ use Rattle.records.proofs.Judged.{record_accepted}
 use borrow.Author.Rules.{rules}
 use Rattle.records.proofs.Records.record.Goals as goal
 
-pub put-records-requires : goal.put-records-requires
-put-records-requires c =
+pub put-requires : goal.put-requires
+put-requires c =
     let s = c.args.self in
     let size : length s.held ≡ max_records = search (rules, length_mapped) in
     let count = length-take-le (size_of s) s.held (omega arith) in
@@ -26,12 +26,11 @@ returns-then-number-eq0 c =
     let told = c.judge-answer.ensures in
     record {
       answer = told;
-      left = c.put-records.ensures ∙ if_accepted _ _ told (with_record s _) s (sym c.number.ensures
-          ∙ c.if-number-eq0.true);
+      left = c.put.ensures ∙ if_accepted _ _ told (with_record s _) s (sym c.number.ensures ∙ c.if-number-eq0.true);
     }
 
-pub returns : goal.returns
-returns c =
+pub returns-else-number-eq0 : goal.returns-else-number-eq0
+returns-else-number-eq0 c =
     let s = c.args.self in
     let told = c.judge-answer.ensures in
     record {

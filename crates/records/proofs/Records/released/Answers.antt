@@ -1,54 +1,67 @@
--- `Records::released` meets its contract. The loop's invariant: what is released before place i is shown.
+-- `Records::released` meets its contract. The loop's invariant: what is released before this place is shown.
 -- Assumes nothing.
-use Prim.Native.Nat.{◌+◌}
-use mathlib.Core.Path.{◌≡◌, sym, ap, subst, ◌∙◌}
+use mathlib.Core.Path.{◌≡◌, sym, ap, ◌∙◌}
 use native.Mathlib.Omega.{arith}
-use lib.ListN.{length, take}
-use Rattle.records.specs.Records.{max_records}
-use Rattle.records.specs.Releases.{released}
-use Rattle.records.specs.code.Listed.{listed}
-use Rattle.records.proofs.Searches.{length_mapped}
-use Rattle.records.proofs.Released.{Shown, none_shown, has_room, shown_more, shown_same, all_shown}
+use lib.ListN.{length, length-take}
 use borrow.Author.Rules.{rules}
+use Rattle.std.proofs.lemmas.List.{length_push}
+use Rattle.std.proofs.lemmas.Slice.Zip.{zip_turn, zip_end}
+use Rattle.records.specs.Records.{empty_record, max_records}
+use Rattle.records.specs.code.Held.{size_of, records_in, with_record}
+use Rattle.records.proofs.Searches.{length_mapped}
+use Rattle.records.proofs.Released.{none_shown, has_room, shown_more, shown_same, all_shown}
 use Rattle.records.proofs.Records.released.Goals as goal
-use Rattle.records.proofs.Records.released.Goals.{then-flag-eq1, else-flag-eq1}
 
-pub loop-i-init : goal.loop-i-init
-loop-i-init c =
+pub loop-record-init : goal.loop-record-init
+loop-record-init c = none_shown _ _ _ c.new-shown.ensures
+
+pub put-requires : goal.put-requires
+put-requires c =
     let a = c.args in
-    let size : length a.self.held ≡ max_records = search (rules, length_mapped) in
+    let rs = records_in a.self in
     let flags : length a.releases.flags ≡ max_records = search (rules, length_mapped) in
-    let count = c.size-n.ensures in
-    (omega arith, omega arith, size, flags, none_shown _ _ _ _ c.new-shown.ensures)
+    let few = length-take (size_of a.self) a.self.held in
+    let t =
+    zip_turn rs a.releases.flags c.loop-record.yielded c.into_iter-record-iterator.result
+    c.loop-record.record-iterator c.next.new.self c.next.result (cc) (cc) c.loop-record.yielded_by
+    (c.in-Some.record, c.in-Some.flag) c.in-Some.is c.next.ensures.steps in
+    has_room _ _ _ _ (omega (arith, t.0, few)) c.loop-record.invariant
 
-pub put-next-requires : goal.put-next-requires
-put-next-requires c =
-    let l = c.loop-i in
-    has_room _ _ _ _ _ (omega arith) l.invariant.1 l.invariant.4
+pub loop-record-preserved-then-flag-eq1 : goal.loop-record-preserved-then-flag-eq1
+loop-record-preserved-then-flag-eq1 c =
+    let a = c.args in
+    let rs = records_in a.self in
+    let flags : length a.releases.flags ≡ max_records = search (rules, length_mapped) in
+    let few = length-take (size_of a.self) a.self.held in
+    let t =
+    zip_turn rs a.releases.flags c.loop-record.yielded c.into_iter-record-iterator.result
+    c.loop-record.record-iterator c.next.new.self c.next.result (cc) (cc) c.loop-record.yielded_by
+    (c.in-Some.record, c.in-Some.flag) c.in-Some.is c.next.ensures.steps in
+    rw (length_push c.loop-record.yielded (c.in-Some.record, c.in-Some.flag))
+    (shown_more _ _ _ _ t.0 t.1 c.loop-record.invariant (sym (t.3 0) ∙ c.if-flag-eq1.true) (omega (arith, t.0, few)) _
+    (c.put.ensures ∙ ap (with_record c.loop-record.shown) (t.2 empty_record)))
 
-pub loop-i-preserved : goal.loop-i-preserved
-loop-i-preserved c =
-    let l = c.loop-i in
-    let a = c.args in (
-      omega arith,
-      l.invariant.1,
-      l.invariant.2,
-      l.invariant.3,
-      elim c.if-flag-eq1.branch [
-        | then-flag-eq1 w ↦
-            shown_more _ _ _ (omega arith) (omega arith) _ _ (omega arith) l.invariant.1 l.invariant.4
-            w.if-flag-eq1.true _ (w.shown-is ∙ w.put-next.ensures)
-        | else-flag-eq1 w ↦
-            subst (λ s. Shown a.self.held c.size-n.result a.releases.flags s (l.i + 1))
-            (sym w.shown-is)
-            (shown_same _ _ _ (omega arith) (omega arith) _ _ (omega arith) l.invariant.1 l.invariant.4
-            w.if-flag-eq1.false)
-      ],
-    )
+pub loop-record-preserved : goal.loop-record-preserved
+loop-record-preserved c =
+    let a = c.args in
+    let rs = records_in a.self in
+    let flags : length a.releases.flags ≡ max_records = search (rules, length_mapped) in
+    let few = length-take (size_of a.self) a.self.held in
+    let t =
+    zip_turn rs a.releases.flags c.loop-record.yielded c.into_iter-record-iterator.result
+    c.loop-record.record-iterator c.next.new.self c.next.result (cc) (cc) c.loop-record.yielded_by
+    (c.in-Some.record, c.in-Some.flag) c.in-Some.is c.next.ensures.steps in
+    rw (length_push c.loop-record.yielded (c.in-Some.record, c.in-Some.flag))
+    (shown_same _ _ _ _ t.0 t.1 c.loop-record.invariant (λ e. c.if-flag-eq1.false (t.3 0 ∙ e)))
 
 pub returns : goal.returns
 returns c =
-    let l = c.loop-i in
     let a = c.args in
-    all_shown _ _ _ (omega arith) (omega arith) _ _ (omega arith) l.invariant.4
-    ∙ ap (λ k. listed (released (take k a.self.held) a.releases.flags)) c.size-n.ensures
+    let rs = records_in a.self in
+    let flags : length a.releases.flags ≡ max_records = search (rules, length_mapped) in
+    let few = length-take (size_of a.self) a.self.held in
+    let t =
+    zip_end rs a.releases.flags c.loop-record.yielded c.into_iter-record-iterator.result
+    c.loop-record.record-iterator c.next.new.self c.next.result (cc) (cc) c.loop-record.yielded_by c.in-None.is
+    c.next.ensures.steps in
+    all_shown _ _ _ _ (omega (arith, t, few)) c.loop-record.invariant

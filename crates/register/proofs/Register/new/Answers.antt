@@ -2,4 +2,4 @@
 use Rattle.register.proofs.Register.new.Goals as goal
 
 pub returns : goal.returns
-returns c = rw (c.new-session.ensures, c.new-records.ensures, c.new-releases.ensures)
+returns c = rw (c.new.ensures, c.new-2.ensures, c.new-3.ensures)

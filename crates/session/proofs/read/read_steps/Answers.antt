@@ -4,7 +4,6 @@ use Prim.Native.Nat.{◌*◌}
 use mathlib.Core.Path.{refl, sym, ap, ◌∙◌}
 use native.Mathlib.Omega.{arith}
 use lib.Seq.{sets}
-use borrow.Author.Tests.{not-true, not-false}
 use Rattle.calls.specs.Book.{step_numbers}
 use Rattle.calls.specs.code.Tables.{step_width}
 use Rattle.session.specs.Reading.{refused_at}
@@ -15,15 +14,12 @@ use Rattle.session.proofs.read.read_steps.Goals as goal
 pub loop-at-init : goal.loop-at-init
 loop-at-init c = (omega arith, omega arith, omega arith, omega arith, refl, c.no_notes-noted.ensures _, search rules)
 
-pub shape_of-steps-then-not-text : goal.shape_of-steps-then-not-text
-shape_of-steps-then-not-text c = omega arith
-
-pub returns-then-not-text : goal.returns-then-not-text
-returns-then-not-text c =
+pub returns-in_default : goal.returns-in_default
+returns-in_default c =
     let l = c.loop-at in
     let a = c.args in
     let wrong = step_wrong_there a.bytes.now a.rows.now a.n l.steps l.m l.line l.at
-    _ c.numbers_line-text.ensures c.loop-at-test.true (not-true _ c.if-not-text.true) in
+    c.loop-at-test.true c.in_default.ensures in
     record {
       reading = sym (l.invariant.4 ∙ wrong);
       bounds = omega arith;
@@ -32,18 +28,14 @@ returns-then-not-text c =
 pub judge_noted-requires : goal.judge_noted-requires
 judge_noted-requires c = (c.rule_table-table.ensures, c.loop-at.invariant.5)
 
-pub shape_of-steps-then-number-ne0 : goal.shape_of-steps-then-number-ne0
-shape_of-steps-then-number-ne0 c = omega arith
-
 pub returns-then-number-ne0 : goal.returns-then-number-ne0
 returns-then-number-ne0 c =
     let judged = c.judge_noted in
     let l = c.loop-at in
     let a = c.args in
-    let right = not-false _ c.if-not-text.false in
     let answered = rw c.step_of_numbers-step.ensures at judged.ensures.0 in
     let refused = step_refused_there a.bytes.now a.rows.now a.n l.steps l.m l.line l.at
-    _ c.numbers_line-text.ensures right l.invariant.0 judged.result answered
+    _ c.in-Some.ensures l.invariant.0 judged.result answered
     (λ e. c.if-number-ne0.true (c.number-number.ensures ∙ e)) in
     record {
       reading = ap (λ k. refused_at k l.line) c.number-number.ensures ∙ sym (l.invariant.4 ∙ refused);
@@ -56,24 +48,20 @@ put_step-requires c =
     let l = c.loop-at in
     let a = c.args in
     let held = sym c.number-number.ensures ∙ c.if-number-ne0.false in
-    let right = not-false _ c.if-not-text.false in
     let answered = rw c.step_of_numbers-step.ensures at judged.ensures.0 in
     let room = step_room a.bytes.now a.rows.now a.n l.steps l.m l.line l.at
-    _ c.numbers_line-text.ensures right l.invariant.0 judged.result answered
+    _ c.in-Some.ensures l.invariant.0 judged.result answered
     held l.invariant.1 in
     (room, l.invariant.1)
 
-pub overflow_add-m : goal.overflow_add-m
-overflow_add-m c = omega arith
-
 pub overflow_add-line : goal.overflow_add-line
 overflow_add-line c =
-    let bounds = c.numbers_line-text.ensures.right (not-false _ c.if-not-text.false) in
-    omega (arith, bounds, c.loop-at.invariant.2, c.struct_known-1.given)
+    let bounds = c.in-Some.ensures.right in
+    omega (arith, bounds, c.loop-at.invariant.2)
 
 pub loop-at-smaller : goal.loop-at-smaller
 loop-at-smaller c =
-    let bounds = c.numbers_line-text.ensures.right (not-false _ c.if-not-text.false) in
+    let bounds = c.in-Some.ensures.right in
     omega arith
 
 pub loop-at-preserved : goal.loop-at-preserved
@@ -82,20 +70,16 @@ loop-at-preserved c =
     let l = c.loop-at in
     let a = c.args in
     let held = sym c.number-number.ensures ∙ c.if-number-ne0.false in
-    let right = not-false _ c.if-not-text.false in
     let answered = rw c.step_of_numbers-step.ensures at judged.ensures.0 in
-    let bounds = c.numbers_line-text.ensures.right right in
+    let bounds = c.in-Some.ensures.right in
     let room = step_room a.bytes.now a.rows.now a.n l.steps l.m l.line l.at
-    _ c.numbers_line-text.ensures right l.invariant.0 judged.result answered
+    _ c.in-Some.ensures l.invariant.0 judged.result answered
     held l.invariant.1 in
     let written = ap (λ q. sets l.steps (step_width * l.m) (step_numbers q)) c.step_of_numbers-step.ensures in
     let later = step_held_there a.bytes.now a.rows.now a.n l.steps l.m l.line l.at
-    _ c.numbers_line-text.ensures right l.invariant.0 judged.result answered
+    _ c.in-Some.ensures l.invariant.0 judged.result answered
     held _ (c.put_step.ensures ∙ written) in
     (omega arith, omega arith, omega arith, omega arith, l.invariant.4 ∙ later, judged.ensures.1, search rules)
-
-pub shape_of-steps : goal.shape_of-steps
-shape_of-steps c = omega arith
 
 pub returns : goal.returns
 returns c =

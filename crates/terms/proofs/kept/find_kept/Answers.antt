@@ -6,10 +6,10 @@ use Rattle.terms.specs.code.RowTypes.{row_of}
 use Rattle.terms.proofs.RowsKept.{slot_below}
 use Rattle.terms.proofs.kept.find_kept.Goals as goal
 
-pub bounds-filter-slot : goal.bounds-filter-slot
-bounds-filter-slot c = omega (arith, slot_below (row_of c.args.row), c.requires.size)
+pub bounds-filter-slot_of : goal.bounds-filter-slot_of
+bounds-filter-slot_of c = omega (arith, slot_below (row_of c.args.row), c.requires.size)
 
-pub returns-then-mark-eq0 : goal.returns-then-mark-eq0
-returns-then-mark-eq0 c =
-    let slot = ap (λ i. get_or c.args.filter.now i 0) (sym c.slot_of-slot.ensures) in
-    c.row_count.ensures ∙ sym (c.requires.clear (row_of c.args.row) (slot ∙ c.if-mark-eq0.true))
+pub returns-then-filter-slot_of-eq0 : goal.returns-then-filter-slot_of-eq0
+returns-then-filter-slot_of-eq0 c =
+    let slot = ap (λ i. get_or c.args.filter.now i 0) (sym c.slot_of.ensures) in
+    c.requires.clear (row_of c.args.row) (slot ∙ c.if-filter-slot_of-eq0.true)

@@ -8,17 +8,17 @@ use Rattle.terms.proofs.kept.nesting_kept.Goals as goal
 
 pub slice_bounds-deeper_operand-end : goal.slice_bounds-deeper_operand-end
 slice_bounds-deeper_operand-end c =
-    sym (length-take-le c.row_count-n.result c.args.table.now (omega (arith, c.requires.1.size)))
+    sym (length-take-le c.row_count.result c.args.table.now (omega (arith, c.requires.1.size)))
 
 pub overflow_add-result : goal.overflow_add-result
 overflow_add-result c =
     let l =
-    deeper_le (table_of c.args.rows.now) _ _ _ _ (rw c.row_count-n.ensures c.requires.1.entries)
+    deeper_le (table_of c.args.rows.now) _ _ _ _ (rw c.row_count.ensures c.requires.1.entries)
     refl
     c.deeper_operand.ensures in
     omega (arith, l, c.requires.0)
 
 pub returns : goal.returns
 returns c =
-    nesting_from (table_of c.args.rows.now) _ _ _ _ (rw c.row_count-n.ensures c.requires.1.entries)
+    nesting_from (table_of c.args.rows.now) _ _ _ _ (rw c.row_count.ensures c.requires.1.entries)
     refl c.deeper_operand.ensures

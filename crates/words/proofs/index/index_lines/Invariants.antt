@@ -5,9 +5,9 @@ use lib.ListN.{length, get_or}
 use Rattle.words.specs.code.Index.{IndexOf}
 use Rattle.words.proofs.index.index_lines.Given as goal
 
-abbrev pub invariant-loop-line : goal.invariant-loop-line
-invariant-loop-line l = IndexOf l.names l.index l.count × (get_or l.index (2 * l.count) 0 ≡ l.at)
+abbrev pub invariant-loop-at : goal.invariant-loop-at
+invariant-loop-at l = IndexOf l.names l.index l.count × (get_or l.index (2 * l.count) 0 ≡ l.at)
     × (2 * l.count + 1 ≤ length l.index) × (length l.index ≡ length l.initial.index)
 
-abbrev pub decreases-loop-line : goal.decreases-loop-line
-decreases-loop-line l = length l.names - l.at
+abbrev pub decreases-loop-at : goal.decreases-loop-at
+decreases-loop-at l = length l.names - l.at

@@ -1,23 +1,11 @@
 -- `is_indexed_line` meets its contract. Assumes nothing.
-use native.Mathlib.Omega.{arith}
-use Rattle.words.proofs.Indexed.{place_fits, line_indexed, line_unlike}
+use mathlib.Core.Path.{◌∙◌}
+use Rattle.words.proofs.Indexed.{line_unlike}
+use Rattle.words.proofs.Listed.{differs}
 use Rattle.words.proofs.list.is_indexed_line.Goals as goal
 
-pub returns-then-signed-sought : goal.returns-then-signed-sought
-returns-then-signed-sought c =
-    line_unlike c.args.names.now c.args.index.now c.args.word.now c.requires.word_value.1
-    c.args.k c.requires.sought_value.1 c.requires.word_value.0 _ c.requires.sought_value.0 c.if-signed-sought.true
-
-pub overflow_cast-index : goal.overflow_cast-index
-overflow_cast-index c =
-    let names = c.args.names.now in
-    omega (
-      arith,
-      place_fits names c.args.index.now c.args.word.now c.requires.word_value.1 c.args.k
-          c.requires.sought_value.1,
-    )
-
-pub returns : goal.returns
-returns c =
-    line_indexed c.args.names.now c.args.index.now c.args.word.now c.requires.word_value.1
-    c.args.k c.requires.sought_value.1 _ c.is_name_line.ensures
+pub returns-else-names-k : goal.returns-else-names-k
+returns-else-names-k c =
+    differs _ _ c.if-names-k.false
+    ∙ line_unlike c.args.names.list.now c.args.names.index.now c.args.word.now c.args.names.indexed
+    c.args.k c.requires.sought_value.1 c.requires.word_value _ c.requires.sought_value.0 c.if-names-k.false

@@ -1,28 +1,23 @@
 -- `is_name_line` meets its contract. Assumes nothing.
 use mathlib.Core.Path.{sym, ◌∙◌}
-use mathlib.Core.Bool.{true}
 use native.Mathlib.Omega.{arith}
-use borrow.Author.Tests.{not-true, not-false}
-use Rattle.words.proofs.Named.{line_other, line_none, line_last, line_ends}
+use Rattle.words.proofs.Named.{line_other, line_ends, word_fits}
 use Rattle.words.proofs.list.is_name_line.Goals as goal
 
-pub returns-then-not-starts_with : goal.returns-then-not-starts_with
-returns-then-not-starts_with c =
-    line_other c.args.word.now
-    c.args.names.now c.args.at
-    c.requires (sym c.starts_with.ensures ∙ not-true _ c.if-not-starts_with.true-raw)
+pub overflow_add-at : goal.overflow_add-at
+overflow_add-at c =
+    omega (
+      arith,
+      word_fits c.args.word.now c.args.names.now c.args.at c.requires (sym c.starts_with.ensures
+          ∙ c.if-starts_with.true),
+    )
 
-pub returns-then-names-at : goal.returns-then-names-at
-returns-then-names-at c = line_none c.args.word.now c.args.names.now c.args.at c.requires c.if-names-at.true
+pub returns-then-starts_with : goal.returns-then-starts_with
+returns-then-starts_with c =
+    c.ends_at.ensures ∙ line_ends c.args.word.now c.args.names.now c.args.at c.requires
+    (sym c.starts_with.ensures ∙ c.if-starts_with.true)
 
-pub returns-then-names-at-2 : goal.returns-then-names-at-2
-returns-then-names-at-2 c =
-    line_last c.args.word.now c.args.names.now c.args.at c.requires
-    (sym c.starts_with.ensures ∙ not-false _ c.if-not-starts_with.false-raw)
-    (omega arith) c.if-names-at-2.true
-
-pub returns : goal.returns
-returns c =
-    line_ends c.args.word.now c.args.names.now c.args.at c.requires
-    (sym c.starts_with.ensures
-    ∙ not-false _ c.if-not-starts_with.false-raw) (omega arith) (omega arith)
+pub returns-else-starts_with : goal.returns-else-starts_with
+returns-else-starts_with c =
+    c.if-starts_with.false ∙ line_other c.args.word.now c.args.names.now c.args.at c.requires
+    (sym c.starts_with.ensures ∙ c.if-starts_with.false)

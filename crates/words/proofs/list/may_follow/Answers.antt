@@ -1,4 +1,5 @@
 -- `may_follow` meets its contract. Assumes nothing.
+use mathlib.Core.Path.{refl}
 use native.Mathlib.Omega.{arith}
 use Rattle.words.proofs.Listed.{word_there, follows}
 use Rattle.words.proofs.list.may_follow.Goals as goal
@@ -6,14 +7,11 @@ use Rattle.words.proofs.list.may_follow.Goals as goal
 pub bounds-word-0 : goal.bounds-word-0
 bounds-word-0 c = omega (arith, word_there c.args.word.now c.requires.0)
 
-pub overflow_sub-size : goal.overflow_sub-size
-overflow_sub-size c = omega (arith, word_there c.args.word.now c.requires.0)
+pub overflow_sub-edged : goal.overflow_sub-edged
+overflow_sub-edged c = omega (arith, word_there c.args.word.now c.requires.0)
 
 pub bounds-word-size : goal.bounds-word-size
 bounds-word-size c = omega (arith, word_there c.args.word.now c.requires.0)
 
 pub returns : goal.returns
-returns c =
-    let lined = c.and-lined.ensures in
-    follows c.args.names.now c.args.word.now c.args.i c.requires.0 c.requires.1
-    _ _ _ lined c.and-edged.ensures c.and.ensures
+returns c = follows c.args.names.now c.args.word.now c.args.i c.requires.0 c.requires.1 _ _ _ refl refl refl

@@ -1,11 +1,7 @@
 -- `walk` meets its contract. Assumes nothing.
 use mathlib.Core.Bool.{false}
-use Prim.Native.Nat.{◌-◌, ◌≤◌}
 use Rattle.words.specs.code.Names.{Searched}
 use Rattle.words.proofs.list.walk.Given as goal
 
 abbrev pub invariant-loop-i : goal.invariant-loop-i
-invariant-loop-i l = Searched l.names l.word l.from l.i l.ends false × (l.i ≤ l.to)
-
-abbrev pub decreases-loop-i : goal.decreases-loop-i
-decreases-loop-i l = l.to - l.i
+invariant-loop-i l = Searched l.names l.word l.from l.i l.ends false

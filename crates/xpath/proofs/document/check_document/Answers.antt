@@ -1,32 +1,34 @@
 -- `check_document` meets its contract, test by test in the order of the definition. Assumes nothing.
-use native.Mathlib.Omega.{arith}
+use Rattle.std.proofs.Common.{◌≡◌, ◌∙◌, arith}
 use Rattle.xpath.specs.Document.{lent_rows}
-use Rattle.xpath.proofs.LentNumbers.{nodes_lent}
-use Rattle.xpath.proofs.Rows.{no_rows, too_many, row_refused, all_accepted}
+use Rattle.xpath.proofs.LentNumbers.{nodes_lent, rows_counted}
+use Rattle.xpath.proofs.Ends.{filled_with}
+use Rattle.xpath.proofs.Rows.{no_rows, too_many, bad_below, row_refused, all_accepted}
 use Rattle.xpath.proofs.document.check_document.Goals as goal
 
 pub returns-then-n-eq0 : goal.returns-then-n-eq0
-unfolding lent_rows
-returns-then-n-eq0 c = no_rows _ _ c.if-n-eq0.true
+returns-then-n-eq0 c =
+    let n : c.div_ceil-n.result ≡ lent_rows c.args.d.now = c.div_ceil-n.ensures ∙ rows_counted _ in
+    no_rows _ (omega arith)
 
 pub returns-then-n-gt-MAX_NODES : goal.returns-then-n-gt-MAX_NODES
-unfolding lent_rows
-returns-then-n-gt-MAX_NODES c = too_many _ c.if-n-eq0.false _ c.if-n-gt-MAX_NODES.true
+returns-then-n-gt-MAX_NODES c =
+    let n : c.div_ceil-n.result ≡ lent_rows c.args.d.now = c.div_ceil-n.ensures ∙ rows_counted _ in
+    too_many _ (λ e. c.if-n-eq0.false (omega arith)) (omega arith)
 
-pub first_bad_row-bad-requires : goal.first_bad_row-bad-requires
-first_bad_row-bad-requires c = record {
-  d_len_bound = omega (arith, nodes_lent c.args.d.now);
-  max_nodes_in_bounds = omega (arith, nodes_lent c.args.d.now);
-}
+pub first_bad_row-requires-clause-d_len_bound : goal.first_bad_row-requires-clause-d_len_bound
+first_bad_row-requires-clause-d_len_bound c = omega (arith, nodes_lent c.args.d.now)
 
-pub returns-then-bad-n : goal.returns-then-bad-n
-unfolding lent_rows
-returns-then-bad-n c =
-    row_refused _ c.if-n-eq0.false c.if-n-gt-MAX_NODES.false _ _ _
-    c.first_bad_row-bad.ensures c.if-bad-n.true
+pub overflow_cast-result-in-Some : goal.overflow_cast-result-in-Some
+overflow_cast-result-in-Some c =
+    let n = bad_below _ _ _ _ c.in-Some.ensures in omega (arith, c.div_ceil-n.ensures ∙ rows_counted c.args.d.now)
 
-pub returns : goal.returns
-unfolding lent_rows
-returns c =
-    all_accepted _ c.if-n-eq0.false c.if-n-gt-MAX_NODES.false _ _ _
-    c.first_bad_row-bad.ensures c.if-bad-n.false c.filled-ends.ensures
+pub returns-in-Some : goal.returns-in-Some
+returns-in-Some c =
+    let n : c.div_ceil-n.result ≡ lent_rows c.args.d.now = c.div_ceil-n.ensures ∙ rows_counted _ in
+    row_refused _ (λ e. c.if-n-eq0.false (omega arith)) (omega arith) _ _ _ c.in-Some.ensures
+
+pub returns-in-None : goal.returns-in-None
+returns-in-None c =
+    let n : c.div_ceil-n.result ≡ lent_rows c.args.d.now = c.div_ceil-n.ensures ∙ rows_counted _ in
+    all_accepted _ (λ e. c.if-n-eq0.false (omega arith)) (omega arith) _ _ c.in-None.ensures (rw (← n) (filled_with _))

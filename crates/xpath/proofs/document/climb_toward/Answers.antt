@@ -2,6 +2,7 @@
 use mathlib.Core.Path.{refl}
 use mathlib.Core.Logic.{inl}
 use native.Mathlib.Omega.{arith}
+use borrow.Author.Tests.{lt-ltb, le-ltb}
 use Rattle.xpath.proofs.Climbing.{way_starts, way_on, way_over, way_stuck}
 use borrow.Author.Rules.{rules}
 use Rattle.xpath.proofs.document.climb_toward.Goals as goal
@@ -37,11 +38,10 @@ loop-at-preserved c =
     way_on _ _ _ _ _ _ _ _ c.loop-at.invariant _ _ c.parent_of-parent.ensures refl
     c.loop-at-test.true c.if-at-parent.false
 
-pub and-requires : goal.and-requires
-and-requires c = tt
+pub returns-then-x-y : goal.returns-then-x-y
+returns-then-x-y c =
+    way_over _ _ _ _ _ _ _ _ c.loop-at.invariant _ (inl c.loop-at-test.false) (rw (lt-ltb _ _ c.if-x-y.true))
 
-pub shape_of-ends : goal.shape_of-ends
-shape_of-ends c = c.loop-at.invariant.size
-
-pub returns : goal.returns
-returns c = way_over _ _ _ _ _ _ _ _ c.loop-at.invariant _ (inl c.loop-at-test.false) c.and.ensures
+pub returns-else-x-y : goal.returns-else-x-y
+returns-else-x-y c =
+    way_over _ _ _ _ _ _ _ _ c.loop-at.invariant _ (inl c.loop-at-test.false) (rw (le-ltb _ _ c.if-x-y.false))

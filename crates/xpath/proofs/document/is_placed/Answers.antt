@@ -1,12 +1,11 @@
 -- `is_placed` meets its contract. Assumes nothing.
-use native.Mathlib.Numerals.{add-one}
+use Rattle.std.proofs.Common.{add-one}
+use borrow.Author.Tests.{eq-eqb}
 use Rattle.xpath.proofs.Rows.{same_placed, climb_placed}
 use Rattle.xpath.proofs.document.is_placed.Goals as goal
 
 pub returns-then-parent-n : goal.returns-then-parent-n
-returns-then-parent-n c = same_placed _ _ _ _ c.if-parent-n.true
+returns-then-parent-n c = rw (eq-eqb _ _ c.if-parent-n.true) (same_placed _ _ _ _ c.if-parent-n.true)
 
-pub returns : goal.returns
-returns c =
-    let l = c.climb_toward-climb in
-    climb_placed _ _ _ _ _ _ _ (add-one _) c.if-parent-n.false l.ensures
+pub returns-else-parent-n : goal.returns-else-parent-n
+returns-else-parent-n c = climb_placed _ _ _ _ _ _ _ (add-one _) c.if-parent-n.false c.climb_toward.ensures

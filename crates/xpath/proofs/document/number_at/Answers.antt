@@ -5,5 +5,5 @@ use Rattle.xpath.proofs.document.number_at.Goals as goal
 pub returns-then-y-d : goal.returns-then-y-d
 returns-then-y-d c = rw (lt-ltb _ _ c.if-y-d.true) c.number_of.ensures
 
-pub returns : goal.returns
-returns c = rw (le-ltb _ _ c.if-y-d.false)
+pub returns-else-y-d : goal.returns-else-y-d
+returns-else-y-d c = rw (le-ltb _ _ c.if-y-d.false)

@@ -10,4 +10,4 @@ number_of-requires c =
     record { y_in_bounds = omega arith; j_lt_node_width = omega arith }
 
 pub returns : goal.returns
-returns c = c.number_of.ensures ∙ sym (parent_lent _ _ ∙ whole_lent _ _ _ c.requires)
+returns c = c.from.ensures ∙ c.number_of.ensures ∙ sym (parent_lent _ _ ∙ whole_lent _ _ _ c.requires)

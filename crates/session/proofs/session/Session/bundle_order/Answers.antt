@@ -8,9 +8,9 @@ pub returns : goal.returns
 unfolding view bundle_order_answer bundle_order term_steps
 returns c =
     rw (
-      ← c.first_rows-left.ensures,
-      ← c.first_steps-left_steps.ensures,
-      ← c.first_rows-right.ensures,
-      ← c.first_steps-right_steps.ensures,
+      ← c.held_rows-left.ensures,
+      ← c.held_steps-left_steps.ensures,
+      ← c.held_rows-right.ensures,
+      ← c.held_steps-right_steps.ensures,
     )
     c.bundle_order_on.ensures

@@ -17,10 +17,10 @@ returns c =
     let told = c.point_named-point.ensures in
     let rows = c.row_count-row_count.ensures
     ∙ ap (λ xs. length (table_of xs)) c.first_rows-rows.ensures
-    ∙ ap (λ k. length (first_rows k s.rows)) c.wide.ensures
+    ∙ ap (λ k. length (first_rows k s.rows)) c.from.ensures
     ∙ rows_there s a.name _ told in
     let steps = sym (steps_lent c.first_steps-steps.result.now)
     ∙ ap (λ xs. length (steps_of xs)) c.first_steps-steps.ensures
-    ∙ ap (λ k. length (first_steps k s.steps)) c.wide-2.ensures
+    ∙ ap (λ k. length (first_steps k s.steps)) c.from-2.ensures
     ∙ steps_there s a.name _ told in
     ap not (c.all_kept.ensures ∙ ap₂ (λ n m. all_kept n m (records_in a.records)) rows steps)

@@ -14,4 +14,4 @@ unfolding view
 returns c =
     let s = c.args.self in
     let size : length s.steps ≡ step_width * max_steps = search rules in
-    c.sides_of.ensures ∙ rw (c.first_steps-steps.ensures, steps_viewed s size, c.clamp-held.ensures)
+    c.sides_of.ensures ∙ rw (c.held_steps-steps.ensures, steps_viewed s size, c.steps_counted-held.ensures)

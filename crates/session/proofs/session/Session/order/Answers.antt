@@ -4,4 +4,4 @@ use Rattle.session.proofs.session.Session.order.Goals as goal
 
 pub returns : goal.returns
 unfolding view
-returns c = rw (← c.first_rows-left.ensures, ← c.first_rows-right.ensures) c.order_on.ensures
+returns c = rw (← c.held_rows-left.ensures, ← c.held_rows-right.ensures) c.order_on.ensures

@@ -15,7 +15,7 @@ put_point-requires c =
     let size : length s.points ≡ point_width * max_points = search rules in
     let held = sym c.number.ensures ∙ c.if-number-eq0.true in (
       point_room s _ c.judge_point-told.result c.judge_point-told.ensures held size _
-          c.clamp-k.ensures,
+          c.points_counted-k.ensures,
       size,
     )
 
@@ -23,8 +23,8 @@ pub returns-then-number-eq0 : goal.returns-then-number-eq0
 returns-then-number-eq0 c =
     let s = c.args.self in
     point_made_held s _ c.judge_point-told.result c.judge_point-told.ensures
-    (sym c.number.ensures ∙ c.if-number-eq0.true) _ _ _ c.clamp-n.ensures
-    c.clamp-m.ensures c.clamp-k.ensures _ c.put_point.ensures
+    (sym c.number.ensures ∙ c.if-number-eq0.true) _ _ _ c.rows_counted-n.ensures
+    c.steps_counted-m.ensures c.points_counted-k.ensures _ c.put_point.ensures
 
 pub returns-else-number-eq0 : goal.returns-else-number-eq0
 returns-else-number-eq0 c =

@@ -4,4 +4,4 @@ use Rattle.session.proofs.session.Session.record.Goals as goal
 
 pub returns : goal.returns
 unfolding view
-returns c = rw (← c.first_steps-steps.ensures, ← c.first_rows-rows.ensures) c.record.ensures
+returns c = rw (← c.held_steps-steps.ensures, ← c.held_rows-rows.ensures) c.record.ensures

@@ -25,8 +25,8 @@ returns-then-number-eq0 c =
     let s = c.args.self in
     return_made_held s _ c.judge_return-found.result c.judge_return-found.ensures
     (sym c.number.ensures ∙ c.if-number-eq0.true) _ c.point_place-place.ensures
-    _ c.point_named-point.ensures _ _ c.wide-n.ensures c.wide-m.ensures
-    _ _ _ c.clear_rows.ensures c.clear_steps.ensures c.clear_points.ensures
+    _ c.point_named-point.ensures _ _ c.from-n.ensures c.from-m.ensures
+    _ _ _ c.clear.ensures c.clear-then-number-eq0.ensures c.clear-then-number-eq0-2.ensures
 
 pub returns-else-number-eq0 : goal.returns-else-number-eq0
 returns-else-number-eq0 c =

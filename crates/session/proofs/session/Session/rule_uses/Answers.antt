@@ -5,4 +5,4 @@ use Rattle.session.proofs.session.Session.rule_uses.Goals as goal
 
 pub returns : goal.returns
 unfolding view
-returns c = c.rule_uses.ensures ∙ rw c.first_steps-steps.ensures
+returns c = c.rule_uses.ensures ∙ rw c.held_steps-steps.ensures

@@ -4,4 +4,4 @@ use Rattle.session.proofs.session.Session.select.Goals as goal
 
 pub returns : goal.returns
 unfolding view
-returns c = rw (← c.first_rows-rows.ensures) c.select_on.ensures
+returns c = rw (← c.held_rows.ensures) c.select_on.ensures

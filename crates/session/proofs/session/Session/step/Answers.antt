@@ -13,9 +13,6 @@ use Rattle.session.proofs.session.StepMade.{step_made_held, step_made_refused}
 use borrow.Author.Rules.{rules}
 use Rattle.session.proofs.session.Session.step.Goals as goal
 
-pub judge_step-judged-requires : goal.judge_step-judged-requires
-judge_step-judged-requires c = c.rule_table-table.ensures
-
 pub put_step-requires : goal.put_step-requires
 unfolding row_step_answer
 put_step-requires c =
@@ -24,12 +21,12 @@ put_step-requires c =
     let held = sym c.number.ensures ∙ c.if-number-eq0.true in
     let room = (step_accepted _ _ _ (sym (ap (λ t. t.number) c.judge_step-judged.ensures) ∙ held)).room in
     let all = steps_held_lem a.self.steps (min a.self.step_count max_steps) (omega arith) size in
-    (omega (arith, room, c.clamp-m.ensures, all), size)
+    (omega (arith, room, c.steps_counted-m.ensures, all), size)
 
 pub returns-then-number-eq0 : goal.returns-then-number-eq0
 returns-then-number-eq0 c =
     step_made_held c.args.self _ c.judge_step-judged.result c.judge_step-judged.ensures
-    (sym c.number.ensures ∙ c.if-number-eq0.true) _ c.clamp-m.ensures _ c.put_step.ensures
+    (sym c.number.ensures ∙ c.if-number-eq0.true) _ c.steps_counted-m.ensures _ c.put_step.ensures
 
 pub returns-else-number-eq0 : goal.returns-else-number-eq0
 returns-else-number-eq0 c =

@@ -12,4 +12,4 @@ pub returns : goal.returns
 returns c =
     let s = c.args.self in
     let size : length s.steps ≡ step_width * max_steps = search rules in
-    c.clamp.ensures ∙ sym (steps_viewed s size)
+    c.steps_counted.ensures ∙ sym (steps_viewed s size)

@@ -2,14 +2,14 @@
 use Rattle.session.proofs.session.TextMade.{text_made_held, text_made_refused}
 use Rattle.session.proofs.session.Session.text.Goals as goal
 
-pub returns-then-number-eq0 : goal.returns-then-number-eq0
-returns-then-number-eq0 c =
+pub returns-in-Ok : goal.returns-in-Ok
+returns-in-Ok c =
     let a = c.args in
-    text_made_held a.self a.names.now a.selector.now c.read_text-read.result
-    c.read_text-read.ensures c.if-number-eq0.true
+    rw c.from.ensures
+    (text_made_held a.self a.names.now a.selector.now c.in-Ok.held c.in-Ok.ensures)
 
-pub returns-else-number-eq0 : goal.returns-else-number-eq0
-returns-else-number-eq0 c =
+pub returns-in-Err : goal.returns-in-Err
+returns-in-Err c =
     let a = c.args in
-    text_made_refused a.self a.names.now a.selector.now c.read_text-read.result
-    c.read_text-read.ensures c.if-number-eq0.false
+    rw c.refused_text-answer.ensures
+    (text_made_refused a.self a.names.now a.selector.now c.in-Err.refused c.in-Err.ensures)
