@@ -263,8 +263,7 @@ fn read_or(
 }
 
 // The reading of the whole text, where the first rows of the table are held, as many as `count` says. A refused text
-// may
-// leave other rows after them.
+// may leave other rows after them.
 fn read_in(
     s: &[u8],
     names: Names<'_>,
@@ -339,8 +338,7 @@ fn read_listed(
 }
 
 // The reading of the text `s` with the lent list of names, where the first rows of the table are held, as many as
-// `count`
-// says; a count above the limit is read as the limit.
+// `count` says; a count above the limit is read as the limit.
 pub fn read_text(
     s: &[u8],
     names: &[u8],
