@@ -7,7 +7,7 @@ ghost use Rattle.auditing.specs.Audit.{report};
 
 use session::Session;
 
-// What the program audit prints: the answer's number, the refused line or 0, the steps held, the rows of the last
+// What the program audit prints, as numbers: the answer's, the refused line or 0, the steps held, the rows of the last
 // step or zeros.
 #[derive(Clone, Copy)]
 pub struct Report {

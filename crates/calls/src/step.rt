@@ -36,7 +36,8 @@ pub fn whole_steps(steps: &[u16]) -> &[[u16; STEP_WIDTH]]
     steps.as_chunks().0
 }
 
-// The rows of step i, counted from 1, and of 0 those of step 1; zeros where there is no such step.
+// The rows of step i, counted from 1, and of 0 those of step 1; zeros where there is no such step: a rule doesn't look
+// at a premise that it lacks.
 #[tactic(auto, unfolding(crate::specs::Promises::sides_of))]
 pub fn sides_of(steps: &[u16], i: u16) -> Sides
     ensures { sides_in result ≡ sides_of (step_numbered (steps_of steps.now) i) }

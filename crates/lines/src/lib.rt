@@ -87,6 +87,7 @@ pub fn number_at(bytes: &[u8], at: usize, end: u8, most: u32) -> Option<Number>
 {
     let first = *bytes.get(at)?;
     let mut value = first_digit(most, end, first)?;
+    // By place, which is what a number tells of the byte after its end.
     for i in at + 1..bytes.len() {
         let b = bytes[i];
         if b == end {
@@ -106,6 +107,7 @@ pub fn numbers_line(bytes: &[u8], at: usize, count: usize) -> Option<NumbersLine
     }
     let mut numbers = [0; MAX_COUNT];
     let mut from = at;
+    // By count: where the next number begins is known only when this one is read.
     for i in 0..count - 1 {
         let number = number_at(bytes, from, SPACE, MAX_NUMBER)?;
         numbers[i] = number.value as u16;

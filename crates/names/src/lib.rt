@@ -21,7 +21,7 @@ fn line_end(list: &[u8], at: usize) -> usize
     at + lines::find(rest, lines::NEWLINE).unwrap_or(rest.len())
 }
 
-// Where the next line starts; the list's length where there is none.
+// Where the next line starts; the list's length where there is none, so that what goes from line to line ends there.
 pub fn next_line(list: &[u8], at: usize) -> usize
     ensures { NextMet list.now at result }
 {
@@ -58,7 +58,7 @@ pub fn count(list: &[u8]) -> usize
     n
 }
 
-// Name k of the list, counted from 0; an empty one where there is none.
+// Name k of the list, counted from 0; an empty one, which no file has, where there is none.
 pub fn name_at(list: &[u8], k: usize) -> Name
     ensures { NameMet list.now k result.start result.end }
 {

@@ -23,7 +23,8 @@ pub struct Record {
     pub step: u16,
 }
 
-// Records, of which the first ones are held, as many as the count says.
+// Records, of which the first ones are held, as many as the count says. Fixed memory without a heap: no call can fail
+// for want of it.
 #[derive(Clone, Copy)]
 pub struct Records {
     pub held: [Record; MAX_RECORDS],
@@ -116,7 +117,7 @@ impl Records {
         MAX_RECORDS <= self.size()
     }
 
-    // The highest edition of a series, 0 if it has none.
+    // The highest edition of a series, 0 if it has none: editions count from 1, and the next one is due.
     pub fn current(self, series: u16) -> u16
         ensures { result ≡ current (records_in self) series }
     {

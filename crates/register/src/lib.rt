@@ -44,7 +44,8 @@ pub enum ReturnAnswer {
     InUse,
 }
 
-// What a call gives: its answer, and the register that it leaves.
+// What a call gives: its answer, and the register that it leaves. The demands name the field, so a session has a type
+// of its own.
 #[derive(Clone, Copy)]
 pub struct Answered<A> {
     pub answer: A,
@@ -86,7 +87,7 @@ impl Register {
         }
     }
 
-    // The current edition of a series, 0 if it has none.
+    // The current edition of a series, 0 if it has none: editions count from 1.
     pub fn current(self, series: u16) -> u16
         ensures { result ≡ current (records_in self.records) series }
     {
@@ -121,7 +122,7 @@ impl Register {
         self.records.released(self.releases)
     }
 
-    // The highest released edition of a series, 0 if it has none.
+    // The highest released edition of a series, 0 if it has none: editions count from 1.
     pub fn crew_current(self, series: u16) -> u16
         ensures { result ≡ crew_current (released_in self) series }
     {

@@ -35,7 +35,7 @@ pub struct Values {
 }
 
 // A call: its word, the numbers after it, those that are listed and zeros after them, and the position of the next
-// line.
+// line. Fixed memory without a heap: a line is read whatever memory is left.
 #[derive(Clone, Copy)]
 pub struct CallLine {
     pub word: Word,
@@ -137,6 +137,7 @@ fn list_call(bytes: &[u8], at: usize, word: Word, most: usize) -> Option<CallLin
 {
     let mut numbers = no_numbers();
     let mut from = at;
+    // By count: where the next number begins is known only when this one is read.
     for count in 0..most {
         let Some(more) = lines::number_at(bytes, from, lines::SPACE, lines::MAX_NUMBER) else {
             let last = lines::number_at(bytes, from, lines::NEWLINE, lines::MAX_NUMBER)?;

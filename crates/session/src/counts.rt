@@ -24,7 +24,7 @@ impl Session {
         step_calls::rule_uses(steps, rule)
     }
 
-    // The rows of the last step; zeros where there is none.
+    // The rows of the last step; zeros where there is none, as the program audit prints them.
     pub fn last_step(self) -> Sides
         ensures { sides_in result ≡ sides_of (step_numbered (view self).steps (length (view self).steps)) }
     {

@@ -22,7 +22,7 @@ const STEP_NUMBERS: usize = calls::STEP_WIDTH * calls::MAX_STEPS;
 const POINT_NUMBERS: usize = calls::POINT_WIDTH * calls::MAX_POINTS;
 
 // Rows, four numbers each, steps, five each, and points, three each; of each the first ones are held, as many as the
-// counts say.
+// counts say. Fixed memory without a heap: no call can fail for want of it.
 #[derive(Clone, Copy)]
 pub struct Session {
     pub(crate) rows: [u16; ROW_NUMBERS],
@@ -33,7 +33,8 @@ pub struct Session {
     pub(crate) point_count: usize,
 }
 
-// What a call gives: its answer, and the session that it leaves.
+// What a call gives: its answer, and the session that it leaves. The demands name the field, so a register has a type
+// of its own.
 #[derive(Clone, Copy)]
 pub struct Answered<A> {
     pub answer: A,

@@ -12,7 +12,7 @@ pub enum WriteAnswer {
     ShortBuffer(usize),
 }
 
-// What lines are appended to: a caller's buffer, and the position of the next line.
+// What lines are appended to, which T-02 speaks of: a caller's buffer, and the position of the next line.
 #[derive(Drop)]
 pub struct Writer<'a> {
     out: &'a mut [u8],

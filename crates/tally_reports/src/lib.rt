@@ -100,6 +100,7 @@ fn print_tally(tally: Tally) {
 // of what is opened, read or printed; the numbers are those of crate tallies.
 pub fn print_list(rt: &impl Files<File = File>, list: &[u8]) {
     let files = open_all(rt, list);
+    // Beside the files, since a list is judged by what was opened, and no definition knows a file.
     let mut opened = [false; tallies::MAX_FILES];
     for (open, file) in opened.iter_mut().zip(&files) {
         *open = file.is_some();

@@ -80,7 +80,7 @@ fn whole_rows(rows: &[u16]) -> &[[u16; ROW_WIDTH]]
     rows.as_chunks().0
 }
 
-// Row i; `0 0 0 0` past the last row.
+// Row i; `0 0 0 0` past the last row, which is read as the void path.
 pub fn row_at(rows: &[u16], i: usize) -> Row
     ensures { row_of result ≡ row_at (table_of rows.now) i }
 {
@@ -173,7 +173,7 @@ pub fn find_row(rows: &[u16], row: Row) -> Option<usize>
         .position(|&[kind, a, b, c]| Row { kind, a, b, c } == row)
 }
 
-// Entry x, 0 past the last one.
+// Entry x, 0 past the last one: the nesting of a row that isn't there adds nothing.
 fn entry_at(entries: &[u16], x: u16) -> u16
     ensures { result ≡ get_or entries.now x 0 }
 {

@@ -65,7 +65,7 @@ impl TextRefusal {
 }
 
 // The row of a text's term, and the table with the rows that it needs, of which the first are held, as many as `count`
-// says.
+// says. Fixed memory without a heap: no call can fail for want of it.
 #[derive(Clone, Copy)]
 pub struct TextHeld {
     pub row: u16,

@@ -37,7 +37,7 @@ pub const LETTER_R: u8 = b'r';
 
 pub const BAR: u8 = b'|';
 
-// The byte at a place, 0 past the end.
+// The byte at a place, 0 past the end: no reader takes a 0, so none has to ask for the end.
 pub fn byte_at(s: &[u8], at: usize) -> u8
     ensures { result ≡ byte_at s.now at }
 {
