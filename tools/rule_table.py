@@ -5,14 +5,13 @@ repository's root:
     tools/rule_table.py ../shared/01-scope.md ../shared/02-change-requests.md
     tools/rule_table.py --constants > crates/matching/src/tables.rt
 
-The second writes the code's constants from the specification, in the order in which
-crates/matching/specs/code/Encode.antt computes them.
+The second writes the code's constants from the specification; `rt fmt` in crates/matching lays them out.
 The first reads three things apart from each other, each with a grammar of its own, and compares them form by form, in
 order:
   1. the sentences of 01 under "Rules", with 01's binding: a filter, `/`, `|`; `not`, `and`, `or`; a rule that a request of 02 changes is
      read from CHANGES instead, a list of requests, each with the words of 02 that say so, which must stand in its text;
   2. crates/rules/specs/RuleTable.antt, with the fixities that specs/Form.antt and specs/Notation.antt declare;
-  3. the numbers of crates/matching/src/tables.rt.
+  3. the forms of crates/matching/src/tables.rt, by the names of its constants.
 It compares the axis order in the same way: 01's sentence, specs/Order.antt, AXIS_PAIRS. Rule 59 is no pattern and none
 of the table's: of it the request's words are looked for, and the axes that have an opposite one are compared: 02's
 sentence, specs/WayBack.antt, OPPOSITES of crates/matching/src/way_back.rt.
@@ -31,9 +30,14 @@ AXES = ['self', 'child', 'parent', 'descendant', 'ancestor', 'descendant-or-self
 TESTS = {'*': 1, 'node()': 2, 'star_test': 1, 'node_test': 2}
 KINDS = ['void', 'root', 'step', 'union', 'composition', 'filter', 'true', 'false', 'not', 'and', 'or', 'in']
 LETTERS = ['p', 'q', 'r', 's', 'f', 'g', 'h', 'a', 'b', 'N', 'name of N', 'M', 'name of M']
-# the condition that a digit of a form's entry stands for
-CONDITIONS = [None, 'a_below_b', 'N_below_M', 'b_from_3_to_10', 'N_a_name_or_star', 'N_not_node', 'a_not_attribute']
-FIRST_LETTER, FIRST_ROW = 32, 64  # the first pattern that is a letter, and that is a row
+CONDITIONS = ['a_below_b', 'N_below_M', 'b_from_3_to_10', 'N_a_name_or_star', 'N_not_node', 'a_not_attribute']
+# the code's names of the same, of its variants and its constants
+CODE_LETTERS = ['P', 'Q', 'R', 'S', 'F', 'G', 'H', 'A', 'B', 'N', 'NameOfN', 'M', 'NameOfM']
+LETTER_CONSTANTS = ['P', 'Q', 'R', 'S', 'F', 'G', 'H', 'A', 'B', 'N', 'NAME_OF_N', 'M', 'NAME_OF_M']
+CODE_CONDITIONS = ['ABelowB', 'NBelowM', 'BFrom3To10', 'NNameOrStar', 'NNotNode', 'ANotAttribute']
+CODE_KINDS = dict(zip(['Void', 'Root', 'Step', 'Union', 'Composition', 'Filter', 'True', 'False', 'Not', 'And', 'Or',
+                       'Inclusion'], KINDS))
+CODE_TESTS = {'STAR': 1, 'NODE': 2}
 
 
 def some(path):
@@ -178,6 +182,8 @@ CHANGES = [
 AXES += [axis for _, _, _, axes in CHANGES for axis in axes]
 # the last rule of the table, and rule 59, which is none of the table's, with its request's words
 TABLE_RULES, WAY_BACK_RULE = 58, 59
+# the last rules of the parts in which the code has the table
+PARTS = [24, 41, TABLE_RULES]
 WAY_BACK = ('T-07', ["Rule 59: r <= r[some w], w being r's way back; other paths get 7.",
                      'For a::N it is self::N, then the opposite axis with node().',
                      'For p/q it is the way back of q, then that of p.', "For p|q it is the union of both, p's first.",
@@ -377,74 +383,109 @@ def specification_axes(folder, file='Order', name='axis_pairs'):
 
 # 3. src/tables.rt.
 
-def entries(path, name):
-    text = open(path, encoding='utf-8').read().split('const %s:' % name)[1].split('= [', 1)[1].split('];')[0]
-    return re.sub(r'//.*|_', '', text)
+def value_of(path, name):
+    """The text of a constant or a static."""
+    text = open(path, encoding='utf-8').read()
+    return re.search(r'(?:const|static) %s: [^=]*= (.*?);\n' % name, text, re.S).group(1)
 
 
 def pairs_of(path, name):
     """Pairs of axes by their names."""
-    text = open(path, encoding='utf-8').read().split('const %s:' % name)[1].split('= [', 1)[1].split('];')[0]
-    return [(axis_number(a), axis_number(b)) for a, b in re.findall(r'\[axis::(\w+), axis::(\w+)\]', text)]
-
-
-def fours_of(path, name):
-    """Four numbers of three digits in each entry."""
-    return [[word // 1000 ** k % 1000 for k in (3, 2, 1, 0)] for word in map(int, re.findall(r'\d+', entries(path, name)))]
+    return [(axis_number(a), axis_number(b)) for a, b in re.findall(r'\(axis::(\w+), axis::(\w+)\)', value_of(path, name))]
 
 
 def number_of(path, name):
-    return int(re.search(r'const %s: \w+ = (\d+);' % name, open(path, encoding='utf-8').read()).group(1))
+    return int(value_of(path, name))
+
+
+class Rust:
+    """A constant's value, read by its words: a name, a number, a list, or a name with what it is applied to."""
+
+    def __init__(self, text):
+        self.words, self.at = re.findall(r'\w+(?:::\w+)*|[][(){},:]', re.sub(r'//.*', '', text)), 0
+
+    def take(self):
+        self.at += 1
+        return self.words[self.at - 1]
+
+    def several(self, end):
+        found = []
+        while self.words[self.at] != end:
+            found.append(self.value())
+            if self.words[self.at] == ',':
+                self.at += 1
+        self.at += 1
+        return found
+
+    def fields(self):
+        found = {}
+        while self.words[self.at] != '}':
+            name = self.take()
+            self.at += 1
+            found[name] = self.value()
+            if self.words[self.at] == ',':
+                self.at += 1
+        self.at += 1
+        return found
+
+    def value(self):
+        word = self.take()
+        if word == '[':
+            return self.several(']')
+        follows = self.words[self.at] if self.at < len(self.words) else None
+        if follows == '(':
+            self.at += 1
+            return (word, self.several(')'))
+        if follows == '{':
+            self.at += 1
+            return (word, self.fields())
+        return word
 
 
 def constants(path):
-    table, patterns = fours_of(path, 'TABLE'), number_of(path, 'FIRST_PATTERN')
+    """The forms of the parts of the table, by the constants that they name."""
+    text = open(path, encoding='utf-8').read()
+    patterns = dict(re.findall(r'const (\w+): Pattern = (.*?);\n', text, re.S))
+    last = lambda name: name.split('::')[-1]
 
-    def number(code, names):
-        if code < FIRST_LETTER:
-            return code
-        if not FIRST_LETTER <= code < FIRST_ROW or LETTERS[code - FIRST_LETTER] not in names:
-            raise SystemExit('tables.rt: %d where %s can stand' % (code, names))
-        return LETTERS[code - FIRST_LETTER]
+    def leaf(name, letters):
+        """A letter that can stand here, or a number by its name."""
+        kind, (of,) = Rust(patterns[name]).value()
+        if last(kind) == 'Letter':
+            letter = LETTERS[CODE_LETTERS.index(last(of))]
+            if letter not in letters:
+                raise SystemExit('tables.rt: %s where %s can stand' % (of, letters))
+            return letter
+        return of
 
-    def term(code):
-        if FIRST_LETTER <= code < FIRST_ROW:
-            return ('letter', number(code, LETTERS[:7]))
-        kind, a, b, c = table[patterns + code - FIRST_ROW]
-        name = KINDS[kind]
+    def term(name):
+        kind, (of,) = Rust(patterns[name]).value()
+        if last(kind) == 'Letter':
+            return ('letter', leaf(name, LETTERS[:7]))
+        row, *fields = of[1]
+        name = CODE_KINDS[last(row)]
         if name == 'step':
-            axis, test, called = number(a, LETTERS[7:9]), number(b, ['N', 'M']), number(c, ['name of N', 'name of M'])
-            if called != ('name of ' + test if isinstance(test, str) else 0):
-                raise SystemExit('tables.rt: a test with another name in pattern %d' % code)
-            return (name, axis, test)
+            axis, test, called = leaf(fields[0], LETTERS[7:9]), leaf(fields[1], 'NM'), leaf(fields[2], ['name of N', 'name of M'])
+            if called != ('name of ' + test if test in LETTERS else '0'):
+                raise SystemExit('tables.rt: a test with another name in %s' % fields)
+            return (name, axis if axis in LETTERS else axis_number(last(axis)), test if test in LETTERS else CODE_TESTS[last(test)])
         arity = ARITIES.get(name, 2)
-        if any([a, b, c][arity:]):
-            raise SystemExit('tables.rt: a field too many in pattern %d' % code)
-        return (name,) + tuple(term(x) for x in [a, b, c][:arity])
+        if any(leaf(x, []) != '0' for x in fields[arity:]):
+            raise SystemExit('tables.rt: a field too many in %s' % fields)
+        return (name,) + tuple(term(x) for x in fields[:arity])
 
-    def sides(left, right):
-        left, right = term(left), term(right)
+    def sides(claim):
+        left, right = [term(x) for x in claim[1]]
         if is_path(left) != is_path(right):
             raise SystemExit('tables.rt: two sorts in one claim')
         return ('<=' if is_path(left) else '=>', left, right)
 
-    def form(rule, count, at):
-        (number, left, right, digits), premise = table[at], table[at + 1]
-        if number != rule or any(premise[2 * count:]):
-            raise SystemExit('tables.rt: rule %d has another form at %d' % (rule, at))
-        return (rule, sides(left, right), [sides(*premise[2 * i:2 * i + 2]) for i in range(count)],
-                [CONDITIONS[int(x)] for x in reversed(str(digits)) if int(x)])
+    def form(rule, fields):
+        return (rule, sides(fields['conclusion']), [sides(x) for x in fields['premises']],
+                [CONDITIONS[CODE_CONDITIONS.index(last(x))] for x in fields['conditions']])
 
-    forms, at = [], next(first for first, n, _, _ in table[1:] if n)
-    for rule in range(1, at):
-        first, n, count, _ = table[rule]
-        if first != at:
-            raise SystemExit('tables.rt: the forms of rule %d are not at %d' % (rule, first))
-        forms += [form(rule, count, first + 2 * i) for i in range(n)]
-        at += 2 * n
-    if at != patterns:
-        raise SystemExit('tables.rt: the patterns are not at %d' % patterns)
-    return forms
+    rules = sum([Rust(value_of(path, 'RULES_TO_%d' % last)).value() for last in PARTS], [])
+    return [form(rule, fields) for rule, forms in enumerate(rules) for _, fields in forms]
 
 
 # 4. The constants, from the specification.
@@ -476,79 +517,81 @@ def shown_claim(claim):
     return '%s %s %s' % (shown(claim[1]), claim[0], shown(claim[2]))
 
 
-def encoded(forms, last):
-    """The entries of the rules, of the forms and of the patterns, each with its words."""
-    patterns, words = [], []
+class Named:
+    """The constants of the patterns that are rows, numbered as they first appear."""
 
-    def code(term):
+    def __init__(self):
+        self.rows, self.lines = [], []
+
+    def name(self, term):
         if term[0] == 'letter':
-            return FIRST_LETTER + LETTERS.index(term[1])
+            return term[1].upper()
         if term[0] == 'step':
             axis, test = term[1:]
-            fields = [x if isinstance(x, int) else FIRST_LETTER + LETTERS.index(x) for x in (axis, test)]
-            fields.append(0 if isinstance(test, int) else fields[1] + 1)
+            fields = [axis.upper() if isinstance(axis, str) else AXES[axis].upper().replace('-', '_'),
+                      test if isinstance(test, str) else {number: name for name, number in CODE_TESTS.items()}[test],
+                      'NAME_OF_' + test if isinstance(test, str) else 'NONE']
         else:
-            fields = [code(x) for x in term[1:]]
-        row = [KINDS.index(term[0])] + fields + [0] * (3 - len(fields))
-        if row not in patterns:
-            patterns.append(row)
-            words.append('%d: %s' % (FIRST_ROW + len(patterns) - 1, shown(term)))
-        return FIRST_ROW + patterns.index(row)
+            fields = [self.name(x) for x in term[1:]]
+        kind = {name: code for code, name in CODE_KINDS.items()}[term[0]]
+        row = 'Pattern::Row(&RowPattern(RowKind::%s, %s))' % (kind, ', '.join(fields + ['NONE'] * (3 - len(fields))))
+        if row not in self.rows:
+            self.rows.append(row)
+            self.lines.append('// %s\nconst X%d: Pattern = %s;\n\n' % (shown(term), len(self.rows), row))
+        return 'X%d' % (self.rows.index(row) + 1)
 
-    rules, coded, at = [([0, 0, 0, 0], 'none')], [], last + 1
-    for rule in range(1, last + 1):
-        own = [form for form in forms if form[0] == rule]
-        rules.append(([at, len(own), len(own[0][2]) if own else 0, 0], '%d' % rule))
-        for _, conclusion, premises, conditions in own:
-            digits = int('0' + ''.join(str(CONDITIONS.index(x)) for x in reversed(conditions)))
-            left, right = [code(x) for x in conclusion[1:]]
-            coded.append(([rule, left, right, digits], '%d: %s' % (rule, shown_claim(conclusion))))
-            sides = [code(x) for premise in premises for x in premise[1:]]
-            said = ', '.join(map(shown_claim, premises)) or 'nothing'
-            coded.append((sides + [0] * (4 - len(sides)), '%d: from %s' % (rule, said)))
-            at += 2
-    return rules, coded, list(zip(patterns, words))
+    def claim(self, claim):
+        return 'Claim(%s, %s)' % tuple(self.name(x) for x in claim[1:])
+
+    def form(self, form):
+        _, conclusion, premises, conditions = form
+        said = shown_claim(conclusion) + (' from ' + ', '.join(map(shown_claim, premises)) if premises else '')
+        return """        // %s
+        Form {
+            conclusion: %s,
+            premises: &[%s],
+            conditions: &[%s],
+        },
+""" % (said, self.claim(conclusion), ', '.join(map(self.claim, premises)),
+       ', '.join('Condition::' + CODE_CONDITIONS[CONDITIONS.index(x)] for x in conditions))
 
 
-CONSTANTS = """// The axis order and the rule table as numbers, as tools/rule_table.py writes them from the specification.
-use common::axis;
+CONSTANTS = """// The axis order and the rule table, as tools/rule_table.py writes them from the specification.
+use crate::pattern::{Claim, Condition, Form, Letter, Pattern, RowPattern};
+use common::row_kind::RowKind;
+use common::{axis, node_test};
 
 // The pairs of axes whose first one is below the second.
-pub const AXIS_PAIRS: [[u16; 2]; %d] = [
+pub const AXIS_PAIRS: [(u16, u16); %d] = [
 %s];
 
-// A pattern is a number: below FIRST_LETTER it is that number; below FIRST_ROW a letter (p q r s, f g h, a b, N and its
-// name, M and its name); from there on an entry of TABLE, the first of them at FIRST_PATTERN.
-pub const FIRST_LETTER: u16 = %d;
+// What a field that a kind of row doesn't use has, and the name of a test that has none.
+const NONE: Pattern = Pattern::Number(0);
 
-pub const FIRST_ROW: u16 = %d;
-
-pub const FIRST_PATTERN: usize = %d;
-
-pub const TABLE_SIZE: usize = %d;
-
-// How deep the patterns are.
-pub const PATTERN_DEPTH: usize = 6;
-
-// An entry is four numbers of three digits each.
-//
-// The rules, by their numbers: the place of the first form, how many forms there are, how many premises. The forms, two
-// entries each: the rule, the two sides of the conclusion, and the conditions, a digit each, the last digit first; then
-// the two sides of the first premise, and of the second. The patterns that are rows: a kind, and a pattern of each field.
-pub const TABLE: [u64; TABLE_SIZE] = [
-%s];
-"""
+%s%s// The forms of each rule, by its number; there is no rule 0. In parts: the check of one static with all of them stops
+// at its limit of steps.
+%s"""
 
 
 def print_constants(specs):
-    word = lambda row: '_'.join('%03d' % x for x in row).lstrip('0_') or '0'
     forms, pairs = specification(specs), specification_axes(specs)
-    rules, coded, patterns = encoded(forms, TABLE_RULES)
-    table = rules + coded + patterns
-    name = lambda a: 'axis::' + AXES[a].upper().replace('-', '_')
-    axes = ''.join('    [%s, %s],\n' % (name(a), name(b)) for a, b in pairs)
-    lines = ''.join('    %s, // %s\n' % (word(row), words) for row, words in table)
-    print(CONSTANTS % (len(pairs), axes, FIRST_LETTER, FIRST_ROW, len(rules + coded), len(table), lines), end='')
+    axis_name = lambda a: AXES[a].upper().replace('-', '_')
+    axes = ''.join('    (axis::%s, axis::%s),\n' % (axis_name(a), axis_name(b)) for a, b in pairs)
+    named = Named()
+    first, parts = 0, []
+    for last in PARTS:
+        rules = ''
+        for rule in range(first, last + 1):
+            own = ''.join(named.form(form) for form in forms if form[0] == rule)
+            rules += '    // %d\n    &[%s],\n' % (rule, '\n' + own + '    ' if own else '')
+        parts.append('pub static RULES_TO_%d: [&[Form]; %d] = [\n%s];\n' % (last, last + 1 - first, rules))
+        first = last + 1
+    used = ''.join(named.lines + parts)
+    one = lambda name, value: 'const %s: Pattern = Pattern::%s;\n\n' % (name, value) if re.search(r'[(\s]%s\b(?! *::)' % name, used) else ''
+    leaves = ''.join(one(const, 'Letter(Letter::%s)' % code) for const, code in zip(LETTER_CONSTANTS, CODE_LETTERS))
+    leaves += ''.join(one(axis_name(a), 'Number(axis::%s)' % axis_name(a)) for a in range(len(AXES)))
+    leaves += ''.join(one(name, 'Number(node_test::%s)' % name) for name in CODE_TESTS)
+    print(CONSTANTS % (len(pairs), axes, leaves, ''.join(named.lines), '\n'.join(parts)), end='')
 
 
 def compare(what, left, right, found):

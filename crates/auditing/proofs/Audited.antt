@@ -1,14 +1,15 @@
 -- From the call read to what audit prints. Assumes nothing.
 use Prim.Native.Nat.{ℕ, ◌≤◌, ◌<◌}
-use mathlib.Core.Path.{◌≡◌, ap}
+use mathlib.Core.Path.{◌≡◌, sym, ap, ◌∙◌}
 use mathlib.Core.Bool.{cond}
 use mathlib.Core.List.{List}
 use lib.ListN.{length}
 use borrow.Author.Tests.{lt-ltb, le-ltb}
+use Rattle.std.specs.Prelude.{is_ok}
 use Rattle.common.specs.Limits.{max_bytes}
 use Rattle.matching.specs.code.RowYields.{Sides}
 use Rattle.session.specs.code.Results.{ReadResult}
-use Rattle.calls.specs.Book.{answer, accepted}
+use Rattle.calls.specs.Book.{accepted}
 use Rattle.calls.specs.StepCall.{step_numbered}
 use Rattle.session.specs.View.{view}
 use Rattle.calls.specs.Promises.{sides_of}
@@ -27,12 +28,12 @@ module _ (bytes : List ℕ) where
 
   -- what is printed of a result that read gives
   module _ (short : length bytes ≤ max_bytes) (t : ReadResult) (met : ReadMet bytes t) where
-    pub reported : (number value line steps : ℕ) (last : Sides) → number ≡ (read_answer_of t.answer).number
-        → value ≡ (read_answer_of t.answer).value
-        → line ≡ cond (accepted (answer number value)) 0 value → steps ≡ length (view t.session).steps
+    pub reported : (number line steps : ℕ) (last : Sides) → number ≡ (read_answer_of t.answer).number
+        → line ≡ cond (is_ok t.answer) 0 (read_answer_of t.answer).value → steps ≡ length (view t.session).steps
         → last ≡ sides_of (step_numbered (view t.session).steps (length (view t.session).steps))
         → report_by number line steps last.left last.right ≡ report bytes
     unfolding report sides_of
-    reported number value line steps last is_number is-value is_line_lem is-steps is_last =
-        rw (is_line_lem, is_number, is-value, is-steps, is_last, le-ltb max_bytes (length bytes) short)
+    reported number line steps last is_number is_line_lem is-steps is_last =
+        let held : is_ok t.answer ≡ accepted (read_answer_of t.answer) = met.variant ∙ ap accepted (sym met.answer) in
+        rw (is_line_lem, held, is_number, is-steps, is_last, le-ltb max_bytes (length bytes) short)
         (ap read_report (met_reading t met))

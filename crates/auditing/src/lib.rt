@@ -1,14 +1,16 @@
 // What the program audit prints of a bundle.
 #![tactic(auto)]
 
-ghost use Rattle.std.specs.Prelude.{◌≡◌, cond};
-ghost use Rattle.calls.specs.Book.{answer, accepted};
+ghost use Rattle.std.specs.Prelude.{◌≡◌, cond, is_ok};
+ghost use Rattle.session.specs.ReadCall.{read_answer_of};
 ghost use Rattle.auditing.specs.Audit.{report};
 
-use session::Session;
+use calls::Answer;
+use common::Refusal;
+use session::{LineRefusal, Session};
 
 // What the program audit prints, as numbers: the answer's, the refused line or 0, the steps held, the rows of the last
-// step or zeros.
+// step or zeros. No Result: all five are printed, whatever the answer, and its reader would put them together again.
 #[derive(Clone, Copy)]
 pub struct Report {
     pub answer: u16,
@@ -18,11 +20,14 @@ pub struct Report {
     pub right: u16,
 }
 
-// The value of a refusal, which is its line; 0 where nothing is refused.
-fn refused_line(number: u16, value: usize) -> usize
-    ensures { result ≡ cond (accepted (answer number value)) 0 value }
+// The refused line; 0 where none is.
+fn refused_line(answer: Result<u16, LineRefusal>) -> usize
+    ensures { result ≡ cond (is_ok answer) 0 (read_answer_of answer).value }
 {
-    if number == 0 { 0 } else { value }
+    match answer {
+        Ok(_) => 0,
+        Err(refused) => refused.line,
+    }
 }
 
 // What the program audit prints of a bundle.
@@ -31,7 +36,7 @@ pub fn audit(bytes: &[u8]) -> Report
 {
     if common::MAX_BYTES < bytes.len() {
         return Report {
-            answer: common::refusal::WRONG_FORM,
+            answer: Refusal::WrongForm.number(),
             line: 0,
             steps: 0,
             left: 0,
@@ -39,11 +44,10 @@ pub fn audit(bytes: &[u8]) -> Report
         };
     }
     let read = Session::read(bytes);
-    let number = read.answer.number();
     let last = read.session.last_step();
     Report {
-        answer: number,
-        line: refused_line(number, read.answer.value()),
+        answer: read.answer.number(),
+        line: refused_line(read.answer),
         steps: read.session.steps_held(),
         left: last.left,
         right: last.right,

@@ -10,6 +10,8 @@ ghost use Rattle.ordering.specs.OrderCall.{order_answer, bundle_order_answer};
 ghost use Rattle.calls.specs.TextCall.{text_reply};
 ghost use Rattle.bundles.specs.code.TextPut.{held_text, TextWritten};
 
+use calls::Answer;
+
 // The number of the answer; the marks are written as `Session::select` writes them.
 #[unsafe(no_mangle)]
 pub extern "C" fn bench_select(
@@ -51,7 +53,7 @@ pub extern "C" fn bench_order<'a>(left: &'a [u16], i: u16, right: &'a [u16], j: 
     ensures { result ≡ (order_answer (table_of left.now) i (table_of right.now) j).value }
 {
     let answer = ordering::order_on(left, i, right, j);
-    answer.value()
+    answer.value() as u32
 }
 
 // The value of the answer for two bundles, which are compared as `Session::bundle_order` compares them.
@@ -67,7 +69,7 @@ pub extern "C" fn bench_bundle_order<'a>(
         (book (table_of right.now) (steps_of right_steps.now))).value }
 {
     let answer = ordering::bundle_order_on(left, left_steps, right, right_steps);
-    answer.value()
+    answer.value() as u32
 }
 
 // The numbers of a session's table.

@@ -21,7 +21,7 @@ use Rattle.bundles.specs.Bundle.{row_names, step_names, row_text, step_text, row
 use Rattle.terms.specs.Row.{row_numbers}
 use Rattle.bundles.specs.Bundle.{bundle_text}
 use Rattle.bundles.specs.code.TextPut.{numbers_length}
-use Rattle.bundles.proofs.Decimals.{digits_1, digits_2, digits_4, digits_5}
+use Rattle.bundles.proofs.Decimals.{digits_few}
 
 -- each number of a line has one byte behind it
 line_length : (n : ℕ) (ns : List ℕ) → length (line_text (n ∷ ns)) ≡ numbers_length (n ∷ ns)
@@ -43,12 +43,12 @@ field_digits qualifier = 4
 field_short : (rs : List Row) (i : ℕ) (f : Field) (x t : ℕ) → FieldLaw rs i f x t → i < max_rows → x ≤ max_number
     → length (decimal x) ≤ field_digits f
 unfolding field_digits
-field_short rs i unused x t law few fits = digits_1 x (omega (arith, law))
-field_short rs i axis x t law few fits = digits_2 x (omega (arith, law))
-field_short rs i test x t law few fits = digits_1 x (omega (arith, law))
-field_short rs i name x t law few fits = digits_5 x (omega arith)
-field_short rs i path x t law few fits = digits_4 x (omega (arith, law.0))
-field_short rs i qualifier x t law few fits = digits_4 x (omega (arith, law.0))
+field_short rs i unused x t law few fits = digits_few 1 x (omega arith) (omega (arith, law)) (omega arith)
+field_short rs i axis x t law few fits = digits_few 2 x (omega arith) (omega (arith, law)) (omega arith)
+field_short rs i test x t law few fits = digits_few 1 x (omega arith) (omega (arith, law)) (omega arith)
+field_short rs i name x t law few fits = digits_few 5 x (omega arith) (omega arith) (omega arith)
+field_short rs i path x t law few fits = digits_few 4 x (omega arith) (omega (arith, law.0)) (omega arith)
+field_short rs i qualifier x t law few fits = digits_few 4 x (omega arith) (omega (arith, law.0)) (omega arith)
 
 -- the most digits of a row's line, kind by kind
 kind_short : {k : ℕ} → Kind k
@@ -133,11 +133,11 @@ pub step_short : (p : Step) → p.rule < 100 → p.left < max_rows → p.right <
 unfolding numbers_length
 step_short p rule left right first second =
     let line = line_length p.rule (p.left ∷ p.right ∷ p.first ∷ p.second ∷ []) in
-    let n = digits_2 p.rule rule in
-    let l = digits_4 p.left (omega arith) in
-    let r = digits_4 p.right (omega arith) in
-    let i = digits_4 p.first (omega arith) in
-    let j = digits_4 p.second (omega arith) in
+    let n = digits_few 2 p.rule (omega arith) rule (omega arith) in
+    let l = digits_few 4 p.left (omega arith) (omega arith) (omega arith) in
+    let r = digits_few 4 p.right (omega arith) (omega arith) (omega arith) in
+    let i = digits_few 4 p.first (omega arith) (omega arith) (omega arith) in
+    let j = digits_few 4 p.second (omega arith) (omega arith) (omega arith) in
     omega (arith, line, n, l, r, i, j)
 
 rows_short : (rs : List Row) → Every (λ r. length (row_text r) ≤ 15) rs → length (rows_text rs) ≤ 15 * length rs

@@ -7,7 +7,7 @@ use native.Mathlib.Omega.{arith}
 use native.Mathlib.Decide.{dec_lt}
 use Rattle.std.proofs.Math.Nat.{mod-eq_of_lt, mod-lt, mod_self, suc-mod}
 use Rattle.std.proofs.lemmas.Grind.{common_steps}
-use Rattle.bundles.proofs.Decimals.{digits_5}
+use Rattle.bundles.proofs.Decimals.{digits_few}
 use lib.ListN.{length, get_or, set, take, drop, length-append, drop_of_length-le}
 use Rattle.std.proofs.Common.{sum_by}
 use lib.Seq.{sets, length-sets, drop-cons, drop-drop}
@@ -143,8 +143,8 @@ pub numbers_short : (ns : List ℕ) → ((k : ℕ) → get_or ns k 0 < 65536) �
 unfolding numbers_length
 numbers_short [] h = omega arith
 numbers_short (n ∷ ns) h =
-    let few : n < 100000 = omega (arith, h 0) in
-    omega (arith, digits_5 n few, numbers_short ns (λ k. h (suc k)))
+    let few : n < 65536 = h 0 in
+    omega (arith, digits_few 5 n (omega arith) (omega arith) (omega arith), numbers_short ns (λ k. h (suc k)))
 
 -- no room, and room, for a text w that is the text asked for
 pub written_not : {buffer w text : List ℕ} {at size : ℕ} → w ≡ text → size ≡ length w → length buffer < at + size

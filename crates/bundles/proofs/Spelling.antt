@@ -1,84 +1,66 @@
 -- A number has one spelling, and so have a line and a text: what is read, written again, is the same bytes. Assumes
 -- nothing.
-use Prim.Native.Nat.{ℕ, suc, ◌+◌, ◌/◌, ◌%◌, ◌-◌, ◌<◌}
+use Prim.Native.Nat.{ℕ, zero, suc, ◌^◌, ◌<◌}
 use mathlib.Core.Path.{◌≡◌, refl, sym, ap, ap₂, ◌∙◌}
 use mathlib.Core.Bool.{Bool, true, false, cond, not, ◌&&◌, false≢true}
-use mathlib.Core.List.{List, [], ◌∷◌, ◌++◌, map, append_assoc, append-nil}
+use mathlib.Core.List.{List, [], ◌∷◌, ◌++◌, map, append_assoc}
 use mathlib.Core.Option
 use mathlib.Core.Option.{Option, none, some, Option-elim, some-injective, none-ne-some}
 use native.Mathlib.Omega.{arith}
 use lib.Dec.{leb, eqb}
-use lib.ListN.{length, replicate, length-replicate}
-use borrow.Author.Tests.{eqb-true, eqb-false, not-true}
+use lib.ListN.{length, get_or}
+use borrow.Author.Tests.{eqb-true, eqb-false, leb-true, not-true}
+use Rattle.std.proofs.Common.{rules}
+use Rattle.std.proofs.lemmas.Fmt.{decimal-digits_value}
+use Rattle.std.proofs.lemmas.Str.Parse.{IsNumeralModel, numerals_by_fold}
 use Rattle.terms.specs.Row.{Row}
 use Rattle.lines.specs.Line.{newline, space, Line, line, in_first_line, lines, in_first_part, parts}
-use Rattle.lines.specs.Number.{digit0, max_number, is_digit, are_digits, is_decimal, append_digit, append_digits}
-use Rattle.lines.specs.Number.{number_up_to, numbers_up_to, numbers_of}
+use Rattle.lines.specs.Number.{digit0, max_number, is_digit, are_digits, is_decimal, append_digits}
+use Rattle.lines.specs.Number.{number_up_to, numbers_up_to, line_numbers, numbers_of}
 use Rattle.lines.specs.Written.{decimal, line_text}
 use Rattle.lines.proofs.Parts.{parts_some}
-use Rattle.lines.proofs.Scan.{digit_range}
 use Rattle.calls.specs.Book.{Step}
 use Rattle.bundles.specs.Bundle.{row_of_numbers, step_of_numbers, row_of_line, step_of_line}
 use Rattle.terms.specs.Row.{row_numbers}
 use Rattle.calls.specs.Book.{step_numbers}
 use Rattle.bundles.specs.Bundle.{row_text, step_text, rows_text, steps_text}
-use Rattle.bundles.proofs.Decimals.{one_digit, more_digits}
+use Rattle.bundles.proofs.Decimals.{decimal_written}
 
 both : (a b : Bool) → (a && b) ≡ true → (a ≡ true) × (b ≡ true)
 both true b e = (refl, e)
 both false b e = absurd (false≢true e)
 
--- one more digit behind a number that isn't 0
-digit_behind : (n x : ℕ) → 0 < n → is_digit x ≡ true → decimal (append_digit n x) ≡ decimal n ++ x ∷ []
-digit_behind n x h d =
-    let r = digit_range x d in
-    let m = append_digit n x in
-    let front : m / 10 ≡ n = omega (arith, r.0, r.1) in
-    let last : digit0 + m % 10 ≡ x = omega (arith, r.0, r.1) in
-    more_digits m (omega arith) ∙ rw (front, last)
+-- the value of digits, as the library has it
+own : IsNumeralModel (λ ds. are_digits ds ≡ true) (append_digits 0)
+unfolding are_digits is_digit append_digits
+own = numerals_by_fold _ (search rules) append_digits (search rules)
 
-digits_behind : (xs : List ℕ) (n : ℕ) → 0 < n → are_digits xs ≡ true → decimal (append_digits n xs) ≡ decimal n ++ xs
-unfolding append_digits are_digits
-digits_behind [] n h d = sym (append-nil (decimal n))
-digits_behind (x ∷ xs) n h d =
-    let (one, others) = both (is_digit x) (are_digits xs) d in
-    digits_behind xs (append_digit n x) (omega arith) others
-    ∙ ap (λ w. w ++ xs) (digit_behind n x h one) ∙ append_assoc (decimal n) (x ∷ []) xs
-
--- the first digit
-first_digit_lem : (x : ℕ) → is_digit x ≡ true → decimal (x - digit0) ≡ x ∷ []
-first_digit_lem x d =
-    let r = digit_range x d in
-    let back : digit0 + (x - digit0) ≡ x = omega (arith, r.0, r.1) in
-    one_digit (x - digit0) (omega (arith, r.0, r.1)) ∙ rw back
-
-from_zero : (x : ℕ) → append_digit 0 x ≡ x - digit0
-from_zero x = omega arith
-
-spelled_decimal : (w : List ℕ) → is_decimal w ≡ true → decimal (append_digits 0 w) ≡ w
-unfolding is_decimal append_digits
-spelled_decimal [] e = absurd (false≢true e)
-spelled_decimal (x ∷ []) e = ap decimal (from_zero x) ∙ first_digit_lem x e
-spelled_decimal (x ∷ y ∷ xs) e =
+-- digits, at least one, and none behind a 0 in front
+decimal_form : (w : List ℕ) → is_decimal w ≡ true
+    → (are_digits w ≡ true) × (0 < length w) × (get_or w 0 0 ≡ digit0 → length w ≡ 1)
+unfolding is_decimal are_digits
+decimal_form [] e = absurd (false≢true e)
+decimal_form (x ∷ []) e = (rw e, omega arith, λ z. refl)
+decimal_form (x ∷ y ∷ xs) e =
     let (start, others) = both (is_digit x && not (eqb x digit0)) (are_digits (y ∷ xs)) e in
     let (d, z) = both (is_digit x) (not (eqb x digit0)) start in
-    let r = digit_range x d in
-    let some_digit : ¬ (x ≡ digit0) = eqb-false x digit0 (not-true _ z) in
-    ap (λ n. decimal (append_digits n (y ∷ xs))) (from_zero x)
-    ∙ digits_behind (y ∷ xs) (x - digit0) (omega (arith, r.0, some_digit)) others
-    ∙ ap (λ w. w ++ y ∷ xs) (first_digit_lem x d)
+    (rw (d, others), omega arith, λ zero. absurd (eqb-false x digit0 (not-true _ z) zero))
 
-spelled : (most : ℕ) (w : List ℕ) (n : ℕ) → number_up_to most w ≡ some n → w ≡ decimal n
-spelled most w n e = by_test (is_decimal w) refl e
+spelled_decimal : (w : List ℕ) → is_decimal w ≡ true → append_digits 0 w < 2 ^ 64 → decimal (append_digits 0 w) ≡ w
+spelled_decimal w e h =
+    let (digits, one, front) = decimal_form w e in
+    decimal_written (append_digits 0 w) h ∙ decimal-digits_value own w digits one front h
+
+spelled : (w : List ℕ) (n : ℕ) → number_up_to max_number w ≡ some n → w ≡ decimal n
+spelled w n e = by_test (is_decimal w) (leb (append_digits 0 w) max_number) refl refl e
   where
-    by_fit : (b : Bool) → is_decimal w ≡ true → cond b (some (append_digits 0 w)) none ≡ some n → w ≡ decimal n
-    by_fit true d e = sym (spelled_decimal w d) ∙ ap decimal (some-injective _ _ e)
-    by_fit false d e = absurd (none-ne-some _ e)
-
-    by_test : (b : Bool) → is_decimal w ≡ b
-        → cond (b && leb (append_digits 0 w) most) (some (append_digits 0 w)) none ≡ some n → w ≡ decimal n
-    by_test true d e = by_fit (leb (append_digits 0 w) most) d e
-    by_test false d e = absurd (none-ne-some _ e)
+    by_test : (b fit : Bool) → is_decimal w ≡ b → leb (append_digits 0 w) max_number ≡ fit
+        → cond (b && fit) (some (append_digits 0 w)) none ≡ some n → w ≡ decimal n
+    by_test true true d f e =
+        let few = leb-true (append_digits 0 w) max_number f in
+        sym (spelled_decimal w d (omega arith)) ∙ ap decimal (some-injective _ _ e)
+    by_test true false d f e = absurd (none-ne-some _ e)
+    by_test false fit d f e = absurd (none-ne-some _ e)
 
 -- parts with a space between two
 unfoldable joined : List (List ℕ) → List ℕ
@@ -104,22 +86,22 @@ parts_joined (x ∷ xs) = by_test (eqb x space) refl (parts_joined xs)
         ap (λ vs. joined ([] ∷ vs)) is ∙ ap₂ (λ y ys. y ∷ ys) (sym (eqb-true x space e)) (ap joined (sym is) ∙ later)
     by_test false e later = in_first_part_lem x xs (parts xs) later
 
--- a number and others, read from parts
-record NumberAndOthers (b : ℕ) (bs w : List ℕ) (ws : List (List ℕ)) (ns : List ℕ) : Type 0 where
+-- a number and `count` others, read from parts
+record NumberAndOthers (count : ℕ) (w : List ℕ) (ws : List (List ℕ)) (ns : List ℕ) : Type 0 where
   pub number : ℕ
   pub others : List ℕ
-  pub is_number : number_up_to b w ≡ some number
-  pub are_others : numbers_up_to bs ws ≡ some others
+  pub is_number : number_up_to max_number w ≡ some number
+  pub are_others : line_numbers count ws ≡ some others
   pub all : ns ≡ number ∷ others
 
-number_and_others : (b : ℕ) (bs w : List ℕ) (ws : List (List ℕ)) (ns : List ℕ)
-    → numbers_up_to (b ∷ bs) (w ∷ ws) ≡ some ns → NumberAndOthers b bs w ws ns
+number_and_others : (count : ℕ) (w : List ℕ) (ws : List (List ℕ)) (ns : List ℕ)
+    → line_numbers (suc count) (w ∷ ws) ≡ some ns → NumberAndOthers count w ws ns
 unfolding numbers_up_to Option-elim
-number_and_others b bs w ws ns e = by_number (number_up_to b w) refl e
+number_and_others count w ws ns e = by_number (number_up_to max_number w) refl e
   where
-    by_others : (n : ℕ) (o : Option (List ℕ)) → number_up_to b w ≡ some n → numbers_up_to bs ws ≡ o
+    by_others : (n : ℕ) (o : Option (List ℕ)) → number_up_to max_number w ≡ some n → line_numbers count ws ≡ o
         → Option-elim o none (λ ms. some (n ∷ ms)) ≡ some ns
-        → NumberAndOthers b bs w ws ns
+        → NumberAndOthers count w ws ns
     by_others n none is o e = absurd (none-ne-some _ e)
     by_others n (some ms) is o e = record {
       number = n;
@@ -129,32 +111,31 @@ number_and_others b bs w ws ns e = by_number (number_up_to b w) refl e
       all = sym (some-injective _ _ e);
     }
 
-    by_number : (o : Option ℕ) → number_up_to b w ≡ o
-        → Option-elim o none (λ n. Option-elim (numbers_up_to bs ws) none (λ ms. some (n ∷ ms))) ≡ some ns
-        → NumberAndOthers b bs w ws ns
+    by_number : (o : Option ℕ) → number_up_to max_number w ≡ o
+        → Option-elim o none (λ n. Option-elim (line_numbers count ws) none (λ ms. some (n ∷ ms))) ≡ some ns
+        → NumberAndOthers count w ws ns
     by_number none is e = absurd (none-ne-some _ e)
-    by_number (some n) is e = by_others n (numbers_up_to bs ws) is refl e
+    by_number (some n) is e = by_others n (line_numbers count ws) is refl e
 
 -- the parts that numbers are read from are the line of the numbers
-numbers_spelled : (b : ℕ) (bs w : List ℕ) (ws : List (List ℕ)) (ns : List ℕ) → numbers_up_to (b ∷ bs) (w ∷ ws) ≡ some ns
-    → (joined (w ∷ ws) ++ newline ∷ [] ≡ line_text ns) × (length ns ≡ suc (length bs))
+numbers_spelled : (count : ℕ) (w : List ℕ) (ws : List (List ℕ)) (ns : List ℕ)
+    → line_numbers (suc count) (w ∷ ws) ≡ some ns
+    → (joined (w ∷ ws) ++ newline ∷ [] ≡ line_text ns) × (length ns ≡ suc count)
 unfolding joined line_text numbers_up_to
-numbers_spelled b [] w [] ns e =
-    let r = number_and_others b [] w [] ns e in
+numbers_spelled zero w [] ns e =
+    let r = number_and_others zero w [] ns e in
     let none_left : ns ≡ r.number ∷ [] = r.all
     ∙ ap (λ ms. r.number ∷ ms) (sym (some-injective _ _ r.are_others)) in
-    (ap (λ v. v ++ newline ∷ []) (spelled b w _ r.is_number) ∙ ap line_text (sym none_left), ap length none_left)
-numbers_spelled b [] w (v ∷ ws) ns e =
-    absurd (none-ne-some _ (number_and_others b [] w (v ∷ ws) ns e).are_others)
-numbers_spelled b (c ∷ bs) w [] ns e =
-    absurd (none-ne-some _ (number_and_others b (c ∷ bs) w [] ns e).are_others)
-numbers_spelled b (c ∷ bs) w (v ∷ ws) ns e =
-    let r = number_and_others b (c ∷ bs) w (v ∷ ws) ns e in
-    let q = number_and_others c bs v ws r.others r.are_others in
-    let later = numbers_spelled c bs v ws r.others r.are_others in
+    (ap (λ v. v ++ newline ∷ []) (spelled w _ r.is_number) ∙ ap line_text (sym none_left), ap length none_left)
+numbers_spelled zero w (v ∷ ws) ns e = absurd (none-ne-some _ (number_and_others zero w (v ∷ ws) ns e).are_others)
+numbers_spelled (suc count) w [] ns e = absurd (none-ne-some _ (number_and_others (suc count) w [] ns e).are_others)
+numbers_spelled (suc count) w (v ∷ ws) ns e =
+    let r = number_and_others (suc count) w (v ∷ ws) ns e in
+    let q = number_and_others count v ws r.others r.are_others in
+    let later = numbers_spelled count v ws r.others r.are_others in
     let two : ns ≡ r.number ∷ q.number ∷ q.others = r.all ∙ ap (λ ms. r.number ∷ ms) q.all in (
       append_assoc w (space ∷ joined (v ∷ ws)) (newline ∷ [])
-          ∙ ap₂ (λ u t. u ++ space ∷ t) (spelled b w _ r.is_number) (later.0 ∙ ap line_text q.all)
+          ∙ ap₂ (λ u t. u ++ space ∷ t) (spelled w _ r.is_number) (later.0 ∙ ap line_text q.all)
           ∙ ap line_text (sym two),
       ap length r.all ∙ ap suc later.1,
     )
@@ -168,15 +149,12 @@ line_spelled : (count : ℕ) (l : Line) (ns : List ℕ) → numbers_of (suc coun
 unfolding numbers_of
 line_spelled count l ns e = by_end l.ended e
   where
-    by_end : (b : Bool) → cond b (numbers_up_to (replicate (suc count) max_number) (parts l.bytes)) none ≡ some ns
+    by_end : (b : Bool) → cond b (line_numbers (suc count) (parts l.bytes)) none ≡ some ns
         → (l.bytes ++ cond b (newline ∷ []) [] ≡ line_text ns) × (length ns ≡ suc count)
     by_end true e =
         let (w, ws, is) = parts_some l.bytes in
-        let read = numbers_spelled max_number (replicate count max_number) w ws ns
-        (sym (ap (numbers_up_to (replicate (suc count) max_number)) is) ∙ e) in (
-          ap (λ u. u ++ newline ∷ []) (sym (parts_joined l.bytes) ∙ ap joined is) ∙ read.0,
-          read.1 ∙ ap suc (length-replicate count max_number),
-        )
+        let read = numbers_spelled count w ws ns (sym (ap (line_numbers (suc count)) is) ∙ e) in
+        (ap (λ u. u ++ newline ∷ []) (sym (parts_joined l.bytes) ∙ ap joined is) ∙ read.0, read.1)
     by_end false e = absurd (none-ne-some _ e)
 
 -- the row of four numbers has these numbers, and so has the step of five
@@ -201,7 +179,6 @@ five (k ∷ x ∷ y ∷ z ∷ u ∷ v ∷ ns) e = absurd (omega arith)
 made_spelled : {A : Type 0} (count : ℕ) (make : List ℕ → A) (numbers : A → List ℕ)
     → ((ns : List ℕ) → length ns ≡ suc count → numbers (make ns) ≡ ns)
     → (l : Line) (x : A) → Option.map make (numbers_of (suc count) l) ≡ some x → line_bytes l ≡ line_text (numbers x)
-unfolding Option.map
 made_spelled {A} count make numbers back l x e = by_form (numbers_of (suc count) l) refl e
   where
     by_form : (o : Option (List ℕ)) → numbers_of (suc count) l ≡ o → Option.map make o ≡ some x

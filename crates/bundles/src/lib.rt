@@ -47,10 +47,10 @@ pub fn step_of_numbers(numbers: [u16; lines::MAX_COUNT]) -> Step
 fn digits(n: u16) -> usize
     ensures { (result ≡ length (decimal n)) × (result ≤ 5) }
 {
-    if n < 10 {
-        return 1;
+    match n.checked_ilog10() {
+        Some(power) => power as usize + 1,
+        None => 1,
     }
-    digits(n / 10) + 1
 }
 
 // How many bytes the lines of a table have: each number has one byte behind it.
@@ -61,8 +61,17 @@ fn lines_length(numbers: &[u16]) -> usize
     numbers.iter().map(|n| digits(*n) + 1).sum()
 }
 
-// Puts a byte at `at`. It gives the position after what it puts, and so do `put_number`, `put_lines`, `put_names` and
-// `put_bundle`.
+// Puts a text at `at`. It gives the position after what it puts, and so do `put_byte`, `put_number`, `put_lines`,
+// `put_names` and `put_bundle`.
+fn put_text(out: &mut [u8], at: usize, text: &[u8]) -> usize
+    requires { at + length text.now ≤ length out.old }
+    ensures { Put out.old at text.now result out.new }
+{
+    let end = at + text.len();
+    out[at..end].copy_from_slice(text);
+    end
+}
+
 fn put_byte(out: &mut [u8], at: usize, b: u8) -> usize
     requires { at < length out.old }
     ensures { Put out.old at (b ∷ []) result out.new }
@@ -75,11 +84,9 @@ fn put_number(out: &mut [u8], at: usize, n: u16) -> usize
     requires { at + length (decimal n) ≤ length out.old }
     ensures { Put out.old at (decimal n) result out.new }
 {
-    if n <= 9 {
-        return put_byte(out, at, lines::DIGIT_0 + (n as u8));
-    }
-    let last = put_number(out, at, n / 10);
-    put_byte(out, last, lines::DIGIT_0 + ((n % 10) as u8))
+    let mut buffer = itoa::Buffer::new();
+    let text = buffer.format(n).as_bytes();
+    put_text(out, at, text)
 }
 
 // What stands behind the number at i of a table with `width` numbers a line.
@@ -112,8 +119,7 @@ fn put_names(out: &mut [u8], at: usize, names: &[u8]) -> usize
     requires { at + length names.now + 1 ≤ length out.old }
     ensures { Put out.old at (names.now ++ newline ∷ []) result out.new }
 {
-    let end = at + names.len();
-    out[at..end].copy_from_slice(names);
+    let end = put_text(out, at, names);
     put_byte(out, end, lines::NEWLINE)
 }
 

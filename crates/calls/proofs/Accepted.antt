@@ -1,9 +1,13 @@
 -- Accepted and refused answers. Assumes nothing.
-use mathlib.Core.Path.{◌≡◌, refl}
+use mathlib.Core.Path.{◌≡◌, refl, sym}
 use Prim.Native.Nat.{◌<◌}
-use mathlib.Core.Bool.{Bool, true, false, cond}
+use mathlib.Core.Bool.{Bool, true, false, cond, false≢true}
 use native.Mathlib.Omega.{arith}
 use borrow.Author.Tests.{eq-eqb, ne_eqb, eqb-true}
+use Rattle.std.specs.Prelude.{ℕ, Result, Ok, Err, is_ok}
+use Rattle.common.specs.declared.refusal.Refusal.{Refusal}
+use Rattle.common.proofs.Refusals.{refusal_some}
+use Rattle.calls.specs.code.Answers.{answer_with, refusal_answer}
 use Rattle.calls.specs.Book.{Answer, accepted}
 
 -- an answer t that is the one asked for, u
@@ -27,3 +31,13 @@ by_accepted P t x y f g = by_test (accepted t) refl
 pub test_failed : (b : Bool) (t u : Answer) → 0 < t.number → (cond b t u).number ≡ 0 → (b ≡ false) × (u.number ≡ 0)
 test_failed true t u h e = absurd (omega arith)
 test_failed false t u h e = (refl, e)
+
+-- what a call gives is answered with 0, a refusal with its number
+module _ {A : Type 0} (f : A → ℕ) where
+  pub ok_accepted : (r : Result A Refusal) → is_ok r ≡ true → (answer_with f refusal_answer r).number ≡ 0
+  ok_accepted (Ok a) e = refl
+  ok_accepted (Err k) e = absurd (false≢true e)
+
+  pub err_refused : (r : Result A Refusal) → is_ok r ≡ false → ¬ ((answer_with f refusal_answer r).number ≡ 0)
+  err_refused (Ok a) e = absurd (false≢true (sym e))
+  err_refused (Err k) e = refusal_some k

@@ -21,8 +21,7 @@ use Rattle.selection.specs.Marks.{written}
 use Rattle.calls.specs.Book.{Answer, answer}
 use Rattle.common.specs.Refusals as refusals
 use Rattle.calls.specs.SelectCall.{select_answer, select_buffer}
-use Rattle.calls.specs.declared.SelectAnswer.{SelectAnswer}
-use Rattle.calls.specs.code.Answers.{select_answer_of}
+use Rattle.calls.specs.code.Answers.{NumberOrRefusal, answer_of}
 use Rattle.calls.specs.Promises.{SelectMade}
 use Rattle.calls.proofs.Accepted.{test_failed, if_accepted, if_refused}
 
@@ -72,12 +71,12 @@ module _ (rs : List Row) (row : ℕ) (xs : List ℕ) (x limit : ℕ) where
       let t₁₄ = test_failed (ltb room (length (document_of xs))) _ _ (omega arith) p₉.1 in
       record { document = t₈.0; context = leb-false _ _ t₉.0; marks = ltb-false _ _ t₁₄.0 }
 
-  module _ (buffer left : List ℕ) (t : SelectAnswer) (m : SelectMade rs row xs x limit buffer t left) where
-    pub select_leaves : ¬ ((select_answer_of t).number ≡ 0) → left ≡ buffer
+  module _ (buffer left : List ℕ) (t : NumberOrRefusal) (m : SelectMade rs row xs x limit buffer t left) where
+    pub select_leaves : ¬ ((answer_of t).number ≡ 0) → left ≡ buffer
     unfolding select_buffer
     select_leaves f = m.bytes ∙ sym (if_refused _ _ m.answer _ _ f)
 
-    module _ (e : (select_answer_of t).number ≡ 0) where
+    module _ (e : (answer_of t).number ≡ 0) where
       pub select_takes : SelectAccepted (length buffer)
       select_takes = select_accepted (length buffer) (sym (ap (λ a. a.number) m.answer) ∙ e)
 

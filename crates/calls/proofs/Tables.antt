@@ -3,7 +3,7 @@ use Prim.Native.Nat.{ℕ, zero, suc, ◌+◌, ◌*◌, ◌/◌, ◌≤◌, ◌<�
 use mathlib.Core.Path.{◌≡◌, refl, ap, ◌∙◌}
 use mathlib.Core.List.{List, [], ◌∷◌, ◌++◌}
 use native.Mathlib.Omega.{arith}
-use lib.ListN.{length, get_or, take, length-take, get_or-eq_default}
+use lib.ListN.{length, get_or, take, length-take}
 use lib.Seq.{length-take-le}
 use Rattle.std.proofs.Common.{map}
 use Rattle.std.specs.Simd.{first_chunks}
@@ -85,9 +85,6 @@ step_lent (k ∷ l ∷ r ∷ a ∷ b ∷ xs) (suc i) h =
   where
     past_step : (j : ℕ) → get_or (k ∷ l ∷ r ∷ a ∷ b ∷ xs) (5 * suc i + j) 0 ≡ get_or xs (5 * i + j) 0
     past_step j = let e : 5 * suc i + j ≡ suc (suc (suc (suc (suc (5 * i + j))))) = omega arith in rw e
-
-pub step_past : (xs : List ℕ) (i : ℕ) → length xs / 5 ≤ i → get_or (steps_of xs) i no_step ≡ no_step
-step_past xs i h = get_or-eq_default (steps_of xs) no_step (rw steps_lent h)
 
 -- the first of the steps that a session has room for
 module _ (xs : List ℕ) (n : ℕ) (few : n ≤ max_steps) (size : length xs ≡ step_width * max_steps) where

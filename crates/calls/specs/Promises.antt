@@ -2,11 +2,10 @@
 use Rattle.std.specs.Prelude.{ℕ, ◌≡◌, Bool, List, map, length}
 use Rattle.terms.specs.Row.{Row}
 use Rattle.matching.specs.code.RowYields.{Sides, row_yields}
-use Rattle.calls.specs.declared.SelectAnswer.{SelectAnswer}
 use Rattle.calls.specs.Book.{Step, Book, Answer}
 use Rattle.calls.specs.StepCall.{premises_of, step_answer_by}
 use Rattle.calls.specs.SelectCall.{select_answer, select_buffer}
-use Rattle.calls.specs.code.Answers.{select_answer_of}
+use Rattle.calls.specs.code.Answers.{NumberOrRefusal, answer_of}
 
 -- the rows of a step
 unfoldable pub sides_of : Step → Sides
@@ -21,7 +20,7 @@ row_step_answer b p = step_answer_by (row_yielded b p) b p
 
 -- a select call on the rows rs, the lent numbers xs from node x and the buffer:
 -- the answer t, and the bytes that it leaves
-pub record SelectMade (rs : List Row) (row : ℕ) (xs : List ℕ) (x limit : ℕ) (buffer : List ℕ) (t : SelectAnswer)
+pub record SelectMade (rs : List Row) (row : ℕ) (xs : List ℕ) (x limit : ℕ) (buffer : List ℕ) (t : NumberOrRefusal)
     (left : List ℕ) : Type 0 where
-  pub answer : select_answer_of t ≡ select_answer rs row xs x limit (length buffer)
+  pub answer : answer_of t ≡ select_answer rs row xs x limit (length buffer)
   pub bytes : left ≡ select_buffer rs row xs x limit buffer

@@ -1,7 +1,9 @@
 // Steps on lent numbers, five a step.
 ghost use Rattle.std.specs.Prelude.{◌≡◌, ◌-◌, map, length};
 ghost use Rattle.matching.specs.code.MatchTypes.{sides_in};
+ghost use Rattle.calls.specs.Book.{step_numbers};
 ghost use Rattle.calls.specs.StepCall.{step_numbered};
+ghost use Rattle.calls.specs.code.Answers.{step_of};
 ghost use Rattle.calls.specs.code.Tables.{step_in, steps_of};
 ghost use Rattle.calls.specs.Promises.{sides_of};
 
@@ -20,6 +22,28 @@ pub struct Step {
     pub right: u16,
     pub first: u16,
     pub second: u16,
+}
+
+impl From<[u16; STEP_WIDTH]> for Step {
+    ghost from_gives = { λ numbers step. step_of step ≡ step_in numbers };
+
+    fn from([rule, left, right, first, second]: [u16; STEP_WIDTH]) -> Step {
+        Step {
+            rule,
+            left,
+            right,
+            first,
+            second,
+        }
+    }
+}
+
+impl From<Step> for [u16; STEP_WIDTH] {
+    ghost from_gives = { λ step numbers. numbers ≡ step_numbers (step_of step) };
+
+    fn from(step: Step) -> [u16; STEP_WIDTH] {
+        [step.rule, step.left, step.right, step.first, step.second]
+    }
 }
 
 // How many steps the numbers are, without an incomplete last one.

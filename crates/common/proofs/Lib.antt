@@ -1,4 +1,5 @@
 pub mod Reflect
 pub mod Search
-pub mod Cases
 pub mod Entries
+pub mod Refusals
+pub mod Records

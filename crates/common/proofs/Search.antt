@@ -1,9 +1,15 @@
 -- The search for the first number that passes. Assumes nothing.
-use Prim.Native.Nat.{ℕ, zero, suc, ◌<◌}
-use mathlib.Core.Path.{◌≡◌, refl}
-use mathlib.Core.Bool.{Bool, true, false, cond}
+use Prim.Native.Nat.{ℕ, zero, suc, ◌<◌, ◌≤◌}
+use mathlib.Core.Path.{◌≡◌, refl, sym, ap, ◌∙◌}
+use mathlib.Core.Bool.{Bool, true, false, not, cond}
 use mathlib.Core.Logic.{◌↔◌, ⊎_elim}
+use mathlib.Core.List.{List}
 use mathlib.Core.Option.{Option, none, some, Option-elim}
+use lib.Dec.{ltb}
+use lib.ListN.{length, get_or}
+use borrow.Author.Tests.{ltb-true, ltb-false}
+use Rattle.std.specs.List.{position_or_len}
+use Rattle.std.proofs.lemmas.List.Sums.{fails_before_first, passes_at_first, prefix_len-le-length}
 use native.Mathlib.Omega.{arith}
 use Rattle.common.specs.Bounded.{first_below}
 use Rattle.common.proofs.Reflect.{below_suc}
@@ -67,3 +73,27 @@ first_alike f g (suc n) same = rw (first_alike f g n same) (by_found (first_belo
         Option-elim o (cond (g n) (some n) none) some ≡ Option-elim o (cond (f n) (some n) none) some
     by_found none e = rw (same n (none_passes f n e))
     by_found (some k) e = refl
+
+-- the first number that passes is the place of the first entry that passes, where number and entry are tested alike
+module _ {A : Type 0} (f : ℕ → Bool) (g : A → Bool) (d : A) (xs : List A)
+    (alike : (k : ℕ) → k < length xs → f k ≡ g (get_or xs k d)) where
+  abbrev place : ℕ
+  place = position_or_len g xs
+
+  few : place ≤ length xs
+  few = prefix_len-le-length (λ x. not (g x)) xs
+
+  none_before : first_below place f ≡ none
+  none_before = none_found f place (λ k l. alike k (omega (arith, few, l)) ∙ fails_before_first g xs k d l)
+
+  pub first_in : first_below (length xs) f ≡ cond (ltb place (length xs)) (some place) none
+  first_in = by (ltb place (length xs)) refl
+    where
+      by : (b : Bool) → ltb place (length xs) ≡ b → first_below (length xs) f ≡ cond b (some place) none
+      by true e =
+          let l = ltb-true place (length xs) e in
+          first_found f place (length xs) l none_before (alike place l ∙ passes_at_first g xs d l)
+      by false e =
+          let l = ltb-false place (length xs) e in
+          let q : place ≡ length xs = omega (arith, few, l) in
+          ap (λ k. first_below k f) (sym q) ∙ none_before

@@ -51,6 +51,8 @@ impl TryFrom<u16> for Axis {
     }
 }
 
+// The numbers by name: the patterns of `try_from`, and what a number that is lent is compared with once, where a
+// conversion before it would be no plainer.
 pub const SELF: u16 = 0;
 
 pub const CHILD: u16 = 1;
@@ -74,5 +76,3 @@ pub const FOLLOWING: u16 = 9;
 pub const PRECEDING: u16 = 10;
 
 pub const ATTRIBUTE: u16 = 11;
-
-pub const LAST: u16 = ATTRIBUTE;

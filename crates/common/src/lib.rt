@@ -1,5 +1,4 @@
-// What every crate uses: the papers' numbers by name, a number made wider, and connectives as functions, for
-// straight-line code.
+// What every crate uses: the papers' kinds, axes, tests and refusals, each with its number, and limits.
 #![tactic(auto)]
 
 pub mod axis;
@@ -8,7 +7,10 @@ pub mod node_test;
 pub mod refusal;
 pub mod row_kind;
 
-ghost use Rattle.std.specs.Prelude.{◌≡◌, ◌&&◌, ◌||◌};
+ghost use Rattle.std.specs.Prelude.{◌≡◌, ◌+◌, ◌*◌, ◌≤◌, length};
+ghost use Rattle.std.proofs.lemmas.List.Edits.{sets};
+
+pub use refusal::Refusal;
 
 // The most bytes of a text that a program takes.
 pub const MAX_BYTES: usize = 65536;
@@ -16,20 +18,11 @@ pub const MAX_BYTES: usize = 65536;
 // The largest number that a line may have and the largest name: the largest of 16 bits.
 pub const MAX_NUMBER: usize = 65535;
 
-pub fn wide(x: u16) -> usize
-    ensures { result ≡ x }
+// Record n, counted from 0, of lent numbers of which each W are a record, becomes `values`.
+pub fn put_record<const W: usize>(numbers: &mut [u16], n: usize, values: [u16; W])
+    requires { W * n + W ≤ length numbers.old }
+    ensures { numbers.new ≡ sets numbers.old (W * n) values.entry }
 {
-    x as usize
-}
-
-pub fn and(a: bool, b: bool) -> bool
-    ensures { result ≡ (a && b) }
-{
-    if a { b } else { false }
-}
-
-pub fn or(a: bool, b: bool) -> bool
-    ensures { result ≡ (a || b) }
-{
-    if a { true } else { b }
+    let at = W * n;
+    numbers[at..at + W].copy_from_slice(&values);
 }

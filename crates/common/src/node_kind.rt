@@ -39,6 +39,8 @@ impl TryFrom<u16> for NodeKind {
     }
 }
 
+// The numbers by name: the patterns of `try_from`, and what a number that is lent is compared with once, where a
+// conversion before it would be no plainer.
 pub const ROOT: u16 = 0;
 
 pub const ELEMENT: u16 = 1;

@@ -42,6 +42,8 @@ impl TryFrom<u16> for NodeTest {
     }
 }
 
+// The numbers by name: the patterns of `try_from`, and what a number that is lent is compared with once, where a
+// conversion before it would be no plainer.
 pub const NAME: u16 = 0;
 
 pub const STAR: u16 = 1;
@@ -55,5 +57,3 @@ pub const COMMENT: u16 = 4;
 pub const INSTRUCTION: u16 = 5;
 
 pub const TARGET: u16 = 6;
-
-pub const LAST: u16 = TARGET;

@@ -1,4 +1,3 @@
-pub mod Inside
 pub mod Judged
 pub mod Saying
 pub mod Texts

@@ -16,8 +16,7 @@ use Rattle.grammar.specs.Denotes.{union_of}
 use Rattle.calls.specs.Book.{Answer, accepted}
 use Rattle.calls.specs.SelectCall.{select_answer, select_buffer}
 use Rattle.calls.specs.Promises.{SelectMade}
-use Rattle.calls.specs.code.Answers.{select_answer_of}
-use Rattle.calls.specs.declared.SelectAnswer.{SelectAnswer}
+use Rattle.calls.specs.code.Answers.{NumberOrRefusal, answer_of}
 use Rattle.calls.proofs.Cases.{select_case}
 use Rattle.calls.proofs.Marked.{select_leaves, select_takes, select_well_formed, select_marks}
 use Rattle.calls.proofs.Marked.{select_stays}
@@ -71,13 +70,13 @@ module _ (names t : Bytes) (xs : List ℕ) (x limit : ℕ) (buffer left : List �
 
     -- where the text is accepted, the select is made
     module _ (taken : (read_answer names t).number ≡ 0) where
-      abbrev shown : (o : SelectAnswer) × (select_answer_of o ≡ select_answer rows row xs x limit (length buffer))
+      abbrev shown : (o : NumberOrRefusal) × (answer_of o ≡ select_answer rows row xs x limit (length buffer))
       shown = select_case rows row xs x limit (length buffer)
 
       made : SelectMade rows row xs x limit buffer shown.0 left
       made = record { answer = shown.1; bytes = (cases.0 taken).bytes }
 
-      number : (select_answer_of shown.0).number ≡ a.number
+      number : (answer_of shown.0).number ≡ a.number
       number = ap (λ (o : Answer). o.number) (shown.1 ∙ sym (cases.0 taken).answer)
 
       held : TextHeld fresh_session names t

@@ -1,113 +1,72 @@
 // Whether an accepted bundle has a step that says that one selector is contained in another.
 ghost use Rattle.std.specs.Prelude.{◌≡◌};
 ghost use Rattle.calls.specs.Book.{answer};
-ghost use Rattle.session.specs.View.{view};
-ghost use Rattle.exports.specs.ClaimCall.{claimed, said_answer, old_claimed, claim_answer};
-ghost use Rattle.exports.specs.ClaimCall.{the_claim};
-ghost use Rattle.exports.specs.code.ClaimTypes.{part_of, claimed_of, SelectorRead};
+ghost use Rattle.exports.specs.ClaimCall.{claimed, claim_answer};
+ghost use Rattle.exports.specs.code.ClaimTypes.{part_of, claim_refusal_answer, claimed_of};
 
-use session::{Answered, Session};
+use calls::Answer;
+use common::Refusal;
+use session::{LineRefusal, Session};
 
-// What an answer is about.
-#[derive(Clone, Copy)]
-enum Part {
-    Claim,
-    Bundle,
-    OldSelector,
-    NewSelector,
+// A refusal, by what it is about.
+#[derive(Clone, Copy, Debug, PartialEq, Eq)]
+enum ClaimRefusal {
+    Bundle(LineRefusal),
+    OldSelector(Refusal),
+    NewSelector(Refusal),
+    Claim(Refusal),
 }
 
-impl Part {
-    // Its number for a host.
-    fn number(self) -> usize
+impl ClaimRefusal {
+    // What it is about, as a host's number; 0 is the claim.
+    fn part(self) -> usize
         ensures { result ≡ part_of self }
     {
         match self {
-            Part::Claim => 0,
-            Part::Bundle => 1,
-            Part::OldSelector => 2,
-            Part::NewSelector => 3,
+            ClaimRefusal::Claim(_) => 0,
+            ClaimRefusal::Bundle(_) => 1,
+            ClaimRefusal::OldSelector(_) => 2,
+            ClaimRefusal::NewSelector(_) => 3,
         }
     }
 }
 
-// A refusal, and what it is about.
-#[derive(Clone, Copy)]
-struct ClaimRefusal {
-    part: Part,
-    number: u16,
-    value: usize,
-}
+impl Answer for ClaimRefusal {
+    ghost answer = { claim_refusal_answer };
 
-// The step of the session that says that row `old` is contained in row `new`.
-#[tactic(auto, unfolding(crate::specs::ClaimCall::said_answer))]
-fn claim_rows(session: Session, old: u16, new: u16) -> Result<usize, ClaimRefusal>
-    ensures { claimed_of result ≡ claimed the_claim (said_answer (view session) old new) }
-{
-    let Some(step) = session.step_saying(old, new) else {
-        return Err(ClaimRefusal {
-            part: Part::Claim,
-            number: common::refusal::NOT_COVERED,
-            value: 1,
-        });
-    };
-    Ok(usize::from(step))
-}
-
-// The row of a selector as text, and the session with it.
-fn read_selector(
-    session: Session,
-    names: &[u8],
-    selector: &[u8],
-    part: Part,
-) -> Result<Answered<u16>, ClaimRefusal>
-    ensures { SelectorRead session names.now selector.now part result }
-{
-    let read = session.text(names, selector);
-    let number = read.answer.number;
-    let value = read.answer.value;
-    if number != 0 {
-        return Err(ClaimRefusal {
-            part,
-            number,
-            value,
-        });
+    fn number(self) -> u16 {
+        match self {
+            ClaimRefusal::Bundle(refused) => refused.number(),
+            ClaimRefusal::OldSelector(refusal)
+            | ClaimRefusal::NewSelector(refusal)
+            | ClaimRefusal::Claim(refusal) => refusal.number(),
+        }
     }
-    Ok(Answered {
-        answer: value as u16,
-        session: read.session,
-    })
+
+    fn value(self) -> usize {
+        match self {
+            ClaimRefusal::Bundle(refused) => refused.value(),
+            ClaimRefusal::OldSelector(refusal)
+            | ClaimRefusal::NewSelector(refusal)
+            | ClaimRefusal::Claim(refusal) => refusal.value(),
+        }
+    }
 }
 
-// The step that says so of two selectors as text.
-fn claim_texts(
-    session: Session,
-    names: &[u8],
-    old: &[u8],
-    new: &[u8],
-) -> Result<usize, ClaimRefusal>
-    ensures { claimed_of result ≡ old_claimed session names.now old.now new.now }
-{
-    let first = read_selector(session, names, old, Part::OldSelector)?;
-    let second = read_selector(first.session, names, new, Part::NewSelector)?;
-    claim_rows(second.session, first.answer, second.answer)
-}
-
-// The same of a bundle's steps.
+// The step of the bundle that says that the old selector is contained in the new one.
 fn claim_in(bundle: &[u8], names: &[u8], old: &[u8], new: &[u8]) -> Result<usize, ClaimRefusal>
-    ensures { claimed_of result
-        ≡ claim_answer bundle.now names.now old.now new.now }
+    ensures { claimed_of result ≡ claim_answer bundle.now names.now old.now new.now }
 {
     let read = Session::read(bundle);
-    let number = read.answer.number();
-    if number != 0 {
-        return Err(ClaimRefusal {
-            part: Part::Bundle,
-            number,
-            value: read.answer.value(),
-        });
+    read.answer.map_err(ClaimRefusal::Bundle)?;
+    let first = read.session.text(names, old);
+    let left = first.answer.map_err(ClaimRefusal::OldSelector)?;
+    let second = first.session.text(names, new);
+    let right = second.answer.map_err(ClaimRefusal::NewSelector)?;
+    match second.session.step_saying(left, right) {
+        Some(step) => Ok(usize::from(step)),
+        None => Err(ClaimRefusal::Claim(Refusal::NotCovered(1))),
     }
-    claim_texts(read.session, names, old, new)
 }
 
 // The number of the answer, its value, and what it is about.
@@ -122,16 +81,8 @@ pub fn spinebriar_claim(
     ensures { claimed part.new (answer result value.new)
         ≡ claim_answer bundle.now names.now old.now new.now }
 {
-    match claim_in(bundle, names, old, new) {
-        Ok(step) => {
-            *value = step;
-            *part = Part::Claim.number();
-            0
-        }
-        Err(refusal) => {
-            *value = refusal.value;
-            *part = refusal.part.number();
-            refusal.number
-        }
-    }
+    let answer = claim_in(bundle, names, old, new);
+    *value = answer.value();
+    *part = answer.err().map_or(0, ClaimRefusal::part);
+    answer.number()
 }

@@ -2,13 +2,15 @@
 ghost use Rattle.calls.specs.Book.{answer};
 ghost use Rattle.filing.specs.Filing.{FileMet};
 
+use calls::Answer;
+
 // The number of the answer and its value: the bundle's length, which is written to the buffer's start, or the refused
 // line, or the length needed.
 pub fn spinebriar_file(calls: &[u8], out: &mut [u8], value: &mut usize) -> u16
     ensures { FileMet calls.now out.old (answer result value.new)
         out.new }
 {
-    let told = filing::file(calls, out);
-    *value = told.value;
-    told.number
+    let answer = filing::file(calls, out);
+    *value = answer.value();
+    answer.number()
 }

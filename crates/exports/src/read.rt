@@ -3,14 +3,14 @@ ghost use Rattle.std.specs.Prelude.{◌≡◌};
 ghost use Rattle.calls.specs.Book.{answer};
 ghost use Rattle.session.specs.Reading.{reading};
 
+use calls::Answer;
 use session::Session;
 
 // The number of the answer to a bundle's bytes.
 pub fn spinebriar_read(bytes: &[u8]) -> u16
     ensures { result ≡ (reading bytes.now).answer.number }
 {
-    let answer = Session::read(bytes).answer;
-    answer.number()
+    Session::read(bytes).answer.number()
 }
 
 // The same, with the answer's value: the number of steps held, or the refused line.

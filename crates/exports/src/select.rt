@@ -1,10 +1,31 @@
 // The nodes that a selector as text selects on a lent document.
 ghost use Rattle.calls.specs.Book.{answer};
+ghost use Rattle.calls.specs.code.Answers.{answer_of};
 ghost use Rattle.exports.specs.TextSelect.{TextSelectMade};
 
+use calls::Answer;
+use common::Refusal;
 use session::Session;
 
-// The number of the answer and its value; the marks are written as `Session::select` writes them.
+// Marks the nodes that the selector selects, as `Session::select` does.
+fn select_text(
+    names: &[u8],
+    selector: &[u8],
+    document: &[u16],
+    context: u16,
+    limit: u32,
+    marks: &mut [u8],
+) -> Result<u32, Refusal>
+    ensures { TextSelectMade names.now selector.now document.now context limit
+        marks.old (answer_of result) marks.new }
+{
+    let fresh = Session::new();
+    let read = fresh.text(names, selector);
+    let row = read.answer?;
+    read.session.select(row, document, context, limit, marks)
+}
+
+// The number of the answer and its value. As many parameters as the host's call has.
 pub fn spinebriar_select(
     names: &[u8],
     selector: &[u8],
@@ -17,16 +38,7 @@ pub fn spinebriar_select(
     ensures { TextSelectMade names.now selector.now document.now context limit
         marks.old (answer result value.new) marks.new }
 {
-    let fresh = Session::new();
-    let read = fresh.text(names, selector);
-    let number = read.answer.number;
-    let row = read.answer.value;
-    if number != 0 {
-        *value = row;
-        return number;
-    }
-    let session = read.session;
-    let answer = session.select(row as u16, document, context, limit, marks);
-    *value = answer.value() as usize;
+    let answer = select_text(names, selector, document, context, limit, marks);
+    *value = answer.value();
     answer.number()
 }

@@ -41,7 +41,8 @@ pub extern "C" fn spinebriar_claim(
     exports::spinebriar_claim(bundle, names, old, new, value, part)
 }
 
-// The number of the answer and its value; the nodes that a selector as text selects on a lent document are marked.
+// The number of the answer and its value; the nodes that a selector as text selects on a lent document are marked. As
+// many parameters as the C call has.
 #[unsafe(no_mangle)]
 pub extern "C" fn spinebriar_select(
     names: &[u8],

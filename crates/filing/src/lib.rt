@@ -1,87 +1,79 @@
 // Makes the calls of a script's lines from a fresh session, and writes the bundle of what they leave.
 #![tactic(auto)]
 
-ghost use Rattle.std.specs.Prelude.{◌≡◌, cond, ◌≤◌, ◌<◌, length};
+mod lent_names;
+
+ghost use Rattle.std.specs.Prelude.{◌≡◌, ◌<◌, [], length};
+ghost use Rattle.std.proofs.Math.Option.{some};
 ghost use Rattle.common.specs.Limits.{max_bytes};
-ghost use Rattle.terms.specs.Row.{row};
-ghost use Rattle.calls.specs.Book.{step, answer};
 ghost use Rattle.calls.specs.Calls.{Call};
-ghost use Rattle.filing.specs.Filing.{lending, action_of, FileMet};
-ghost use Rattle.filing.specs.code.FilingMade.{rest_at, names_at, counted, call_made, ActionDone, CallDone};
-ghost use Rattle.filing.specs.code.FilingMade.{LineMet, LinesMet};
+ghost use Rattle.calls.specs.code.Answers.{answer_with};
+ghost use Rattle.session.specs.View.{fresh_session};
+ghost use Rattle.filing.specs.Filing.{lending, makes, FileMet};
+ghost use Rattle.filing.specs.code.FilingMade.{rest_at, names_at, lent_by, call_left, command_action};
+ghost use Rattle.filing.specs.code.FilingMade.{ActionDone, LineMet, LinesMet, file_refusal_answer};
+ghost use Rattle.filing.specs.declared.FileRefusal.TheVariants as FILE;
 
-use script::Values;
-use script_words::Word;
-use session::Session;
+use crate::lent_names::LentNames;
+use calls::Answer;
+use common::Refusal;
+use script::Command;
+use session::{Answered, LineRefusal, Session};
 
-// The answer to a script: 0 and the length of its bundle, or a refusal and its line or the length needed.
-#[derive(Clone, Copy)]
-pub struct FileAnswer {
-    pub number: u16,
-    pub value: usize,
+// Why a script is refused: its first refused line, or what write refuses.
+#[derive(Clone, Copy, Debug, PartialEq, Eq)]
+pub enum FileRefusal {
+    Line(LineRefusal),
+    Write(Refusal),
 }
 
-// What a line leaves: the session, where the line that lends the names starts, and where the next line does.
-#[derive(Clone, Copy)]
-struct LineMade {
-    session: Session,
-    names: usize,
-    next: usize,
-}
+// The refused line as its value, or the length needed.
+impl Answer for FileRefusal {
+    ghost answer = { file_refusal_answer };
 
-// Why a script is refused: the number of the refusal, and the refused line.
-#[derive(Clone, Copy)]
-struct LineRefusal {
-    number: u16,
-    line: usize,
-}
-
-// What an action leaves: the session, and whether it lends names.
-#[derive(Clone, Copy)]
-struct ActionMade {
-    session: Session,
-    lends: bool,
-}
-
-// What a call leaves, by the number of its answer; a refused one has no more than the number.
-fn call_made(number: u16, session: Session) -> Result<ActionMade, u16>
-    ensures { result ≡ call_made number session }
-{
-    if number != 0 {
-        return Err(number);
+    fn number(self) -> u16 {
+        match self {
+            FileRefusal::Line(refused) => refused.number(),
+            FileRefusal::Write(refusal) => refusal.number(),
+        }
     }
-    Ok(ActionMade {
-        session,
-        lends: false,
-    })
+
+    fn value(self) -> usize {
+        match self {
+            FileRefusal::Line(refused) => refused.value(),
+            FileRefusal::Write(refusal) => refusal.value(),
+        }
+    }
 }
 
-fn make_term(s: Session, v: Values) -> Result<ActionMade, u16>
-    ensures { CallDone s (Call.term (row v.a v.b v.c v.d)) result }
-{
-    let made = s.term(v.a, v.b, v.c, v.d);
-    call_made(made.answer.number(), made.session)
+impl From<LineRefusal> for FileRefusal {
+    ghost from_gives = { λ refused e. e ≡ FILE.Line refused };
+
+    fn from(refused: LineRefusal) -> FileRefusal {
+        FileRefusal::Line(refused)
+    }
 }
 
-fn make_step(s: Session, v: Values) -> Result<ActionMade, u16>
-    ensures { CallDone s (Call.step (step v.a v.b v.c v.d v.e)) result }
-{
-    let made = s.step(v.a, v.b, v.c, v.d, v.e);
-    call_made(made.answer.number(), made.session)
+impl From<Refusal> for FileRefusal {
+    ghost from_gives = { λ refusal e. e ≡ FILE.Write refusal };
+
+    fn from(refusal: Refusal) -> FileRefusal {
+        FileRefusal::Write(refusal)
+    }
 }
 
-fn make_point(s: Session, name: u16) -> Result<ActionMade, u16>
-    ensures { CallDone s (Call.point name) result }
-{
-    let made = s.point(name);
-    call_made(made.answer.number(), made.session)
+// What lines leave: the session, and the names that are lent to texts.
+#[derive(Clone, Copy)]
+struct Filed<'a> {
+    session: Session,
+    names: LentNames<'a>,
 }
 
-fn make_return(s: Session, name: u16) -> Result<ActionMade, u16>
-    ensures { CallDone s (Call.return name) result }
-{
-    let made = s.return_to(name);
-    call_made(made.answer.number(), made.session)
+// What a line leaves, and where the next one starts.
+#[derive(Clone, Copy)]
+struct LineMade<'a> {
+    left: Filed<'a>,
+    next: usize,
 }
 
 fn no_bytes() -> [u8; common::MAX_BYTES]
@@ -90,118 +82,112 @@ fn no_bytes() -> [u8; common::MAX_BYTES]
     [0u8; common::MAX_BYTES]
 }
 
-// The text of the line at `at`, with the names that the line at `names` lends.
-fn make_text(s: Session, script: &[u8], names: usize, at: usize) -> Result<ActionMade, u16>
-    requires { length (names_at script.now names) ≤ max_bytes }
-    ensures { CallDone s (Call.text (names_at script.now names)
-        (rest_at script.now at)) result }
-{
-    let mut list = no_bytes();
-    let size = script::put_names(script::rest_at(script, names), &mut list);
-    let made = s.text(&list[..size], script::rest_at(script, at));
-    call_made(made.answer.number, made.session)
-}
-
-// The line at `at` lends its names, where they are not too many.
-fn lend_names(s: Session, script: &[u8], at: usize) -> Result<ActionMade, u16>
-    ensures { ActionDone s (lending (names_at script.now at)) result }
-{
-    let rest = script::rest_at(script, at);
-    if common::MAX_BYTES < rest.len() {
-        return Err(common::refusal::WRONG_FORM);
+impl<'a> Filed<'a> {
+    fn new() -> Filed<'a>
+        ensures { (result.session ≡ fresh_session) × (result.names.bytes.now ≡ []) }
+    {
+        Filed {
+            session: Session::new(),
+            names: LentNames { bytes: &[] },
+        }
     }
-    Ok(ActionMade {
-        session: s,
-        lends: true,
-    })
-}
 
-// What the line at `at` does, which has this word and these values.
-fn make_word(
-    s: Session,
-    script: &[u8],
-    names: usize,
-    at: usize,
-    word: Word,
-    v: Values,
-) -> Result<ActionMade, u16>
-    requires { length (names_at script.now names) ≤ max_bytes }
-    ensures { ActionDone s (action_of word (counted v) (names_at script.now names)
-        (rest_at script.now at)) result }
-{
-    match word {
-        Word::Term => make_term(s, v),
-        Word::Step => make_step(s, v),
-        Word::Point => make_point(s, v.a),
-        Word::Return => make_return(s, v.a),
-        Word::Names => lend_names(s, script, at),
-        Word::Text => make_text(s, script, names, at),
-        _ => Err(common::refusal::WRONG_FORM),
+    // What a call leaves, where it is accepted.
+    fn called<T: Copy>(self, made: Answered<Result<T, Refusal>>) -> Result<Filed<'a>, Refusal>
+        ensures { result ≡ call_left self.entry made.session made.answer }
+    {
+        match made.answer {
+            Ok(_) => Ok(Filed {
+                session: made.session,
+                ..self
+            }),
+            Err(refusal) => Err(refusal),
+        }
     }
-}
 
-// Where the line that lends the names starts, after the line at `at`.
-fn names_after(lends: bool, names: usize, at: usize) -> usize
-    ensures { result ≡ cond lends at names }
-{
-    if lends { at } else { names }
-}
+    // The line at `at` lends its names, where they are not too many.
+    fn lending(self, script: &'a [u8], at: usize) -> Result<Filed<'a>, Refusal>
+        ensures { ActionDone self.entry (lending (names_at script.now at)) result }
+    {
+        let bytes = script::rest_at(script, at);
+        if common::MAX_BYTES < bytes.len() {
+            return Err(Refusal::WrongForm);
+        }
+        Ok(Filed {
+            names: LentNames { bytes },
+            ..self
+        })
+    }
 
-// What the line at `at` does, and where the next one starts.
-fn make_line(s: Session, script: &[u8], names: usize, at: usize) -> Result<LineMade, u16>
-    requires { (at < length script.now) × (length (names_at script.now names) ≤ max_bytes) }
-    ensures { LineMet s script.now names at result }
-{
-    let Some(read) = script::call_at(script, at) else {
-        return Err(common::refusal::WRONG_FORM);
-    };
-    let made = make_word(s, script, names, at, read.word, read.values)?;
-    Ok(LineMade {
-        session: made.session,
-        names: names_after(made.lends, names, at),
-        next: read.next,
-    })
+    // The text of the line at `at`, with the names that are lent.
+    fn text(self, script: &[u8], at: usize) -> Result<Filed<'a>, Refusal>
+        ensures { ActionDone self.entry (some (makes (Call.text (lent_by self.entry) (rest_at script.now at)))) result }
+    {
+        let mut list = no_bytes();
+        let size = script::put_names(self.names.bytes, &mut list);
+        let made = self
+            .session
+            .text(&list[..size], script::rest_at(script, at));
+        self.called(made)
+    }
+
+    // What the command of the line at `at` does.
+    fn command(self, script: &'a [u8], at: usize, command: Command) -> Result<Filed<'a>, Refusal>
+        ensures { ActionDone self.entry (command_action command (lent_by self.entry) (rest_at script.now at)) result }
+    {
+        let s = self.session;
+        match command {
+            Command::Term(kind, a, b, c) => self.called(s.term(kind, a, b, c)),
+            Command::Step(rule, left, right, first, second) => {
+                self.called(s.step(rule, left, right, first, second))
+            }
+            Command::Point(name) => self.called(s.point(name)),
+            Command::Return(name) => self.called(s.return_to(name)),
+            Command::Names => self.lending(script, at),
+            Command::Text => self.text(script, at),
+            _ => Err(Refusal::WrongForm),
+        }
+    }
+
+    // What the line at `at` does, and where the next one starts.
+    fn line(self, script: &'a [u8], at: usize) -> Result<LineMade<'a>, Refusal>
+        requires { at < length script.now }
+        ensures { LineMet self.entry script.now at result }
+    {
+        let Some(read) = script::call_at(script, at) else {
+            return Err(Refusal::WrongForm);
+        };
+        let next = read.next;
+        let left = self.command(script, at, read.command)?;
+        Ok(LineMade { left, next })
+    }
 }
 
 // The lines' calls, from a fresh session on.
 fn make_lines(script: &[u8]) -> Result<Session, LineRefusal>
     ensures { LinesMet script.now result }
 {
-    let mut s = Session::new();
-    let mut names = script.len();
+    let mut left = Filed::new();
     let mut at = 0;
     let mut line: usize = 0;
     // By place: where the next line starts is known only when this one is read.
     while at < script.len() {
         line += 1;
-        let made = match make_line(s, script, names, at) {
-            Ok(made) => made,
-            Err(number) => return Err(LineRefusal { number, line }),
-        };
-        s = made.session;
-        names = made.names;
+        let made = left
+            .line(script, at)
+            .map_err(|refusal| LineRefusal { refusal, line })?;
+        left = made.left;
         at = made.next;
     }
-    Ok(s)
+    Ok(left.session)
 }
 
-// Makes the calls of the script's lines, and writes the bundle of what they leave into the buffer. The first refused
-// line gives its number, and leaves the buffer.
-pub fn file(script: &[u8], out: &mut [u8]) -> FileAnswer
-    ensures { FileMet script.now out.old (answer result.number result.value)
-        out.new }
+// Makes the calls of the script's lines, and writes the bundle of what they leave into the buffer; it gives the
+// bundle's length. A refused script leaves the buffer.
+pub fn file(script: &[u8], out: &mut [u8]) -> Result<usize, FileRefusal>
+    ensures { FileMet script.now out.old (answer_with (λ n. n) file_refusal_answer result) out.new }
 {
-    match make_lines(script) {
-        Ok(session) => {
-            let answer = session.write(out);
-            FileAnswer {
-                number: answer.number(),
-                value: answer.value(),
-            }
-        }
-        Err(LineRefusal { number, line }) => FileAnswer {
-            number,
-            value: line,
-        },
-    }
+    let session = make_lines(script)?;
+    let length = session.write(out)?;
+    Ok(length)
 }

@@ -1,7 +1,7 @@
 -- What a state has read: its bytes are those of its trees, and the trees are fine. Assumes nothing.
-use Prim.Native.Nat.{ℕ, ◌+◌, ◌-◌, ◌<◌}
+use Prim.Native.Nat.{ℕ, ◌<◌}
 use mathlib.Core.Path.{◌≡◌, refl, sym, ap, ◌∙◌, subst}
-use mathlib.Core.Bool.{Bool, true, false, not, ◌&&◌}
+use mathlib.Core.Bool.{Bool, true, false, ◌&&◌}
 use mathlib.Core.List.{[], ◌∷◌, ◌++◌, append_assoc, append-nil}
 use mathlib.Core.Option.{none, some}
 use lib.Dec.{eqb, ltb, ltb→lt}
@@ -10,10 +10,10 @@ use Rattle.lines.specs.Line.{same_bytes}
 use Rattle.grammar.specs.Bytes.{Bytes, is_space, is_start, is_name, is_quote, every, is_word, nonempty}
 use Rattle.grammar.specs.Bytes.{apart, not_word, true_word, false_word}
 use Rattle.grammar.specs.Words.{is_axis, is_type, instruction_word}
-use Rattle.grammar.specs.Grammar.{Axis, implied, attribute, axis, Test, any, called, kind, target, LocationStep}
-use Rattle.grammar.specs.Grammar.{dot, dots, test, filter, Rel, one, slash, Path, root}
-use Rattle.grammar.specs.Grammar.{Union, union, Unary, paths, group, negation}
-use Rattle.grammar.specs.Grammar.{constant, And, operand, Or, spell_axis, spell_test}
+use Rattle.grammar.specs.Grammar.{Axis, implied, attribute, axis, any, called, kind, target, LocationStep}
+use Rattle.grammar.specs.Grammar.{dot, dots, test, filter, Rel, Path, root}
+use Rattle.grammar.specs.Grammar.{Union, Unary, paths, group, negation}
+use Rattle.grammar.specs.Grammar.{And, Or, spell_axis, spell_test}
 use Rattle.grammar.specs.Grammar.{spell_step, spell_rel, spell_path, spell_union, spell_unary, spell_and}
 use Rattle.grammar.specs.Grammar.{spell_or, spell_bool, Last, word, other, last_test, last_step}
 use Rattle.grammar.specs.Grammar.{last_rel, last_path, last_union, last_unary, last_and, last_or, may_follow}
@@ -473,15 +473,15 @@ path_read c g p w b t h fc fg fl fp fw k =
     ))
     (λ _. union_read c (join_alt g p) w b t (rw (alt_told, append_assoc) h) fc l f fw (rw alt_last k))
 
-enter_list : (x t : Bytes) → x ≡ t → ((x ++ []) ++ []) ++ [] ≡ t
-enter_list x t h = simp append-nil h
-
 enter_read : (t : Bytes) (x : Open) → told_open x ≡ t → FineOpen x → Read t (some (enter x))
 unfolding told before told_ctx told_alt told_pend told_left told_lead told_prefix every
-enter_read t x h f = (enter_list (told_open x) t h, (((f, tt), tt, tt), tt, refl))
+enter_read t x h f = (simp append-nil h, (((f, tt), tt, tt), tt, refl))
 
 room_of_lem : (d : ℕ) → ltb 0 d ≡ true → 0 < d
 room_of_lem d h = ltb→lt 0 d (so (ltb 0 d) h)
+
+operand_list : (x p w t : Bytes) → ((x ++ p) ++ []) ++ w ≡ t → x ++ (p ++ w) ≡ t
+operand_list x p w t h = simp (append_assoc, append-nil) at h
 
 group_read : (c : Ctx) (g : Alt) (w : Bytes) (b : ℕ) (t : Bytes) → before c g begin ++ (w ++ (b ∷ [])) ≡ t → FineCtx c
     → Clr c g begin (w ++ (b ∷ [])) → Spaces w → Read t (group_byte c g w b)
@@ -495,9 +495,6 @@ group_read (inside x p) first w b t h fc fl fw =
     (rw (eq_byte b 40 u.0) at (operand_list (told_open x) (told_pend p) (w ++ (b ∷ [])) t h))
     (fc.0, fc.1, rw (eq_byte b 40 u.0) at fl, fw, room_of_lem (room_of x) u.1))
     (λ _. tt)
-  where
-    operand_list : (x p w t : Bytes) → ((x ++ p) ++ []) ++ w ≡ t → x ++ (p ++ w) ≡ t
-    operand_list x p w t h = simp (append_assoc, append-nil) at h
 
 less_apart : (t s : Bytes) → nonempty t ≡ true → apart (t ++ s) ≡ true → apart t ≡ true
 unfolding apart nonempty
@@ -581,9 +578,6 @@ may_more (test a (called v n)) w b = full w b
 may_more (test a (kind v n u z)) w b = refl
 may_more (test a (target v n u q m z)) w b = refl
 may_more (filter s v e u) w b = refl
-
-operand_list : (x p w t : Bytes) → ((x ++ p) ++ []) ++ w ≡ t → x ++ (p ++ w) ≡ t
-operand_list x p w t h = simp (append_assoc, append-nil) at h
 
 -- `(` after a name that begins an operand
 call_read : (c : Ctx) (g : Alt) (l : Lead) (a : Axis) (w n v t : Bytes)
@@ -733,21 +727,6 @@ word_read x p u w k_or b t h f =
     (rw i) refl)
 
 -- what stands before a step that `/` or `//` leads
-any_list : (c g w : Bytes) → (c ++ (g ++ (w ++ (47 ∷ 47 ∷ [])))) ++ []
-    ≡ ((c ++ (g ++ [])) ++ (w ++ (47 ∷ []))) ++ (47 ∷ [])
-any_list c g w = simp (append_assoc, append-nil)
-
-root_lead : (c g w b : Bytes) → (c ++ (g ++ (w ++ (47 ∷ [])))) ++ b ≡ ((c ++ (g ++ [])) ++ (w ++ (47 ∷ []))) ++ b
-root_lead c g w b = simp (append_assoc, append-nil)
-
-two_list : (c g p r w : Bytes) → (c ++ (g ++ (p ++ (r ++ (w ++ (47 ∷ 47 ∷ [])))))) ++ []
-    ≡ ((c ++ (g ++ p)) ++ (r ++ (w ++ (47 ∷ [])))) ++ (47 ∷ [])
-two_list c g p r w = simp (append_assoc, append-nil)
-
-one_list : (c g p r w b : Bytes) → (c ++ (g ++ (p ++ (r ++ (w ++ (47 ∷ [])))))) ++ b
-    ≡ ((c ++ (g ++ p)) ++ (r ++ (w ++ (47 ∷ [])))) ++ b
-one_list c g p r w b = simp append_assoc
-
 root_clear : (c : Ctx) (g w b : Bytes) → ClearCtx c ((g ++ []) ++ (w ++ (47 ∷ [])))
     → ClearCtx c ((g ++ (w ++ (47 ∷ []))) ++ b)
 root_clear c g w b h = more_ctx c (g ++ (w ++ (47 ∷ []))) b (rw append-nil at h)
@@ -771,25 +750,9 @@ colon_clear c g l w n v h =
     simp (append_assoc, append-nil) in
     subst (λ (t : Bytes). Clr c g l t) e (more_clr c g l (w ++ n) (v ++ (58 ∷ 58 ∷ [])) h)
 
-colon_list : (k w n v : Bytes) → k ++ ((w ++ (n ++ (v ++ (58 ∷ 58 ∷ [])))) ++ [])
-    ≡ (k ++ (w ++ (n ++ (v ++ (58 ∷ []))))) ++ (58 ∷ [])
-colon_list k w n v = simp (append_assoc, append-nil)
-
-dots_list : (k w : Bytes) → k ++ ((w ++ (46 ∷ 46 ∷ [])) ++ []) ≡ (k ++ (w ++ (46 ∷ []))) ++ (46 ∷ [])
-dots_list k w = simp (append_assoc, append-nil)
-
-dot_list : (k w b : Bytes) → k ++ ((w ++ (46 ∷ [])) ++ b) ≡ (k ++ (w ++ (46 ∷ []))) ++ b
-dot_list k w b = simp append_assoc
-
 clr_dots : (c : Ctx) (g : Alt) (l : Lead) (w : Bytes) → Clr c g l (w ++ (46 ∷ [])) → Clr c g l (w ++ (46 ∷ 46 ∷ []))
 clr_dots c g l w h = subst (λ (t : Bytes). Clr c g l t) (append_assoc w (46 ∷ []) (46 ∷ []))
     (more_clr c g l (w ++ (46 ∷ [])) (46 ∷ []) h)
-
-name_list : (k a w n b : Bytes) → k ++ (a ++ (w ++ (n ++ b))) ≡ (k ++ (a ++ (w ++ n))) ++ b
-name_list k a w n b = simp append_assoc
-
-called_list : (k a w n b : Bytes) → k ++ ((a ++ (w ++ n)) ++ b) ≡ (k ++ (a ++ (w ++ n))) ++ b
-called_list k a w n b = simp append_assoc
 
 clr_name : (c : Ctx) (g : Alt) (l : Lead) (a w n b : Bytes) → Clr c g l (a ++ (w ++ n))
     → Clr c g l (a ++ (w ++ (n ++ b)))
@@ -800,52 +763,8 @@ clr_name c g l a w n b h =
 clr_test : (c : Ctx) (g : Alt) (l : Lead) (a w b : Bytes) → Clr c g l (a ++ w) → Clr c g l (a ++ (w ++ b))
 clr_test c g l a w b h = subst (λ (t : Bytes). Clr c g l t) (append_assoc a w b) (more_clr c g l (a ++ w) b h)
 
-test_list : (k a w b : Bytes) → k ++ (a ++ (w ++ b)) ≡ (k ++ (a ++ w)) ++ b
-test_list k a w b = simp append_assoc
-
-any_test : (k a w b : Bytes) → k ++ ((a ++ (w ++ b)) ++ []) ≡ (k ++ (a ++ w)) ++ b
-any_test k a w b = simp (append_assoc, append-nil)
-
-type_list : (k a w n v u b : Bytes) → k ++ (a ++ (w ++ (n ++ (v ++ (40 ∷ (u ++ b))))))
-    ≡ (k ++ (a ++ (w ++ (n ++ (v ++ (40 ∷ u)))))) ++ b
-type_list k a w n v u b = simp append_assoc
-
-kind_list : (k a w n v u b : Bytes) → k ++ ((a ++ (w ++ (n ++ (v ++ (40 ∷ (u ++ b)))))) ++ [])
-    ≡ (k ++ (a ++ (w ++ (n ++ (v ++ (40 ∷ u)))))) ++ b
-kind_list k a w n v u b = simp (append_assoc, append-nil)
-
-quote_list : (k a w n v u b : Bytes) → k ++ (a ++ (w ++ (n ++ (v ++ (40 ∷ (u ++ b))))))
-    ≡ (k ++ (a ++ (w ++ (n ++ (v ++ (40 ∷ u)))))) ++ b
-quote_list k a w n v u b = simp append_assoc
-
-quoted_list : (k a w n v u : Bytes) (q : ℕ) (m b : Bytes)
-    → k ++ (a ++ (w ++ (n ++ (v ++ (40 ∷ (u ++ (q ∷ (m ++ b))))))))
-    ≡ (k ++ (a ++ (w ++ (n ++ (v ++ (40 ∷ (u ++ (q ∷ m)))))))) ++ b
-quoted_list k a w n v u q m b = simp append_assoc
-
-unquoted_list : (k a w n v u : Bytes) (q : ℕ) (m y b : Bytes)
-    → k ++ (a ++ (w ++ (n ++ (v ++ (40 ∷ (u ++ (q ∷ (m ++ (q ∷ (y ++ b))))))))))
-    ≡ (k ++ (a ++ (w ++ (n ++ (v ++ (40 ∷ (u ++ (q ∷ (m ++ (q ∷ y)))))))))) ++ b
-unquoted_list k a w n v u q m y b = simp append_assoc
-
-target_list : (k a w n v u : Bytes) (q : ℕ) (m y b : Bytes)
-    → k ++ ((a ++ (w ++ (n ++ (v ++ (40 ∷ (u ++ (q ∷ (m ++ (q ∷ (y ++ b)))))))))) ++ [])
-    ≡ (k ++ (a ++ (w ++ (n ++ (v ++ (40 ∷ (u ++ (q ∷ (m ++ (q ∷ y)))))))))) ++ b
-target_list k a w n v u q m y b = simp (append_assoc, append-nil)
-
-const_list : (x p w n v u b : Bytes) → x ++ (p ++ (w ++ (n ++ (v ++ (40 ∷ (u ++ b))))))
-    ≡ (x ++ (p ++ (w ++ (n ++ (v ++ (40 ∷ u)))))) ++ b
-const_list x p w n v u b = simp append_assoc
-
-constant_list : (x p w n v u b : Bytes) → x ++ (p ++ ((w ++ (n ++ (v ++ (40 ∷ (u ++ b))))) ++ []))
-    ≡ (x ++ (p ++ (w ++ (n ++ (v ++ (40 ∷ u)))))) ++ b
-constant_list x p w n v u b = simp (append_assoc, append-nil)
-
 constant_clear : (p : Pend) (w n t : Bytes) → ClearPend p (w ++ n) → ClearPend p (w ++ (n ++ t))
 constant_clear p w n t h = subst (λ (t : Bytes). ClearPend p t) (append_assoc w n t) (more_pend p (w ++ n) t h)
-
-closed_list : (x p u w b : Bytes) → x ++ (p ++ (u ++ (w ++ b))) ≡ (x ++ (p ++ (u ++ w))) ++ b
-closed_list x p u w b = simp append_assoc
 
 one_word : (b : ℕ) → is_start b ≡ true → is_word (b ∷ []) ≡ true
 unfolding is_word every
@@ -865,15 +784,15 @@ step_read (need c g l w) b f =
 step_read (root1 c g w) b f =
     branch (Read _) (eqb b 47) _ _
     (λ i. (
-      rw (eq_byte b 47 i) (any_list (told_ctx c) (told_alt g) w),
+      rw (eq_byte b 47 i) (simp (append_assoc, append-nil)),
       ((f.0.0, f.0.1, f.2), any_clear c (told_alt g) w f.1, refl),
     ))
-    (λ _. need_read c g (start (at_root w)) [] b _ (root_lead (told_ctx c) (told_alt g) w (b ∷ []))
+    (λ _. need_read c g (start (at_root w)) [] b _ (simp (append_assoc, append-nil))
     (f.0.0, f.0.1, f.2) (root_clear c (told_alt g) w (b ∷ []) f.1) refl)
 step_read (slash1 c g x r w) b f =
     branch (Read _) (eqb b 47) _ _
     (λ i. (
-      rw (eq_byte b 47 i) (two_list (told_ctx c) (told_alt g) (told_prefix x) (spell_rel r) w),
+      rw (eq_byte b 47 i) (simp (append_assoc, append-nil)),
       (
         (f.0.0, f.0.1, (f.0.2, f.2, f.3)),
         steps_clear c (told_alt g) (told_prefix x) (spell_rel r) (w ++ (47 ∷ 47 ∷ [])) [] f.1,
@@ -881,86 +800,86 @@ step_read (slash1 c g x r w) b f =
       ),
     ))
     (λ _. need_read c g (after1 x r w) [] b _
-    (one_list (told_ctx c) (told_alt g) (told_prefix x) (spell_rel r) w (b ∷ []))
+    (simp append_assoc)
     (f.0.0, f.0.1, (f.0.2, f.2, f.3))
     (steps_clear c (told_alt g) (told_prefix x) (spell_rel r) (w ++ (47 ∷ [])) (b ∷ []) f.1) refl)
 step_read (dot1 c g l w) b f =
     branch (Read _) (eqb b 46) _ _
-    (λ i. (rw (eq_byte b 46 i) (dots_list (before c g l) w), (f.0, clr_dots c g l w f.1, f.2, refl, refl)))
-    (λ _. after_read c g l (dot w) [] b _ (dot_list (before c g l) w (b ∷ [])) f.0 f.1 f.2 refl
+    (λ i. (rw (eq_byte b 46 i) (simp (append_assoc, append-nil)), (f.0, clr_dots c g l w f.1, f.2, refl, refl)))
+    (λ _. after_read c g l (dot w) [] b _ (simp append_assoc) f.0 f.1 f.2 refl
     (gap_may other [] b refl))
 step_read (name c g l a w n) b f =
     branch (Read _) (is_name b) _ _
     (λ i. (
-      name_list (before c g l) (spell_axis a) w n (b ∷ []),
+      simp append_assoc,
       (f.0, clr_name c g l (spell_axis a) w n (b ∷ []) f.1, f.2, f.3, word_snoc n b f.4 i),
     ))
-    (λ i. after_read c g l (test a (called w n)) [] b _ (called_list (before c g l) (spell_axis a) w n (b ∷ [])) f.0
+    (λ i. after_read c g l (test a (called w n)) [] b _ (simp append_assoc) f.0
     f.1 (f.2, (f.3, f.4)) refl (gap_name word [] b i))
 step_read (colon c g l w n v) b f =
     branch (Read _) (eqb b 58) _ _
     (λ i. (
-      rw (eq_byte b 58 i) (colon_list (before c g l) w n v),
+      rw (eq_byte b 58 i) (simp (append_assoc, append-nil)),
       (f.0, colon_clear c g l w n v f.1, (f.2, f.3, f.4), refl),
     )) (λ _. tt)
 step_read (testing c g l a w) b f =
     branch (Read _) (is_start b) _ _
     (λ i. (
-      test_list (before c g l) (spell_axis a) w (b ∷ []),
+      simp append_assoc,
       (f.0, clr_test c g l (spell_axis a) w (b ∷ []) f.1, f.2, f.3, one_word b i),
     ))
     (λ _. branch (Read _) (is_space b) _ _
     (λ i. (
-      test_list (before c g l) (spell_axis a) w (b ∷ []),
+      simp append_assoc,
       (f.0, clr_test c g l (spell_axis a) w (b ∷ []) f.1, f.2, snoc is_space w b f.3 i),
     ))
     (λ _. branch (Read _) (eqb b 42) _ _
     (λ i. (
-      rw (eq_byte b 42 i) (any_test (before c g l) (spell_axis a) w (42 ∷ [])),
+      rw (eq_byte b 42 i) (simp (append_assoc, append-nil)),
       (f.0, clr_test c g l (spell_axis a) w (42 ∷ []) f.1, (f.2, f.3), refl, refl),
     )) (λ _. tt)))
 step_read (type_open c g l a w n v u) b f =
     branch (Read _) (is_space b) _ _
     (λ i. (
-      type_list (before c g l) (spell_axis a) w n v u (b ∷ []),
+      simp append_assoc,
       (f.0, f.1, f.2, f.3, f.4, f.5, snoc is_space u b f.6 i),
     ))
     (λ _. branch (Read _) (eqb b 41) _ _
     (λ i. (
-      rw (eq_byte b 41 i) (kind_list (before c g l) (spell_axis a) w n v u (41 ∷ [])),
+      rw (eq_byte b 41 i) (simp (append_assoc, append-nil)),
       (f.0, clr_name c g l (spell_axis a) w n _ f.1, (f.2, (f.3, f.4, f.5, f.6)), refl, refl),
     ))
     (λ _. branch (Read _) (is_quote b && same_bytes n instruction_word) _ _
     (λ i. let z = and_out (is_quote b) (same_bytes n instruction_word) i in (
-      rw (← same_bytes_lem n instruction_word z.1) (quote_list (before c g l) (spell_axis a) w n v u (b ∷ [])),
+      rw (← same_bytes_lem n instruction_word z.1) (simp append_assoc),
       (f.0, rw (same_bytes_lem n instruction_word z.1) at f.1, f.2, f.3, f.5, f.6, z.0),
     )) (λ _. tt)))
 step_read (quote c g l a w v u q) b f =
     branch (Read _) (is_start b) _ _
     (λ i. (
-      quoted_list (before c g l) (spell_axis a) w instruction_word v u q [] (b ∷ []),
+      simp append_assoc,
       (f.0, f.1, f.2, f.3, f.4, f.5, f.6, one_word b i),
     )) (λ _. tt)
 step_read (quoted c g l a w v u q m) b f =
     branch (Read _) (is_name b) _ _
     (λ i. (
-      quoted_list (before c g l) (spell_axis a) w instruction_word v u q m (b ∷ []),
+      simp append_assoc,
       (f.0, f.1, f.2, f.3, f.4, f.5, f.6, word_snoc m b f.7 i),
     ))
     (λ _. branch (Read _) (eqb b q) _ _
     (λ i. (
-      rw (eq_byte b q i) (quoted_list (before c g l) (spell_axis a) w instruction_word v u q m (q ∷ [])),
+      rw (eq_byte b q i) (simp append_assoc),
       (f.0, f.1, f.2, f.3, f.4, f.5, f.6, f.7, refl),
     )) (λ _. tt))
 step_read (unquoted c g l a w v u q m y) b f =
     branch (Read _) (is_space b) _ _
     (λ i. (
-      unquoted_list (before c g l) (spell_axis a) w instruction_word v u q m y (b ∷ []),
+      simp append_assoc,
       (f.0, f.1, f.2, f.3, f.4, f.5, f.6, f.7, snoc is_space y b f.8 i),
     ))
     (λ _. branch (Read _) (eqb b 41) _ _
     (λ i. (
-      rw (eq_byte b 41 i) (target_list (before c g l) (spell_axis a) w instruction_word v u q m y (41 ∷ [])),
+      rw (eq_byte b 41 i) (simp (append_assoc, append-nil)),
       (
         f.0,
         clr_name c g l (spell_axis a) w instruction_word _ f.1,
@@ -974,20 +893,20 @@ step_read (after c g l s w) b f =
 step_read (const_open x p k w v u) b f =
     branch (Read _) (is_space b) _ _
     (λ i. (
-      const_list (told_open x) (told_pend p) w (spell_bool k) v u (b ∷ []),
+      simp append_assoc,
       (f.0, f.1, f.2, f.3, f.4, snoc is_space u b f.5 i),
     ))
     (λ _. branch (Read _) (eqb b 41) _ _
     (λ i. (
-      rw (eq_byte b 41 i) (constant_list (told_open x) (told_pend p) w (spell_bool k) v u (41 ∷ [])),
+      rw (eq_byte b 41 i) (simp (append_assoc, append-nil)),
       (f.0, f.1, constant_clear p w (spell_bool k) _ f.2, (f.3, f.4, f.5), refl, refl),
     )) (λ _. tt))
 step_read (closed x p u w) b f =
     branch (Read _) (is_space b) _ _
     (λ i. (
-      closed_list (told_open x) (told_pend p) (spell_unary u) w (b ∷ []),
+      simp append_assoc,
       (f.0, f.1, f.2, f.3, snoc is_space w b f.4 i, f.5),
     ))
-    (λ _. unary_read x p u w b _ (closed_list (told_open x) (told_pend p) (spell_unary u) w (b ∷ [])) f.0 f.1
+    (λ _. unary_read x p u w b _ (simp append_assoc) f.0 f.1
     f.2 f.3 f.4 (gap_may (last_unary u) w b (may_other (last_unary u) w f.5)))
 step_read (keyword x p u w k) b f = word_read x p u w k b _ (simp append_assoc) f

@@ -1,6 +1,6 @@
 -- A text of the grammar is read to its end. Assumes nothing.
-use Prim.Native.Nat.{ℕ, ◌+◌, ◌-◌, ◌<◌}
-use mathlib.Core.Path.{◌≡◌, refl, sym, ap, ◌∙◌}
+use Prim.Native.Nat.{ℕ, ◌<◌}
+use mathlib.Core.Path.{◌≡◌, refl, sym, ◌∙◌}
 use mathlib.Core.Bool.{Bool, true, false, not, ◌&&◌, ◌||◌}
 use mathlib.Core.List.{List, [], ◌∷◌, ◌++◌, append_assoc, append-nil}
 use mathlib.Core.Option.{Option, none, some}
@@ -16,13 +16,13 @@ use Rattle.grammar.specs.Grammar.{dot, dots, test, filter, Rel, one, slash, slas
 use Rattle.grammar.specs.Grammar.{rooted, anywhere, Union, single, union, Unary, paths, group, negation}
 use Rattle.grammar.specs.Grammar.{constant, And, operand, conj, Or, alone, disj, spell_axis, spell_test}
 use Rattle.grammar.specs.Grammar.{spell_step, spell_rel, spell_path, spell_union, spell_unary, spell_and}
-use Rattle.grammar.specs.Grammar.{spell_or, spell_bool, Last, word, last_test, last_step}
+use Rattle.grammar.specs.Grammar.{spell_or, spell_bool, Last, last_test, last_step}
 use Rattle.grammar.specs.Grammar.{last_rel, last_path, last_union, last_unary, last_and, last_or, may_follow}
 use Rattle.grammar.specs.Grammar.{takes_predicate, Spaces, FineAxis, FineTest, FineStep, FineRel, FinePath}
 use Rattle.grammar.specs.Grammar.{FineUnion, FineUnary, FineAnd, FineOr}
-use Rattle.grammar.specs.code.Reader.{State, Next, need, root1, slash1, dot1, name, colon, testing, type_open}
-use Rattle.grammar.specs.code.Reader.{quote, quoted, unquoted, after, const_open, closed, keyword, k_a}
-use Rattle.grammar.specs.code.Reader.{k_an, k_and, k_o, k_or, Ctx, inside, Open, bracket, negate, grouped}
+use Rattle.grammar.specs.code.Reader.{State, Next, need, root1, slash1, dot1, name, testing, type_open}
+use Rattle.grammar.specs.code.Reader.{quote, quoted, unquoted, after, const_open, closed, keyword}
+use Rattle.grammar.specs.code.Reader.{k_and, k_or, Ctx, inside, Open, bracket, negate, grouped}
 use Rattle.grammar.specs.code.Reader.{Prefix, bare, at_root, at_any, Lead, start, after1, after2, Alt, first}
 use Rattle.grammar.specs.code.Reader.{more, Left, nothing, either, Pend, plain, both, prefix_of, join}
 use Rattle.grammar.specs.code.Reader.{with_prefix, join_alt, wrap, left_of, and_to, or_to, room, room_of}
@@ -493,10 +493,6 @@ unfolding is_some next
 some_next none h = h
 some_next (some i) h = refl
 
-axis_list : (w n v t : Bytes) (st : State) (y : Next) → walk (w ++ (n ++ (v ++ (58 ∷ 58 ∷ t)))) st ≡ y
-    → walk ((w ++ (n ++ (v ++ (58 ∷ 58 ∷ [])))) ++ t) st ≡ y
-axis_list w n v t st y h = simp append_assoc h
-
 found_word : (n : Bytes) (ms : List Bytes) → all_words ms ≡ true → is_some (find n ms) ≡ true → is_word n ≡ true
 unfolding all_words find is_some
 found_word n [] h e = absurd (never e)
@@ -582,8 +578,7 @@ module _ (c : Ctx) (g : Alt) (l : Lead) where
   read_axis (attribute w) t h i =
       rw append_assoc (need_spaces c g l w (64 ∷ spell_test t) h ∙ testing_test (attribute w) t i)
   read_axis (axis w n v) t h i =
-      axis_list w n v (spell_test t) (need c g l []) _
-      (need_name c g l w n (v ++ (58 ∷ 58 ∷ spell_test t)) h.0 (axis_word n h.1)
+      simp append_assoc (need_name c g l w n (v ++ (58 ∷ 58 ∷ spell_test t)) h.0 (axis_word n h.1)
       ∙ step_then c g l (test implied (called w n)) v 58 (58 ∷ spell_test t) _ h.2 refl
       (rw h.1 (testing_test (axis w n v) t i)))
 

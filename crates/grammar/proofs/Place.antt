@@ -2,17 +2,16 @@
 -- Assumes nothing.
 use Prim.Native.Nat.{ℕ, suc, ◌+◌, ◌-◌, ◌<◌, ◌≤◌}
 use mathlib.Core.Path.{◌≡◌, refl, sym, ap, ◌∙◌, subst}
-use mathlib.Core.Bool.{true, not}
+use mathlib.Core.Bool.{true}
 use mathlib.Core.List.{[], ◌∷◌, ◌++◌, append_assoc, append-nil}
 use mathlib.Core.Option.{Option, none, some}
 use native.Mathlib.Omega.{arith}
 use Rattle.grammar.specs.Bytes.{Bytes, is_space, is_start, is_name, is_quote, every}
-use Rattle.grammar.specs.Grammar.{Axis, implied, axis, Test, any, called, kind, target, LocationStep}
+use Rattle.grammar.specs.Grammar.{Axis, implied, axis, any, called, kind, target, LocationStep}
 use Rattle.grammar.specs.Grammar.{dot, dots, test, filter, Rel, one, slash, slashes, Path, relative, root}
 use Rattle.grammar.specs.Grammar.{rooted, anywhere, Union, single, union, Unary, paths, group, negation}
-use Rattle.grammar.specs.Grammar.{constant, And, Or, spell_axis, spell_test}
+use Rattle.grammar.specs.Grammar.{constant, Or, spell_axis, spell_test}
 use Rattle.grammar.specs.Grammar.{spell_step, spell_path, spell_union}
-use Rattle.grammar.specs.Grammar.{word}
 use Rattle.grammar.specs.Grammar.{Spaces, FineStep, FinePath}
 use Rattle.grammar.specs.Grammar.{Spells, Viable, Outside}
 use Rattle.grammar.specs.code.Reader.{State, Next, need, root1, slash1, dot1, name, colon, testing, type_open}

@@ -1,6 +1,6 @@
 -- T-06's grammar: XPath 1.0 cut down. A constructor is a production; a tree keeps the whitespace before each of its
 -- tokens, so `spell..` is the very text. Bytes are w whitespace, n a name. Assumes nothing.
-use Rattle.std.specs.Prelude.{ℕ, suc, ◌<◌, ◌≤◌, ◌-◌, ◌+◌, ◌≡◌, Bool, true, false, not, [], ◌∷◌, ◌++◌, length, take}
+use Rattle.std.specs.Prelude.{ℕ, suc, ◌<◌, ◌≤◌, ◌-◌, ◌≡◌, Bool, true, false, [], ◌∷◌, ◌++◌, length, take}
 use Rattle.grammar.specs.Bytes.{Bytes, is_space, is_quote, every, is_word, nonempty, apart, not_word}
 use Rattle.grammar.specs.Bytes.{true_word, false_word}
 use Rattle.grammar.specs.Bytes.{open_byte, close_byte, star_byte, dot_byte, slash_byte, colon_byte, at_byte}

@@ -8,8 +8,13 @@ use native.Mathlib.Omega.{arith}
 use lib.Dec.{eqb, eqb_refl}
 use lib.ListN.{length, get_or, drop, length-drop, length-append}
 use lib.Seq.{drop-cons}
-use Rattle.std.specs.Prelude.{Option as Maybe, Some, None, Result, Ok, Err}
+use Rattle.std.specs.Prelude.{Option as Maybe, Some, None, unwrap_or, Result, Ok, Err}
 use Rattle.common.specs.NodeTests.{node_test}
+use Rattle.common.specs.code.Numbers.{axis_number, test_number}
+use Rattle.common.specs.declared.axis.Axis.{Axis as CodeAxis}
+use Rattle.common.specs.declared.axis.Axis.TheVariants as Axes
+use Rattle.common.specs.declared.node_test.NodeTest.{NodeTest}
+use Rattle.common.specs.declared.node_test.NodeTest.TheVariants as Tests
 use Rattle.xpath.specs.Term as term
 use Rattle.lines.specs.Ascii.{ascii}
 use Rattle.lines.specs.Line.{same_bytes}
@@ -28,11 +33,14 @@ use Rattle.lines.proofs.SameBytes.{same_bytes_lem}
 use Rattle.grammar.proofs.Basics.{never, is_true, and_out, and_in, start_name, space_name}
 use Rattle.grammar.proofs.Forward.{quote_cases}
 use Rattle.heads.specs.declared.Head.{Head}
+use Rattle.heads.specs.declared.StepName.{StepName}
+use Rattle.heads.specs.declared.StepName.TheVariants as Naming
 use Rattle.heads.specs.declared.Opens.{Opens}
 use Rattle.heads.specs.declared.Opens.TheVariants as Opening
 use Rattle.words.specs.code.Names.{pick_from, given}
 use Rattle.words.specs.code.Scan.{byte_at, Passed, begins_step}
-use Rattle.heads.specs.code.Head.{part, plain_head, named_head, place_of, Between, NameAt, callable, is_implied}
+use Rattle.heads.specs.code.Head.{name_number, name_place, name_by, place_of, Between, NameAt, callable}
+use Rattle.heads.specs.code.Head.{part, plain_head, named_head, is_implied}
 use Rattle.heads.specs.code.Head.{opens_call, NoCall, Begins, Stuck, TestMet}
 use Rattle.heads.specs.code.Head.{TypeMet, TargetMet, HeadMet, DotMet, CallAt}
 use Rattle.heads.specs.code.Head.{OperandMet, opened_by, proceed}
@@ -83,7 +91,7 @@ module _ (s : Bytes) (at : ℕ) (b : byte_at s at ≡ 46) where
   dot_first c g l w = on_pass s at (need c g l w) (dot1 c g l w) dot_there (rw b refl)
 
   pub dot_two : (to : ℕ) → byte_at s (at + 1) ≡ 46 → Passed is_space s (at + 1 + 1) to
-      → DotMet s at (plain_head to 2 2 false)
+      → DotMet s at (plain_head to Axes.Parent Tests.Node false)
   unfolding step step_of step_names unlisted paren_byte_next colon_byte_next takes_predicate spell_step
   dot_two to e q =
       record {
@@ -105,7 +113,7 @@ module _ (s : Bytes) (at : ℕ) (b : byte_at s at ≡ 46) where
       }
 
   pub dot_one : (to : ℕ) → (byte_at s (at + 1) ≡ 46 → ⊥) → Passed is_space s (at + 1) to
-      → DotMet s at (plain_head to 0 2 false)
+      → DotMet s at (plain_head to Axes.Itself Tests.Node false)
   unfolding step step_of step_names unlisted paren_byte_next colon_byte_next takes_predicate spell_step
   dot_one to e q =
       record {
@@ -127,9 +135,9 @@ module _ (s : Bytes) (at : ℕ) (b : byte_at s at ≡ 46) where
       }
 
 -- named_head, by the number that the list gives to the name
-module _ (i a t p : ℕ) where
+module _ (i : ℕ) (a : CodeAxis) (t : NodeTest) (p : ℕ) where
   pub named_some : (n k : ℕ) → Some k ≡ given n
-      → ◌≡◌ {A = Head} (record { at = i; axis = a; test = t; name = k; filters = true; unlisted = None })
+      → ◌≡◌ {A = Head} (record { at = i; axis = a; test = t; name = Naming.Listed k; filters = true })
       (named_head i a t n p)
   named_some zero k e = absurd (apart e)
     where
@@ -141,7 +149,7 @@ module _ (i a t p : ℕ) where
       rw (q, z) refl
 
   pub named_none : (n : ℕ) → None ≡ given n
-      → ◌≡◌ {A = Head} (record { at = i; axis = a; test = t; name = 0; filters = true; unlisted = Some p })
+      → ◌≡◌ {A = Head} (record { at = i; axis = a; test = t; name = Naming.Unlisted p; filters = true })
       (named_head i a t n p)
   named_none zero e = refl
   named_none (suc n) e = absurd (apart e)
@@ -154,7 +162,7 @@ pub quote_there : (s : Bytes) (at : ℕ) → is_quote (byte_at s at) ≡ true �
 unfolding is_quote
 quote_there s at h = there is_quote s at refl h
 
-module _ (s list : Bytes) (at ax : ℕ) (k : is_quote (byte_at s at) ≡ true) where
+module _ (s list : Bytes) (at : ℕ) (ax : CodeAxis) (k : is_quote (byte_at s at) ≡ true) where
   pub target_none : is_start (byte_at s (at + 1)) ≡ false → TargetMet s list at ax (Err (at + 1))
   unfolding step finish
   target_none h =
@@ -217,7 +225,7 @@ module _ (s list : Bytes) (at ax : ℕ) (k : is_quote (byte_at s at) ≡ true) w
           }
 
       pub target_read : (to : ℕ) → byte_at s close ≡ 41 → Passed is_space s (close + 1) to
-          → TargetMet s list at ax (Ok (named_head to ax 6 (number_of list (part s (at + 1) end)) (at + 1)))
+          → TargetMet s list at ax (Ok (named_head to ax Tests.Target (number_of list (part s (at + 1) end)) (at + 1)))
       unfolding step
       target_read to f y =
           record {
@@ -234,9 +242,7 @@ module _ (s list : Bytes) (at ax : ℕ) (k : is_quote (byte_at s at) ≡ true) w
                   ∙ after_over s (close + 1) to y c g l
                   (test a (target w v u (byte_at s at) (word_of s (at + 1) end h q) z.bytes));
               test = refl;
-              name = ap (number_of list) (word_part s (at + 1) end h q);
-              place = ap (λ (m : Bytes). cond (eqb (number_of list m) 0) (Some (at + 1)) None)
-                  (word_part s (at + 1) end h q);
+              name = ap (λ (m : Bytes). name_by (number_of list m) (at + 1)) (word_part s (at + 1) end h q);
               takes = refl;
               size = omega (
                 arith,
@@ -313,11 +319,21 @@ instruction_code : type_code instruction_word ≡ 5
 unfolding instruction_word types find same_bytes next or_zero
 instruction_code = refl
 
-not_instruction : (n : Bytes) (t : ℕ) → t ≡ type_code n → (t ≡ 5 → ⊥) → same_bytes n instruction_word ≡ false
+instruction : (t : NodeTest) → test_number t ≡ 5 → t ≡ Tests.Instruction
+instruction Tests.Name e = absurd (omega (arith, e))
+instruction Tests.Star e = absurd (omega (arith, e))
+instruction Tests.Node e = absurd (omega (arith, e))
+instruction Tests.Text e = absurd (omega (arith, e))
+instruction Tests.Comment e = absurd (omega (arith, e))
+instruction Tests.Instruction e = refl
+instruction Tests.Target e = absurd (omega (arith, e))
+
+not_instruction : (n : Bytes) (t : NodeTest) → test_number t ≡ type_code n → (t ≡ Tests.Instruction → ⊥)
+    → same_bytes n instruction_word ≡ false
 not_instruction n t e f = go (same_bytes n instruction_word) refl
   where
     go : (b : Bool) → same_bytes n instruction_word ≡ b → same_bytes n instruction_word ≡ false
-    go true h = absurd (f (e ∙ ap type_code (same_bytes_lem n instruction_word h) ∙ instruction_code))
+    go true h = absurd (f (instruction t (e ∙ ap type_code (same_bytes_lem n instruction_word h) ∙ instruction_code)))
     go false h = h
 
 -- a type of code 5 is `processing-instruction`
@@ -333,16 +349,21 @@ is_instruction n h e = go _ _ _ _ refl refl refl refl
     go false false true false i j k l = absurd (omega (arith, rw (i, j, k) at e))
     go false false false false i j k l = no (rw (i, j, k, l) at h)
 
--- the place of a name is told where it isn't listed
-one_name : (k p q : ℕ) → p ≡ q → cond (eqb k 0) (some p) none ≡ place_of (cond (eqb k 0) (Some q) None)
+-- the place of a name is told where it isn't listed, and its number where it is
+one_name : (k p q : ℕ) → p ≡ q → cond (eqb k 0) (some p) none ≡ place_of (name_place (name_by k q))
 one_name k p q e = go (eqb k 0)
   where
-    go : (b : Bool) → cond b (some p) none ≡ place_of (cond b (Some q) None)
+    go : (b : Bool) → cond b (some p) none ≡ place_of (name_place (cond b (Naming.Unlisted q) (Naming.Listed k)))
     go true = ap some e
     go false = refl
 
+number_by : (k p : ℕ) → name_number (name_by k p) ≡ k
+number_by zero p = refl
+number_by (suc k) p =
+    let e : eqb (suc k) 0 ≡ false = differs (suc k) 0 (λ x. omega (arith, x)) in rw e refl
+
 -- after a node type and `(`
-module _ (s list : Bytes) (at ax t inner : ℕ) (q : Passed is_space s at inner) where
+module _ (s list : Bytes) (at : ℕ) (ax : CodeAxis) (t : NodeTest) (inner : ℕ) (q : Passed is_space s at inner) where
   pub type_close : (to : ℕ) → byte_at s inner ≡ 41 → Passed is_space s (inner + 1) to
       → TypeMet s list at ax t (Ok (plain_head to ax t true))
   unfolding step is_space test_of test_names unlisted paren_byte_next colon_byte_next spell_test
@@ -382,7 +403,7 @@ module _ (s list : Bytes) (at ax t inner : ℕ) (q : Passed is_space s at inner)
       colon_kind c g l (axis x m o) w n v u y = refl
 
   type_fails : (byte_at s inner ≡ 41 → ⊥)
-      → ((n : Bytes) → is_type n ≡ true → t ≡ type_code n
+      → ((n : Bytes) → is_type n ≡ true → test_number t ≡ type_code n
       → (is_quote (byte_at s inner) && same_bytes n instruction_word) ≡ false)
       → TypeMet s list at ax t (Err inner)
   unfolding step finish
@@ -400,14 +421,15 @@ module _ (s list : Bytes) (at ax t inner : ℕ) (q : Passed is_space s at inner)
   and_no true = refl
   and_no false = refl
 
-  pub type_plain : (byte_at s inner ≡ 41 → ⊥) → (t ≡ 5 → ⊥) → TypeMet s list at ax t (Err inner)
+  pub type_plain : (byte_at s inner ≡ 41 → ⊥) → (t ≡ Tests.Instruction → ⊥) → TypeMet s list at ax t (Err inner)
   type_plain b f = type_fails b (λ n i j. rw (not_instruction n t j f) (and_no (is_quote (byte_at s inner))))
 
   pub type_unquoted : (byte_at s inner ≡ 41 → ⊥) → is_quote (byte_at s inner) ≡ false
       → TypeMet s list at ax t (Err inner)
   type_unquoted b f = type_fails b (λ n i j. rw f refl)
 
-  pub type_target : (o : Result Head ℕ) → t ≡ 5 → is_quote (byte_at s inner) ≡ true → TargetMet s list inner ax o
+  pub type_target : (o : Result Head ℕ) → t ≡ Tests.Instruction → is_quote (byte_at s inner) ≡ true
+      → TargetMet s list inner ax o
       → TypeMet s list at ax t o
   unfolding step is_space is_quote test_of test_names unlisted paren_byte_next colon_byte_next spell_test
   type_target o f k m = go o m
@@ -415,7 +437,7 @@ module _ (s list : Bytes) (at ax t inner : ℕ) (q : Passed is_space s at inner)
       not_close : eqb (byte_at s inner) 41 ≡ false
       not_close = quote_cases (λ c. eqb c 41 ≡ false) (byte_at s inner) k refl refl
 
-      opens : (c : Ctx) (g : Alt) (l : Lead) (a : Axis) (w n v : Bytes) → is_type n ≡ true → t ≡ type_code n
+      opens : (c : Ctx) (g : Alt) (l : Lead) (a : Axis) (w n v : Bytes) → is_type n ≡ true → test_number t ≡ type_code n
           → run (drop at s) (type_open c g l a w n v [])
           ≡ run (drop (inner + 1) s) (quote c g l a w v q.bytes (byte_at s inner))
       opens c g l a w n v i j =
@@ -425,7 +447,8 @@ module _ (s list : Bytes) (at ax t inner : ℕ) (q : Passed is_space s at inner)
           (rw (
             q.stops,
             not_close,
-            and_in (is_quote (byte_at s inner)) (same_bytes n instruction_word) k (is_instruction n i (sym f ∙ j)),
+            and_in (is_quote (byte_at s inner)) (same_bytes n instruction_word) k
+                (is_instruction n i (sym (ap test_number f) ∙ j)),
           )
           refl)
 
@@ -435,10 +458,11 @@ module _ (s list : Bytes) (at ax t inner : ℕ) (q : Passed is_space s at inner)
           (length-append, length-append, length-append, length-append, length-append, length-append, length-append)
           (omega arith)
 
-      place : (w n v : Bytes) (x : ℕ) → is_type n ≡ true → t ≡ type_code n → x + length (w ++ (n ++ (v ++ (40 ∷ []))))
-          ≡ at → x + length (w ++ (instruction_word ++ (v ++ (40 ∷ (q.bytes ++ (byte_at s inner ∷ [])))))) ≡ inner + 1
+      place : (w n v : Bytes) (x : ℕ) → is_type n ≡ true → test_number t ≡ type_code n
+          → x + length (w ++ (n ++ (v ++ (40 ∷ [])))) ≡ at
+          → x + length (w ++ (instruction_word ++ (v ++ (40 ∷ (q.bytes ++ (byte_at s inner ∷ [])))))) ≡ inner + 1
       place w n v x i j g =
-          rw (← same_bytes_lem n instruction_word (is_instruction n i (sym f ∙ j)))
+          rw (← same_bytes_lem n instruction_word (is_instruction n i (sym (ap test_number f) ∙ j)))
           (omega (
             arith,
             lengths w n v q.bytes (byte_at s inner),
@@ -463,13 +487,15 @@ module _ (s list : Bytes) (at ax t inner : ℕ) (q : Passed is_space s at inner)
               tree = λ w. target w v q.bytes (byte_at s inner) r.word r.inner;
               spaces = r.spaces;
               runs = λ c g l a w. opens c g l a w n v i j ∙ r.runs c g l a w v q.bytes;
-              term = λ x w. λ y. term.AxisStep x (sym r.test y) (sym r.name y);
+              term = λ x w. λ y. term.AxisStep x (sym (ap test_number r.test) y)
+                  (sym (ap name_number r.name ∙ number_by (number_of list r.word) (inner + 1)) y);
               names = λ w x g. one_name (number_of list r.word) _ (inner + 1) (place w n v x i j g)
-                  ∙ sym (rw r.place refl);
+                  ∙ sym (ap (λ (z : StepName). place_of (name_place z)) r.name);
               paren = λ c g l a w. refl;
               colon = λ c g l a w. colon_target c g l a w v q.bytes (byte_at s inner) r.word r.inner r.spaces;
               takes = r.takes;
-              size = λ w. rw (same_bytes_lem n instruction_word (is_instruction n i (sym f ∙ j))) (simp length-append
+              size = λ w. rw (same_bytes_lem n instruction_word (is_instruction n i (sym (ap test_number f) ∙ j)))
+                  (simp length-append
                   (omega (arith, r.size, passed_length is_space s at inner q, q.from)));
               stops = r.stops;
             };
@@ -514,7 +540,7 @@ colon_axis c g l implied t v h = yes_no h
 colon_axis c g l (attribute x) t v h = refl
 colon_axis c g l (axis x n o) t v h = refl
 
-module _ (s list : Bytes) (at end to ax : ℕ) (m : NameAt s at end to) where
+module _ (s list : Bytes) (at end to : ℕ) (m : NameAt s at end to) where
   abbrev named_word : Bytes
   named_word = word_of s at end m.begins m.names
 
@@ -529,12 +555,13 @@ module _ (s list : Bytes) (at end to ax : ℕ) (m : NameAt s at end to) where
   name_between : Between s at to
   name_between = record { from = omega (arith, m.names.from, m.spaces.from); fits = m.spaces.fits }
 
-  name_as : ((c : Ctx) (g : Alt) (l : Lead) (a : Axis) (w : Bytes)
+  name_as : (ax : CodeAxis) → ((c : Ctx) (g : Alt) (l : Lead) (a : Axis) (w : Bytes)
       → (is_implied a ≡ true → callable c g l ≡ true → NoCall s at) → byte_at s to ≡ 40
       → paren_byte_next c g l (test a (called w named_word)) m.spaces.bytes ≡ none)
-      → TestMet s list at ax (byte_at s to ≡ 58 → ⊥) (Ok (named_head to ax 0 (number_of list (part s at end)) at))
+      → TestMet s list at ax (byte_at s to ≡ 58 → ⊥)
+      (Ok (named_head to ax Tests.Name (number_of list (part s at end)) at))
   unfolding test_of test_names unlisted spell_test
-  name_as f =
+  name_as ax f =
       record {
         between = name_between;
         axis = refl;
@@ -543,8 +570,9 @@ module _ (s list : Bytes) (at end to ax : ℕ) (m : NameAt s at end to) where
           spaces = m.spaces.bytes;
           runs = named_runs;
           told = record {
-            term = λ k w. ap (λ (n : Bytes). term.AxisStep k 0 (number_of list n))
-                (sym (word_part s at end m.begins m.names));
+            term = λ k w. ap (λ (n : ℕ). term.AxisStep k 0 n)
+                (ap (number_of list) (sym (word_part s at end m.begins m.names))
+                ∙ sym (number_by (number_of list (part s at end)) at));
             names = λ w i h. rw (word_part s at end m.begins m.names)
                 (one_name (number_of list named_word) (i + length w) at h);
             paren = f;
@@ -572,35 +600,38 @@ module _ (s list : Bytes) (at end to ax : ℕ) (m : NameAt s at end to) where
           go true e = absurd (h e)
           go false e = colon_axis c g l a (called w named_word) m.spaces.bytes e
 
-  pub name_plain : (byte_at s to ≡ 40 → ⊥)
-      → TestMet s list at ax (byte_at s to ≡ 58 → ⊥) (Ok (named_head to ax 0 (number_of list (part s at end)) at))
-  name_plain e = name_as (λ c g l a w h b. absurd (e b))
+  pub name_plain : (ax : CodeAxis) → (byte_at s to ≡ 40 → ⊥)
+      → TestMet s list at ax (byte_at s to ≡ 58 → ⊥)
+      (Ok (named_head to ax Tests.Name (number_of list (part s at end)) at))
+  name_plain ax e = name_as ax (λ c g l a w h b. absurd (e b))
 
-  pub name_call : byte_at s to ≡ 40 → is_type (part s at end) ≡ false
-      → TestMet s list at ax (byte_at s to ≡ 58 → ⊥) (Ok (named_head to ax 0 (number_of list (part s at end)) at))
+  pub name_call : (ax : CodeAxis) → byte_at s to ≡ 40 → is_type (part s at end) ≡ false
+      → TestMet s list at ax (byte_at s to ≡ 58 → ⊥)
+      (Ok (named_head to ax Tests.Name (number_of list (part s at end)) at))
   unfolding paren_byte_next
-  name_call e f =
+  name_call ax e f =
       let split : drop at s ≡ named_word ++ (m.spaces.bytes ++ (40 ∷ drop (suc to) s)) =
       word_split s at end m.begins m.names
       ∙ ap (λ (t : Bytes). named_word ++ t)
       (m.spaces.split ∙ ap (λ (t : Bytes). m.spaces.bytes ++ t)
       (drop-cons s to 0 (byte_there s to 40 refl e) ∙ rw e refl)) in
       let no_type : is_type named_word ≡ false = rw (word_part s at end m.begins m.names) at f in
-      name_as (λ c g l a w h b. rw no_type
+      name_as ax (λ c g l a w h b. rw no_type
       (call_none c g l a w named_word m.spaces.bytes
       (λ i j. h i j named_word m.spaces.bytes (drop (suc to) s) (word_is s at end m.begins m.names)
       m.spaces.all split)))
 
-  pub name_type : (t : ℕ) (o : Result Head ℕ) → byte_at s to ≡ 40 → is_type (part s at end) ≡ true
-      → t ≡ type_code (part s at end)
+  pub name_type : (ax : CodeAxis) (t : NodeTest) (o : Result Head ℕ) → byte_at s to ≡ 40
+      → is_type (part s at end) ≡ true
+      → test_number t ≡ type_code (part s at end)
       → TypeMet s list (to + 1) ax t o → TestMet s list at ax (byte_at s to ≡ 58 → ⊥) o
   unfolding step after_byte paren_byte_next is_space
-  name_type t o e f k x = go o x
+  name_type ax t o e f k x = go o x
     where
       i : is_type named_word ≡ true
       i = rw (word_part s at end m.begins m.names) at f
 
-      j : t ≡ type_code named_word
+      j : test_number t ≡ type_code named_word
       j = rw (word_part s at end m.begins m.names) at k
 
       opened : (st : State) (c : Ctx) (g : Alt) (l : Lead) (a : Axis) (w : Bytes)
@@ -670,9 +701,9 @@ colon_any c g l (attribute x) w v = refl
 colon_any c g l (axis x n o) w v = refl
 
 -- a node test
-module _ (s list : Bytes) (at ax : ℕ) where
+module _ (s list : Bytes) (at : ℕ) (ax : CodeAxis) where
   pub test_star : (to : ℕ) → byte_at s at ≡ 42 → Passed is_space s (at + 1) to
-      → TestMet s list at ax (is_start (byte_at s at) ≡ false) (Ok (plain_head to ax 1 true))
+      → TestMet s list at ax (is_start (byte_at s at) ≡ false) (Ok (plain_head to ax Tests.Star true))
   unfolding test_of test_names unlisted paren_byte_next spell_test
   test_star to b q =
       record {
@@ -748,10 +779,10 @@ unfolding step finish
 testing_stuck c g l a w b h i j = (rw (i, h, j) refl, refl)
 
 -- the axis is spelt up to the place `from` of whitespace, and the test begins at `to`
-module _ (s list : Bytes) (at from to ax : ℕ) (Q : Type 0) (o : Result Head ℕ) (i : at ≤ from)
+module _ (s list : Bytes) (at from to : ℕ) (ax : CodeAxis) (Q : Type 0) (o : Result Head ℕ) (i : at ≤ from)
     (q : Passed is_space s from to)
     (m : TestMet s list to ax Q o)
-    (a : Bytes → Axis) (k : (w : Bytes) → is_implied (a w) ≡ false) (n : (w : Bytes) → axis_of (a w) ≡ ax)
+    (a : Bytes → Axis) (k : (w : Bytes) → is_implied (a w) ≡ false) (n : (w : Bytes) → axis_of (a w) ≡ axis_number ax)
     (y : (w : Bytes) → length (spell_axis (a w)) ≡ length w + (from - at))
     (r : (c : Ctx) (g : Alt) (l : Lead) (w : Bytes) → run (drop at s) (need c g l w)
     ≡ run (drop from s) (testing c g l (a w) [])) where
@@ -772,7 +803,8 @@ module _ (s list : Bytes) (at from to ax : ℕ) (Q : Type 0) (o : Result Head �
                   ∙ t.runs (testing c g l (a w) q.bytes) c g l (a w) q.bytes
                   (testing_begins c g l (a w) q.bytes (byte_at s to) q.stops);
               term = λ w. x.term (axis_of (a w)) q.bytes
-                  ∙ ap (λ (z : ℕ). term.AxisStep z h.test h.name) (n w ∙ sym m.axis);
+                  ∙ ap (λ (z : ℕ). term.AxisStep z (test_number h.test) (name_number h.name))
+                  (n w ∙ ap axis_number (sym m.axis));
               names = λ w j f. x.names q.bytes (j + length (spell_axis (a w)))
                   (omega (arith, f, y w, i, passed_length is_space s from to q, q.from));
               paren = λ c g l w f b. x.paren c g l (a w) q.bytes (λ z. yes_no (sym z ∙ k w)) b;
@@ -797,10 +829,10 @@ module _ (s list : Bytes) (at from to ax : ℕ) (Q : Type 0) (o : Result Head �
 
 pub head_at : (s list : Bytes) (at to : ℕ) (Q : Type 0) (o : Result Head ℕ) → byte_at s at ≡ 64
     → Passed is_space s (at + 1) to
-    → TestMet s list to 11 Q o → HeadMet s list at o
+    → TestMet s list to Axes.Attribute Q o → HeadMet s list at o
 unfolding is_implied axis_of spell_axis step need_byte is_start is_space
 head_at s list at to Q o b q m =
-    head_axis s list at (at + 1) to 11 Q o (omega arith) q m (λ w. attribute w) (λ w. refl) (λ w. refl)
+    head_axis s list at (at + 1) to Axes.Attribute Q o (omega arith) q m (λ w. attribute w) (λ w. refl) (λ w. refl)
     (λ w. length-append w (64 ∷ []) ∙ omega arith)
     (λ c g l w. on_pass s at (need c g l w) (testing c g l (attribute w) []) (byte_there s at 64 refl b) (rw b refl))
 
@@ -816,51 +848,52 @@ module _ (s list : Bytes) (at end to : ℕ) (m : NameAt s at end to) (b : byte_a
   pub axis_no : is_axis (part s at end) ≡ false → HeadMet s list at (Err to)
   unfolding step after_byte colon_byte_next is_space
   axis_no f =
-      let g : is_axis (named_word s list at end to 0 m) ≡ false =
+      let g : is_axis (named_word s list at end to m) ≡ false =
       rw (word_part s at end m.begins m.names) at f in
       record {
-        between = name_between s list at end to 0 m;
+        between = name_between s list at end to m;
         read = tt;
-        failed = λ c g' l w d. named_runs s list at end to 0 m (need c g' l w) c g' l implied w
+        failed = λ c g' l w d. named_runs s list at end to m (need c g' l w) c g' l implied w
             (need_begins c g' l w (byte_at s at))
-            ∙ on_fail s to (after c g' l (test implied (called w (named_word s list at end to 0 m)))
+            ∙ on_fail s to (after c g' l (test implied (called w (named_word s list at end to m)))
             m.spaces.bytes) colon_there (rw (b, g) refl);
       }
 
   module _ (f : is_axis (part s at end) ≡ true) where
     axis_runs : (c : Ctx) (g : Alt) (l : Lead) (w : Bytes) → run (drop at s) (need c g l w)
-        ≡ run (drop (to + 1) s) (colon c g l w (named_word s list at end to 0 m) m.spaces.bytes)
+        ≡ run (drop (to + 1) s) (colon c g l w (named_word s list at end to m) m.spaces.bytes)
     unfolding step after_byte colon_byte_next is_space
     axis_runs c g l w =
-        let h : is_axis (named_word s list at end to 0 m) ≡ true =
+        let h : is_axis (named_word s list at end to m) ≡ true =
         rw (word_part s at end m.begins m.names) at f in
-        named_runs s list at end to 0 m (need c g l w) c g l implied w (need_begins c g l w (byte_at s at))
-        ∙ on_pass s to (after c g l (test implied (called w (named_word s list at end to 0 m))) m.spaces.bytes)
-        (colon c g l w (named_word s list at end to 0 m) m.spaces.bytes) colon_there (rw (b, h) refl)
+        named_runs s list at end to m (need c g l w) c g l implied w (need_begins c g l w (byte_at s at))
+        ∙ on_pass s to (after c g l (test implied (called w (named_word s list at end to m))) m.spaces.bytes)
+        (colon c g l w (named_word s list at end to m) m.spaces.bytes) colon_there (rw (b, h) refl)
 
     pub axis_one : (byte_at s (to + 1) ≡ 58 → ⊥) → HeadMet s list at (Err (to + 1))
     unfolding step finish
     axis_one h =
         record {
           between = record {
-            from = omega (arith, (name_between s list at end to 0 m).from);
+            from = omega (arith, (name_between s list at end to m).from);
             fits = omega (arith, colon_there);
           };
           read = tt;
           failed = λ c g l w d. axis_runs c g l w
-              ∙ on_stop s (to + 1) (colon c g l w (named_word s list at end to 0 m) m.spaces.bytes)
+              ∙ on_stop s (to + 1) (colon c g l w (named_word s list at end to m) m.spaces.bytes)
               (omega (arith, colon_there)) (rw (differs (byte_at s (to + 1)) 58 h) refl) refl;
         }
 
-    pub axis_two : (ax from : ℕ) (Q : Type 0) (o : Result Head ℕ) → ax ≡ axis_code (part s at end)
+    pub axis_two : (ax : CodeAxis) (from : ℕ) (Q : Type 0) (o : Result Head ℕ)
+        → axis_number ax ≡ axis_code (part s at end)
         → byte_at s (to + 1) ≡ 58 → Passed is_space s (to + 1 + 1) from → TestMet s list from ax Q o
         → HeadMet s list at o
     unfolding is_implied axis_of spell_axis step
     axis_two ax from Q o x d q t =
-        head_axis s list at (to + 1 + 1) from ax Q o (omega (arith, (name_between s list at end to 0 m).from)) q t
-        (λ w. axis w (named_word s list at end to 0 m) m.spaces.bytes) (λ w. refl)
+        head_axis s list at (to + 1 + 1) from ax Q o (omega (arith, (name_between s list at end to m).from)) q t
+        (λ w. axis w (named_word s list at end to m) m.spaces.bytes) (λ w. refl)
         (λ w. sym (x ∙ ap axis_code (word_part s at end m.begins m.names)))
-        (λ w. lengths w (named_word s list at end to 0 m) m.spaces.bytes
+        (λ w. lengths w (named_word s list at end to m) m.spaces.bytes
         ∙ omega (
           arith,
           word_length s at end m.begins m.names,
@@ -869,8 +902,8 @@ module _ (s list : Bytes) (at end to : ℕ) (m : NameAt s at end to) (b : byte_a
           m.spaces.from,
         ))
         (λ c g l w. axis_runs c g l w
-        ∙ on_pass s (to + 1) (colon c g l w (named_word s list at end to 0 m) m.spaces.bytes)
-        (testing c g l (axis w (named_word s list at end to 0 m) m.spaces.bytes) [])
+        ∙ on_pass s (to + 1) (colon c g l w (named_word s list at end to m) m.spaces.bytes)
+        (testing c g l (axis w (named_word s list at end to m) m.spaces.bytes) [])
         (byte_there s (to + 1) 58 refl d) (rw d refl))
       where
         lengths : (w n v : Bytes) → length (w ++ (n ++ (v ++ (58 ∷ 58 ∷ [])))) ≡ length w + (length n + length v + 2)
@@ -879,7 +912,7 @@ module _ (s list : Bytes) (at end to : ℕ) (m : NameAt s at end to) (b : byte_a
 -- the head without an axis
 module _ (s list : Bytes) (at : ℕ) (sp : is_space (byte_at s at) ≡ false) (b : byte_at s at ≡ 46 → ⊥)
     (d : byte_at s at ≡ 64 → ⊥) where
-  pub head_test : (Q : Type 0) (o : Result Head ℕ) → Q → TestMet s list at 1 Q o → HeadMet s list at o
+  pub head_test : (Q : Type 0) (o : Result Head ℕ) → Q → TestMet s list at Axes.Child Q o → HeadMet s list at o
   unfolding step_of step_names takes_predicate axis_of spell_axis spell_step step need_byte finish begins_step
   head_test Q (Ok h) z m =
       let t = m.read in
@@ -890,7 +923,9 @@ module _ (s list : Bytes) (at : ℕ) (sp : is_space (byte_at s at) ≡ false) (b
           tree = λ w. test implied (t.tree w);
           spaces = t.spaces;
           runs = λ c g l w. t.runs (need c g l w) c g l implied w (need_begins c g l w (byte_at s at));
-          term = λ w. x.term 1 w ∙ ap (λ (y : ℕ). term.AxisStep y h.test h.name) (sym m.axis);
+          term = λ w. x.term 1 w
+              ∙ ap (λ (y : CodeAxis). term.AxisStep (axis_number y) (test_number h.test) (name_number h.name))
+              (sym m.axis);
           names = λ w i f. x.names w (i + 0) (omega (arith, f));
           paren = λ c g l w f k. x.paren c g l implied w (λ _. f) k;
           colon = λ c g l w k. x.colon c g l implied w (λ _. z) k;
@@ -944,6 +979,15 @@ unfolding every is_name is_start
 after_spaces_name [] t h = refl
 after_spaces_name (b ∷ v) t h = space_name b (and_out (is_space b) (every is_space v) h).0
 
+-- opened_by: the first word of the table that it is
+pub opened : (a b c : Bool) → unwrap_or (cond a (Some Opening.Not) (cond b (Some Opening.True)
+    (cond c (Some Opening.False) None))) Opening.Paths
+    ≡ cond a Opening.Not (cond b Opening.True (cond c Opening.False Opening.Paths))
+opened true b c = refl
+opened false true c = refl
+opened false false true = refl
+opened false false false = refl
+
 -- operand_at
 pub operand_group : (s : Bytes) (at : ℕ) → byte_at s at ≡ 40 → OperandMet s at Opening.Group at
 operand_group s at b = (b, refl)
@@ -981,7 +1025,7 @@ module _ (s : Bytes) (at end paren : ℕ) (m : NameAt s at end paren) where
       record {
         spaces = m.spaces.bytes;
         all = m.spaces.all;
-        runs = λ c g l w. named_runs s [] at end paren 0 m (need c g l w) c g l implied w
+        runs = λ c g l w. named_runs s [] at end paren m (need c g l w) c g l implied w
             (need_begins c g l w (byte_at s at))
             ∙ ap (λ (n : Bytes). run (drop paren s) (after c g l (test implied (called w n)) m.spaces.bytes))
             (same_bytes_lem operand_word word e);

@@ -6,22 +6,52 @@ ghost use Rattle.grammar.specs.Bytes.{is_space, is_start, is_quote, is_word, dot
 ghost use Rattle.grammar.specs.Words.{number_of};
 ghost use Rattle.words.specs.code.Scan.{byte_at, begins_step};
 ghost use Rattle.heads.specs.code.Head.{part, plain_head, named_head, opened_by, NameAt, DotMet};
-ghost use Rattle.heads.specs.code.Head.{TargetMet, TypeMet, TestMet, HeadMet, OperandMet};
+ghost use Rattle.heads.specs.code.Head.{TargetMet, TypeMet, TestMet, HeadMet, OperandMet, name_number, name_place};
 
-use common::{axis, node_test};
+use common::axis::Axis;
+use common::node_test::NodeTest;
 use words::bytes::{byte_at, is_start, name_end, skip};
-use words::{Names, bytes};
+use words::{Names, Word};
+
+// The name of a step: its number in the list, or, where it is not listed, its place in the text.
+#[derive(Clone, Copy)]
+pub enum StepName {
+    Unnamed,
+    Listed(u16),
+    Unlisted(usize),
+}
+
+impl StepName {
+    // Its number in the step's row: 0 where the list gives none.
+    pub fn number(self) -> u16
+        ensures { result ≡ name_number self }
+    {
+        match self {
+            StepName::Listed(number) => number,
+            StepName::Unnamed | StepName::Unlisted(_) => 0,
+        }
+    }
+
+    // Its place, where it is not listed.
+    pub fn unlisted(self) -> Option<usize>
+        ensures { result ≡ name_place self }
+    {
+        match self {
+            StepName::Unlisted(place) => Some(place),
+            StepName::Unnamed | StepName::Listed(_) => None,
+        }
+    }
+}
 
 // A step without its predicates: `at` is the first place after it that has no whitespace. `filters`: predicates may
-// follow. `unlisted`: the place of its name, where it has one that is not listed.
+// follow.
 #[derive(Clone, Copy)]
 pub struct Head {
     pub at: usize,
-    pub axis: u16,
-    pub test: u16,
-    pub name: u16,
+    pub axis: Axis,
+    pub test: NodeTest,
+    pub name: StepName,
     pub filters: bool,
-    pub unlisted: Option<usize>,
 }
 
 // How an operand begins.
@@ -43,16 +73,15 @@ pub struct Operand {
 }
 
 // A head without a name; `at` is the place after it and its whitespace.
-fn plain_head(at: usize, axis: u16, test: u16, filters: bool) -> Head
+fn plain_head(at: usize, axis: Axis, test: NodeTest, filters: bool) -> Head
     ensures { result ≡ plain_head at axis test filters }
 {
     Head {
         at,
         axis,
         test,
-        name: 0,
+        name: StepName::Unnamed,
         filters,
-        unlisted: None,
     }
 }
 
@@ -63,16 +92,17 @@ fn named_head(
     from: usize,
     to: usize,
     at: usize,
-    axis: u16,
-    test: u16,
+    axis: Axis,
+    test: NodeTest,
 ) -> Head
     requires from_le_to { (from ≤ to) × (to ≤ length s.now) }
     requires to_value { is_word (part s.now from to) ≡ true }
     ensures { result ≡ named_head at axis test (number_of names.entry.list.now (part s.now from to)) from }
 {
-    let (name, unlisted) = match words::list::number_of(names, &s[from..to]) {
-        Some(number) => (number, None),
-        None => (0, Some(from)),
+    let bytes = &s[from..to];
+    let name = match words::list::number_of(names, Word { bytes }) {
+        Some(number) => StepName::Listed(number),
+        None => StepName::Unlisted(from),
     };
     Head {
         at,
@@ -80,7 +110,6 @@ fn named_head(
         test,
         name,
         filters: true,
-        unlisted,
     }
 }
 
@@ -97,14 +126,14 @@ fn dot_head(s: &[u8], at: usize) -> Head
     ensures { DotMet s.now at result }
 {
     let next = at + 1;
-    if byte_at(s, next) == bytes::DOT {
-        return plain_head(skip(s, next + 1), axis::PARENT, node_test::NODE, false);
+    if byte_at(s, next) == b'.' {
+        return plain_head(skip(s, next + 1), Axis::Parent, NodeTest::Node, false);
     }
-    plain_head(skip(s, next), axis::SELF, node_test::NODE, false)
+    plain_head(skip(s, next), Axis::Itself, NodeTest::Node, false)
 }
 
 // What follows the quote at `at` of an instruction's target.
-fn target_head(s: &[u8], names: Names<'_>, at: usize, axis: u16) -> Result<Head, usize>
+fn target_head(s: &[u8], names: Names<'_>, at: usize, axis: Axis) -> Result<Head, usize>
     requires at_value { is_quote (byte_at s.now at) ≡ true }
     ensures { TargetMet s.now names.entry.list.now at axis result }
 {
@@ -118,24 +147,30 @@ fn target_head(s: &[u8], names: Names<'_>, at: usize, axis: u16) -> Result<Head,
         return Err(end);
     }
     let close = skip(s, end + 1);
-    if byte_at(s, close) != bytes::CLOSE {
+    if byte_at(s, close) != b')' {
         return Err(close);
     }
     let at = skip(s, close + 1);
-    Ok(named_head(s, names, from, end, at, axis, node_test::TARGET))
+    Ok(named_head(s, names, from, end, at, axis, NodeTest::Target))
 }
 
 // What follows a node type and its `(`, from `at` on.
-fn type_head(s: &[u8], names: Names<'_>, at: usize, axis: u16, test: u16) -> Result<Head, usize>
+fn type_head(
+    s: &[u8],
+    names: Names<'_>,
+    at: usize,
+    axis: Axis,
+    test: NodeTest,
+) -> Result<Head, usize>
     requires at_in_bounds { at ≤ length s.now }
     ensures { TypeMet s.now names.entry.list.now at axis test result }
 {
     let inner = skip(s, at);
     let b = byte_at(s, inner);
-    if b == bytes::CLOSE {
+    if b == b')' {
         return Ok(plain_head(skip(s, inner + 1), axis, test, true));
     }
-    if test != node_test::INSTRUCTION {
+    if test != NodeTest::Instruction {
         return Err(inner);
     }
     if !is_quote(b) {
@@ -151,30 +186,30 @@ fn name_test(
     at: usize,
     end: usize,
     to: usize,
-    axis: u16,
+    axis: Axis,
 ) -> Result<Head, usize>
     requires name_at { NameAt s.now at end to }
     ensures { TestMet s.now names.entry.list.now at axis
         (byte_at s.now to ≡ colon_byte → ⊥) result }
 {
-    if byte_at(s, to) != bytes::OPEN {
-        return Ok(named_head(s, names, at, end, to, axis, node_test::NAME));
+    if byte_at(s, to) != b'(' {
+        return Ok(named_head(s, names, at, end, to, axis, NodeTest::Name));
     }
     match words::type_of(&s[at..end]) {
         Some(test) => type_head(s, names, to + 1, axis, test),
-        None => Ok(named_head(s, names, at, end, to, axis, node_test::NAME)),
+        None => Ok(named_head(s, names, at, end, to, axis, NodeTest::Name)),
     }
 }
 
 // A node test at `at`, where no whitespace is.
-fn test_head(s: &[u8], names: Names<'_>, at: usize, axis: u16) -> Result<Head, usize>
+fn test_head(s: &[u8], names: Names<'_>, at: usize, axis: Axis) -> Result<Head, usize>
     requires at_in_bounds { at ≤ length s.now }
     ensures { TestMet s.now names.entry.list.now at axis (is_start
         (byte_at s.now at) ≡ false) result }
 {
     let b = byte_at(s, at);
-    if b == bytes::STAR {
-        return Ok(plain_head(skip(s, at + 1), axis, node_test::STAR, true));
+    if b == b'*' {
+        return Ok(plain_head(skip(s, at + 1), axis, NodeTest::Star, true));
     }
     if !is_start(b) {
         return Err(at);
@@ -195,7 +230,7 @@ fn axis_head(s: &[u8], names: Names<'_>, at: usize, end: usize, colon: usize) ->
         None => return Err(colon),
     };
     let second = colon + 1;
-    if byte_at(s, second) != bytes::COLON {
+    if byte_at(s, second) != b':' {
         return Err(second);
     }
     test_head(s, names, skip(s, second + 1), axis)
@@ -208,21 +243,21 @@ pub fn read_head(s: &[u8], names: Names<'_>, at: usize) -> Result<Head, usize>
     ensures { HeadMet s.now names.entry.list.now at result }
 {
     let b = byte_at(s, at);
-    if b == bytes::DOT {
+    if b == b'.' {
         return Ok(dot_head(s, at));
     }
-    if b == bytes::AT {
-        return test_head(s, names, skip(s, at + 1), axis::ATTRIBUTE);
+    if b == b'@' {
+        return test_head(s, names, skip(s, at + 1), Axis::Attribute);
     }
     if !is_start(b) {
-        return test_head(s, names, at, axis::CHILD);
+        return test_head(s, names, at, Axis::Child);
     }
     let end = name_end(s, at + 1);
     let to = skip(s, end);
-    if byte_at(s, to) == bytes::COLON {
+    if byte_at(s, to) == b':' {
         return axis_head(s, names, at, end, to);
     }
-    name_test(s, names, at, end, to, axis::CHILD)
+    name_test(s, names, at, end, to, Axis::Child)
 }
 
 // The byte begins a step.
@@ -233,19 +268,18 @@ pub fn begins_step(b: u8) -> bool
     is_start(b) || matches!(b, b'*' | b'@' | b'.')
 }
 
-// What a word that stands before a `(` opens. By tests: of a match on byte strings a proof knows the lengths alone.
+// The words that open something else than paths before a `(`.
+const CALLS: [(&[u8], Opens); 3] = [
+    (b"not", Opens::Not),
+    (b"true", Opens::True),
+    (b"false", Opens::False),
+];
+
+// What a word that stands before a `(` opens.
 fn opened_by(word: &[u8]) -> Opens
     ensures { result ≡ opened_by word.now }
 {
-    if words::same(word, b"not") {
-        Opens::Not
-    } else if words::same(word, b"true") {
-        Opens::True
-    } else if words::same(word, b"false") {
-        Opens::False
-    } else {
-        Opens::Paths
-    }
+    words::find(&CALLS, word).unwrap_or(Opens::Paths)
 }
 
 // How the operand that begins at `at` begins, where no whitespace is.
@@ -258,7 +292,7 @@ pub fn operand_at(s: &[u8], at: usize) -> Operand
         paren: at,
     };
     let b = byte_at(s, at);
-    if b == bytes::OPEN {
+    if b == b'(' {
         return Operand {
             opens: Opens::Group,
             paren: at,
@@ -269,7 +303,7 @@ pub fn operand_at(s: &[u8], at: usize) -> Operand
     }
     let end = name_end(s, at + 1);
     let paren = skip(s, end);
-    if byte_at(s, paren) != bytes::OPEN {
+    if byte_at(s, paren) != b'(' {
         return paths;
     }
     Operand {

@@ -2,11 +2,12 @@
 // what the calls answer, `NUMBER VALUE` a line, in pairs: the last call within the limit, and the one beyond it.
 #![tactic(auto)]
 
-ghost use Rattle.std.specs.Prelude.{◌≡◌, ◌≤◌, length};
+ghost use Rattle.std.specs.Prelude.{◌≡◌, ◌+◌, ◌≤◌, ◌<◌, length};
 ghost use Rattle.script_words.specs.Words.{max_numbers};
 
+use calls::Answer;
 use common::{axis, node_kind, node_test, row_kind};
-use session::Session;
+use session::{Answered, Session};
 use std::io;
 
 const TEXT: u16 = node_kind::TEXT as u16;
@@ -20,8 +21,8 @@ const POINTS: u16 = Session::POINTS as u16;
 // p <= p
 const REFLEXIVE: u16 = 2;
 
-fn print(rt: &impl Print, number: u16, value: u32) -> io::Result<()> {
-    println!(rt; "{number} {value}")
+fn print<A: Answer + Copy>(rt: &impl Print, answer: A) -> io::Result<()> {
+    println!(rt; "{} {}", answer.number(), answer.value())
 }
 
 // Rows, steps, nesting, nodes, points.
@@ -36,43 +37,47 @@ fn print_limits(rt: &impl Print) -> io::Result<()> {
     )
 }
 
-// The deepest nesting, and one more: true, and each row `not` of the one before, so that row i + 1 nests i + 2 deep.
+// A call for each number from 1 up to the limit, and for one more.
+fn pass_limit<A: Answer + Copy, F: Fn(Session, u16) -> Answered<A>>(
+    rt: &impl Print,
+    start: Session,
+    limit: u16,
+    call: F,
+) -> io::Result<()>
+    requires { (limit + 1 < 65536) × F.IsAlwaysCallable call }
+{
+    let s = (1..limit).fold(start, |s, i| call(s, i).session);
+    let last = call(s, limit);
+    print(rt, last.answer)?;
+    print(rt, call(last.session, limit + 1).answer)
+}
+
+// The deepest nesting: true, and each row `not` of the one before, so that row i + 1 nests i + 2 deep.
 fn nesting(rt: &impl Print) -> io::Result<()> {
-    let mut s = Session::new().term(row_kind::TRUE, 0, 0, 0).session;
-    for i in 0..Session::NESTING {
-        let next = s.term(row_kind::NOT, i, 0, 0);
-        if Session::NESTING <= i + 2 {
-            print(rt, next.answer.number(), next.answer.value())?;
-        }
-        s = next.session;
-    }
-    Ok(())
+    let s = Session::new().term(row_kind::TRUE, 0, 0, 0).session;
+    let s = s.term(row_kind::NOT, 0, 0, 0).session;
+    pass_limit(
+        rt,
+        s,
+        Session::NESTING - 2,
+        |s, i| s.term(row_kind::NOT, i, 0, 0),
+    )
 }
 
-// All rows and one more: steps child::NAME.
+// All rows: steps child::NAME.
 fn rows(rt: &impl Print) -> io::Result<()> {
-    let mut s = Session::new();
-    for i in 1..ROWS + 2 {
-        let next = s.term(row_kind::STEP, axis::CHILD, node_test::NAME, i);
-        if ROWS <= i {
-            print(rt, next.answer.number(), next.answer.value())?;
-        }
-        s = next.session;
-    }
-    Ok(())
+    pass_limit(
+        rt,
+        Session::new(),
+        ROWS,
+        |s, i| s.term(row_kind::STEP, axis::CHILD, node_test::NAME, i),
+    )
 }
 
-// All steps and one more, of the same rule on the same row.
+// All steps, of the same rule on the same row.
 fn steps(rt: &impl Print) -> io::Result<()> {
-    let mut s = Session::new().term(row_kind::ROOT, 0, 0, 0).session;
-    for i in 1..STEPS + 2 {
-        let next = s.step(REFLEXIVE, 0, 0, 0, 0);
-        if STEPS <= i {
-            print(rt, next.answer.number(), next.answer.value())?;
-        }
-        s = next.session;
-    }
-    Ok(())
+    let s = Session::new().term(row_kind::ROOT, 0, 0, 0).session;
+    pass_limit(rt, s, STEPS, |s, _| s.step(REFLEXIVE, 0, 0, 0, 0))
 }
 
 // The root, and texts under it: the first n rows of it are a document of n nodes.
@@ -92,8 +97,7 @@ fn print_select(rt: &impl Print, s: Session, row: u16, size: usize, limit: u32) 
 {
     let d = texts();
     let mut marks = [7u8; Session::NODES];
-    let answer = s.select(row, &d[..size], 0, limit, &mut marks);
-    print(rt, answer.number(), answer.value())
+    print(rt, s.select(row, &d[..size], 0, limit, &mut marks))
 }
 
 // All nodes and one more.
@@ -115,17 +119,9 @@ fn visits(rt: &impl Print) -> io::Result<()> {
     print_select(rt, s, 1, xpath::NODE_WIDTH * Session::NODES, VISITS - 1)
 }
 
-// All points and one more.
+// All points.
 fn points(rt: &impl Print) -> io::Result<()> {
-    let mut s = Session::new();
-    for i in 1..POINTS + 2 {
-        let next = s.point(i);
-        if POINTS <= i {
-            print(rt, next.answer.number(), next.answer.value())?;
-        }
-        s = next.session;
-    }
-    Ok(())
+    pass_limit(rt, Session::new(), POINTS, |s, i| s.point(i))
 }
 
 fn main(rt: HostRuntime) -> io::Result<()> {

@@ -7,3 +7,4 @@ pub mod Start
 pub mod Written
 pub mod SameBytes
 pub mod First
+pub mod FirstLine

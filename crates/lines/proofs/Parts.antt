@@ -93,11 +93,6 @@ first_none {A} read h (l ∷ ls) = let (w, ws, e) = parts_some l.bytes in rw (e,
 abbrev pub prepended : ℕ → Option (List ℕ) → Option (List ℕ)
 prepended v o = Option-elim o none (λ ns. some (v ∷ ns))
 
-pub prepended_if : (v : ℕ) (b : Bool) (ns : List ℕ) → cond b (some (v ∷ ns)) none ≡ prepended v (cond b (some ns) none)
-unfolding Option-elim
-prepended_if v true ns = refl
-prepended_if v false ns = refl
-
 -- `read` takes a number up to `most`, and then what `others` takes
 abbrev pub Reads : (most : ℕ) (read others : List (List ℕ) → Option (List ℕ)) → Type 0
 Reads most read others = (w : List ℕ) (ws : List (List ℕ)) → read (w ∷ ws) ≡ Option-elim (number_up_to most w) none

@@ -3,20 +3,18 @@
 // and no line is searched for its end first.
 #![tactic(auto)]
 
-ghost use Rattle.std.specs.Prelude.{◌≡◌, true, [], ◌∷◌, ◌++◌, ◌-◌, ◌==◌, drop, position, MatchOption};
+ghost use Rattle.std.specs.Prelude.{◌≡◌, true, [], ◌∷◌, ◌++◌, ◌+◌, ◌-◌, ◌==◌, drop, position, MatchOption};
 ghost use Rattle.std.proofs.Math.Option.{none};
-ghost use Rattle.lines.specs.Line.{newline};
+ghost use Rattle.lines.specs.Line.{newline, lines};
 ghost use Rattle.lines.specs.Number.{digit0, is_digit};
 ghost use Rattle.lines.specs.code.NumbersRead.{up_to, first_digit, one_more, written_number, number_cut, NumberMet};
-ghost use Rattle.lines.specs.code.NumbersRead.{counted_numbers, LineMet, starts_with};
+ghost use Rattle.lines.specs.code.NumbersRead.{counted_numbers, LineMet, starts_with, first_length};
 
 pub const NEWLINE: u8 = b'\n';
 
 pub const SPACE: u8 = b' ';
 
 pub const DIGIT_0: u8 = b'0';
-
-pub const DIGIT_9: u8 = b'9';
 
 pub const MAX_NUMBER: u32 = common::MAX_NUMBER as u32;
 
@@ -37,10 +35,11 @@ pub struct NumbersLine {
     pub next: usize,
 }
 
+#[tactic(auto, unfolding(crate::specs::Number::is_digit))]
 fn is_digit(b: u8) -> bool
     ensures { result ≡ is_digit b }
 {
-    DIGIT_0 <= b && b <= DIGIT_9
+    b.is_ascii_digit()
 }
 
 // The digit that b is.
@@ -133,6 +132,14 @@ pub fn find(text: &[u8], byte: u8) -> Option<usize>
     ensures { result ≡ position (λ x. x == byte) text.now }
 {
     text.iter().position(|b| *b == byte)
+}
+
+// Where the line that starts at `at` ends: at its newline, or with the text; at `at` itself past the text's end.
+pub fn line_end(text: &[u8], at: usize) -> usize
+    ensures { result ≡ at + first_length (lines (drop at text.now)) }
+{
+    let rest = rest(text, at);
+    at + find(rest, NEWLINE).unwrap_or(rest.len())
 }
 
 // Whether `word` stands at `at`.

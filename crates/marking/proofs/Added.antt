@@ -16,53 +16,40 @@ or_true : (b : Bool) → (b || true) ≡ true
 or_true true = refl
 or_true false = refl
 
-module _ {n : ℕ} {old new : List ℕ} {s : ℕ → Bool} where
+module _ {n : ℕ} {old new : List Bool} {s : ℕ → Bool} where
   pub added_cong : (t : ℕ → Bool) → Added n old new s → ((y : ℕ) → y < n → t y ≡ s y) → Added n old new t
   added_cong t u e = record { size = u.size; marks = λ y h. u.marks y h ∙ rw (e y h) }
 
   pub added_set : (t : ℕ → Bool) (k : ℕ) → Added n old new s → k < length new → t k ≡ true →
       ((y : ℕ) → y < n → y ≢ k → t y ≡ s y) →
-      Added n old (set new k 1) t
+      Added n old (set new k true) t
   added_set t k u l e f =
       record {
-        size = length-set new k 1 ∙ u.size;
+        size = length-set new k true ∙ u.size;
         marks = λ y h. ⊎_elim
-            (λ q. let v : get_or (set new k 1) y 0 ≡ 1 =
-            ap (λ (z : ℕ). get_or (set new k 1) z 0) q ∙ get_or-set_same new k 1 0 l in
+            (λ q. let v : get_or (set new k true) y false ≡ true =
+            ap (λ (z : ℕ). get_or (set new k true) z false) q ∙ get_or-set_same new k true false l in
             let w : t y ≡ true = ap t q ∙ e in
             rw (v, w, or_true))
-            (λ ne. rw (get_or-set_other new k y 1 0 ne, f y h ne) (u.marks y h))
+            (λ ne. rw (get_or-set_other new k y true false ne, f y h ne) (u.marks y h))
             (eq_or_ne y k);
       }
 
-pub nothing_added : {n : ℕ} {old : List ℕ} (s : ℕ → Bool) → ((y : ℕ) → y < n → s y ≡ false) → Added n old old s
+pub nothing_added : {n : ℕ} {old : List Bool} (s : ℕ → Bool) → ((y : ℕ) → y < n → s y ≡ false) → Added n old old s
 nothing_added s e = record { size = refl; marks = λ y h. sym (rw (e y h, or-false)) }
-
--- one node, if it is in t
-module _ {n : ℕ} {old : List ℕ} (t : ℕ → Bool) (k : ℕ) where
-  pub node_marked : k < length old → t k ≡ true → Added n old (set old k 1) (λ y. eqb k y && t y)
-  node_marked l e =
-      added_set (λ y. eqb k y && t y) k (nothing_added (λ y. false) (λ y h. refl)) l (rw (eq-eqb k k refl, e))
-      (λ y h ne. rw (ne_eqb k y (λ q. ne (sym q))))
-
-  pub node_left : t k ≡ false → Added n old old (λ y. eqb k y && t y)
-  node_left e =
-      nothing_added (λ y. eqb k y && t y)
-      (λ y h. ⊎_elim (λ q. let z : t y ≡ false = ap t q ∙ e in rw (z, and-false))
-      (λ ne. rw (ne_eqb k y (λ q. ne (sym q)))) (eq_or_ne y k))
 
 -- the nodes of f from lo on and before hi
 abbrev pub between : ℕ → ℕ → (ℕ → Bool) → ℕ → Bool
 between lo hi f y = (leb lo y && ltb y hi) && f y
 
 -- a loop that goes up from lo
-module _ {n : ℕ} {old : List ℕ} (f : ℕ → Bool) (lo : ℕ) where
+module _ {n : ℕ} {old : List Bool} (f : ℕ → Bool) (lo : ℕ) where
   pub up_start : Added n old old (between lo lo f)
   up_start =
       nothing_added (between lo lo f)
       (λ y h. ⊎_elim (λ l. rw (le-ltb y lo l, and-false)) (λ l. rw (lt-leb lo y l)) (le_or_lt lo y))
 
-  module _ {new : List ℕ} (k e : ℕ) (u : Added n old new (between lo k f)) (h : lo ≤ k) (l : k < e)
+  module _ {new : List Bool} (k e : ℕ) (u : Added n old new (between lo k f)) (h : lo ≤ k) (l : k < e)
       (g : (y : ℕ) → y < n → k < y → y < e → f y ≡ false) where
     same_elsewhere : (y : ℕ) → y < n → y ≢ k → between lo e f y ≡ between lo k f y
     same_elsewhere y m ne = go (le_or_lt k y) (le_or_lt e y)
@@ -74,7 +61,7 @@ module _ {n : ℕ} {old : List ℕ} (f : ℕ → Bool) (lo : ℕ) where
         go (inr p) (inr q) = rw (lt-ltb y e q, lt-ltb y k p)
 
     -- node k is passed, and is in f
-    pub up_marked : k < length new → f k ≡ true → Added n old (set new k 1) (between lo e f)
+    pub up_marked : k < length new → f k ≡ true → Added n old (set new k true) (between lo e f)
     up_marked m t = added_set (between lo e f) k u m (rw (le-leb lo k h, lt-ltb k e l, t)) same_elsewhere
 
     -- node k is passed, and is not in f
@@ -89,7 +76,7 @@ abbrev pub from_on : ℕ → (ℕ → Bool) → ℕ → Bool
 from_on at f y = leb at y && f y
 
 -- a loop that goes down: the next node of f below k is e, or isn't in f
-module _ {n : ℕ} {old new : List ℕ} (f : ℕ → Bool) (k e : ℕ) (u : Added n old new (from_on k f)) (l : e < k)
+module _ {n : ℕ} {old new : List Bool} (f : ℕ → Bool) (k e : ℕ) (u : Added n old new (from_on k f)) (l : e < k)
     (g : (y : ℕ) → y < n → e < y → y < k → f y ≡ false) where
   same_above : (y : ℕ) → y < n → y ≢ e → from_on e f y ≡ from_on k f y
   same_above y m ne = go (le_or_lt k y) (le_or_lt e y)
@@ -100,7 +87,7 @@ module _ {n : ℕ} {old new : List ℕ} (f : ℕ → Bool) (k e : ℕ) (u : Adde
       go (inr p) (inl q) = let z : f y ≡ false = g y m (omega (arith, ne)) p in rw (z, and-false, and-false)
       go (inr p) (inr q) = rw (lt-leb e y q, lt-leb k y p)
 
-  pub down_marked : e < length new → f e ≡ true → Added n old (set new e 1) (from_on e f)
+  pub down_marked : e < length new → f e ≡ true → Added n old (set new e true) (from_on e f)
   down_marked m t = added_set (from_on e f) e u m (rw (le-leb e e (omega arith), t)) same_above
 
   pub down_left : f e ≡ false → Added n old new (from_on e f)
@@ -108,24 +95,13 @@ module _ {n : ℕ} {old new : List ℕ} (f : ℕ → Bool) (k e : ℕ) (u : Adde
       added_cong (from_on e f) u (λ y m. ⊎_elim (λ q. let z : f y ≡ false = ap f q ∙ t in rw (z, and-false, and-false))
       (λ ne. same_above y m ne) (eq_or_ne y e))
 
--- the loop has passed hi, and no node of f from there on
-pub up_end : {n : ℕ} {old new : List ℕ} (f : ℕ → Bool) (lo hi k : ℕ) → Added n old new (between lo k f) → hi ≤ k →
-    ((y : ℕ) → y < n → hi ≤ y → y < k → f y ≡ false) → Added n old new (between lo hi f)
-up_end {n} f lo hi k u h g = added_cong (between lo hi f) u (λ y m. go y m (le_or_lt hi y) (le_or_lt k y))
-  where
-    go : (y : ℕ) → y < n → (hi ≤ y) ⊎ (y < hi) → (k ≤ y) ⊎ (y < k) → between lo hi f y ≡ between lo k f y
-    go y m (inl p) (inl q) = rw (le-ltb y hi p, le-ltb y k q)
-    go y m (inl p) (inr q) = let z : f y ≡ false = g y m p q in rw (z, and-false, and-false)
-    go y m (inr p) (inl q) = absurd (omega arith)
-    go y m (inr p) (inr q) = rw (lt-ltb y hi p, lt-ltb y k q)
-
 -- a loop that goes down starts where there is nothing of f, and ends at 0
-pub down_start : {n : ℕ} {old : List ℕ} (f : ℕ → Bool) (k : ℕ) → ((y : ℕ) → y < n → k ≤ y → f y ≡ false) →
+pub down_start : {n : ℕ} {old : List Bool} (f : ℕ → Bool) (k : ℕ) → ((y : ℕ) → y < n → k ≤ y → f y ≡ false) →
     Added n old old (from_on k f)
 down_start f k g =
     nothing_added (from_on k f)
     (λ y m. ⊎_elim (λ p. let z : f y ≡ false = g y m p in rw (z, and-false)) (λ p. rw (lt-leb k y p)) (le_or_lt k y))
 
-pub down_end : {n : ℕ} {old new : List ℕ} (f : ℕ → Bool) (k : ℕ) → k ≤ 0 → Added n old new (from_on k f) →
+pub down_end : {n : ℕ} {old new : List Bool} (f : ℕ → Bool) (k : ℕ) → k ≤ 0 → Added n old new (from_on k f) →
     Added n old new f
 down_end f k h u = added_cong f u (λ y m. rw (le-leb k y (omega arith)))

@@ -36,7 +36,7 @@ or_and false true c = refl
 or_and false false c = refl
 
 -- one walk after the other
-pub added_twice : {n : ℕ} {old mid new : List ℕ} (s t u : ℕ → Bool) → Added n old mid s → Added n mid new t →
+pub added_twice : {n : ℕ} {old mid new : List Bool} (s t u : ℕ → Bool) → Added n old mid s → Added n mid new t →
     ((y : ℕ) → y < n → u y ≡ (s y || t y)) → Added n old new u
 added_twice {old = old} s t u a b e =
     record {
@@ -69,7 +69,7 @@ module _ (d : Document) (es : List ℕ) (r : Prepared d es) (t : ℕ → Bool) (
   kept_of a y = may_hold a d y && t y
 
   -- the nodes of the axis are those between lo and hi that pass f
-  by_tests : {old new : List ℕ} (a lo hi : ℕ) (f : ℕ → Bool) →
+  by_tests : {old new : List Bool} (a lo hi : ℕ) (f : ℕ → Bool) →
       ((y : ℕ) → y < length d → (((lo ≤ y) × (y < hi)) × T (f y)) ↔ OnAxis a d x y) →
       Added (length d) old new (between lo hi (λ y. f y && t y)) → Added (length d) old new (stepped a)
   by_tests a lo hi f e u =
@@ -82,7 +82,7 @@ module _ (d : Document) (es : List ℕ) (r : Prepared d es) (t : ℕ → Bool) (
       rw b (and_assoc (leb lo y && ltb y hi) (f y) (t y)))
 
   -- the same of those that pass f and are may_hold
-  by_candidates : {old new : List ℕ} (a lo hi : ℕ) (f : ℕ → Bool) →
+  by_candidates : {old new : List Bool} (a lo hi : ℕ) (f : ℕ → Bool) →
       ((y : ℕ) → y < length d → (((lo ≤ y) × (y < hi)) × T (f y) × T (may_hold a d y)) ↔ OnAxis a d x y) →
       Added (length d) old new (between lo hi (λ y. f y && kept_of a y)) → Added (length d) old new (stepped a)
   by_candidates a lo hi f e u =
@@ -96,12 +96,12 @@ module _ (d : Document) (es : List ℕ) (r : Prepared d es) (t : ℕ → Bool) (
   descendant_before z y m l a = ⊎_elim (λ h. absurd (past_end d es r z y h l m a)) (λ h. h) (le_or_lt (end z) y)
 
   -- the node itself
-  pub self_marked : {old new : List ℕ} → Added (length d) old new (λ y. eqb x y && t y) →
+  pub self_marked : {old new : List Bool} → Added (length d) old new (λ y. eqb x y && t y) →
       Added (length d) old new (stepped 0)
   unfolding on_axis
   self_marked u = u
 
-  pub descendant_marked : {old new : List ℕ} (lo : ℕ) → lo ≡ x + 1 →
+  pub descendant_marked : {old new : List Bool} (lo : ℕ) → lo ≡ x + 1 →
       Added (length d) old new (between lo (end x) (kept_of 3)) → Added (length d) old new (stepped 3)
   unfolding OnAxis
   descendant_marked lo q =
@@ -110,7 +110,7 @@ module _ (d : Document) (es : List ℕ) (r : Prepared d es) (t : ℕ → Bool) (
         λ (a, n). let s = ancestor_smaller d r.formed l a in ((omega arith, descendant_before x y k l a), v.1 n),
       ))
 
-  pub descendant_or_self_marked : {old mid new : List ℕ} (lo : ℕ) → lo ≡ x + 1 →
+  pub descendant_or_self_marked : {old mid new : List Bool} (lo : ℕ) → lo ≡ x + 1 →
       Added (length d) old mid (λ y. eqb x y && t y) →
       Added (length d) mid new (between lo (end x) (kept_of 3)) → Added (length d) old new (stepped 5)
   unfolding on_axis
@@ -118,7 +118,7 @@ module _ (d : Document) (es : List ℕ) (r : Prepared d es) (t : ℕ → Bool) (
       added_twice (stepped 0) (stepped 3) (stepped 5) (self_marked a) (descendant_marked lo q b)
       (λ y l. or_and (eqb x y) (is_ancestor d x y && not (is_attribute d y)) (t y))
 
-  pub following_marked : {old new : List ℕ} (n : ℕ) → n ≡ length d →
+  pub following_marked : {old new : List Bool} (n : ℕ) → n ≡ length d →
       Added (length d) old new (between (end x) n (kept_of 9)) → Added (length d) old new (stepped 9)
   unfolding OnAxis
   following_marked n q =
@@ -134,7 +134,7 @@ module _ (d : Document) (es : List ℕ) (r : Prepared d es) (t : ℕ → Bool) (
         ),
       ))
 
-  pub preceding_marked : {old new : List ℕ} →
+  pub preceding_marked : {old new : List Bool} →
       Added (length d) old new (between 0 x (λ y. leb (end y) x && kept_of 10 y)) →
       Added (length d) old new (stepped 10)
   unfolding OnAxis
@@ -150,7 +150,7 @@ module _ (d : Document) (es : List ℕ) (r : Prepared d es) (t : ℕ → Bool) (
       ))
 
   -- the rows under x, by what is may_hold of them
-  under_marked : {old new : List ℕ} (a lo : ℕ) (A : ℕ → Type 0) → lo ≡ x + 1 → ((y : ℕ) → T (may_hold a d y) ↔ A y) →
+  under_marked : {old new : List Bool} (a lo : ℕ) (A : ℕ → Type 0) → lo ≡ x + 1 → ((y : ℕ) → T (may_hold a d y) ↔ A y) →
       ((y : ℕ) → (Child d x y × A y) ↔ OnAxis a d x y) →
       Added (length d) old new (between lo (end x) (λ y. is_child d x y && kept_of a y)) →
       Added (length d) old new (stepped a)
@@ -165,14 +165,14 @@ module _ (d : Document) (es : List ℕ) (r : Prepared d es) (t : ℕ → Bool) (
             ),
       ))
 
-  pub child_marked : {old new : List ℕ} (lo : ℕ) → lo ≡ x + 1 →
+  pub child_marked : {old new : List Bool} (lo : ℕ) → lo ≡ x + 1 →
       Added (length d) old new (between lo (end x) (λ y. is_child d x y && kept_of 1 y)) →
       Added (length d) old new (stepped 1)
   unfolding OnAxis
   child_marked lo q = under_marked 1 lo (NoAttribute d) q (λ y. may_hold_iff 1 d y (λ e. omega arith))
       (λ y. (λ c. c, λ c. c))
 
-  pub attribute_marked : {old new : List ℕ} (lo : ℕ) → lo ≡ x + 1 →
+  pub attribute_marked : {old new : List Bool} (lo : ℕ) → lo ≡ x + 1 →
       Added (length d) old new (between lo (end x) (λ y. is_child d x y && kept_of 11 y)) →
       Added (length d) old new (stepped 11)
   unfolding OnAxis
@@ -189,13 +189,13 @@ module _ (d : Document) (es : List ℕ) (r : Prepared d es) (t : ℕ → Bool) (
         ⊎_elim (λ f. omega arith) (λ c. let z = ancestor_smaller d r.formed {y = parent_at d y} (omega arith) c in
         omega arith) (ancestor_cases a)
 
-    pub parent_marked : {old new : List ℕ} → Added (length d) old new (λ y. eqb p y && t y) →
+    pub parent_marked : {old new : List Bool} → Added (length d) old new (λ y. eqb p y && t y) →
         Added (length d) old new (stepped 2)
     unfolding on_axis is_child
     parent_marked u = added_cong (stepped 2) u (λ y l. rw (ne_eqb x 0 (λ e. omega arith), q))
 
     module _ (o : NoAttribute d x) where
-      pub following_sibling_marked : {old new : List ℕ} →
+      pub following_sibling_marked : {old new : List Bool} →
           Added (length d) old new (between (end x) (end p) (λ y. is_child d p y && kept_of 7 y)) →
           Added (length d) old new (stepped 7)
       unfolding OnAxis
@@ -215,7 +215,7 @@ module _ (d : Document) (es : List ℕ) (r : Prepared d es) (t : ℕ → Bool) (
             ),
           ))
 
-      pub preceding_sibling_marked : {old new : List ℕ} (lo : ℕ) → lo ≡ p + 1 →
+      pub preceding_sibling_marked : {old new : List Bool} (lo : ℕ) → lo ≡ p + 1 →
           Added (length d) old new (between lo x (λ y. is_child d p y && kept_of 8 y)) →
           Added (length d) old new (stepped 8)
       unfolding OnAxis
@@ -228,12 +228,12 @@ module _ (d : Document) (es : List ℕ) (r : Prepared d es) (t : ℕ → Bool) (
           ))
 
   -- the axes that climb
-  pub ancestor_marked : {old new : List ℕ} → Added (length d) old new (λ y. is_ancestor d y x && t y) →
+  pub ancestor_marked : {old new : List Bool} → Added (length d) old new (λ y. is_ancestor d y x && t y) →
       Added (length d) old new (stepped 4)
   unfolding on_axis
   ancestor_marked u = u
 
-  pub ancestor_or_self_marked : {old mid new : List ℕ} → Added (length d) old mid (λ y. eqb x y && t y) →
+  pub ancestor_or_self_marked : {old mid new : List Bool} → Added (length d) old mid (λ y. eqb x y && t y) →
       Added (length d) mid new (λ y. is_ancestor d y x && t y) → Added (length d) old new (stepped 6)
   unfolding on_axis
   ancestor_or_self_marked a b =
@@ -241,7 +241,7 @@ module _ (d : Document) (es : List ℕ) (r : Prepared d es) (t : ℕ → Bool) (
       (λ y l. or_and (eqb x y) (is_ancestor d y x) (t y))
 
   -- the root has no parent; it has no sibling, nor has an attribute
-  pub root_parent : {old : List ℕ} → x ≡ 0 → Added (length d) old old (stepped 2)
+  pub root_parent : {old : List Bool} → x ≡ 0 → Added (length d) old old (stepped 2)
   unfolding on_axis is_child
   root_parent e = nothing_added (stepped 2) (λ y l. rw e)
 
@@ -256,12 +256,12 @@ module _ (d : Document) (es : List ℕ) (r : Prepared d es) (t : ℕ → Bool) (
         λ s. absurd s,
       )
 
-  pub no_following_sibling : {old : List ℕ} → (eqb x 0 || is_attribute d x) ≡ true →
+  pub no_following_sibling : {old : List Bool} → (eqb x 0 || is_attribute d x) ≡ true →
       Added (length d) old old (stepped 7)
   unfolding on_axis
   no_following_sibling e = nothing_added (stepped 7) (λ y l. rw (no_siblings e y))
 
-  pub no_preceding_sibling : {old : List ℕ} → (eqb x 0 || is_attribute d x) ≡ true →
+  pub no_preceding_sibling : {old : List Bool} → (eqb x 0 || is_attribute d x) ≡ true →
       Added (length d) old old (stepped 8)
   unfolding on_axis
   no_preceding_sibling e = nothing_added (stepped 8) (λ y l. rw (no_siblings e y))
@@ -274,7 +274,7 @@ module _ (d : Document) (es : List ℕ) (r : Prepared d es) (t : ℕ → Bool) (
         λ q. f ((or_iff (eqb x 0) (is_attribute d x)).1 (inr ((eq_iff (kind_at d x) 5).1 q))),
       )
 
-  pub no_axis : {old : List ℕ} (a : ℕ) → 12 ≤ a → Added (length d) old old (stepped a)
+  pub no_axis : {old : List Bool} (a : ℕ) → 12 ≤ a → Added (length d) old old (stepped a)
   no_axis a h = nothing_added (stepped a) (λ y l. rw (← past_last_axis a d x y h))
 
 module _ (d : Document) (es : List ℕ) (r : Prepared d es) where

@@ -11,7 +11,7 @@ use borrow.Author.Tests.{lt-ltb, le-ltb}
 use Rattle.xpath.specs.Document.{Document, parent_at, is_child, is_ancestor, well_formed}
 use Rattle.xpath.specs.code.Ends.{EndsAt, Prepared}
 use Rattle.marking.specs.code.Added.{Added, ChildrenFrom}
-use Rattle.marking.proofs.Added.{between, from_on, up_start, up_marked, up_left, up_end, down_start}
+use Rattle.marking.proofs.Added.{between, from_on, up_start, up_marked, up_left, down_start}
 use Rattle.marking.proofs.Added.{down_marked, down_left, down_end}
 use Rattle.common.proofs.Reflect.{tests_equal, true_iff, le_or_lt, eq_or_ne}
 use Rattle.xpath.proofs.Tree.{Ancestor, parent_is, ancestor_trans, ancestor_cases, child_yes, yes_child, ancestor_yes}
@@ -139,7 +139,7 @@ module _ (d : Document) (es : List ℕ) (r : Prepared d es) where
 -- the loops: the state of each, and its steps
 
 -- children of p, from lo to before hi, of which those before y are marked
-pub record ChildrenBelow (d : Document) (es : List ℕ) (t : ℕ → Bool) (p lo hi y : ℕ) (old new : List ℕ) : Type 0 where
+pub record ChildrenBelow (d : Document) (es : List ℕ) (t : ℕ → Bool) (p lo hi y : ℕ) (old new : List Bool) : Type 0 where
   pub from : lo ≤ y
   pub inside : y ≤ get_or es p 0
   pub child : y < hi → is_child d p y ≡ true
@@ -147,15 +147,15 @@ pub record ChildrenBelow (d : Document) (es : List ℕ) (t : ℕ → Bool) (p lo
   pub added : Added (length d) old new (between lo y (λ k. is_child d p k && t k))
 
 -- what is known at the child y, whose subtree ends at e, before it is marked or left
-pub record AtChild (d : Document) (es : List ℕ) (t : ℕ → Bool) (p lo hi y e : ℕ) (old new : List ℕ) : Type 0 where
+pub record AtChild (d : Document) (es : List ℕ) (t : ℕ → Bool) (p lo hi y e : ℕ) (old new : List Bool) : Type 0 where
   pub in_marks : y < length new
   pub in_ends : y < length es
   pub less : y < e
-  pub marked : t y ≡ true → ChildrenBelow d es t p lo hi e old (set new y 1)
+  pub marked : t y ≡ true → ChildrenBelow d es t p lo hi e old (set new y true)
   pub left : t y ≡ false → ChildrenBelow d es t p lo hi e old new
 
 module _ (d : Document) (es : List ℕ) (r : Prepared d es) (t : ℕ → Bool) (p lo hi : ℕ) (c : ChildrenFrom d es p lo hi)
-    (old : List ℕ) where
+    (old : List Bool) where
   pub children_start : ChildrenBelow d es t p lo hi lo old old
   children_start =
       record {
@@ -166,7 +166,7 @@ module _ (d : Document) (es : List ℕ) (r : Prepared d es) (t : ℕ → Bool) (
         added = up_start (λ k. is_child d p k && t k) lo;
       }
 
-  module _ (y e : ℕ) (new : List ℕ) (u : ChildrenBelow d es t p lo hi y old new) (h : y < hi) (q : e ≡ get_or es y 0)
+  module _ (y e : ℕ) (new : List Bool) (u : ChildrenBelow d es t p lo hi y old new) (h : y < hi) (q : e ≡ get_or es y 0)
       (few : length d ≤ length old) where
     in_document : y < length d
     in_document = let a = c.inside in let b = (r.ends.row p c.parent).within in omega arith
@@ -180,7 +180,7 @@ module _ (d : Document) (es : List ℕ) (r : Prepared d es) (t : ℕ → Bool) (
     in_marks : y < length new
     in_marks = let a = in_document in omega (arith, u.added.size)
 
-    next : (new' : List ℕ) → Added (length d) old new' (between lo e (λ k. is_child d p k && t k)) →
+    next : (new' : List Bool) → Added (length d) old new' (between lo e (λ k. is_child d p k && t k)) →
         ChildrenBelow d es t p lo hi e old new'
     next new' v =
         let a = less in
@@ -200,7 +200,7 @@ module _ (d : Document) (es : List ℕ) (r : Prepared d es) (t : ℕ → Bool) (
           in_ends = let a = in_document in omega (arith, r.ends.room);
           less = less;
           marked =
-              λ z. next (set new y 1)
+              λ z. next (set new y true)
               (up_marked (λ k. is_child d p k && t k) lo y e u.added u.from less
               (λ k m a b. rw (gap k m a b)) in_marks
               (rw (u.child h, z)));
@@ -210,16 +210,12 @@ module _ (d : Document) (es : List ℕ) (r : Prepared d es) (t : ℕ → Bool) (
               (rw (z, and-false)));
         }
 
-  pub children_end : (y : ℕ) (new : List ℕ) → ChildrenBelow d es t p lo hi y old new → hi ≤ y →
-      Added (length d) old new (between lo hi (λ k. is_child d p k && t k))
-  children_end y new u h = up_end (λ k. is_child d p k && t k) lo hi y u.added h (λ k m a b. rw (u.past k m a b))
-
 -- ancestors of x, of which those from `at` on are marked
-pub record AncestorsFrom (d : Document) (t : ℕ → Bool) (x at : ℕ) (old new : List ℕ) : Type 0 where
+pub record AncestorsFrom (d : Document) (t : ℕ → Bool) (x at : ℕ) (old new : List Bool) : Type 0 where
   pub current : AncestorOrSelf d at x
   pub added : Added (length d) old new (from_on at (λ k. is_ancestor d k x && t k))
 
-module _ (d : Document) (w : T (well_formed d)) (t : ℕ → Bool) (x : ℕ) (l : x < length d) (old : List ℕ)
+module _ (d : Document) (w : T (well_formed d)) (t : ℕ → Bool) (x : ℕ) (l : x < length d) (old : List Bool)
     (few : length d ≤ length old) where
   pub ancestors_start : AncestorsFrom d t x x old old
   ancestors_start =
@@ -228,9 +224,12 @@ module _ (d : Document) (w : T (well_formed d)) (t : ℕ → Bool) (x : ℕ) (l 
         added = down_start (λ k. is_ancestor d k x && t k) x (λ y m h. rw (climb_start d w x y l h));
       }
 
-  module _ (at p : ℕ) (new : List ℕ) (u : AncestorsFrom d t x at old new) (h : 0 < at) (q : p ≡ parent_at d at) where
+  module _ (at p : ℕ) (new : List Bool) (u : AncestorsFrom d t x at old new) (h : 0 < at) (q : p ≡ parent_at d at) where
     pub ancestors_less : p < at
     ancestors_less = let a = climb_less d w x at l u.current h in omega arith
+
+    pub ancestors_within : p < length d
+    ancestors_within = let a = ancestors_less in let b = at_in d w x at l u.current h in omega arith
 
     pub ancestors_inside : p < length new
     ancestors_inside = let a = ancestors_less in let b = at_in d w x at l u.current h in
@@ -242,7 +241,7 @@ module _ (d : Document) (w : T (well_formed d)) (t : ℕ → Bool) (x : ℕ) (l 
     is_one : is_ancestor d p x ≡ true
     is_one = rw q (climb_is d w x at l u.current h)
 
-    pub ancestors_marked : t p ≡ true → AncestorsFrom d t x p old (set new p 1)
+    pub ancestors_marked : t p ≡ true → AncestorsFrom d t x p old (set new p true)
     ancestors_marked z =
         record {
           current = rw q (climb_current d w x at l u.current h);
@@ -257,6 +256,6 @@ module _ (d : Document) (w : T (well_formed d)) (t : ℕ → Bool) (x : ℕ) (l 
           added = down_left (λ k. is_ancestor d k x && t k) at p u.added ancestors_less skips (rw (z, and-false));
         }
 
-  pub ancestors_end : (at : ℕ) (new : List ℕ) → AncestorsFrom d t x at old new → at ≤ 0 →
+  pub ancestors_end : (at : ℕ) (new : List Bool) → AncestorsFrom d t x at old new → at ≤ 0 →
       Added (length d) old new (λ k. is_ancestor d k x && t k)
   ancestors_end at new u h = down_end (λ k. is_ancestor d k x && t k) at h u.added

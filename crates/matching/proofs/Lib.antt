@@ -1,6 +1,5 @@
 mod AxisOrder
-mod Decoded
-mod FormSearch
+mod Forms
 mod Agreement
 pub mod Letters
 mod RowForms
@@ -8,4 +7,3 @@ pub mod RowWayBack
 mod WayBackRows
 pub mod RowYields
 mod Matching
-mod Conditions

@@ -1,26 +1,29 @@
 -- The ways through the matcher's functions, over the results of their calls. Assumes nothing.
-use Prim.Native.Nat.{ℕ, zero, suc, ◌+◌, ◌-◌, ◌<◌, ◌≤◌}
+use Prim.Native.Nat.{ℕ, ◌<◌, ◌≤◌}
 use mathlib.Core.Path.{◌≡◌, refl, sym, ◌∙◌, ap, subst}
 use mathlib.Core.Bool.{Bool, true, false, not, cond, ◌&&◌, ◌||◌, false≢true}
-use mathlib.Core.List.{List, [], ◌∷◌}
+use mathlib.Core.List.{List, [], ◌∷◌, map}
 use native.Mathlib.Omega.{arith}
 use lib.Dec.{eqb}
-use lib.ListN.{get_or, take, set, get_or-map}
-use lib.Seq.{take-nil}
-use borrow.Author.Tests.{lt-ltb, le-ltb, eq-eqb}
+use lib.ListN.{length, get_or, take, set, get_or-map}
+use borrow.Author.Tests.{lt-ltb, eq-eqb}
 use Rattle.std.specs.Prelude.{Option, None, Some}
 use Rattle.std.specs.Option.{unwrap_or}
 use Rattle.std.proofs.lemmas.List.{map-set}
 use Rattle.std.proofs.lemmas.Bool.{false_from_ne_true}
 use Rattle.terms.specs.Row.{Row, row_at}
+use Rattle.common.proofs.Reflect.{and-false}
 use Rattle.matching.specs.declared.matcher.Letters.{Letters}
-use Rattle.matching.specs.code.Pattern.{Pattern, number, letter, row_pattern, letter_count, ClaimPattern}
-use Rattle.matching.specs.code.Encode.{first_letter, first_row}
-use Rattle.matching.specs.code.Unpack.{Entry, entry_at, pattern_at, decode, claim_pattern_of, premises_at}
+use Rattle.matching.specs.declared.pattern.Claim.{Claim}
+use Rattle.rules.specs.Instance.{meets}
+use Rattle.common.specs.Lists.{all_of}
+use Rattle.matching.specs.code.Pattern.{Pattern, number, letter, row_pattern, letter_count, ClaimPattern, FormPattern}
 use Rattle.matching.specs.code.RowYields.{Sides, Match, check, bind, suits, is_row, match, match_claim, match_claims}
+use Rattle.matching.specs.code.RowYields.{numbers_in, match_form, form_yields}
+use Rattle.matching.specs.code.PatternTypes.{claim_of}
 use Rattle.matching.specs.code.MatchTypes.{has_value, value_or_0, values_in, matched, Matches}
 
--- a letter that there is: a value that it has is the one that it gets
+-- a value that a letter has is the one that it gets
 pub bind_way : (k v : ℕ) (l : Letters) {old : ℕ} → k < letter_count → old ≡ unwrap_or (get_or l.values k None) v
     → Matches (eqb old v) (record { values = set l.values k (Some v) }) (bind k v (matched l))
 unfolding bind
@@ -42,11 +45,6 @@ bind_way k v l {old} h q =
     by : (o : Option ℕ) → eqb (unwrap_or o v) v ≡ (not (has_value o) || eqb (value_or_0 o) v)
     by None = eq-eqb v v refl
     by (Some n) = refl
-
--- a letter that there isn't
-pub no_bind : (k v : ℕ) (l : Letters) → letter_count ≤ k → Matches false l (bind k v (matched l))
-unfolding bind
-no_bind k v l h = record { answer = rw (le-ltb k letter_count h); letters = λ t. absurd (false≢true t) }
 
 -- the letters stay as they are
 pub checked : (l : Letters) (b : Bool) → Matches b l (check b (matched l))
@@ -121,96 +119,80 @@ module _ {f : Match → Match} (keeps : Keeps f) {b : Bool} {l : Letters} {m : M
         letters = λ t. absurd (false≢true (sym e ∙ t));
       }
 
-module _ (t : List ℕ) where
-  -- a pattern that is a row
-  row_decoded : (depth x : ℕ) → ¬ (depth ≡ 0) → first_row ≤ x
-      → decode t depth x
-      ≡ (let p = pattern_at t x in
-      row_pattern p.first (decode t (depth - 1) p.second) (decode t (depth - 1) p.third)
-      (decode t (depth - 1) p.fourth))
-  unfolding decode
-  row_decoded zero x n h = absurd (n refl)
-  row_decoded (suc depth) x n h =
-      let e : suc depth - 1 ≡ depth = omega arith in
-      rw (le-ltb x first_letter (omega arith), le-ltb x first_row h, e)
+module _ (rs : List Row) where
+  -- a letter: what it can stand for, and then what it stands for
+  module _ (k v : ℕ) (l : Letters) {b : Bool} (p : b ≡ suits rs k v) where
+    pub letter_way : b ≡ true → {r : Bool} {l' : Letters} → Matches r l' (bind k v (matched l))
+        → Matches r l' (match rs (letter k) v (matched l))
+    unfolding match check
+    letter_way e q = rw (← p, e) q
 
-  module _ (rs : List Row) (x v : ℕ) where
-    pub number_way : (depth : ℕ) (l : Letters) → x < first_letter
-        → Matches (eqb v x) l (match rs (decode t (suc depth) x) v (matched l))
-    unfolding match decode
-    number_way depth l h = rw (lt-ltb x first_letter h) (checked l (eqb v x))
+    pub other_letter_way : b ≡ false → Matches b l (match rs (letter k) v (matched l))
+    unfolding match check bind
+    other_letter_way e = rw (← p, e) (record { answer = refl; letters = λ t. absurd (false≢true t) })
 
-    module _ (depth : ℕ) (g : first_letter ≤ x) (h : x < first_row) where
-      -- a letter: what it can stand for, and then what it stands for
-      pub letter_way : {b : Bool} (l : Letters) → b ≡ suits rs (x - first_letter) v → b ≡ true
-          → {r : Bool} {l' : Letters} → Matches r l' (bind (x - first_letter) v (matched l))
-          → Matches r l' (match rs (decode t (suc depth) x) v (matched l))
-      unfolding match decode check
-      letter_way l p e q = rw (le-ltb x first_letter g, lt-ltb x first_row h, ← p, e) q
+  -- a row: its kind, and then its fields, one after the other
+  module _ (kind v : ℕ) (x y z : Pattern) (m : Match) {b : Bool} (s : b ≡ is_row rs kind v) where
+    pub row_way : b ≡ true → {i : ℕ} {r : Row} → i ≡ v → r ≡ row_at rs i
+        → match rs z r.c (match rs y r.b (match rs x r.a m)) ≡ match rs (row_pattern kind x y z) v m
+    unfolding match
+    row_way f e g = rw (← s, f, ← e, ← g)
 
-      pub other_letter_way : {b : Bool} (l : Letters) → b ≡ suits rs (x - first_letter) v → b ≡ false
-          → Matches b l (match rs (decode t (suc depth) x) v (matched l))
-      unfolding match decode check bind
-      other_letter_way l p e =
-          rw (le-ltb x first_letter g, lt-ltb x first_row h, ← p, e)
-          (record { answer = refl; letters = λ t. absurd (false≢true t) })
+    pub other_row_way : b ≡ false → check false m ≡ match rs (row_pattern kind x y z) v m
+    unfolding match
+    other_row_way f = rw (← s, f)
 
-    module _ (depth : ℕ) (l : Letters) where
-      pub end_way : depth ≡ 0 → Matches (eqb v x) l (match rs (decode t depth x) v (matched l))
-      unfolding match decode
-      end_way e = rw e (checked l (eqb v x))
+-- a form's premises, as many as there are
+module _ (rs : List Row) (s₁ s₂ : Sides) (l : Letters) where
+  abbrev premises_matched : List Claim → Match
+  premises_matched ws =
+      match_claims rs (map claim_of ws) (take (length (map claim_of ws)) (s₁ ∷ s₂ ∷ [])) (matched l)
 
-      pub leaf_way : {r : Bool} {l' : Letters} → ¬ (depth ≡ 0)
-          → ((d : ℕ) → Matches r l' (match rs (decode t (suc d) x) v (matched l)))
-          → Matches r l' (match rs (decode t depth x) v (matched l))
-      leaf_way n q = let e : depth ≡ suc (depth - 1) = omega arith in rw e (q (depth - 1))
-
-      module _ (n : ¬ (depth ≡ 0)) (h : first_row ≤ x) {p : Entry} (q : p ≡ pattern_at t x)
-          {b : Bool} (s : b ≡ is_row rs p.first v) where
-        pub other_row_way : b ≡ false → Matches false l (match rs (decode t depth x) v (matched l))
-        unfolding match
-        other_row_way f = rw (row_decoded depth x n h, ← q, ← s, f) (checked l false)
-
-        -- the row's fields, one after the other
-        pub row_of_way : b ≡ true → {i : ℕ} {r : Row} → i ≡ v → r ≡ row_at rs i
-            → match rs (decode t (depth - 1) p.fourth) r.c
-            (match rs (decode t (depth - 1) p.third) r.b (match rs (decode t (depth - 1) p.second) r.a (matched l)))
-            ≡ match rs (decode t depth x) v (matched l)
-        unfolding match
-        row_of_way f e g = rw (row_decoded depth x n h, ← q, ← s, f, ← e, ← g)
-
--- the premises of the form at place i, as many as count
-module _ (t : List ℕ) (rs : List Row) (i count : ℕ) (s₁ s₂ : Sides) (l : Letters) where
-  abbrev premises_matched : Match
-  premises_matched = match_claims rs (take count (premises_at t i)) (take count (s₁ ∷ s₂ ∷ [])) (matched l)
-
-  pub no_premise : count ≡ 0 → Matches true l premises_matched
+  pub no_premise : (ws : List Claim) → length ws < 1 → Matches true l (premises_matched ws)
   unfolding match_claims
-  no_premise e = rw e (record { answer = refl; letters = λ _. refl })
+  no_premise [] h = record { answer = refl; letters = λ _. refl }
+  no_premise (w ∷ ws) h = absurd (omega arith)
 
-  module _ {p : Entry} (q : p ≡ entry_at t (i + 1)) {b : Bool} {l₁ : Letters}
-      (h : Matches b l₁ (match_claim rs (claim_pattern_of t p.first p.second) s₁ (matched l))) where
-    -- the first premise, and then the rest
-    first_then : (n : ℕ) → count ≡ suc n
-        → premises_matched ≡ match_claims rs (take n (claim_pattern_of t p.third p.fourth ∷ []))
-        (take n (s₂ ∷ [])) (match_claim rs (claim_pattern_of t p.first p.second) s₁ (matched l))
-    unfolding match_claims premises_at
-    first_then n e = rw (e, q)
+  pub one_premise : (d : Claim) (ws : List Claim) → 1 ≤ length ws → length ws < 2 → {b : Bool} {l₁ : Letters}
+      → Matches b l₁ (match_claim rs (claim_of (get_or ws 0 d)) s₁ (matched l)) → Matches b l₁ (premises_matched ws)
+  unfolding match_claims
+  one_premise d [] g h m = absurd (omega arith)
+  one_premise d (w ∷ []) g h m = m
+  one_premise d (w ∷ v ∷ ws) g h m = absurd (omega arith)
 
-    pub first_fails : ¬ (count ≡ 0) → b ≡ false → Matches b l₁ premises_matched
-    first_fails n₀ e =
-        rw (first_then (count - 1) (omega arith))
-        (stops
-        (claims_keep rs (take (count - 1) (claim_pattern_of t p.third p.fourth ∷ [])) (take (count - 1) (s₂ ∷ []))) h e)
+  pub two_premises : (d : Claim) (ws : List Claim) → 2 ≤ length ws → length ws < 3 → {b : Bool} {l₁ : Letters}
+      → Matches b l₁ (match_claim rs (claim_of (get_or ws 0 d)) s₁ (matched l)) → b ≡ true → {r : Bool} {l₂ : Letters}
+      → Matches r l₂ (match_claim rs (claim_of (get_or ws 1 d)) s₂ (matched l₁)) → Matches r l₂ (premises_matched ws)
+  unfolding match_claims
+  two_premises d [] g h m e n = absurd (omega arith)
+  two_premises d (w ∷ []) g h m e n = absurd (omega arith)
+  two_premises d (w ∷ v ∷ []) g h m e n = goes_on (claim_keeps rs (claim_of v) s₂) m e n
+  two_premises d (w ∷ v ∷ u ∷ ws) g h m e n = absurd (omega arith)
 
-    pub one_premise : b ≡ true → count ≡ 1 → Matches true l₁ premises_matched
-    unfolding match_claims
-    one_premise e n = rw (first_then 0 n) (rw e at h)
+  pub first_fails : (d : Claim) (ws : List Claim) → 2 ≤ length ws → length ws < 3 → {b : Bool} {l₁ : Letters}
+      → Matches b l₁ (match_claim rs (claim_of (get_or ws 0 d)) s₁ (matched l)) → b ≡ false
+      → Matches b l₁ (premises_matched ws)
+  unfolding match_claims
+  first_fails d [] g h m e = absurd (omega arith)
+  first_fails d (w ∷ []) g h m e = absurd (omega arith)
+  first_fails d (w ∷ v ∷ []) g h m e = stops (claim_keeps rs (claim_of v) s₂) m e
+  first_fails d (w ∷ v ∷ u ∷ ws) g h m e = absurd (omega arith)
 
-    pub two_premises : b ≡ true → ¬ (count ≡ 0) → ¬ (count ≡ 1) → {r : Bool} {l₂ : Letters}
-        → Matches r l₂ (match_claim rs (claim_pattern_of t p.third p.fourth) s₂ (matched l₁))
-        → Matches r l₂ premises_matched
-    unfolding match_claims
-    two_premises e n₀ n₁ g =
-        rw (first_then (suc (count - 2)) (omega arith), take-nil (count - 2), take-nil (count - 2))
-        (goes_on (claim_keeps rs (claim_pattern_of t p.third p.fourth) s₂) h e g)
+  pub more_premises : (ws : List Claim) → 3 ≤ length ws → Matches false l (premises_matched ws)
+  unfolding match_claims check
+  more_premises [] h = absurd (omega arith)
+  more_premises (w ∷ []) h = absurd (omega arith)
+  more_premises (w ∷ v ∷ []) h = absurd (omega arith)
+  more_premises (w ∷ v ∷ u ∷ ws) h = record { answer = sym (and-false _); letters = λ t. absurd (false≢true t) }
+
+-- the letters that fit a form's conclusion and premises, and its conditions
+module _ (rs : List Row) (s : Sides) (ss : List Sides) (w : FormPattern) {b : Bool} {l : Letters}
+    (h : Matches b l (match_form rs s ss w)) where
+  pub form_fits : b ≡ true → {r : Bool} → r ≡ all_of (meets (numbers_in (values_in l))) w.conditions
+      → r ≡ form_yields rs s ss w
+  unfolding form_yields
+  form_fits e p = rw (← h.letters e) p
+
+  pub form_fails : b ≡ false → b ≡ form_yields rs s ss w
+  unfolding form_yields
+  form_fails e = rw (← h.answer, e)

@@ -4,15 +4,19 @@ use mathlib.Core.Path.{◌≡◌, refl, sym, ◌∙◌, ap, subst, subst₂}
 use mathlib.Core.Bool.{Bool, true, false, ◌&&◌, false≢true}
 use mathlib.Core.List.{List, [], ◌∷◌}
 use mathlib.Core.Logic.{⊎_elim}
+use Rattle.std.proofs.Common.{Option, Some, None}
 use native.Mathlib.Omega.{arith}
 use lib.Dec.{eqb, ltb}
 use lib.ListN.{length, get_or, set, take, replicate, length-take, get_or-eq_default}
 use lib.Seq.{get_or-take}
-use borrow.Author.Tests.{eqb-true, lt-ltb, le-ltb}
+use borrow.Author.Tests.{lt-ltb, le-ltb}
 use Rattle.common.proofs.Reflect.{le_or_lt, and-false}
 use Rattle.terms.specs.Row.{Row, no_row, row_at}
 use Rattle.terms.proofs.Entries.{entries_take, entry_at_lem, entry_past}
 use Rattle.terms.proofs.Noted.{note_there, nothing_noted, noted_more}
+use Rattle.common.specs.declared.row_kind.RowKind.{RowKind}
+use Rattle.common.specs.declared.row_kind.RowKind.TheVariants as Kinds
+use Rattle.common.specs.code.Numbers.{row_number}
 use Rattle.matching.specs.declared.matcher.Sides.{Sides}
 use Rattle.matching.specs.declared.way_back.Reversal.{Reversal}
 use Rattle.matching.specs.declared.way_back.Reversal.TheVariants.{Never, Always, Operands}
@@ -87,21 +91,37 @@ module _ (rs : List Row) where
         by b₂ b₃ b₄ b₅ (suc (suc (suc (suc (suc zero))))) n₂ n₃ n₄ n₅ = absurd (n₅ refl)
         by b₂ b₃ b₄ b₅ (suc (suc (suc (suc (suc (suc k)))))) n₂ n₃ n₄ n₅ = refl
 
+    pub other_kind : (k : RowKind) → row_number k ≡ x.kind → ¬ (k ≡ Kinds.Union) → ¬ (k ≡ Kinds.Composition)
+        → ¬ (k ≡ Kinds.Filter) → ¬ (k ≡ Kinds.Step) → (back : ℕ → ℕ → Bool) → is_back_by rs back x y ≡ false
+    unfolding is_back_by
+    other_kind Kinds.Void e u c f s back = rw (← e) refl
+    other_kind Kinds.Root e u c f s back = rw (← e) refl
+    other_kind Kinds.Step e u c f s back = absurd (s refl)
+    other_kind Kinds.Union e u c f s back = absurd (u refl)
+    other_kind Kinds.Composition e u c f s back = absurd (c refl)
+    other_kind Kinds.Filter e u c f s back = absurd (f refl)
+    other_kind Kinds.True e u c f s back = rw (← e) refl
+    other_kind Kinds.False e u c f s back = rw (← e) refl
+    other_kind Kinds.Not e u c f s back = rw (← e) refl
+    other_kind Kinds.And e u c f s back = rw (← e) refl
+    other_kind Kinds.Or e u c f s back = rw (← e) refl
+    other_kind Kinds.Inclusion e u c f s back = rw (← e) refl
+
   -- The noted rows.
 
-  pub note_keeps : (xs : List ℕ) (i j : ℕ) → Noted rs xs → is_back rs i j ≡ true → Noted rs (set xs i (suc j))
+  pub note_keeps : (xs : List (Option ℕ)) (i j : ℕ) → Noted rs xs → is_back rs i j ≡ true
+      → Noted rs (set xs i (Some j))
   unfolding Noted
   note_keeps xs i j s e = noted_more (λ i j. is_back rs i j ≡ true) xs i j s e
 
-  pub none_noted : (k : ℕ) → Noted rs (replicate {A = ℕ} k 0)
+  pub none_noted : (k : ℕ) → Noted rs (replicate k None)
   unfolding Noted
   none_noted k i j q = nothing_noted k i j q
 
-  pub is_noted : (xs : List ℕ) (i j : ℕ) → Noted rs xs → true ≡ eqb (get_or xs i 0) (suc j) → BackFound rs i j true xs
+  pub is_noted : (xs : List (Option ℕ)) (i j : ℕ) → Noted rs xs → get_or xs i None ≡ Some j
+      → BackFound rs i j true xs
   unfolding Noted
-  is_noted xs i j s e =
-      let there : get_or xs i 0 ≡ suc j = eqb-true (get_or xs i 0) (suc j) (sym e) in
-      record { answer = sym (s i j there); noted = s; found_noted = λ q n l. there }
+  is_noted xs i j s there = record { answer = sym (s i j there); noted = s; found_noted = λ q n l. there }
 
   -- r is what is seen of rows i and j
   abbrev Seen : ℕ → ℕ → Reversal → Type 0
@@ -113,7 +133,7 @@ module _ (rs : List Row) where
       subst₂ (λ (x y : Row). Reverses rs x y r) (ex ∙ ap (row_at rs) e) (ey ∙ ap (row_at rs) f) seen
 
   -- The ways of the search, after what is seen of rows i and j.
-  module _ (i j : ℕ) (r : Reversal) (seen : Seen i j r) (xs : List ℕ) (noted : Noted rs xs) where
+  module _ (i j : ℕ) (r : Reversal) (seen : Seen i j r) (xs : List (Option ℕ)) (noted : Noted rs xs) where
     level : is_back rs i j ≡ reversed_by (operand_back i) r
     unfolding Reverses
     level = back_level i j ∙ seen (operand_back i)
@@ -152,7 +172,7 @@ module _ (rs : List Row) where
       pub operand_fails : b ≡ false → BackFound rs i j b xs
       operand_fails f = rw f (not_back (operands ∙ f))
 
-      pub both_found : b ≡ true → {ys : List ℕ} → ys ≡ set xs i (suc j) → BackFound rs i j b ys
+      pub both_found : b ≡ true → {ys : List (Option ℕ)} → ys ≡ set xs i (Some j) → BackFound rs i j b ys
       both_found f p =
           let is_back_lem : is_back rs i j ≡ true = operands ∙ f in
           record {

@@ -188,7 +188,7 @@ module _ {rs : List Row} (built : Built rs) (n : ℕ) (s : Sides) (ss : List Sid
   conditions_same cs m = all_of_same (meets (numbers_in m.value)) (meets (letters_of rs m.value))
       (numbers_meet rs m) cs
 
-  form_yields_lem : {w : Form} → Memᴰ w (forms_of n) → T (form_yields rs s ss (form_pattern n w)) →
+  form_yields_lem : {w : Form} → Memᴰ w (forms_of n) → T (form_yields rs s ss (form_pattern w)) →
       FormYields n (says_of rs s) (map (says_of rs) ss)
   unfolding form_yields match_form form_pattern match_claims
   form_yields_lem {w} i t =
@@ -205,7 +205,7 @@ module _ {rs : List Row} (built : Built rs) (n : ℕ) (s : Sides) (ss : List Sid
       }
 
   yields_form : (y : FormYields n (says_of rs s) (map (says_of rs) ss)) →
-      T (form_yields rs s ss (form_pattern n y.form))
+      T (form_yields rs s ss (form_pattern y.form))
   unfolding form_yields match_form form_pattern match_claims
   yields_form y =
       let w : Form = y.form in
@@ -232,10 +232,10 @@ module _ {rs : List Row} (built : Built rs) (n : ℕ) (s : Sides) (ss : List Sid
   forms_yield_iff : T (forms_yield rs n s ss) ↔ FormYields n (says_of rs s) (map (says_of rs) ss)
   unfolding forms_yield
   forms_yield_iff =
-      let q = any_of_map (form_yields rs s ss) (form_pattern n) (forms_of n) in (
-        λ t. let (w, i, u) = any_of_yes (λ w. form_yields rs s ss (form_pattern n w)) (forms_of n)
+      let q = any_of_map (form_yields rs s ss) form_pattern (forms_of n) in (
+        λ t. let (w, i, u) = any_of_yes (λ w. form_yields rs s ss (form_pattern w)) (forms_of n)
             (subst T q t) in form_yields_lem built n s ss sort sorts i u,
-        λ y. subst T (sym q) (yes_any_of (λ w. form_yields rs s ss (form_pattern n w)) (forms_of n) y.of_rule
+        λ y. subst T (sym q) (yes_any_of (λ w. form_yields rs s ss (form_pattern w)) (forms_of n) y.of_rule
             (yields_form built n s ss sort sorts y)),
       )
 

@@ -1,6 +1,5 @@
 pub mod Pattern
 pub mod RowWayBack
 pub mod RowYields
-pub mod Encode
-pub mod Unpack
+pub mod PatternTypes
 pub mod MatchTypes

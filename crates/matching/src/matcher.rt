@@ -1,56 +1,22 @@
-// A form of a rule against the rows of a step and of its premises, by the numbers of a table.
-ghost use Rattle.std.specs.Prelude.{ℕ, suc, ◌+◌, ◌^◌, ◌%◌, ◌≤◌, ◌<◌, ◌≡◌, List, [], ◌∷◌, get_or, take};
+// A form of a rule against the rows of a step and of its premises.
+ghost use Rattle.std.specs.Prelude.{◌≡◌, [], ◌∷◌, map, length, take, drop, get_or};
 ghost use Rattle.terms.specs.Row.{table_of};
-ghost use Rattle.common.specs.Lists.{all_of, any_of};
+ghost use Rattle.common.specs.code.Numbers.{row_number};
 ghost use Rattle.rules.specs.Instance.{meets};
-ghost use Rattle.matching.specs.code.Pattern.{letter_count};
-ghost use Rattle.matching.specs.code.Encode.{first_row};
-ghost use Rattle.matching.specs.code.Unpack.{unpacked, entry_at, rule_at, pattern_at, decode, claim_pattern_of};
-ghost use Rattle.matching.specs.code.Unpack.{premises_at, form_at, forms_from};
-ghost use Rattle.matching.specs.code.Unpack.{condition_of, conditions_of};
+ghost use Rattle.rules.specs.Yields.{forms_of};
+ghost use Rattle.matching.specs.code.Pattern.{form_pattern};
+ghost use Rattle.matching.specs.code.PatternTypes.{letter_number, condition_of, pattern_of, claim_of, form_of};
+ghost use Rattle.matching.specs.code.PatternTypes.{forms_in, rule_table};
 ghost use Rattle.matching.specs.code.RowYields.{bind, suits, is_row, match, match_claim, match_claims};
-ghost use Rattle.matching.specs.code.RowYields.{empty_match, numbers_in, form_yields};
-ghost use Rattle.matching.specs.code.MatchTypes.{sides_in, entry_of, values_in, matched, Matches};
+ghost use Rattle.matching.specs.code.RowYields.{empty_match, numbers_in, yields_by};
+ghost use Rattle.matching.specs.code.MatchTypes.{sides_in, values_in, matched, Matches};
 
 use crate::order::{axis_below, test_below};
-use crate::tables::{FIRST_LETTER, FIRST_PATTERN, FIRST_ROW, PATTERN_DEPTH};
+use crate::pattern::{Claim, Condition, Form, LETTER_COUNT, Letter, Pattern, RowPattern};
+use crate::tables::{RULES_TO_24, RULES_TO_41, RULES_TO_58};
+use common::row_kind::RowKind;
 use common::{axis, node_test};
 use terms::{is_held_path, is_held_qualifier, row_at, row_count};
-
-// The last rule of the table.
-const TABLE_RULES: u16 = 58;
-
-// How many letters there are: p q r s, f g h, a b, N and its name, M and its name.
-const LETTER_COUNT: usize = 13;
-
-const FIRST_QUALIFIER_LETTER: usize = 4;
-
-const FIRST_AXIS_LETTER: usize = 7;
-
-const AXIS_A: usize = 7;
-
-const AXIS_B: usize = 8;
-
-const TEST_N: usize = 9;
-
-const NAME_N: usize = 10;
-
-const TEST_M: usize = 11;
-
-const NAME_M: usize = 12;
-
-// The side conditions: digits of the numbers in TABLE, which are matched as they stand there.
-const A_BELOW_B: u16 = 1;
-
-const N_BELOW_M: u16 = 2;
-
-const B_FROM_3_TO_10: u16 = 3;
-
-const N_A_NAME_OR_STAR: u16 = 4;
-
-const N_NOT_NODE: u16 = 5;
-
-const A_NOT_ATTRIBUTE: u16 = 6;
 
 // The rows that a step is about.
 #[derive(Clone, Copy, PartialEq, Eq, Debug)]
@@ -59,85 +25,80 @@ pub struct Sides {
     pub right: u16,
 }
 
-// The rows that are lent, and the rule table.
-#[derive(Clone, Copy)]
-pub struct Lent<'a> {
-    pub rows: &'a [u16],
-    pub table: &'a [u64],
-}
-
 // What each letter stands for, where it stands for something yet.
 #[derive(Clone, Copy)]
 struct Letters {
     values: [Option<u16>; LETTER_COUNT],
 }
 
-// An entry of a table: four numbers of three digits each.
-pub type Entry = [u16; 4];
-
-// The last three digits.
-fn three_digits(word: u64) -> u16
-    ensures { result ≡ word % 1000 }
+// The first part of the rule table.
+fn rules_to_24() -> &'static [&'static [Form]]
+    ensures { map forms_in result.now ≡ take 25 rule_table }
 {
-    (word % 1000) as u16
+    &RULES_TO_24
 }
 
-// The four numbers that an entry of the table holds.
-fn unpacked(word: u64) -> Entry
-    ensures { entry_of result ≡ unpacked word }
+// The second part.
+fn rules_to_41() -> &'static [&'static [Form]]
+    ensures { map forms_in result.now ≡ take 17 (drop 25 rule_table) }
 {
-    [
-        three_digits(word / 1_000_000_000),
-        three_digits(word / 1_000_000),
-        three_digits(word / 1000),
-        three_digits(word),
-    ]
+    &RULES_TO_41
 }
 
-// Entry i of a table, zeros past the last one.
-fn entry_at(table: &[u64], i: usize) -> Entry
-    ensures { entry_of result ≡ entry_at table.now i }
+// The third part.
+fn rules_to_58() -> &'static [&'static [Form]]
+    ensures { map forms_in result.now ≡ drop 42 rule_table }
 {
-    unpacked(table.get(i).copied().unwrap_or(0))
+    &RULES_TO_58
 }
 
-// The entry of a rule, zeros where the table has no such rule.
-pub fn rule_at(table: &[u64], rule: u16) -> Entry
-    ensures { entry_of result ≡ rule_at table.now rule }
+// Entry i of a part, no forms past the last one.
+fn entry_at(part: &'static [&'static [Form]], i: usize) -> &'static [Form]
+    ensures { forms_in result ≡ get_or (map forms_in part.now) i [] }
 {
-    if TABLE_RULES < rule {
-        return [0; 4];
+    match part.get(i) {
+        Some(forms) => forms,
+        None => &[],
     }
-    entry_at(table, usize::from(rule))
 }
 
-// The entry that the pattern x stands for.
-fn pattern_at(table: &[u64], x: u16) -> Entry
-    requires { first_row ≤ x }
-    ensures { entry_of result ≡ pattern_at table.now x }
+// The forms of a rule, none where the table has no such rule.
+pub fn forms_of(rule: u16) -> &'static [Form]
+    ensures { forms_in result ≡ map form_pattern (forms_of rule) }
 {
-    entry_at(table, FIRST_PATTERN + usize::from(x - FIRST_ROW))
-}
-
-// Whether letter k can stand for v: p, q, r, s for held paths, f, g, h for held qualifiers.
-fn suits_letter(rows: &[u16], k: usize, v: u16) -> bool
-    ensures { result ≡ suits (table_of rows.now) k v }
-{
-    if k < FIRST_QUALIFIER_LETTER {
-        return is_held_path(rows, v);
+    let i = usize::from(rule);
+    if i <= 24 {
+        entry_at(rules_to_24(), i)
+    } else if i <= 41 {
+        entry_at(rules_to_41(), i - 25)
+    } else {
+        entry_at(rules_to_58(), i - 42)
     }
-    k >= FIRST_AXIS_LETTER || is_held_qualifier(rows, v)
+}
+
+// Whether a letter can stand for v: p, q, r, s for held paths, f, g, h for held qualifiers.
+#[tactic(auto, unfolding(crate::specs::code::RowYields::suits))]
+fn suits_letter(rows: &[u16], letter: Letter, v: u16) -> bool
+    ensures { result ≡ suits (table_of rows.now) (letter_number letter) v }
+{
+    match letter {
+        Letter::P | Letter::Q | Letter::R | Letter::S => is_held_path(rows, v),
+        Letter::F | Letter::G | Letter::H => is_held_qualifier(rows, v),
+        _ => true,
+    }
 }
 
 // Whether v is the number of a held row of this kind.
-fn is_row(rows: &[u16], kind: u16, v: u16) -> bool
-    ensures { result ≡ is_row (table_of rows.now) kind v }
+#[tactic(auto, unfolding(crate::specs::code::RowYields::is_row))]
+fn is_row(rows: &[u16], kind: RowKind, v: u16) -> bool
+    ensures { result ≡ is_row (table_of rows.now) (row_number kind) v }
 {
     let i = usize::from(v);
-    i < row_count(rows) && row_at(rows, i).kind == kind
+    i < row_count(rows) && row_at(rows, i).kind == u16::from(kind)
 }
 
 impl Letters {
+    #[tactic(auto, unfolding(crate::specs::code::RowYields::empty_match))]
     fn new() -> Letters
         ensures { matched result ≡ empty_match }
     {
@@ -146,163 +107,108 @@ impl Letters {
         }
     }
 
-    // What letter k stands for, 0 where that is nothing yet.
-    fn value(&self, k: usize) -> u16
-        requires { k < letter_count }
-        ensures { result ≡ get_or (values_in self.now) k 0 }
+    // What a letter stands for; 0 where that is nothing, as the definition has it: a form's conditions are about
+    // letters of its conclusion.
+    fn value(&self, letter: Letter) -> u16
+        ensures { result ≡ get_or (values_in self.now) (letter_number letter) 0 }
     {
-        self.values[k].unwrap_or(0)
+        self.values[letter.place()].unwrap_or(0)
     }
 
-    // Whether letter k stood for nothing, or for v; from now on it stands for v.
-    fn bind(&mut self, k: usize, v: u16) -> bool
-        ensures { Matches result self.new (bind k v (matched self.old)) }
+    // Whether the letter stood for nothing, or for v; from now on it stands for v.
+    fn bind(&mut self, letter: Letter, v: u16) -> bool
+        ensures { Matches result self.new (bind (letter_number letter) v (matched self.old)) }
     {
-        if LETTER_COUNT <= k {
-            return false;
-        }
+        let k = letter.place();
         let old = self.values[k].unwrap_or(v);
         self.values[k] = Some(v);
         old == v
     }
 
-    // Whether the letters meet the condition numbered k.
-    fn meet(&self, k: u16) -> bool
-        ensures { result ≡ all_of (meets (numbers_in (values_in self.now))) (condition_of k) }
+    fn meet(&self, condition: Condition) -> bool
+        ensures { result ≡ meets (numbers_in (values_in self.now)) (condition_of condition) }
     {
-        let a = self.value(AXIS_A);
-        let b = self.value(AXIS_B);
-        let test = self.value(TEST_N);
-        match k {
-            A_BELOW_B => axis_below(a, b),
-            N_BELOW_M => test_below(
+        let a = self.value(Letter::A);
+        let b = self.value(Letter::B);
+        let test = self.value(Letter::N);
+        match condition {
+            Condition::ABelowB => axis_below(a, b),
+            Condition::NBelowM => test_below(
                 test,
-                self.value(NAME_N),
-                self.value(TEST_M),
-                self.value(NAME_M),
+                self.value(Letter::NameOfN),
+                self.value(Letter::M),
+                self.value(Letter::NameOfM),
             ),
-            B_FROM_3_TO_10 => axis::DESCENDANT <= b && b <= axis::PRECEDING,
-            N_A_NAME_OR_STAR => test == node_test::NAME || test == node_test::STAR,
-            N_NOT_NODE => test != node_test::NODE,
-            A_NOT_ATTRIBUTE => a != axis::ATTRIBUTE,
-            _ => true,
+            Condition::BFrom3To10 => axis::DESCENDANT <= b && b <= axis::PRECEDING,
+            Condition::NNameOrStar => test == node_test::NAME || test == node_test::STAR,
+            Condition::NNotNode => test != node_test::NODE,
+            Condition::ANotAttribute => a != axis::ATTRIBUTE,
         }
     }
 
-    // Whether the letters meet the conditions that the digits of k stand for.
-    fn meet_all(&self, k: u16) -> bool
-        ensures { result ≡ all_of (meets (numbers_in (values_in self.now))) (conditions_of k) }
+    // The number v against a pattern.
+    fn fit(&mut self, rows: &[u16], pattern: Pattern, v: u16) -> bool
+        ensures { Matches result self.new
+            (match (table_of rows.now) (pattern_of pattern) v (matched self.old)) }
     {
-        self.meet(k % 10) && self.meet(k / 10 % 10) && self.meet(k / 100)
-    }
-}
-
-// The number v against the pattern x, which is a number or a letter.
-fn match_leaf(rows: &[u16], x: u16, v: u16, letters: &mut Letters) -> bool
-    requires { x < first_row }
-    ensures { (t : List ℕ) (depth : ℕ)
-        → Matches result letters.new
-        (match (table_of rows.now) (decode t (suc depth) x) v (matched letters.old)) }
-{
-    if x < FIRST_LETTER {
-        return v == x;
-    }
-    let k = usize::from(x - FIRST_LETTER);
-    suits_letter(rows, k, v) && letters.bind(k, v)
-}
-
-impl<'a> Lent<'a> {
-    // The number v against the pattern x, read to a depth.
-    fn match_at(self, depth: usize, x: u16, v: u16, letters: &mut Letters) -> bool
-        ensures { Matches result letters.new
-            (match (table_of self.entry.rows.now) (decode self.entry.table.now depth x) v (matched letters.old)) }
-    {
-        if depth == 0 {
-            return v == x;
-        }
-        if x < FIRST_ROW {
-            return match_leaf(self.rows, x, v, letters);
-        }
-        let [kind, a, b, c] = pattern_at(self.table, x);
-        if !is_row(self.rows, kind, v) {
-            return false;
-        }
-        let row = row_at(self.rows, usize::from(v));
-        let below = depth - 1;
-        self.match_at(below, a, row.a, letters)
-            && self.match_at(below, b, row.b, letters)
-            && self.match_at(below, c, row.c, letters)
-    }
-
-    // The rows of a step against the patterns x and y.
-    fn match_claim(self, x: u16, y: u16, s: Sides, letters: &mut Letters) -> bool
-        ensures { Matches result letters.new
-            (match_claim (table_of self.entry.rows.now) (claim_pattern_of self.entry.table.now x y) (sides_in s)
-            (matched letters.old)) }
-    {
-        self.match_at(PATTERN_DEPTH, x, s.left, letters)
-            && self.match_at(PATTERN_DEPTH, y, s.right, letters)
-    }
-
-    // The rows of as many premises as there are against those of the form at a place.
-    fn match_premises(
-        self,
-        at: usize,
-        count: u16,
-        first: Sides,
-        second: Sides,
-        letters: &mut Letters,
-    ) -> bool
-        requires { at < 2 ^ 32 }
-        ensures { Matches result letters.new
-            (match_claims (table_of self.entry.rows.now) (take count (premises_at self.entry.table.now at))
-            (take count (sides_in first ∷ sides_in second ∷ [])) (matched letters.old)) }
-    {
-        if count == 0 {
-            return true;
-        }
-        let [a, b, c, d] = entry_at(self.table, at + 1);
-        self.match_claim(a, b, first, letters)
-            && (count == 1 || self.match_claim(c, d, second, letters))
-    }
-
-    // Whether the form at a place yields the step.
-    fn form_yields(self, at: usize, count: u16, step: Sides, first: Sides, second: Sides) -> bool
-        requires { at < 2 ^ 32 }
-        ensures { result
-            ≡ form_yields (table_of self.entry.rows.now) (sides_in step) (take count (sides_in first ∷ sides_in
-            second ∷ []))
-            (form_at self.entry.table.now count at) }
-    {
-        let [_, x, y, conditions] = entry_at(self.table, at);
-        let mut letters = Letters::new();
-        self.match_claim(x, y, step, &mut letters)
-            && self.match_premises(at, count, first, second, &mut letters)
-            && letters.meet_all(conditions)
-    }
-
-    // Whether one of n forms from a place on yields the step.
-    pub fn some_form_yields(
-        self,
-        place: u16,
-        n: u16,
-        count: u16,
-        step: Sides,
-        first: Sides,
-        second: Sides,
-    ) -> bool
-        ensures { result
-            ≡ any_of
-            (form_yields (table_of self.entry.rows.now) (sides_in step) (take count (sides_in first ∷ sides_in second
-            ∷ [])))
-            (forms_from self.entry.table.now count n place) }
-    {
-        let at = usize::from(place);
-        for k in 0..usize::from(n) {
-            if self.form_yields(at + 2 * k, count, step, first, second) {
-                return true;
+        match pattern {
+            Pattern::Number(n) => v == n,
+            Pattern::Letter(letter) => suits_letter(rows, letter, v) && self.bind(letter, v),
+            Pattern::Row(row) => {
+                let RowPattern(kind, a, b, c) = *row;
+                if !is_row(rows, kind, v) {
+                    return false;
+                }
+                let held = row_at(rows, usize::from(v));
+                self.fit(rows, a, held.a) && self.fit(rows, b, held.b) && self.fit(rows, c, held.c)
             }
         }
-        false
+    }
+
+    // The rows of a step against those of a claim.
+    fn fit_claim(&mut self, rows: &[u16], claim: &Claim, s: Sides) -> bool
+        ensures { Matches result self.new
+            (match_claim (table_of rows.now) (claim_of claim.now) (sides_in s) (matched self.old)) }
+    {
+        self.fit(rows, claim.0, s.left) && self.fit(rows, claim.1, s.right)
+    }
+
+    // The rows of the premises, of as many as the form has, against the form's.
+    fn fit_premises(
+        &mut self,
+        rows: &[u16],
+        premises: &[Claim],
+        first: Sides,
+        second: Sides,
+    ) -> bool
+        ensures { Matches result self.new
+            (match_claims (table_of rows.now) (map claim_of premises.now)
+            (take (length (map claim_of premises.now)) (sides_in first ∷ sides_in second ∷ []))
+            (matched self.old)) }
+    {
+        match premises {
+            [] => true,
+            [one] => self.fit_claim(rows, one, first),
+            [one, other] => {
+                self.fit_claim(rows, one, first) && self.fit_claim(rows, other, second)
+            }
+            _ => false,
+        }
+    }
+}
+
+impl Form {
+    // Whether it yields the step, from as many of the premises as it has.
+    pub fn yields(&self, rows: &[u16], step: Sides, first: Sides, second: Sides) -> bool
+        ensures { result ≡ yields_by (table_of rows.now) (sides_in step) (sides_in first ∷ sides_in second ∷ [])
+            (form_of self.now) }
+    {
+        let mut letters = Letters::new();
+        letters.fit_claim(rows, &self.conclusion, step)
+            && letters.fit_premises(rows, self.premises, first, second)
+            && self
+                .conditions
+                .iter()
+                .all(|condition| letters.meet(*condition))
     }
 }

@@ -1,19 +1,20 @@
 // The order of the axes and the order of the tests.
 ghost use Rattle.std.specs.Prelude.{◌≡◌};
 ghost use Rattle.rules.specs.Order.{is_pair, axis_below, test_below};
-ghost use Rattle.matching.specs.code.MatchTypes.{pairs_of};
 
 use crate::tables::AXIS_PAIRS;
 use common::node_test;
 
-// Whether (a, b) is one of the pairs.
-pub fn is_pair(pairs: &[[u16; 2]], a: u16, b: u16) -> bool
-    ensures { result ≡ is_pair (pairs_of pairs.now) a b }
+// Whether (a, b) is one of the pairs. Numbers of axes, as lent rows and letters have them: two conversions before each
+// search are no plainer.
+pub fn is_pair(pairs: &[(u16, u16)], a: u16, b: u16) -> bool
+    ensures { result ≡ is_pair pairs.now a b }
 {
-    pairs.contains(&[a, b])
+    pairs.contains(&(a, b))
 }
 
 // Whether axis a is below axis b.
+#[tactic(auto, unfolding(rules::specs::Order::axis_below, rules::specs::Order::axis_pairs))]
 pub fn axis_below(a: u16, b: u16) -> bool
     ensures { result ≡ axis_below a b }
 {
@@ -21,6 +22,7 @@ pub fn axis_below(a: u16, b: u16) -> bool
 }
 
 // Whether test t with name c is below test u with name e.
+#[tactic(auto, unfolding(rules::specs::Order::test_below))]
 pub fn test_below(t: u16, c: u16, u: u16, e: u16) -> bool
     ensures { result ≡ test_below t c u e }
 {

@@ -1,4 +1,5 @@
-// The way back of a path, judged on the rows' numbers.
+// The way back of a path, judged on the rows' numbers. A kind that is compared once is compared as its number: to read
+// it first is no plainer.
 ghost use Rattle.std.specs.Prelude.{◌≡◌};
 ghost use Rattle.terms.specs.Row.{table_of};
 ghost use Rattle.terms.specs.code.RowTypes.{row_of};
@@ -9,6 +10,7 @@ ghost use Rattle.matching.specs.code.MatchTypes.{Reverses};
 
 use crate::matcher::Sides;
 use crate::order::is_pair;
+use common::row_kind::RowKind;
 use common::{axis, node_test, row_kind};
 use terms::{Row, is_noted, note, row_at};
 
@@ -16,13 +18,13 @@ use terms::{Row, is_noted, note, row_at};
 pub const WAY_BACK_RULE: u16 = 59;
 
 // The axes of paths that have a way back, each with its opposite axis.
-const OPPOSITES: [[u16; 2]; 6] = [
-    [axis::SELF, axis::SELF],
-    [axis::CHILD, axis::PARENT],
-    [axis::DESCENDANT, axis::ANCESTOR],
-    [axis::DESCENDANT_OR_SELF, axis::ANCESTOR_OR_SELF],
-    [axis::FOLLOWING_SIBLING, axis::PRECEDING_SIBLING],
-    [axis::PRECEDING_SIBLING, axis::FOLLOWING_SIBLING],
+const OPPOSITES: [(u16, u16); 6] = [
+    (axis::SELF, axis::SELF),
+    (axis::CHILD, axis::PARENT),
+    (axis::DESCENDANT, axis::ANCESTOR),
+    (axis::DESCENDANT_OR_SELF, axis::ANCESTOR_OR_SELF),
+    (axis::FOLLOWING_SIBLING, axis::PRECEDING_SIBLING),
+    (axis::PRECEDING_SIBLING, axis::FOLLOWING_SIBLING),
 ];
 
 // What is seen of a row and of one that is to be its way back: that it isn't, that it is, or which operand is to have
@@ -34,6 +36,7 @@ enum Reversal {
     Operands(Sides, Sides),
 }
 
+#[tactic(auto, unfolding(rules::specs::WayBack::opposites))]
 fn is_opposite(a: u16, b: u16) -> bool
     ensures { result ≡ is_pair opposites a b }
 {
@@ -41,14 +44,21 @@ fn is_opposite(a: u16, b: u16) -> bool
 }
 
 // Whether row i is a step on that axis with that test and name.
+#[tactic(auto, unfolding(crate::specs::code::RowWayBack::is_step, terms::specs::Row::same_row))]
 fn is_step(rows: &[u16], i: u16, a: u16, t: u16, c: u16) -> bool
     ensures { result ≡ is_step (table_of rows.now) i a t c }
 {
-    let x = row_at(rows, usize::from(i));
-    x.kind == row_kind::STEP && x.a == a && x.b == t && x.c == c
+    row_at(rows, usize::from(i))
+        == Row {
+            kind: row_kind::STEP,
+            a,
+            b: t,
+            c,
+        }
 }
 
 // Whether y is self::N, then the opposite axis with node(), for the step x.
+#[tactic(auto, unfolding(crate::specs::code::RowWayBack::is_step_back))]
 fn is_step_back(rows: &[u16], x: Row, y: Row) -> bool
     ensures { result ≡ is_step_back (table_of rows.now) (row_of x) (row_of y) }
 {
@@ -60,6 +70,7 @@ fn is_step_back(rows: &[u16], x: Row, y: Row) -> bool
 }
 
 // Whether y is .[f], then a path, for x, whose qualifier is f.
+#[tactic(auto, unfolding(crate::specs::code::RowWayBack::is_filter_back))]
 fn is_filter_back(rows: &[u16], x: Row, y: Row) -> bool
     ensures { result ≡ is_filter_back (table_of rows.now) (row_of x) (row_of y) }
 {
@@ -74,27 +85,30 @@ fn is_filter_back(rows: &[u16], x: Row, y: Row) -> bool
 fn reversal_of(rows: &[u16], x: Row, y: Row) -> Reversal
     ensures { Reverses (table_of rows.now) (row_of x) (row_of y) result }
 {
+    let Some(kind) = x.read_kind() else {
+        return Reversal::Never;
+    };
     let (p, q) = (x.a, x.b);
     let (v, w) = (y.a, y.b);
-    match x.kind {
-        row_kind::UNION if y.kind == row_kind::UNION => {
+    match kind {
+        RowKind::Union if y.kind == x.kind => {
             Reversal::Operands(Sides { left: p, right: v }, Sides { left: q, right: w })
         }
         // p's is last
-        row_kind::COMPOSITION if y.kind == row_kind::COMPOSITION => {
+        RowKind::Composition if y.kind == x.kind => {
             Reversal::Operands(Sides { left: q, right: v }, Sides { left: p, right: w })
         }
-        row_kind::FILTER if is_filter_back(rows, x, y) => {
+        RowKind::Filter if is_filter_back(rows, x, y) => {
             Reversal::Operands(Sides { left: p, right: w }, Sides { left: p, right: w })
         }
-        row_kind::STEP if is_step_back(rows, x, y) => Reversal::Always,
+        RowKind::Step if is_step_back(rows, x, y) => Reversal::Always,
         _ => Reversal::Never,
     }
 }
 
 // Whether row j is the way back of row i. Its operands are earlier rows, and what was found is noted, so that a row is
 // reversed once.
-fn is_back(rows: &[u16], i: u16, j: u16, noted: &mut [usize]) -> bool
+fn is_back(rows: &[u16], i: u16, j: u16, noted: &mut [Option<u16>]) -> bool
     requires { Noted (table_of rows.now) noted.old }
     ensures { BackFound (table_of rows.now) i j result noted.new }
 {
@@ -121,20 +135,21 @@ fn is_back(rows: &[u16], i: u16, j: u16, noted: &mut [usize]) -> bool
     }
 }
 
-// Whether row right is left[some w], and w is the way back of row left; what is found on the way is noted.
-pub fn is_with_back(rows: &[u16], left: u16, right: u16, noted: &mut [usize]) -> bool
+// Whether the right row is left[some w], and w is the way back of the left one; what is found on the way is noted.
+#[tactic(auto, unfolding(crate::specs::code::RowWayBack::is_with_back))]
+pub fn is_with_back(rows: &[u16], step: Sides, noted: &mut [Option<u16>]) -> bool
     requires { Noted (table_of rows.now) noted.old }
-    ensures { (result ≡ is_with_back (table_of rows.now) left right)
+    ensures { (result ≡ is_with_back (table_of rows.now) step.left step.right)
         × Noted (table_of rows.now) noted.new }
 {
-    let y = row_at(rows, usize::from(right));
+    let y = row_at(rows, usize::from(step.right));
     let f = row_at(rows, usize::from(y.b));
     let g = row_at(rows, usize::from(f.a));
     let v = row_at(rows, usize::from(g.b));
     y.kind == row_kind::FILTER
-        && y.a == left
+        && y.a == step.left
         && f.kind == row_kind::NOT
         && g.kind == row_kind::INCLUSION
         && v.kind == row_kind::VOID
-        && is_back(rows, left, g.a, noted)
+        && is_back(rows, step.left, g.a, noted)
 }

@@ -1,38 +1,18 @@
 -- The walk from line to line. Assumes nothing.
 use Prim.Native.Nat.{ℕ, suc, ◌+◌, ◌-◌, ◌≤◌, ◌<◌}
 use mathlib.Core.Path.{◌≡◌, refl, sym, ap, ◌∙◌}
-use mathlib.Core.Bool.{Bool, true, false, cond, not}
+use mathlib.Core.Bool.{Bool, true, false}
 use mathlib.Core.List.{List, [], ◌∷◌}
 use native.Mathlib.Nat.{add-zero}
 use native.Mathlib.Omega.{arith}
 use lib.Dec.{eqb}
 use lib.ListN.{length, get_or, take, drop, length-drop, drop_of_length-le, get_or-map}
 use lib.Seq.{drop-drop, get_or-drop}
-use Rattle.std.specs.List.{position_or_len}
 use Rattle.lines.specs.Line.{newline, Line, line, in_first_line, lines}
 use Rattle.names.specs.Names.{NameMet}
-use Rattle.names.specs.code.LineStarts.{first_length, NextMet, StartMet}
-
--- one byte more makes the first line one longer
-first_longer : (x : ℕ) (ls : List Line) → first_length (in_first_line x ls) ≡ suc (first_length ls)
-unfolding first_length in_first_line
-first_longer x [] = refl
-first_longer x (l ∷ ls) = refl
-
--- the lines of a text with one byte more, which is a newline or not
-abbrev one_more : ℕ → Bool → List Line → List Line
-one_more x b ls = cond b (line [] true ∷ ls) (in_first_line x ls)
-
--- the first line ends at the first newline, or with the text
-pub first_ends : (xs : List ℕ) → position_or_len (λ x. eqb x newline) xs ≡ first_length (lines xs)
-unfolding lines first_length
-first_ends [] = refl
-first_ends (x ∷ xs) = by_test (eqb x newline) (first_ends xs)
-  where
-    by_test : (b : Bool) → position_or_len (λ x. eqb x newline) xs ≡ first_length (lines xs)
-        → cond (not b) (1 + position_or_len (λ x. eqb x newline) xs) 0 ≡ first_length (one_more x b (lines xs))
-    by_test true e = refl
-    by_test false e = rw (e, first_longer x (lines xs)) (omega arith)
+use Rattle.lines.specs.code.NumbersRead.{first_length}
+use Rattle.lines.proofs.FirstLine.{one_more}
+use Rattle.names.specs.code.LineStarts.{NextMet, StartMet}
 
 no_lines : (xs : List ℕ) (i : ℕ) → length xs ≤ i → lines (drop i xs) ≡ []
 unfolding lines
@@ -78,18 +58,6 @@ unfolding lines first_length
 first_fits [] = omega arith
 first_fits (x ∷ xs) = more_fits x (length xs) (eqb x newline) (lines xs) (first_fits xs)
 
--- a text that is not empty has a line
-more_lines : (x : ℕ) (b : Bool) (ls : List Line) → 0 < length (one_more x b ls)
-unfolding in_first_line
-more_lines x true ls = omega arith
-more_lines x false [] = omega arith
-more_lines x false (l ∷ ls) = omega arith
-
-some_line : (xs : List ℕ) → 0 < length xs → 0 < length (lines xs)
-unfolding lines
-some_line [] h = absurd (omega arith)
-some_line (x ∷ xs) h = more_lines x (eqb x newline) (lines xs)
-
 -- the line from `at` to `end`
 module _ (xs : List ℕ) (at end : ℕ) (is-end : end ≡ at + first_length (lines (drop at xs))) where
   pub end_inside : at ≤ length xs → end ≤ length xs
@@ -126,16 +94,3 @@ module _ (xs : List ℕ) (at end : ℕ) (is-end : end ≡ at + first_length (lin
         order = omega arith;
         inside = end_inside m.inside;
       }
-
--- one line counted, and the lines after it
-module _ (xs : List ℕ) (n at next : ℕ) (m : NextMet xs at next) where
-  pub one_counted : length (lines xs) ≡ n + length (lines (drop at xs)) → at < length xs
-      → length (lines xs) ≡ (n + 1) + length (lines (drop next xs))
-  one_counted so_far h =
-      let left : 0 < length (drop at xs) = omega (arith, length-drop at xs) in
-      let later : length (lines (drop next xs)) ≡ length (lines (drop at xs)) - 1 =
-      ap length m.rest ∙ length-drop 1 (lines (drop at xs)) in
-      omega (arith, some_line (drop at xs) left)
-
-pub none_left : (xs : List ℕ) (at : ℕ) → length xs ≤ at → length (lines (drop at xs)) ≡ 0
-none_left xs at h = ap length (no_lines xs at h)

@@ -1,10 +1,10 @@
 // Lists of names, one a line. A last line may lack its newline.
 #![tactic(auto)]
 
-ghost use Rattle.std.specs.Prelude.{◌≡◌, ◌+◌, length, drop};
+ghost use Rattle.std.specs.Prelude.{◌≡◌, length};
 ghost use Rattle.lines.specs.Line.{lines};
 ghost use Rattle.names.specs.Names.{NameMet};
-ghost use Rattle.names.specs.code.LineStarts.{first_length, NextMet, StartMet};
+ghost use Rattle.names.specs.code.LineStarts.{NextMet, StartMet};
 
 // A name stands in a list from `start` on, and before `end`.
 #[derive(Clone, Copy)]
@@ -13,19 +13,11 @@ pub struct Name {
     pub end: usize,
 }
 
-// Where the line that starts at `at` ends: at its newline, or with the list.
-fn line_end(list: &[u8], at: usize) -> usize
-    ensures { result ≡ at + first_length (lines (drop at list.now)) }
-{
-    let rest = lines::rest(list, at);
-    at + lines::find(rest, lines::NEWLINE).unwrap_or(rest.len())
-}
-
 // Where the next line starts; the list's length where there is none, so that what goes from line to line ends there.
 pub fn next_line(list: &[u8], at: usize) -> usize
     ensures { NextMet list.now at result }
 {
-    let end = line_end(list, at);
+    let end = lines::line_end(list, at);
     if end < list.len() {
         end + 1
     } else {
@@ -48,14 +40,7 @@ fn line_start(list: &[u8], k: usize) -> usize
 pub fn count(list: &[u8]) -> usize
     ensures { result ≡ length (lines list.now) }
 {
-    let mut n = 0;
-    let mut at = 0;
-    // From line to line: where the next one starts is known only when this one is read.
-    while at < list.len() {
-        at = next_line(list, at);
-        n += 1;
-    }
-    n
+    list.split_inclusive(|b| *b == lines::NEWLINE).count()
 }
 
 // Name k of the list, counted from 0; an empty one, which no file has, where there is none.
@@ -63,6 +48,6 @@ pub fn name_at(list: &[u8], k: usize) -> Name
     ensures { NameMet list.now k result.start result.end }
 {
     let start = line_start(list, k);
-    let end = line_end(list, start);
+    let end = lines::line_end(list, start);
     Name { start, end }
 }

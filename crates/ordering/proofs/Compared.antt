@@ -1,24 +1,24 @@
 -- The ways through the code that compares two rows. Assumes nothing.
-use Prim.Native.Nat.{ℕ, suc}
+use Prim.Native.Nat.{ℕ}
 use mathlib.Core.Path.{◌≡◌, refl, sym, ap, ap₂, subst, ◌∙◌}
 use mathlib.Core.Bool.{true, false, false≢true}
 use mathlib.Core.List.{List}
 use native.Mathlib.Omega.{arith}
-use lib.Dec.{eqb}
 use lib.ListN.{get_or, set, take, replicate}
-use borrow.Author.Tests.{eqb-true}
 use Rattle.std.specs.declared.cmp.Ordering.{Ordering}
 use Rattle.std.specs.declared.cmp.Ordering.TheVariants.{Less, Equal, Greater}
+use Rattle.std.proofs.Common.{Option, Some, None}
 use Rattle.std.specs.Ordering.{nat_cmp, is_ne, is_eq}
 use Rattle.std.proofs.lemmas.Grind.{common_steps}
 use Rattle.terms.specs.Row.{Row, row_at}
+use Rattle.terms.specs.Fields.{Field, Fields, fields_of}
 use Rattle.terms.specs.Terms.{terms, term_at}
 use Rattle.terms.proofs.Noted.{nothing_noted, noted_more}
-use Rattle.ordering.specs.declared.Sort.{Sort}
 use Rattle.ordering.specs.Order.{Order, less, equal, greater, ◌and_then◌, number_order}
 use Rattle.ordering.specs.TermOrder.{row_order, field_order, term_order}
+use Rattle.calls.specs.code.Answers.{order_number}
 use Rattle.ordering.specs.OrderCall.{order_value}
-use Rattle.ordering.specs.code.Sorts.{order_of, sorts_in, sorts_of, term_kind, field_as, Noted, Compared}
+use Rattle.ordering.specs.code.FieldsCompared.{order_of, term_kind, field_as, Noted, Compared}
 use Rattle.ordering.proofs.Orders.{numbers_ordered}
 use Rattle.ordering.proofs.TermOrder.{terms_ordered}
 use Rattle.ordering.proofs.Rows.{row_by, row_at_lem}
@@ -56,22 +56,22 @@ found_equal equal e f = refl
 found_equal greater e f = absurd (omega arith)
 
 module _ (rs ss : List Row) where
-  pub none_noted : (k : ℕ) → Noted rs ss (replicate {A = ℕ} k 0)
+  pub none_noted : (k : ℕ) → Noted rs ss (replicate k None)
   unfolding Noted
   none_noted k i j q = nothing_noted k i j q
 
-  pub noted_equal : (xs : List ℕ) (i j : ℕ) → Noted rs ss xs → true ≡ eqb (get_or xs i 0) (suc j)
+  pub noted_equal : (xs : List (Option ℕ)) (i j : ℕ) → Noted rs ss xs → get_or xs i None ≡ Some j
       → Compared rs ss (term_order (term_at rs i) (term_at ss j)) Equal xs
   unfolding Noted
-  noted_equal xs i j s e =
-      let same : term_at rs i ≡ term_at ss j = s i j (eqb-true (get_or xs i 0) (suc j) (sym e)) in
+  noted_equal xs i j s there =
+      let same : term_at rs i ≡ term_at ss j = s i j there in
       record {
         answer = sym (ap (term_order (term_at rs i)) (sym same) ∙ terms_ordered.same (term_at rs i));
         noted = s;
       }
 
-  pub equal_noted : (xs : List ℕ) (i j : ℕ) → Noted rs ss xs → term_order (term_at rs i) (term_at ss j) ≡ equal
-      → Noted rs ss (set xs i (suc j))
+  pub equal_noted : (xs : List (Option ℕ)) (i j : ℕ) → Noted rs ss xs → term_order (term_at rs i) (term_at ss j) ≡ equal
+      → Noted rs ss (set xs i (Some j))
   unfolding Noted
   equal_noted xs i j s e =
       noted_more (λ i j. term_at rs i ≡ term_at ss j) xs i j s
@@ -89,8 +89,8 @@ module _ (rs ss : List Row) where
     order = term_order (term_at rs i) (term_at ss j)
 
     -- the fields x and y at one place
-    abbrev fields : Sort → (x y : ℕ) → Order
-    fields sort x y = field_order (field_as (terms (take i rs)) sort x) (field_as (terms (take j ss)) sort y)
+    abbrev fields : Field → (x y : ℕ) → Order
+    fields f x y = field_order (field_as (terms (take i rs)) f x) (field_as (terms (take j ss)) f y)
 
     both_rows : order ≡ row_order (row_by (terms (take i rs)) x) (row_by (terms (take j ss)) y)
     unfolding term_order
@@ -103,31 +103,31 @@ module _ (rs ss : List Row) where
       unfolding row_order
       kinds_differ n = decided kinds _ r₀ kinds-is n ∙ sym both_rows
 
-      -- of one kind, whose fields are of these sorts
-      module _ (same : is_ne r₀ ≡ false) (sorts : List Sort) (sorts-are : sorts_in sorts ≡ sorts_of kind) where
+      -- of one kind, whose fields are these
+      module _ (same : is_ne r₀ ≡ false) (fs : Fields) (fields-are : fs ≡ fields_of kind) where
         abbrev firsts : Order
-        firsts = fields (sorts_in sorts).0 x.a y.a
+        firsts = fields fs.a x.a y.a
 
         abbrev seconds : Order
-        seconds = fields (sorts_in sorts).1 x.b y.b
+        seconds = fields fs.b x.b y.b
 
         abbrev thirds : Order
-        thirds = fields (sorts_in sorts).2 x.c y.c
+        thirds = fields fs.c x.c y.c
 
-        by_sorts : order
-            ≡ (fields (sorts_of kind).0 x.a y.a and_then fields (sorts_of kind).1 x.b y.b
-            and_then fields (sorts_of kind).2 x.c y.c)
+        by_kind : order
+            ≡ (fields (fields_of kind).a x.a y.a and_then fields (fields_of kind).b x.b y.b
+            and_then fields (fields_of kind).c x.c y.c)
         unfolding row_order
-        by_sorts =
+        by_kind =
             let alike : kinds ≡ equal = sym kinds-is ∙ equal_of r₀ same in
             let one_kind : kind ≡ term_kind y.kind = numbers_ordered.equal_same kind (term_kind y.kind) alike in
             both_rows ∙ rw (← one_kind, numbers_ordered.same kind)
 
         by_fields : order ≡ (firsts and_then seconds and_then thirds)
         by_fields =
-            by_sorts
-            ∙ ap (λ (s : Sort × Sort × Sort). fields s.0 x.a y.a and_then fields s.1 x.b y.b
-            and_then fields s.2 x.c y.c) (sym sorts-are)
+            by_kind
+            ∙ ap (λ (fs : Fields). fields fs.a x.a y.a and_then fields fs.b x.b y.b and_then fields fs.c x.c y.c)
+            (sym fields-are)
 
         module _ (r₁ : Ordering) (first : order_of r₁ ≡ firsts) where
           pub firsts_differ : is_ne r₁ ≡ true → order_of r₁ ≡ order
@@ -145,8 +145,14 @@ module _ (rs ss : List Row) where
               thirds_decide = third ∙ sym (after_first ∙ passed seconds thirds r₂ second second-equal)
 
               -- a pair that is found equal
-              pub all_equal : is_eq r₃ ≡ true → (xs ys : List ℕ) → Noted rs ss xs → ys ≡ set xs i (suc j) → Noted rs
-                  ss ys
+              pub all_equal : is_eq r₃ ≡ true → (xs ys : List (Option ℕ)) → Noted rs ss xs → ys ≡ set xs i (Some j)
+                  → Noted rs ss ys
               all_equal third-equal xs ys noted stored =
                   subst (Noted rs ss) (sym stored)
                   (equal_noted xs i j noted (sym thirds_decide ∙ equal_where r₃ third-equal))
+
+-- an order's number is that of the order that it stands for
+pub number_of_order : (r : Ordering) → order_number r ≡ order_value (order_of r)
+number_of_order Less = refl
+number_of_order Equal = refl
+number_of_order Greater = refl

@@ -12,12 +12,15 @@ use Rattle.terms.specs.Row.{Row}
 use Rattle.terms.specs.Terms.{term_at}
 use Rattle.calls.specs.Book.{Book, Answer, answer}
 use Rattle.common.specs.Refusals.{bad_side}
-use Rattle.ordering.specs.declared.OrderAnswer.{OrderAnswer}
-use Rattle.ordering.specs.declared.OrderAnswer.TheVariants as OrderCases
-use Rattle.ordering.specs.Order.{Order, greater}
+use Rattle.std.specs.Prelude.{Ok, Err}
+use Rattle.std.specs.declared.cmp.Ordering.{Ordering}
+use Rattle.std.specs.declared.cmp.Ordering.TheVariants.{Less, Equal, Greater}
+use Rattle.common.specs.declared.refusal.Refusal.TheVariants.{BadSide}
+use Rattle.calls.specs.code.Answers.{OrderOrRefusal, order_number, order_answer_of}
+use Rattle.ordering.specs.Order.{Order, less, equal, greater}
 use Rattle.ordering.specs.TermOrder.{term_order}
 use Rattle.ordering.specs.BundleOrder.{steps_order, term_steps, bundle_order}
-use Rattle.ordering.specs.OrderCall.{order_value, order_answer, bundle_order_answer, order_answer_of}
+use Rattle.ordering.specs.OrderCall.{order_value, order_answer, bundle_order_answer}
 use Rattle.ordering.specs.OrderLaws.{AtMost}
 use Rattle.ordering.proofs.Compared.{found_equal}
 use Rattle.ordering.proofs.TermOrder.{terms_ordered}
@@ -71,17 +74,26 @@ bundles_equal_iff b c = (
   λ e. ap (λ o. answer 0 (order_value o)) (ap (steps_order (term_steps b)) (sym e) ∙ steps_ordered.same (term_steps b)),
 )
 
+-- every order is that of a case of the code's
+ordering_case : (o : Order) → (r : Ordering) × (order_number r ≡ order_value o)
+ordering_case less = (Less, refl)
+ordering_case equal = (Equal, refl)
+ordering_case greater = (Greater, refl)
+
+compared_case : (o : Order) → (r : OrderOrRefusal) × (order_answer_of r ≡ answer 0 (order_value o))
+compared_case o = let (r, e) = ordering_case o in (Ok r, ap (answer 0) e)
+
 -- every answer is that of a case of the code's answer
-case_of : (left right : Bool) (o : Order) → (r : OrderAnswer) × (order_answer_of r ≡ answer_by left right o)
-case_of true right o = (OrderCases.BadSide 1, refl)
-case_of false true o = (OrderCases.BadSide 2, refl)
-case_of false false o = (OrderCases.Compared (order_value o), refl)
+case_of : (left right : Bool) (o : Order) → (r : OrderOrRefusal) × (order_answer_of r ≡ answer_by left right o)
+case_of true right o = (Err (BadSide 1), refl)
+case_of false true o = (Err (BadSide 2), refl)
+case_of false false o = compared_case o
 
 pub order_case : (rs : List Row) (i : ℕ) (ss : List Row) (j : ℕ)
-    → (r : OrderAnswer) × (order_answer_of r ≡ order_answer rs i ss j)
+    → (r : OrderOrRefusal) × (order_answer_of r ≡ order_answer rs i ss j)
 unfolding order_answer
 order_case rs i ss j = case_of (leb (length rs) i) (leb (length ss) j) (term_order (term_at rs i) (term_at ss j))
 
-pub bundle_order_case : (b c : Book) → (r : OrderAnswer) × (order_answer_of r ≡ bundle_order_answer b c)
+pub bundle_order_case : (b c : Book) → (r : OrderOrRefusal) × (order_answer_of r ≡ bundle_order_answer b c)
 unfolding bundle_order_answer
-bundle_order_case b c = (OrderCases.Compared (order_value (bundle_order b c)), refl)
+bundle_order_case b c = compared_case (bundle_order b c)

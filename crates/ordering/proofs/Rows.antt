@@ -7,24 +7,30 @@ use mathlib.Core.Logic.{⊎_elim, inl, inr, ◌⊎◌}
 use native.Mathlib.Omega.{arith}
 use lib.ListN.{get_or, take, length-take, get_or-eq_default}
 use borrow.Author.Tests.{lt-ltb, le-leb, lt-leb}
+use lib.Dec.{leb}
+use Rattle.std.specs.Prelude.{Option, None, Some}
+use Rattle.std.specs.Option.{unwrap_or}
+use Rattle.common.specs.declared.row_kind.RowKind.{RowKind}
+use Rattle.common.specs.declared.row_kind.RowKind.TheVariants as Kinds
+use Rattle.common.specs.code.Numbers.{row_number}
+use Rattle.terms.specs.code.RowTypes.{KindIs}
 use Rattle.common.specs.RowKinds.{void_row, false_row}
 use Rattle.common.proofs.Reflect.{facts, le_or_lt, true_iff}
 use Rattle.xpath.specs.Term.{Void, Root, AxisStep, Union, Composition, Filter, True, False, Not, And, Or, In}
 use Rattle.xpath.specs.Term as term
 use Rattle.terms.specs.Row.{Row, row, row_at}
-use Rattle.terms.specs.Fields.{fields_of, max_kind, is_path, is_qualifier}
+use Rattle.terms.specs.Fields.{Field, fields_of, max_kind, is_path, is_qualifier}
+use Rattle.terms.specs.Fields as field
 use Rattle.terms.specs.Terms.{Term, as_path, as_qualifier, no_term, path_in, qualifier_in, term_by, terms}
 use Rattle.terms.specs.Terms.{term_at}
 use Rattle.terms.proofs.ByKind.{Kind, void_kind, root_kind, step_kind, union_kind, composition_kind}
 use Rattle.terms.proofs.ByKind.{filter_kind, true_kind, false_kind, not_kind, and_kind, or_kind, in_kind, kind_of_lem}
 use Rattle.terms.proofs.Terms.{term_at_lem, term_take, term_past, path_term, qualifier_term}
-use Rattle.ordering.specs.declared.Sort.{Sort}
-use Rattle.ordering.specs.declared.Sort.TheVariants.{Nothing, Number, Path, Qualifier}
 use Rattle.ordering.specs.Order.{number_order}
 use Rattle.ordering.specs.TermOrder.{TermRow, term_row, TermField, number, operand, path_row, qualifier_row}
 use Rattle.ordering.specs.TermOrder.{row_of_term}
 use Rattle.ordering.specs.TermOrder.{row_order, field_order, term_order}
-use Rattle.ordering.specs.code.Sorts.{no_sorts, sort_of, sorts_of, term_kind, field_as, is_operand, number_as}
+use Rattle.ordering.specs.code.FieldsCompared.{term_kind, field_as, is_operand, number_as}
 use Rattle.ordering.proofs.Orders.{numbers_ordered}
 use Rattle.ordering.specs.OrderLaws.{reverse}
 use Rattle.ordering.proofs.TermOrder.{row_reversed}
@@ -33,38 +39,31 @@ use Rattle.ordering.proofs.TermOrder.{row_reversed}
 pub row_there : (rs : List Row) {r : Row} {n i : ℕ} → r ≡ row_at rs n → n ≡ i → r ≡ row_at rs i
 row_there rs e f = e ∙ ap (row_at rs) f
 
-pub kind_there : (rs : List Row) {r : Row} {n i : ℕ} → r ≡ row_at rs n → n ≡ i → r.kind ≡ (row_at rs i).kind
-kind_there rs e f = ap (λ r. r.kind) (row_there rs e f)
+-- a kind that is read
+kind_small : (k : RowKind) → leb (row_number k) max_kind ≡ true
+kind_small Kinds.Void = refl
+kind_small Kinds.Root = refl
+kind_small Kinds.Step = refl
+kind_small Kinds.Union = refl
+kind_small Kinds.Composition = refl
+kind_small Kinds.Filter = refl
+kind_small Kinds.True = refl
+kind_small Kinds.False = refl
+kind_small Kinds.Not = refl
+kind_small Kinds.And = refl
+kind_small Kinds.Or = refl
+kind_small Kinds.Inclusion = refl
 
--- a kind without fields that are compared
-pub sorts_rest : (k : ℕ) → ¬ (k ≡ 2) → ¬ (k ≡ 3) → ¬ (k ≡ 4) → ¬ (k ≡ 5) → ¬ (k ≡ 8) → ¬ (k ≡ 9) → ¬ (k ≡ 10)
-    → ¬ (k ≡ 11) → sorts_of k ≡ no_sorts
-unfolding sorts_of sort_of fields_of
-sorts_rest k n₂ n₃ n₄ n₅ n₈ n₉ n₁₀ n₁₁ =
-    ⊎_elim (λ h. by (kind_of_lem k h) n₂ n₃ n₄ n₅ n₈ n₉ n₁₀ n₁₁)
-    (λ (h : max_kind < k). rw get_or-eq_default) (le_or_lt k max_kind)
-  where
-    by : {j : ℕ} → Kind j → ¬ (j ≡ 2) → ¬ (j ≡ 3) → ¬ (j ≡ 4) → ¬ (j ≡ 5) → ¬ (j ≡ 8) → ¬ (j ≡ 9) → ¬ (j ≡ 10)
-        → ¬ (j ≡ 11) → sorts_of j ≡ no_sorts
-    by void_kind n₂ n₃ n₄ n₅ n₈ n₉ n₁₀ n₁₁ = refl
-    by root_kind n₂ n₃ n₄ n₅ n₈ n₉ n₁₀ n₁₁ = refl
-    by step_kind n₂ n₃ n₄ n₅ n₈ n₉ n₁₀ n₁₁ = absurd (n₂ refl)
-    by union_kind n₂ n₃ n₄ n₅ n₈ n₉ n₁₀ n₁₁ = absurd (n₃ refl)
-    by composition_kind n₂ n₃ n₄ n₅ n₈ n₉ n₁₀ n₁₁ = absurd (n₄ refl)
-    by filter_kind n₂ n₃ n₄ n₅ n₈ n₉ n₁₀ n₁₁ = absurd (n₅ refl)
-    by true_kind n₂ n₃ n₄ n₅ n₈ n₉ n₁₀ n₁₁ = refl
-    by false_kind n₂ n₃ n₄ n₅ n₈ n₉ n₁₀ n₁₁ = refl
-    by not_kind n₂ n₃ n₄ n₅ n₈ n₉ n₁₀ n₁₁ = absurd (n₈ refl)
-    by and_kind n₂ n₃ n₄ n₅ n₈ n₉ n₁₀ n₁₁ = absurd (n₉ refl)
-    by or_kind n₂ n₃ n₄ n₅ n₈ n₉ n₁₀ n₁₁ = absurd (n₁₀ refl)
-    by in_kind n₂ n₃ n₄ n₅ n₈ n₉ n₁₀ n₁₁ = absurd (n₁₁ refl)
+pub kind_read : (o : Option RowKind) (n : ℕ) → KindIs o n → row_number (unwrap_or o Kinds.Void) ≡ term_kind n
+unfolding term_kind
+kind_read None n h = rw (lt-leb n max_kind h)
+kind_read (Some k) n e = rw (← e, kind_small k)
 
 -- the term of a row, field by field
 abbrev pub row_by : List Term → Row → TermRow
 row_by ts r =
-    let sorts = sorts_of (term_kind r.kind) in
-    term_row (term_kind r.kind) (field_as ts sorts.0 r.a) (field_as ts sorts.1 r.b)
-    (field_as ts sorts.2 r.c)
+    let fs = fields_of (term_kind r.kind) in
+    term_row (term_kind r.kind) (field_as ts fs.a r.a) (field_as ts fs.b r.b) (field_as ts fs.c r.c)
 
 -- a row of a kind above 11 is read as the void path
 no_term_lem : (ts : List Term) (r : Row) → max_kind < r.kind → term_by ts r ≡ no_term
@@ -73,7 +72,7 @@ no_term_lem ts r h = rw get_or-eq_default
 
 module _ (ts : List Term) (x y z : ℕ) where
   by_kind : {k : ℕ} → Kind k → row_of_term (term_by ts (row k x y z)) ≡ row_by ts (row k x y z)
-  unfolding row_of_term path_row term_by sorts_of sort_of fields_of term_kind field_as
+  unfolding row_of_term path_row term_by fields_of term_kind field_as
   by_kind void_kind = refl
   by_kind root_kind = refl
   by_kind step_kind = refl
@@ -88,7 +87,7 @@ module _ (ts : List Term) (x y z : ℕ) where
   by_kind in_kind = refl
 
   void_by : (k : ℕ) → term_kind k ≡ void_row → row_of_term no_term ≡ row_by ts (row k x y z)
-  unfolding row_of_term path_row sorts_of sort_of fields_of field_as
+  unfolding row_of_term path_row fields_of field_as
   void_by k e = rw e
 
   past_kinds : (k : ℕ) → max_kind < k → row_of_term (term_by ts (row k x y z)) ≡ row_by ts (row k x y z)
@@ -163,7 +162,7 @@ module _ (rs : List Row) (i x : ℕ) where
   past_term : max_kind < (row_at rs x).kind → term_at rs x ≡ no_term
   past_term h = term_at_lem rs x ∙ no_term_lem (terms (take x rs)) (row_at rs x) h
 
-  no_path : is_operand rs i Path x ≡ false → path_in ts x ≡ Void
+  no_path : is_operand rs i field.path x ≡ false → path_in ts x ≡ Void
   unfolding is_operand is_path as_path
   no_path e =
       ⊎_elim (λ h. rw (not_before h))
@@ -173,7 +172,7 @@ module _ (rs : List Row) (i x : ℕ) where
       (le_or_lt (row_at rs x).kind 5)))
       (le_or_lt i x)
 
-  no_qualifier : is_operand rs i Qualifier x ≡ false → qualifier_in ts x ≡ False
+  no_qualifier : is_operand rs i field.qualifier x ≡ false → qualifier_in ts x ≡ False
   unfolding is_operand is_qualifier as_qualifier
   no_qualifier e =
       ⊎_elim (λ h. rw (not_before h))
@@ -190,65 +189,72 @@ module _ (rs : List Row) (i x : ℕ) where
       (le_or_lt (row_at rs x).kind 5)))
       (le_or_lt i x)
 
-  path_operand : is_operand rs i Path x ≡ true → (x < i) × ((row_at rs x).kind ≤ 5)
+  path_operand : is_operand rs i field.path x ≡ true → (x < i) × ((row_at rs x).kind ≤ 5)
   unfolding is_operand is_path
-  path_operand e = let t = simp facts at ((true_iff (is_operand rs i Path x)).1 e) in (t.0, t.1)
+  path_operand e = let t = simp facts at ((true_iff (is_operand rs i field.path x)).1 e) in (t.0, t.1)
 
-  qualifier_operand : is_operand rs i Qualifier x ≡ true
+  qualifier_operand : is_operand rs i field.qualifier x ≡ true
       → (x < i) × (6 ≤ (row_at rs x).kind) × ((row_at rs x).kind ≤ max_kind)
   unfolding is_operand is_qualifier
-  qualifier_operand e = let t = simp facts at ((true_iff (is_operand rs i Qualifier x)).1 e) in (t.0, t.1.0, t.1.1)
+  qualifier_operand e =
+      let t = simp facts at ((true_iff (is_operand rs i field.qualifier x)).1 e) in (t.0, t.1.0, t.1.1)
 
   -- an operand is an earlier row
-  pub operand_before : (s : Sort) → is_operand rs i s x ≡ true → x < i
+  pub operand_before : (f : Field) → is_operand rs i f x ≡ true → x < i
   unfolding is_operand
-  operand_before Nothing e = absurd (false≢true e)
-  operand_before Number e = absurd (false≢true e)
-  operand_before Path e = (path_operand e).0
-  operand_before Qualifier e = (qualifier_operand e).0
+  operand_before field.unused e = absurd (false≢true e)
+  operand_before field.axis e = absurd (false≢true e)
+  operand_before field.test e = absurd (false≢true e)
+  operand_before field.name e = absurd (false≢true e)
+  operand_before field.path e = (path_operand e).0
+  operand_before field.qualifier e = (qualifier_operand e).0
 
   -- an operand is the term of its row
-  operand_term : (s : Sort) → is_operand rs i s x ≡ true → field_as ts s x ≡ operand (row_of_term (term_at rs x))
+  operand_term : (f : Field) → is_operand rs i f x ≡ true → field_as ts f x ≡ operand (row_of_term (term_at rs x))
   unfolding field_as row_of_term is_operand
-  operand_term Nothing e = absurd (false≢true e)
-  operand_term Number e = absurd (false≢true e)
-  operand_term Path e =
+  operand_term field.unused e = absurd (false≢true e)
+  operand_term field.axis e = absurd (false≢true e)
+  operand_term field.test e = absurd (false≢true e)
+  operand_term field.name e = absurd (false≢true e)
+  operand_term field.path e =
       let (h, l) = path_operand e in
       ap (λ t. operand (path_row (as_path t))) (before h) ∙ ap (λ t. operand (row_of_term t)) (sym (path_term rs x l))
-  operand_term Qualifier e =
+  operand_term field.qualifier e =
       let (h, l, m) = qualifier_operand e in
       ap (λ t. operand (qualifier_row (as_qualifier t))) (before h)
       ∙ ap (λ t. operand (row_of_term t)) (sym (qualifier_term rs x l m))
 
-  low_kind : (s : Sort) → is_operand rs i s x ≡ true → (row_at rs x).kind ≤ max_kind
+  low_kind : (f : Field) → is_operand rs i f x ≡ true → (row_at rs x).kind ≤ max_kind
   unfolding is_operand
-  low_kind Nothing e = absurd (false≢true e)
-  low_kind Number e = absurd (false≢true e)
-  low_kind Path e = let l = (path_operand e).1 in omega arith
-  low_kind Qualifier e = (qualifier_operand e).2
+  low_kind field.unused e = absurd (false≢true e)
+  low_kind field.axis e = absurd (false≢true e)
+  low_kind field.test e = absurd (false≢true e)
+  low_kind field.name e = absurd (false≢true e)
+  low_kind field.path e = let l = (path_operand e).1 in omega arith
+  low_kind field.qualifier e = (qualifier_operand e).2
 
-  operand_kind : (s : Sort) → is_operand rs i s x ≡ true → field_kind (field_as ts s x) ≡ (row_at rs x).kind
+  operand_kind : (f : Field) → is_operand rs i f x ≡ true → field_kind (field_as ts f x) ≡ (row_at rs x).kind
   unfolding field_kind row_kind term_kind
-  operand_kind s e =
-      ap field_kind (operand_term s e) ∙ ap row_kind (row_at_lem rs x)
-      ∙ rw (le-leb (row_at rs x).kind max_kind (low_kind s e))
+  operand_kind f e =
+      ap field_kind (operand_term f e) ∙ ap row_kind (row_at_lem rs x)
+      ∙ rw (le-leb (row_at rs x).kind max_kind (low_kind f e))
 
-  path_kind : field_kind (field_as ts Path x) ≡ number_as rs i Path x
+  path_kind : field_kind (field_as ts field.path x) ≡ number_as rs i field.path x
   unfolding number_as field_as field_kind row_kind path_row
-  path_kind = by (is_operand rs i Path x) refl
+  path_kind = by (is_operand rs i field.path x) refl
     where
-      by : (b : Bool) → is_operand rs i Path x ≡ b
-          → field_kind (field_as ts Path x) ≡ cond b (row_at rs x).kind void_row
-      by true e = operand_kind Path e
+      by : (b : Bool) → is_operand rs i field.path x ≡ b
+          → field_kind (field_as ts field.path x) ≡ cond b (row_at rs x).kind void_row
+      by true e = operand_kind field.path e
       by false e = ap (λ p. field_kind (operand (path_row p))) (no_path e)
 
-  qualifier_kind : field_kind (field_as ts Qualifier x) ≡ number_as rs i Qualifier x
+  qualifier_kind : field_kind (field_as ts field.qualifier x) ≡ number_as rs i field.qualifier x
   unfolding number_as field_as field_kind row_kind path_row
-  qualifier_kind = by (is_operand rs i Qualifier x) refl
+  qualifier_kind = by (is_operand rs i field.qualifier x) refl
     where
-      by : (b : Bool) → is_operand rs i Qualifier x ≡ b
-          → field_kind (field_as ts Qualifier x) ≡ cond b (row_at rs x).kind false_row
-      by true e = operand_kind Qualifier e
+      by : (b : Bool) → is_operand rs i field.qualifier x ≡ b
+          → field_kind (field_as ts field.qualifier x) ≡ cond b (row_at rs x).kind false_row
+      by true e = operand_kind field.qualifier e
       by false e = ap (λ f. field_kind (operand (qualifier_row f))) (no_qualifier e)
 
 -- one test of two fails
@@ -256,26 +262,28 @@ one_fails : (a b : Bool) → (a && b) ≡ false → (a ≡ false) ⊎ (b ≡ fal
 one_fails true b e = inr e
 one_fails false b e = inl refl
 
--- the field x of row i of rs and the field y of row j of ss, of one sort
+-- the field x of row i of rs and the field y of row j of ss, at one place
 module _ (rs : List Row) (i x : ℕ) (ss : List Row) (j y : ℕ) where
   -- two operands are compared as terms
-  pub both_operands : (s : Sort) → is_operand rs i s x ≡ true → is_operand ss j s y ≡ true
-      → term_order (term_at rs x) (term_at ss y) ≡ field_order (field_as (ts rs i x) s x) (field_as (ts ss j y) s y)
+  pub both_operands : (f : Field) → is_operand rs i f x ≡ true → is_operand ss j f y ≡ true
+      → term_order (term_at rs x) (term_at ss y) ≡ field_order (field_as (ts rs i x) f x) (field_as (ts ss j y) f y)
   unfolding term_order row_order
-  both_operands s e f = ap₂ field_order (sym (operand_term rs i x s e)) (sym (operand_term ss j y s f))
+  both_operands f e g = ap₂ field_order (sym (operand_term rs i x f e)) (sym (operand_term ss j y f g))
 
   -- else two numbers
-  pub not_both : (s : Sort) → (is_operand rs i s x && is_operand ss j s y) ≡ false
-      → number_order (number_as rs i s x) (number_as ss j s y)
-      ≡ field_order (field_as (ts rs i x) s x) (field_as (ts ss j y) s y)
+  pub not_both : (f : Field) → (is_operand rs i f x && is_operand ss j f y) ≡ false
+      → number_order (number_as rs i f x) (number_as ss j f y)
+      ≡ field_order (field_as (ts rs i x) f x) (field_as (ts ss j y) f y)
   unfolding field_as field_kind row_order number_as
-  not_both Nothing e = refl
-  not_both Number e = refl
-  not_both Path e =
+  not_both field.unused e = refl
+  not_both field.axis e = refl
+  not_both field.test e = refl
+  not_both field.name e = refl
+  not_both field.path e =
       sym (by_void _ _ (⊎_elim (λ f. inl (no_path rs i x f)) (λ f. inr (no_path ss j y f))
-      (one_fails (is_operand rs i Path x) (is_operand ss j Path y) e))
+      (one_fails (is_operand rs i field.path x) (is_operand ss j field.path y) e))
       ∙ ap₂ number_order (path_kind rs i x) (path_kind ss j y))
-  not_both Qualifier e =
+  not_both field.qualifier e =
       sym (by_false _ _ (⊎_elim (λ f. inl (no_qualifier rs i x f)) (λ f. inr (no_qualifier ss j y f))
-      (one_fails (is_operand rs i Qualifier x) (is_operand ss j Qualifier y) e))
+      (one_fails (is_operand rs i field.qualifier x) (is_operand ss j field.qualifier y) e))
       ∙ ap₂ number_order (qualifier_kind rs i x) (qualifier_kind ss j y))

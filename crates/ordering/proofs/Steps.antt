@@ -1,33 +1,32 @@
 -- Steps read from lent numbers, and the steps of two bundles in turn. Assumes nothing.
-use Prim.Native.Nat.{ℕ, ◌+◌, ◌*◌, ◌/◌, ◌<◌, min}
+use Prim.Native.Nat.{ℕ, ◌+◌, ◌<◌, min}
 use mathlib.Core.Path.{◌≡◌, sym, ap, ap₂, ◌∙◌}
 use mathlib.Core.Bool.{true, false}
-use mathlib.Core.List.{List, ◌∷◌, map}
+use mathlib.Core.List.{List, [], ◌∷◌, map}
 use native.Mathlib.Numerals.{add-one}
 use native.Mathlib.Omega.{arith}
-use lib.ListN.{length, get_or, drop, drop_of_length-le}
+use lib.ListN.{length, get_or, drop, drop_of_length-le, get_or-map, length-map}
 use lib.Seq.{drop-cons}
 use Rattle.std.specs.declared.cmp.Ordering.{Ordering}
 use Rattle.std.specs.Ordering.{is_ne}
 use Rattle.terms.specs.Row.{Row}
 use Rattle.terms.specs.Terms.{term_at}
-use Rattle.calls.specs.Book.{Step, step, no_step}
-use Rattle.calls.specs.code.Tables.{steps_of}
-use Rattle.calls.proofs.Tables.{step_lent}
+use Rattle.calls.specs.Book.{Step, no_step}
+use Rattle.calls.specs.code.Tables.{step_in}
 use Rattle.ordering.specs.Order.{Order, ◌and_then◌, number_order}
 use Rattle.ordering.specs.TermOrder.{term_order}
 use Rattle.ordering.specs.BundleOrder.{term_step, step_order, steps_order}
-use Rattle.ordering.specs.code.Sorts.{order_of}
+use Rattle.ordering.specs.code.FieldsCompared.{order_of}
 use Rattle.ordering.proofs.Orders.{Numbers, below, alike, above, numbers}
 use Rattle.ordering.proofs.Compared.{decided, passed}
 
-pub step_there : (xs : List ℕ) (k : ℕ) → k < length xs / 5
-    → step (get_or xs (5 * k) 0) (get_or xs (5 * k + 1) 0) (get_or xs (5 * k + 2) 0) (get_or xs (5 * k + 3) 0)
-    (get_or xs (5 * k + 4) 0) ≡ get_or (steps_of xs) k no_step
-step_there xs k h =
-    let e : 5 * k ≡ 5 * k + 0 = omega arith in
-    ap (λ n. step (get_or xs n 0) (get_or xs (5 * k + 1) 0) (get_or xs (5 * k + 2) 0) (get_or xs (5 * k + 3) 0)
-    (get_or xs (5 * k + 4) 0)) e ∙ sym (step_lent xs k h)
+-- a step of those that are read from lent numbers
+pub step_there : (ps : List (List ℕ)) (qs : List Step) (k : ℕ) {xs : List ℕ} {p : Step} → p ≡ step_in xs
+    → xs ≡ get_or ps k [] → map step_in ps ≡ qs → p ≡ get_or qs k no_step
+step_there ps qs k e f g = e ∙ ap step_in f ∙ sym (get_or-map step_in ps k []) ∙ ap (λ qs. get_or qs k no_step) g
+
+pub steps_there : (ps : List (List ℕ)) (qs : List Step) → map step_in ps ≡ qs → length ps ≡ length qs
+steps_there ps qs g = sym (length-map ps step_in) ∙ ap length g
 
 -- two steps, of rows rs and ss
 module _ (rs ss : List Row) (p q : Step) where

@@ -4,8 +4,6 @@ use Rattle.terms.specs.Row.{Row}
 use Rattle.terms.specs.Terms.{term_at}
 use Rattle.calls.specs.Book.{Book, Answer, answer}
 use Rattle.common.specs.Refusals.{bad_side}
-use Rattle.ordering.specs.declared.OrderAnswer.{OrderAnswer}
-use Rattle.ordering.specs.declared.OrderAnswer.TheVariants as OrderCases
 use Rattle.ordering.specs.Order.{Order, less, equal, greater}
 use Rattle.ordering.specs.TermOrder.{term_order}
 use Rattle.ordering.specs.BundleOrder.{bundle_order}
@@ -25,7 +23,3 @@ order_answer rs i ss j =
 
 unfoldable pub bundle_order_answer : Book → Book → Answer
 bundle_order_answer b c = answer 0 (order_value (bundle_order b c))
-
-abbrev pub order_answer_of : OrderAnswer → Answer
-order_answer_of (OrderCases.Compared value) = answer 0 value
-order_answer_of (OrderCases.BadSide place) = answer bad_side place

@@ -1,220 +1,172 @@
 // The order of terms and of bundles, on the lent rows and steps of two sessions.
 #![tactic(auto)]
 
-ghost use Rattle.std.specs.Prelude.{◌≡◌, ◌/◌, ◌<◌, cond, get_or, length, take};
+ghost use Rattle.std.specs.Prelude.{◌≡◌, cond, take};
 ghost use Rattle.terms.specs.Row.{row_at, table_of};
 ghost use Rattle.terms.specs.Terms.{terms, term_at};
-ghost use Rattle.calls.specs.Book.{no_step, book};
+ghost use Rattle.terms.specs.code.RowTypes.{row_of, field_of};
+ghost use Rattle.common.specs.code.Numbers.{row_number};
+ghost use Rattle.calls.specs.Book.{book};
 ghost use Rattle.calls.specs.code.Tables.{steps_of};
-ghost use Rattle.calls.specs.code.Answers.{step_of};
+ghost use Rattle.calls.specs.code.Answers.{step_of, order_answer_of};
 ghost use Rattle.ordering.specs.TermOrder.{field_order, term_order};
 ghost use Rattle.ordering.specs.BundleOrder.{term_step, step_order};
-ghost use Rattle.ordering.specs.OrderCall.{order_value, order_answer, bundle_order_answer, order_answer_of};
-ghost use Rattle.ordering.specs.code.Sorts.{sorts_in, sorts_of, term_kind, field_as, is_operand, number_as};
-ghost use Rattle.ordering.specs.code.Sorts.{order_of, Noted, Compared};
+ghost use Rattle.ordering.specs.OrderCall.{order_answer, bundle_order_answer};
+ghost use Rattle.ordering.specs.code.FieldsCompared.{term_kind, field_as, is_operand, number_as, Noted, Compared};
 
-use calls::Step;
-use common::row_kind;
+use calls::{Step, whole_steps};
+use common::Refusal;
+use common::row_kind::RowKind;
 use std::cmp::Ordering;
-use terms::{is_noted, note, row_at};
+use terms::{Field, Row, fields_of, is_noted, note, row_at};
 
-// The answer of an order call.
-#[derive(Clone, Copy)]
-pub enum OrderAnswer {
-    Compared(u16),
-    BadSide(u16),
-}
-
-// What a field of a row is.
-#[derive(Clone, Copy, PartialEq, Eq, Debug)]
-enum Sort {
-    Nothing,
-    Number,
-    Path,
-    Qualifier,
-}
-
-// The value of an answer.
-fn value_of(order: Ordering) -> u16
-    ensures { result ≡ order_value (order_of order) }
+// The kind of a row's term: a row of no kind is read as the void path.
+fn term_kind(row: Row) -> u16
+    ensures { result ≡ term_kind (row_of row).kind }
 {
-    match order {
-        Ordering::Less => 0,
-        Ordering::Equal => 1,
-        Ordering::Greater => 2,
-    }
+    row.read_kind().unwrap_or(RowKind::Void).into()
 }
 
-// What the fields a, b and c of a row of a kind are.
-fn sorts_of(kind: u16) -> [Sort; 3]
-    ensures { sorts_in result ≡ sorts_of kind }
+// Whether the field x of row i is the number of an earlier row, as the field asks.
+#[tactic(auto, unfolding(crate::specs::code::FieldsCompared::is_operand))]
+fn is_operand(rows: &[u16], i: u16, field: Field, x: u16) -> bool
+    ensures { result ≡ is_operand (table_of rows.now) i (field_of field) x }
 {
-    match kind {
-        row_kind::STEP => [Sort::Number, Sort::Number, Sort::Number],
-        row_kind::UNION | row_kind::COMPOSITION | row_kind::INCLUSION => [
-            Sort::Path,
-            Sort::Path,
-            Sort::Nothing,
-        ],
-        row_kind::FILTER => [Sort::Path, Sort::Qualifier, Sort::Nothing],
-        row_kind::NOT => [Sort::Qualifier, Sort::Nothing, Sort::Nothing],
-        row_kind::AND | row_kind::OR => [Sort::Qualifier, Sort::Qualifier, Sort::Nothing],
-        _ => [Sort::Nothing, Sort::Nothing, Sort::Nothing],
-    }
-}
-
-// The kind of a row's term: a row of a kind above MAX_KIND is read as the void path.
-fn term_kind(kind: u16) -> u16
-    ensures { result ≡ term_kind kind }
-{
-    if kind <= terms::MAX_KIND {
-        kind
-    } else {
-        row_kind::VOID
-    }
-}
-
-// Whether the field x of row i is the number of an earlier row, of the sort that is asked.
-fn is_operand(rows: &[u16], i: u16, sort: Sort, x: u16) -> bool
-    ensures { result ≡ is_operand (table_of rows.now) i sort x }
-{
-    let kind = row_at(rows, usize::from(x)).kind;
-    match sort {
-        Sort::Nothing | Sort::Number => false,
-        Sort::Path => x < i && kind <= terms::LAST_PATH,
-        Sort::Qualifier => x < i && row_kind::TRUE <= kind && kind <= terms::MAX_KIND,
+    let row = row_at(rows, usize::from(x));
+    match field {
+        Field::Path => x < i && row.is_path(),
+        Field::Qualifier => x < i && row.is_qualifier(),
+        Field::Unused | Field::Axis | Field::Test | Field::Name => false,
     }
 }
 
 // The kind of row x where it is such an operand of row i, else `none`.
-fn kind_or(rows: &[u16], i: u16, sort: Sort, x: u16, none: u16) -> u16
-    ensures { result ≡ cond (is_operand (table_of rows.now) i sort x)
-        (row_at (table_of rows.now) x).kind none }
+fn kind_or(rows: &[u16], i: u16, field: Field, x: u16, none: RowKind) -> u16
+    ensures { result ≡ cond (is_operand (table_of rows.now) i (field_of field) x)
+        (row_at (table_of rows.now) x).kind (row_number none) }
 {
-    if is_operand(rows, i, sort, x) {
+    if is_operand(rows, i, field, x) {
         row_at(rows, usize::from(x)).kind
     } else {
-        none
+        none.into()
     }
 }
 
 // What stands for the field x of row i where a field is compared as a number.
-fn number_of(rows: &[u16], i: u16, sort: Sort, x: u16) -> u16
-    ensures { result ≡ number_as (table_of rows.now) i sort x }
+#[tactic(auto, unfolding(crate::specs::code::FieldsCompared::number_as))]
+fn number_of(rows: &[u16], i: u16, field: Field, x: u16) -> u16
+    ensures { result ≡ number_as (table_of rows.now) i (field_of field) x }
 {
-    match sort {
-        Sort::Nothing => 0,
-        Sort::Number => x,
-        Sort::Path => kind_or(rows, i, sort, x, row_kind::VOID),
-        Sort::Qualifier => kind_or(rows, i, sort, x, row_kind::FALSE),
+    match field {
+        Field::Unused => 0,
+        Field::Axis | Field::Test | Field::Name => x,
+        Field::Path => kind_or(rows, i, field, x, RowKind::Void),
+        Field::Qualifier => kind_or(rows, i, field, x, RowKind::False),
     }
 }
 
-// The fields x of row i and y of row j, of one sort.
-#[cycle(order_fields_order_rows)]
-fn order_fields(
-    left: &[u16],
-    i: u16,
-    x: u16,
-    right: &[u16],
-    j: u16,
-    y: u16,
-    sort: Sort,
-    noted: &mut [usize],
-) -> Ordering
-    requires { Noted (table_of left.now) (table_of right.now) noted.old }
-    ensures { Compared (table_of left.now) (table_of right.now)
-        (field_order (field_as (terms (take i (table_of left.now))) sort x)
-        (field_as (terms (take j (table_of right.now))) sort y)) result noted.new }
-{
-    if is_operand(left, i, sort, x) && is_operand(right, j, sort, y) {
-        return order_rows(left, x, right, y, noted);
-    }
-    number_of(left, i, sort, x).cmp(&number_of(right, j, sort, y))
+// The rows of two sessions.
+#[derive(Clone, Copy)]
+struct Tables<'a> {
+    left: &'a [u16],
+    right: &'a [u16],
 }
 
-// The terms of row i and row j: first by kind, then by fields from the left. Operands are earlier rows; a pair that is
-// found equal is noted, so that it is compared once.
-#[cycle(order_fields_order_rows)]
-fn order_rows(left: &[u16], i: u16, right: &[u16], j: u16, noted: &mut [usize]) -> Ordering
-    requires { Noted (table_of left.now) (table_of right.now) noted.old }
-    ensures { Compared (table_of left.now) (table_of right.now)
-        (term_order (term_at (table_of left.now) i) (term_at (table_of right.now) j)) result
-        noted.new }
-{
-    if is_noted(noted, i, j) {
-        return Ordering::Equal;
+impl<'a> Tables<'a> {
+    // A field of two rows of one kind: the numbers at its place.
+    #[cycle(order_fields_order_rows)]
+    fn order_fields(
+        self,
+        rows: (u16, u16),
+        fields: (u16, u16),
+        field: Field,
+        noted: &mut [Option<u16>],
+    ) -> Ordering
+        requires { Noted (table_of self.left.now) (table_of self.right.now) noted.old }
+        ensures { Compared (table_of self.entry.left.now) (table_of self.entry.right.now)
+            (field_order (field_as (terms (take rows.0 (table_of self.entry.left.now))) (field_of field) fields.0)
+            (field_as (terms (take rows.1 (table_of self.entry.right.now))) (field_of field) fields.1)) result
+            noted.new }
+    {
+        let (i, j) = rows;
+        let (x, y) = fields;
+        if is_operand(self.left, i, field, x) && is_operand(self.right, j, field, y) {
+            return self.order_rows(fields, noted);
+        }
+        number_of(self.left, i, field, x).cmp(&number_of(self.right, j, field, y))
     }
-    let x = row_at(left, usize::from(i));
-    let y = row_at(right, usize::from(j));
-    let kind = term_kind(x.kind);
-    let other = term_kind(y.kind);
-    let kinds = kind.cmp(&other);
-    if kinds.is_ne() {
-        return kinds;
+
+    // The terms of two rows: first by kind, then by fields from the left. Operands are earlier rows; a pair that is
+    // found equal is noted, so that it is compared once. Not by `then_with`, here and for steps: what its closures note
+    // is known to a proof under the check's own names alone, and the proof of that didn't close.
+    #[cycle(order_fields_order_rows)]
+    fn order_rows(self, rows: (u16, u16), noted: &mut [Option<u16>]) -> Ordering
+        requires { Noted (table_of self.left.now) (table_of self.right.now) noted.old }
+        ensures { Compared (table_of self.entry.left.now) (table_of self.entry.right.now)
+            (term_order (term_at (table_of self.entry.left.now) rows.0)
+            (term_at (table_of self.entry.right.now) rows.1)) result noted.new }
+    {
+        let (i, j) = rows;
+        if is_noted(noted, i, j) {
+            return Ordering::Equal;
+        }
+        let x = row_at(self.left, usize::from(i));
+        let y = row_at(self.right, usize::from(j));
+        let kind = term_kind(x);
+        let other = term_kind(y);
+        let kinds = kind.cmp(&other);
+        if kinds.is_ne() {
+            return kinds;
+        }
+        let (a, b, c) = fields_of(kind);
+        let first = self.order_fields(rows, (x.a, y.a), a, noted);
+        if first.is_ne() {
+            return first;
+        }
+        let second = self.order_fields(rows, (x.b, y.b), b, noted);
+        if second.is_ne() {
+            return second;
+        }
+        let third = self.order_fields(rows, (x.c, y.c), c, noted);
+        if third.is_eq() {
+            note(noted, i, j);
+        }
+        third
     }
-    let [a, b, c] = sorts_of(kind);
-    let first = order_fields(left, i, x.a, right, j, y.a, a, noted);
-    if first.is_ne() {
-        return first;
+
+    // The steps p and q: rule first, then left and right.
+    fn order_steps(self, p: Step, q: Step, noted: &mut [Option<u16>]) -> Ordering
+        requires { Noted (table_of self.left.now) (table_of self.right.now) noted.old }
+        ensures { Compared (table_of self.entry.left.now) (table_of self.entry.right.now)
+            (step_order (term_step (table_of self.entry.left.now) (step_of p))
+            (term_step (table_of self.entry.right.now) (step_of q))) result noted.new }
+    {
+        let rules = p.rule.cmp(&q.rule);
+        if rules.is_ne() {
+            return rules;
+        }
+        let lefts = self.order_rows((p.left, q.left), noted);
+        if lefts.is_ne() {
+            return lefts;
+        }
+        self.order_rows((p.right, q.right), noted)
     }
-    let second = order_fields(left, i, x.b, right, j, y.b, b, noted);
-    if second.is_ne() {
-        return second;
-    }
-    let third = order_fields(left, i, x.c, right, j, y.c, c, noted);
-    if third.is_eq() {
-        note(noted, i, j);
-    }
-    third
 }
 
 // Row i of the left rows and row j of the right ones: their order as terms, or which one is not held.
-pub fn order_on(left: &[u16], i: u16, right: &[u16], j: u16) -> OrderAnswer
+pub fn order_on(left: &[u16], i: u16, right: &[u16], j: u16) -> Result<Ordering, Refusal>
     ensures { order_answer_of result
         ≡ order_answer (table_of left.now) i (table_of right.now) j }
 {
     if terms::row_count(left) <= usize::from(i) {
-        return OrderAnswer::BadSide(1);
+        return Err(Refusal::BadSide(1));
     }
     if terms::row_count(right) <= usize::from(j) {
-        return OrderAnswer::BadSide(2);
+        return Err(Refusal::BadSide(2));
     }
-    let mut noted = [0usize; terms::MAX_ROWS];
-    OrderAnswer::Compared(value_of(order_rows(left, i, right, j, &mut noted)))
-}
-
-// Step k, counted from 0.
-fn step_at(steps: &[u16], k: usize) -> Step
-    requires { k < length steps.now / 5 }
-    ensures { step_of result ≡ get_or (steps_of steps.now) k no_step }
-{
-    let at = calls::STEP_WIDTH * k;
-    Step {
-        rule: steps[at],
-        left: steps[at + 1],
-        right: steps[at + 2],
-        first: steps[at + 3],
-        second: steps[at + 4],
-    }
-}
-
-// The steps p and q: rule first, then left and right.
-fn order_steps(left: &[u16], p: Step, right: &[u16], q: Step, noted: &mut [usize]) -> Ordering
-    requires { Noted (table_of left.now) (table_of right.now) noted.old }
-    ensures { Compared (table_of left.now) (table_of right.now)
-        (step_order (term_step (table_of left.now) (step_of p))
-        (term_step (table_of right.now) (step_of q))) result noted.new }
-{
-    let rules = p.rule.cmp(&q.rule);
-    if rules.is_ne() {
-        return rules;
-    }
-    let lefts = order_rows(left, p.left, right, q.left, noted);
-    if lefts.is_ne() {
-        return lefts;
-    }
-    order_rows(left, p.right, right, q.right, noted)
+    let mut noted = [None; terms::MAX_ROWS];
+    let tables = Tables { left, right };
+    Ok(tables.order_rows((i, j), &mut noted))
 }
 
 // The bundles of two sessions: their steps in turn.
@@ -223,45 +175,20 @@ pub fn bundle_order_on<'a>(
     left_steps: &'a [u16],
     right: &'a [u16],
     right_steps: &'a [u16],
-) -> OrderAnswer
+) -> Result<Ordering, Refusal>
     ensures { order_answer_of result
         ≡ bundle_order_answer (book (table_of left.now) (steps_of left_steps.now))
         (book (table_of right.now) (steps_of right_steps.now)) }
 {
-    let mut noted = [0usize; terms::MAX_ROWS];
-    let n = calls::step_count(left_steps);
-    let m = calls::step_count(right_steps);
-    for k in 0..n.min(m) {
-        let order = order_steps(
-            left,
-            step_at(left_steps, k),
-            right,
-            step_at(right_steps, k),
-            &mut noted,
-        );
+    let tables = Tables { left, right };
+    let mut noted = [None; terms::MAX_ROWS];
+    let ps = whole_steps(left_steps);
+    let qs = whole_steps(right_steps);
+    for (p, q) in ps.iter().zip(qs) {
+        let order = tables.order_steps(Step::from(*p), Step::from(*q), &mut noted);
         if order.is_ne() {
-            return OrderAnswer::Compared(value_of(order));
+            return Ok(order);
         }
     }
-    OrderAnswer::Compared(value_of(n.cmp(&m)))
-}
-
-impl OrderAnswer {
-    pub fn number(self) -> u16
-        ensures { result ≡ (order_answer_of self).number }
-    {
-        match self {
-            OrderAnswer::Compared(_) => 0,
-            OrderAnswer::BadSide(_) => common::refusal::BAD_SIDE,
-        }
-    }
-
-    pub fn value(self) -> u32
-        ensures { result ≡ (order_answer_of self).value }
-    {
-        match self {
-            OrderAnswer::Compared(order) => u32::from(order),
-            OrderAnswer::BadSide(place) => u32::from(place),
-        }
-    }
+    Ok(ps.len().cmp(&qs.len()))
 }

@@ -2,15 +2,15 @@
 // answers of the calls that set one or return to one.
 #![tactic(auto)]
 
-ghost use Rattle.std.specs.Prelude.{◌≡◌, ◌*◌, ◌<◌, map, length, get_or};
-ghost use Rattle.std.proofs.lemmas.List.Edits.{sets};
-ghost use Rattle.calls.specs.Book.{max_points};
+ghost use Rattle.std.specs.Prelude.{◌≡◌, map, length, get_or};
 ghost use Rattle.calls.specs.PointCall.{place_of, point_answer, return_answer};
-ghost use Rattle.calls.specs.code.Points.{point_answer_of, point_width, no_counts, counts_in, counts_of, FoundIs};
-ghost use Rattle.calls.specs.code.Points.{counts_names, counts_numbers};
+ghost use Rattle.calls.specs.code.Points.{no_counts, counts_in, counts_of, FoundIs};
+ghost use Rattle.calls.specs.code.Answers.{done_answer_of};
+ghost use Rattle.calls.specs.code.Points.{counts_names};
 ghost use Rattle.calls.specs.code.Points.{point_named, first_point_numbers, first_points, cleared};
 
-use calls::{MAX_POINTS, POINT_WIDTH, PointAnswer, PointCounts, front};
+use calls::{MAX_POINTS, POINT_WIDTH, PointCounts, front};
+use common::Refusal;
 
 // The numbers of the first k points.
 fn first_points(points: &[u16], k: usize) -> &[u16]
@@ -38,7 +38,7 @@ fn place_in(points: &[u16], name: u16) -> Option<usize>
 {
     whole_points(points)
         .iter()
-        .position(|point| point[0] == name)
+        .position(|&numbers| PointCounts::from(numbers).name == name)
 }
 
 // The same among the first k points; how many these are where it is none of them.
@@ -50,12 +50,12 @@ pub fn point_place(points: &[u16], k: usize, name: u16) -> usize
     place_in(held, name).unwrap_or(point_count(held))
 }
 
-// The point at a place, counted from 0; zeros where there is none.
+// The point at a place, counted from 0; zeros where there is none, with which `point_named` goes on.
 fn point_at(points: &[u16], i: usize) -> PointCounts
     ensures { result ≡ get_or (counts_of points.now) i no_counts }
 {
     match whole_points(points).get(i) {
-        Some(&[name, rows, steps]) => PointCounts { name, rows, steps },
+        Some(&numbers) => PointCounts::from(numbers),
         None => PointCounts {
             name: 0,
             rows: 0,
@@ -74,27 +74,27 @@ pub fn point_named(points: &[u16], k: usize, name: u16) -> PointCounts
 
 // The answer of a call that sets a point of that name after the first k points.
 #[tactic(auto, unfolding(calls::specs::PointCall::point_answer), using(calls::proofs::PointTables::names_count))]
-pub fn judge_point(points: &[u16], k: usize, name: u16) -> PointAnswer
-    ensures { point_answer_of result ≡ point_answer (counts_names (first_points k points.now)) name }
+pub fn judge_point(points: &[u16], k: usize, name: u16) -> Result<(), Refusal>
+    ensures { done_answer_of result ≡ point_answer (counts_names (first_points k points.now)) name }
 {
     let held = first_points(points, k);
     if name == 0 || place_in(held, name).is_some() {
-        return PointAnswer::BadPoint(name);
+        return Err(Refusal::BadPoint(name));
     }
     if MAX_POINTS <= point_count(held) {
-        return PointAnswer::PointsFull;
+        return Err(Refusal::PointsFull);
     }
-    PointAnswer::Accepted
+    Ok(())
 }
 
 // The answer of a call that returns to the point of that name among the first k points.
 #[tactic(auto, unfolding(calls::specs::PointCall::return_answer), using(calls::proofs::PointTables::names_count))]
-pub fn judge_return(points: &[u16], k: usize, name: u16) -> PointAnswer
-    ensures { point_answer_of result ≡ return_answer (counts_names (first_points k points.now)) name }
+pub fn judge_return(points: &[u16], k: usize, name: u16) -> Result<(), Refusal>
+    ensures { done_answer_of result ≡ return_answer (counts_names (first_points k points.now)) name }
 {
     match place_in(first_points(points, k), name) {
-        Some(_) => PointAnswer::Accepted,
-        None => PointAnswer::BadPoint(name),
+        Some(_) => Ok(()),
+        None => Err(Refusal::BadPoint(name)),
     }
 }
 
@@ -104,13 +104,4 @@ pub fn clear(numbers: &mut [u16], from: usize)
 {
     let from = from.min(numbers.len());
     numbers[from..].fill(0);
-}
-
-// Point k, counted from 0, becomes `point`.
-pub fn put_point(points: &mut [u16], k: usize, point: PointCounts)
-    requires { (k < max_points) × (length points.old ≡ point_width * max_points) }
-    ensures { points.new ≡ sets points.old (point_width * k) (counts_numbers point) }
-{
-    let at = POINT_WIDTH * k;
-    points[at..at + POINT_WIDTH].copy_from_slice(&[point.name, point.rows, point.steps]);
 }

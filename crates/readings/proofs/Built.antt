@@ -17,7 +17,8 @@ use Rattle.grammar.specs.Bytes.{Bytes}
 use Rattle.grammar.specs.Denotes.{Put, put, Named, unlisted}
 use Rattle.grammar.proofs.Basics.{so, is_true, never}
 use Rattle.heads.specs.declared.Head.{Head}
-use Rattle.heads.specs.code.Head.{place_of}
+use Rattle.common.specs.code.Numbers.{axis_number, test_number}
+use Rattle.heads.specs.code.Head.{place_of, name_number, name_place}
 use Rattle.readings.specs.declared.Reading.{Reading}
 use Rattle.readings.specs.code.Build.{Standing, stands, row_width, row_numbers, capped, moved_to, row_taken}
 use Rattle.readings.specs.code.Build.{no_room, Sized, Holds, Beyond, SameText, PutMet, first_of, Made, Grown}
@@ -354,7 +355,8 @@ place_or (Some i) o = refl
 
 -- put_head: a row put, whose name may be the first that is not listed
 pub head_put : (xs : List ℕ) (x : Standing) (h : Head) (ys : List ℕ) (y : Reading) (o : Maybe ℕ)
-    → o ≡ option_or y.missing h.unlisted → PutMet (row 2 h.axis h.test h.name) 1 xs (moved_to x h.at) ys (stands y)
+    → o ≡ option_or y.missing (name_place h.name)
+    → PutMet (row 2 (axis_number h.axis) (test_number h.test) (name_number h.name)) 1 xs (moved_to x h.at) ys (stands y)
     → HeadPut xs x h ys (stands (record {
       at = y.at;
       row = y.row;
@@ -364,7 +366,9 @@ pub head_put : (xs : List ℕ) (x : Standing) (h : Head) (ys : List ℕ) (y : Re
       missing = o;
     }))
 head_put xs x h ys y o e a =
-    let m = made_row (row 2 h.axis h.test h.name) 1 xs (moved_to x h.at) ys (stands y) a in
+    let m =
+    made_row (row 2 (axis_number h.axis) (test_number h.test) (name_number h.name)) 1 xs (moved_to x h.at) ys
+    (stands y) a in
     record {
       sized = record { size = a.sized.size; bound = a.sized.bound };
       at = a.text.at;
@@ -372,6 +376,6 @@ head_put xs x h ys y o e a =
       made = record {
         puts = record { held = m.puts.held; at = m.puts.at; keeps = m.puts.keeps; beyond = m.puts.beyond };
         nest = m.nest;
-        names = rw (e, place_or y.missing h.unlisted, a.text.missing) refl;
+        names = rw (e, place_or y.missing (name_place h.name), a.text.missing) refl;
       };
     }

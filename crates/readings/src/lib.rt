@@ -2,6 +2,8 @@
 #![tactic(auto)]
 
 ghost use Rattle.std.specs.Prelude.{ℕ, ◌≡◌, true, false, cond, suc, ◌+◌, ◌*◌, ◌<◌, ◌≤◌, max, eqb, get_or, length};
+ghost use Rattle.common.specs.RowKinds.{step_row};
+ghost use Rattle.common.specs.code.Numbers.{axis_number, test_number, row_number};
 ghost use Rattle.grammar.specs.Bytes.{slash_byte};
 ghost use Rattle.terms.specs.Row.{row, max_rows};
 ghost use Rattle.terms.specs.code.RowTypes.{row_of};
@@ -12,14 +14,18 @@ ghost use Rattle.readings.specs.code.Build.{nothing_read, HeadPut};
 ghost use Rattle.readings.specs.code.Passing.{WordPassed, CloseMet, ConstPut, SlashPut, NegatePut};
 ghost use Rattle.readings.specs.code.Passing.{BeginPut, started, root_start};
 
-use common::{axis, node_test, row_kind};
+use common::axis::Axis;
+use common::node_test::NodeTest;
+use common::row_kind::RowKind;
 use heads::{Head, Opens};
 use terms::Row;
 use words::bytes::{byte_at, is_name, skip};
 
 // What was read ends before `at`, where no whitespace is. `row` is that of the last term read, `nesting` its nesting,
 // `count` how many rows there are. `missing` is the place of the first name that is not listed. A reading whose rows
-// don't all fit goes on, since a later byte may be refused; then its row and its count say nothing.
+// don't all fit goes on, since a later byte may be refused; then its row and its count say nothing. `fits` is no Option
+// of the row: before the first term there is no row, and all rows fit. That `count` is within the table is no ghost
+// field: readings are written with `..`, which Rattle has not for a struct that has one.
 #[derive(Clone, Copy)]
 pub struct Reading {
     pub at: usize,
@@ -94,7 +100,7 @@ pub fn put(rows: &mut [u16], r: Reading, row: Row, nesting: u16) -> Reading
     if terms::MAX_ROWS <= count {
         return no_row(r, nesting);
     }
-    terms::put_row(rows, count, row);
+    common::put_record(rows, count, row.into());
     at_row(r, count, count + 1, nesting)
 }
 
@@ -106,15 +112,15 @@ fn above(x: u16, y: u16) -> u16
 }
 
 // A row of no operands.
-fn put_leaf(rows: &mut [u16], r: Reading, kind: u16) -> Reading
+fn put_leaf(rows: &mut [u16], r: Reading, kind: RowKind) -> Reading
     requires { Sized rows.old r.count }
-    ensures { PutMet (row kind 0 0 0) 1 rows.old (stands r) rows.new (stands result) }
+    ensures { PutMet (row (row_number kind) 0 0 0) 1 rows.old (stands r) rows.new (stands result) }
 {
     put(
         rows,
         r,
         Row {
-            kind,
+            kind: u16::from(kind),
             a: 0,
             b: 0,
             c: 0,
@@ -124,13 +130,13 @@ fn put_leaf(rows: &mut [u16], r: Reading, kind: u16) -> Reading
 }
 
 // A row of one operand, the term read last.
-fn put_over(rows: &mut [u16], r: Reading, kind: u16) -> Reading
+fn put_over(rows: &mut [u16], r: Reading, kind: RowKind) -> Reading
     requires { Sized rows.old r.count }
-    ensures { PutMet (row kind r.row 0 0)
+    ensures { PutMet (row (row_number kind) r.row 0 0)
         (capped (suc r.nesting)) rows.old (stands r) rows.new (stands result) }
 {
     let row = Row {
-        kind,
+        kind: u16::from(kind),
         a: r.row,
         b: 0,
         c: 0,
@@ -139,13 +145,13 @@ fn put_over(rows: &mut [u16], r: Reading, kind: u16) -> Reading
 }
 
 // A row of two operands, of which the right one was read last.
-pub fn join(rows: &mut [u16], kind: u16, left: Reading, right: Reading) -> Reading
+pub fn join(rows: &mut [u16], kind: RowKind, left: Reading, right: Reading) -> Reading
     requires { Sized rows.old right.count }
-    ensures { PutMet (row kind left.row right.row 0)
+    ensures { PutMet (row (row_number kind) left.row right.row 0)
         (capped (suc (max left.nesting right.nesting))) rows.old (stands right) rows.new (stands result) }
 {
     let row = Row {
-        kind,
+        kind: u16::from(kind),
         a: left.row,
         b: right.row,
         c: 0,
@@ -153,23 +159,30 @@ pub fn join(rows: &mut [u16], kind: u16, left: Reading, right: Reading) -> Readi
     put(rows, right, row, above(left.nesting, right.nesting))
 }
 
+// The row of a step without predicates.
+fn step_row(axis: Axis, test: NodeTest, name: u16) -> Row
+    ensures { row_of result ≡ row step_row (axis_number axis) (test_number test) name }
+{
+    Row {
+        kind: u16::from(RowKind::Step),
+        a: u16::from(axis),
+        b: u16::from(test),
+        c: name,
+    }
+}
+
 // The step of a head.
 pub fn put_head(rows: &mut [u16], from: Reading, head: Head) -> Reading
     requires { Sized rows.old from.count }
     ensures { HeadPut rows.old (stands from) head rows.new (stands result) }
 {
-    let row = Row {
-        kind: row_kind::STEP,
-        a: head.axis,
-        b: head.test,
-        c: head.name,
-    };
+    let row = step_row(head.axis, head.test, head.name.number());
     let place = Reading {
         at: head.at,
         ..from
     };
     let step = put(rows, place, row, 1);
-    let missing = step.missing.or(head.unlisted);
+    let missing = step.missing.or(head.name.unlisted());
     Reading { missing, ..step }
 }
 
@@ -201,14 +214,9 @@ fn every_below(rows: &mut [u16], path: Reading) -> Reading
     requires { Sized rows.old path.count }
     ensures { Grown below_of (λ n. suc (max n 1)) rows.old (stands path) rows.new (stands result) }
 {
-    let row = Row {
-        kind: row_kind::STEP,
-        a: axis::DESCENDANT_OR_SELF,
-        b: node_test::NODE,
-        c: 0,
-    };
+    let row = step_row(Axis::DescendantOrSelf, NodeTest::Node, 0);
     let step = put(rows, path, row, 1);
-    join(rows, row_kind::COMPOSITION, path, step)
+    join(rows, RowKind::Composition, path, step)
 }
 
 // Passes the `/` or `//` that follows a path, and the whitespace after it.
@@ -251,7 +259,7 @@ pub fn begin_path(s: &[u8], rows: &mut [u16], from: Reading) -> Result<Start, us
     if byte_at(s, at) != b'/' {
         return Ok(Start::First(lead));
     }
-    let root = put_leaf(rows, lead, row_kind::ROOT);
+    let root = put_leaf(rows, lead, RowKind::Root);
     let next = at + 1;
     if byte_at(s, next) != b'/' {
         let end = skip(s, next);
@@ -267,9 +275,9 @@ pub fn some_of(rows: &mut [u16], paths: Reading) -> Reading
     requires { Sized rows.old paths.count }
     ensures { Grown some_of_put (λ n. suc (suc (max n 1))) rows.old (stands paths) rows.new (stands result) }
 {
-    let void = put_leaf(rows, paths, 0);
-    let inclusion = join(rows, row_kind::INCLUSION, paths, void);
-    put_over(rows, inclusion, row_kind::NOT)
+    let void = put_leaf(rows, paths, RowKind::Void);
+    let inclusion = join(rows, RowKind::Inclusion, paths, void);
+    put_over(rows, inclusion, RowKind::Not)
 }
 
 // The row of `not` over the expression in `not ( )`; a group is what it holds.
@@ -278,16 +286,16 @@ pub fn negate_if(rows: &mut [u16], opens: Opens, r: Reading) -> Reading
     ensures { NegatePut opens rows.old (stands r) rows.new (stands result) }
 {
     match opens {
-        Opens::Not => put_over(rows, r, row_kind::NOT),
+        Opens::Not => put_over(rows, r, RowKind::Not),
         _ => r,
     }
 }
 
 // What follows the `(` of `true ( )` or `false ( )`.
-pub fn constant(s: &[u8], rows: &mut [u16], from: Reading, kind: u16) -> Result<Reading, usize>
+pub fn constant(s: &[u8], rows: &mut [u16], from: Reading, kind: RowKind) -> Result<Reading, usize>
     requires at_in_bounds { from.at ≤ length s.now }
     requires sized { Sized rows.old from.count }
-    ensures { ConstPut s.now kind rows.old (stands from) rows.new (ended result) }
+    ensures { ConstPut s.now (row_number kind) rows.old (stands from) rows.new (ended result) }
 {
     let at = skip(s, from.at);
     let shut = close(s, Reading { at, ..from }, b')')?;

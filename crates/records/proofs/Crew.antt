@@ -58,20 +58,6 @@ at_released (r ∷ rs) (f ∷ fs) (suc i) h is = by_test (eqb f 1) (at_released 
 pub shows_released : (rs : List Record) (fs : List ℕ) → ShowsReleased rs fs
 shows_released rs fs = record { each = at_released rs fs; no_other = released_at rs fs }
 
-pub released_few : (rs : List Record) (fs : List ℕ) → length (released rs fs) ≤ length rs
-unfolding released
-released_few [] fs = omega arith
-released_few (r ∷ rs) [] = omega arith
-released_few (r ∷ rs) (f ∷ fs) = by_test (eqb f 1) (released_few rs fs)
-  where
-    by_test : (b : Bool) → length (released rs fs) ≤ length rs
-        → length (cond b (r ∷ released rs fs) (released rs fs)) ≤ length (r ∷ rs)
-    by_test true h = omega arith
-    by_test false h = omega arith
-
-pub released_fit : (e : Records) (fs : List ℕ) → length (released (records_in e) fs) ≤ max_records
-released_fit e fs = omega (arith, released_few (records_in e) fs, length-take (size_of e) e.held)
-
 -- containment between editions a crew sees
 module _ (rows : List Row) (rs : List Record) (fs : List ℕ) (w : EditionsContained rows rs) where
   between : (i j : ℕ) → i < length rs → j < length rs

@@ -32,12 +32,6 @@ module _ (rs : List Record) (n : ℕ) (is-n : n ≡ length rs) (place : ℕ) whe
   unfolding release_answer
   of_a_record f h = rw (le-leb 1 place (omega arith), le-leb place (length rs) (omega arith))
 
--- the records of a listing
-pub in_listing : (xs : List Record) → length xs ≤ max_records → records_in (listed xs) ≡ xs
-in_listing xs h =
-    let few : min (length xs) max_records ≡ length xs = omega arith in
-    ap (λ k. take k (xs ++ replicate (max_records - length xs) empty_record)) few ∙ take-append_seam xs _
-
 -- a listing with one record more
 module _ (xs : List Record) (r : Record) (h : length xs < max_records) where
   few : min (length xs) max_records ≡ length xs

@@ -4,13 +4,16 @@
 
 ghost use Rattle.std.specs.Prelude.{◌≡◌, ◌<◌, leb, length};
 ghost use Rattle.terms.specs.Row.{table_of};
+ghost use Rattle.calls.specs.code.Answers.{done_answer_of};
 ghost use Rattle.calls.specs.code.Tables.{steps_of};
 ghost use Rattle.records.specs.Records.{current, row_of, is_fit_step, record_answer, all_kept};
 ghost use Rattle.records.specs.Records.{max_records};
-ghost use Rattle.records.specs.code.Held.{record_answer_of, size_of, records_in, no_records, with_record};
+ghost use Rattle.records.specs.code.Held.{size_of, records_in, no_records, with_record};
 ghost use Rattle.records.specs.Releases.{released};
-ghost use Rattle.records.specs.code.Listed.{release_answer_of, no_releases, listed};
+ghost use Rattle.records.specs.code.Listed.{no_releases, listed};
 ghost use Rattle.records.specs.code.Promises.{RecordMade, all_releases, ReleaseMade};
+
+use common::Refusal;
 
 pub const MAX_RECORDS: usize = 256;
 
@@ -31,19 +34,11 @@ pub struct Records {
     pub count: usize,
 }
 
-// The answer of a record call.
-#[derive(Clone, Copy, PartialEq, Eq, Debug)]
-pub enum RecordAnswer {
-    Recorded,
-    NotNext(u32),
-    BadRecord(u16),
-    RegisterFull,
-}
-
+// What a call gives: its answer, and the records or the releases that it leaves.
 #[derive(Clone, Copy)]
-pub struct RecordsMade {
-    pub answer: RecordAnswer,
-    pub records: Records,
+pub struct Answered<T> {
+    pub answer: Result<(), Refusal>,
+    pub left: T,
 }
 
 // Which records are released: 1 at the place of each that is. Not as bool: the demand on registers that is to be
@@ -51,19 +46,6 @@ pub struct RecordsMade {
 #[derive(Clone, Copy)]
 pub struct Releases {
     pub flags: [u8; MAX_RECORDS],
-}
-
-// The answer of a release.
-#[derive(Clone, Copy, PartialEq, Eq, Debug)]
-pub enum ReleaseAnswer {
-    Released,
-    NoRecord(u16),
-}
-
-#[derive(Clone, Copy)]
-pub struct ReleasesMade {
-    pub answer: ReleaseAnswer,
-    pub releases: Releases,
 }
 
 const NO_RECORD: Record = Record {
@@ -147,26 +129,26 @@ impl Records {
     }
 
     // The answer of a record call on lent rows and steps: the first refusal that applies, or acceptance.
-    fn judge<'a>(self, rows: &'a [u16], steps: &'a [u16], given: Record) -> RecordAnswer
-        ensures { record_answer_of result
+    fn judge<'a>(self, rows: &'a [u16], steps: &'a [u16], given: Record) -> Result<(), Refusal>
+        ensures { done_answer_of result
             ≡ record_answer (table_of rows.now) (steps_of steps.now) (records_in self) given }
     {
         let highest = self.current(given.series);
         let due = u32::from(highest) + 1;
         if u32::from(given.edition) != due {
-            return RecordAnswer::NotNext(due);
+            return Err(Refusal::NotNext(due));
         }
         if !terms::is_held_path(rows, given.row) {
-            return RecordAnswer::BadRecord(1);
+            return Err(Refusal::BadRecord(1));
         }
         let previous = self.row_of(given.series, highest);
         if !is_fit_step(steps, previous, given) {
-            return RecordAnswer::BadRecord(2);
+            return Err(Refusal::BadRecord(2));
         }
         if self.is_full() {
-            return RecordAnswer::RegisterFull;
+            return Err(Refusal::FullOrInUse);
         }
-        RecordAnswer::Recorded
+        Ok(())
     }
 
     // Also the record, after those held.
@@ -180,15 +162,15 @@ impl Records {
     }
 
     // A record call on lent rows and steps: the answer, and the record after those held where it is accepted.
-    pub fn record<'a>(self, rows: &'a [u16], steps: &'a [u16], given: Record) -> RecordsMade
+    pub fn record<'a>(self, rows: &'a [u16], steps: &'a [u16], given: Record) -> Answered<Records>
         ensures { RecordMade (table_of rows.now) (steps_of steps.now) self given result }
     {
         let answer = self.judge(rows, steps, given);
-        let mut records = self;
-        if answer.number() == 0 {
-            records.put(given);
+        let mut left = self;
+        if answer.is_ok() {
+            left.put(given);
         }
-        RecordsMade { answer, records }
+        Answered { answer, left }
     }
 }
 
@@ -232,66 +214,22 @@ impl Releases {
     }
 
     // A release of the record at a place, counted from 1: the answer, and the releases left.
-    pub fn release(self, records: Records, place: u16) -> ReleasesMade
+    pub fn release(self, records: Records, place: u16) -> Answered<Releases>
         ensures { ReleaseMade (records_in records) self place result }
     {
         let n = records.size();
         let p = usize::from(place);
-        let mut releases = self;
+        let mut left = self;
         if p == 0 || n < p {
-            return ReleasesMade {
-                answer: ReleaseAnswer::NoRecord(place),
-                releases,
+            return Answered {
+                answer: Err(Refusal::NoRecord(place)),
+                left,
             };
         }
-        releases.flags[p - 1] = 1;
-        ReleasesMade {
-            answer: ReleaseAnswer::Released,
-            releases,
-        }
-    }
-}
-
-impl ReleaseAnswer {
-    pub fn number(self) -> u16
-        ensures { result ≡ (release_answer_of self).number }
-    {
-        match self {
-            ReleaseAnswer::Released => 0,
-            ReleaseAnswer::NoRecord(_) => common::refusal::NO_RECORD,
-        }
-    }
-
-    pub fn value(self) -> u32
-        ensures { result ≡ (release_answer_of self).value }
-    {
-        match self {
-            ReleaseAnswer::Released => 0,
-            ReleaseAnswer::NoRecord(place) => u32::from(place),
-        }
-    }
-}
-
-impl RecordAnswer {
-    pub fn number(self) -> u16
-        ensures { result ≡ (record_answer_of self).number }
-    {
-        match self {
-            RecordAnswer::Recorded => 0,
-            RecordAnswer::NotNext(_) => common::refusal::NOT_NEXT,
-            RecordAnswer::BadRecord(_) => common::refusal::BAD_RECORD,
-            RecordAnswer::RegisterFull => common::refusal::FULL_OR_IN_USE,
-        }
-    }
-
-    pub fn value(self) -> u32
-        ensures { result ≡ (record_answer_of self).value }
-    {
-        match self {
-            RecordAnswer::Recorded => 0,
-            RecordAnswer::NotNext(due) => due,
-            RecordAnswer::BadRecord(place) => u32::from(place),
-            RecordAnswer::RegisterFull => 0,
+        left.flags[p - 1] = 1;
+        Answered {
+            answer: Ok(()),
+            left,
         }
     }
 }

@@ -9,43 +9,37 @@ use denote.Ref.{Bor}
 use denote.MutBor.{MutBor}
 use Rattle.terms.specs.Row.{Row, row}
 use Rattle.terms.specs.Fields.{held_path}
-use Rattle.calls.specs.declared.SelectAnswer.{SelectAnswer}
-use Rattle.replacing.specs.declared.ReplaceAnswer.{ReplaceAnswer}
-use Rattle.ordering.specs.declared.OrderAnswer.{OrderAnswer}
 use Rattle.session.specs.declared.session.Session.{Session}
-use Rattle.session.specs.declared.write.WriteAnswer.{WriteAnswer}
 use Rattle.records.specs.declared.Record.{Record}
-use Rattle.records.specs.declared.RecordAnswer.TheVariants as RecordCases
+use Rattle.std.specs.Prelude.{Ok, Err}
 use Rattle.records.specs.declared.Records.{Records}
-use Rattle.records.specs.declared.ReleaseAnswer.TheVariants as ReleaseCases
+use Rattle.common.specs.declared.refusal.Refusal.TheVariants as Refused
 use Rattle.register.specs.declared.Register.{Register}
 use Rattle.register.specs.code.Results.{ReadResult}
-use Rattle.register.specs.declared.ReturnAnswer.TheVariants as ReturnCases
 use Rattle.calls.specs.Book as book
 use Rattle.calls.specs.Book.{Step, Answer, answer, accepted}
 use Rattle.common.specs.Refusals.{full_or_in_use, no_record}
-use Rattle.calls.specs.PointCall.{point_names, place_of, return_answer}
+use Rattle.calls.specs.PointCall.{point_names, return_answer}
 use Rattle.calls.specs.Promises.{row_yielded, row_step_answer}
 use Rattle.calls.specs.Runs.{next, Run}
 use Rattle.calls.specs.Calls.{term, step, text, point, return}
 use Rattle.calls.specs.Above.{passed, own}
-use Rattle.calls.specs.code.Answers.{term_answer_of, step_answer_of}
-use Rattle.calls.specs.code.Points.{point_answer_of}
+use Rattle.calls.specs.code.Answers.{NumberOrRefusal, DoneOrRefusal, OrderOrRefusal, answer_of, done_answer_of}
 use Rattle.calls.proofs.Runs.{made, run_exists}
-use Rattle.calls.proofs.Cases.{term_case, step_case, point_case}
+use Rattle.calls.proofs.Cases.{HasCase, either_case, term_case, step_case, text_case, point_case, return_case}
 use Rattle.records.specs.Records.{recorded, max_records, current, row_of, is_fit_step, record_answer}
-use Rattle.records.specs.code.Held.{record_answer_of, records_in, no_records}
+use Rattle.records.specs.code.Held.{records_in, no_records}
 use Rattle.records.specs.Register.{drops_in_use}
 use Rattle.records.specs.Releases.{release_answer, crew_listing, crew_current, OfficeCall, OfficeSeen}
-use Rattle.records.specs.code.Listed.{release_answer_of, listed, no_releases}
+use Rattle.records.specs.code.Listed.{listed, no_releases}
 use Rattle.session.specs.View.{view}
-use Rattle.session.specs.Promises.{SelectMet, text_answer_of}
+use Rattle.session.specs.Promises.{SelectMet}
 use Rattle.session.specs.ReplaceDemand.{ReplaceMet}
 use Rattle.session.specs.OrderDemand.{OrderMet, BundleOrderMet}
 use Rattle.session.specs.WriteCall.{WriteMet}
 use Rattle.session.proofs.Demand3.{SelectsKept}
 use Rattle.session.proofs.Source as below
-use Rattle.register.specs.Promises.{return_answer_of, fresh_register, register, RegisterMet, holdings, released_in}
+use Rattle.register.specs.Promises.{fresh_register, register, RegisterMet, holdings, released_in}
 use Rattle.register.specs.Promises.{RegisterReadMet}
 use Rattle.register.specs.Demand.{DemandOfRegister, ReleasesKept, ReleasedAgain, CrewIsolated}
 use Rattle.register.proofs.Calls.{again_made}
@@ -78,24 +72,24 @@ pub data New : Register → Type 0 where
 pub data Called : Register → OfficeCall → Answer → Register → Type 0 where
   term_called : (κs : _) (a : _) (r : _) (x : _) → term-reads.Post κs a r x
       → Called a.0 (passed (passed (term (row a.1.0 a.1.1.0 a.1.1.1.0 a.1.1.1.1.0))))
-      (term_answer_of r.answer) r.register
+      (answer_of r.answer) r.register
   step_called : (κs : _) (a : _) (r : _) (x : _) → step-reads.Post κs a r x
       → Called a.0
       (passed (passed
       (step (book.step a.1.0 a.1.1.0 a.1.1.1.0 a.1.1.1.1.0 a.1.1.1.1.1.0))))
-      (step_answer_of r.answer) r.register
+      (answer_of r.answer) r.register
   text_called : (κs : _) (a : _) (r : _) (x : _) → text-reads.Post κs a r x
-      → Called a.0 (passed (passed (text a.1.0.now a.1.1.0.now))) (text_answer_of r.answer)
+      → Called a.0 (passed (passed (text a.1.0.now a.1.1.0.now))) (answer_of r.answer)
       r.register
   point_called : (κs : _) (a : _) (r : _) (x : _) → point-reads.Post κs a r x
-      → Called a.0 (passed (passed (point a.1.0))) (point_answer_of r.answer) r.register
+      → Called a.0 (passed (passed (point a.1.0))) (done_answer_of r.answer) r.register
   return_called : (κs : _) (a : _) (r : _) (x : _) → return-reads.Post κs a r x
-      → Called a.0 (passed (passed (return a.1.0))) (return_answer_of r.answer) r.register
+      → Called a.0 (passed (passed (return a.1.0))) (done_answer_of r.answer) r.register
   record_called : (κs : _) (a : _) (r : _) (x : _) → record-reads.Post κs a r x
       → Called a.0 (passed (own (recorded a.1.0 a.1.1.0 a.1.1.1.0 a.1.1.1.1.0)))
-      (record_answer_of r.answer) r.register
+      (done_answer_of r.answer) r.register
   release_called : (κs : _) (a : _) (r : _) (x : _) → release-reads.Post κs a r x
-      → Called a.0 (own a.1.0) (release_answer_of r.answer) r.register
+      → Called a.0 (own a.1.0) (done_answer_of r.answer) r.register
 
 -- `Register::current` on the register for a series answers the edition r
 pub data Current : Register → (series e : ℕ) → Type 0 where
@@ -114,28 +108,28 @@ pub data CrewCurrent : Register → (series e : ℕ) → Type 0 where
 
 -- `Register::select` on a register of that session, with a row, lent numbers, a node, a limit and a buffer, has the
 -- answer r and leaves bytes
-pub data Selected : Session → (row : ℕ) → List ℕ → (x limit : ℕ) → List ℕ → SelectAnswer → List ℕ → Type 0 where
+pub data Selected : Session → (row : ℕ) → List ℕ → (x limit : ℕ) → List ℕ → NumberOrRefusal → List ℕ → Type 0 where
   select_called : (κs : _) (a : _) (r : _) (x : _) → select-reads.Post κs a r x
       → Selected a.0.session a.1.0 a.1.1.0.now a.1.1.1.0 a.1.1.1.1.0
       a.1.1.1.1.1.0.now r x.1.1.1.1.1.0.now
 
 -- `Register::replace` on a register with old rows, new rows and steps has the answer r
-pub data Replaced : Register → (old new by : List ℕ) → ReplaceAnswer → Type 0 where
+pub data Replaced : Register → (old new by : List ℕ) → DoneOrRefusal → Type 0 where
   replace_called : (κs : _) (a : _) (r : _) (x : _) → replace-reads.Post κs a r x
       → Replaced a.0 a.1.0.now a.1.1.0.now a.1.1.1.0.now r
 
 -- `Register::order` on a register with a row, another register and a row of it has the answer r
-pub data Ordered : Register → (i : ℕ) → Register → (j : ℕ) → OrderAnswer → Type 0 where
+pub data Ordered : Register → (i : ℕ) → Register → (j : ℕ) → OrderOrRefusal → Type 0 where
   order_called : (κs : _) (a : _) (r : _) (x : _) → order-reads.Post κs a r x
       → Ordered a.0 a.1.0 a.1.1.0 a.1.1.1.0 r
 
 -- `Register::bundle_order` on two registers has the answer r
-pub data BundleOrdered : Register → Register → OrderAnswer → Type 0 where
+pub data BundleOrdered : Register → Register → OrderOrRefusal → Type 0 where
   bundle_order_called : (κs : _) (a : _) (r : _) (x : _) → bundle-order-reads.Post κs a r x
       → BundleOrdered a.0 a.1.0 r
 
 -- `Register::write` on a register with a buffer has the answer r and leaves bytes
-pub data Write : Register → List ℕ → WriteAnswer → List ℕ → Type 0 where
+pub data Write : Register → List ℕ → NumberOrRefusal → List ℕ → Type 0 where
   write_called : (κs : _) (a : _) (r : _) (x : _) → write-reads.Post κs a r x
       → Write a.0 a.1.0.now r x.1.0.now
 
@@ -171,61 +165,49 @@ crew_current_tied r series e (crew_current_called κs a s x m) = m
 pub select_tied : SelectsKept Selected SelectMet
 select_tied s row xs x limit buffer t left (select_called κs a r y m) = m
 
-pub replace_tied : (r : Register) (old new by : List ℕ) (t : ReplaceAnswer) → Replaced r old new by t
+pub replace_tied : (r : Register) (old new by : List ℕ) (t : DoneOrRefusal) → Replaced r old new by t
     → ReplaceMet r.session old new by t
 replace_tied r old new by t (replace_called κs a s x m) = m
 
-pub order_tied : (q : Register) (i : ℕ) (r : Register) (j : ℕ) (t : OrderAnswer) → Ordered q i r j t
+pub order_tied : (q : Register) (i : ℕ) (r : Register) (j : ℕ) (t : OrderOrRefusal) → Ordered q i r j t
     → OrderMet q.session i r.session j t
 order_tied q i r j t (order_called κs a s x m) = m
 
-pub bundle_order_tied : (q r : Register) (t : OrderAnswer) → BundleOrdered q r t
+pub bundle_order_tied : (q r : Register) (t : OrderOrRefusal) → BundleOrdered q r t
     → BundleOrderMet q.session r.session t
 bundle_order_tied q r t (bundle_order_called κs a s x m) = m
 
-pub write_tied : (r : Register) (buffer : List ℕ) (w : WriteAnswer) (left : List ℕ) → Write r buffer w left
+pub write_tied : (r : Register) (buffer : List ℕ) (w : NumberOrRefusal) (left : List ℕ) → Write r buffer w left
     → WriteMet r.session buffer w left
 write_tied r buffer w left (write_called κs a s x m) = m
 
 pub read_tied : (bytes : List ℕ) (t : ReadResult) → Read bytes t → RegisterReadMet bytes t
 read_tied bytes t (read_called κs a r x m) = m
 
--- each answer of the definitions is that of a case of the code's answers
-abbrev HasCase : {A : Type 0} → (A → Answer) → Answer → Type 0
-HasCase {A} f t = (a : A) × (f a ≡ t)
-
-either_case : {A : Type 0} (f : A → Answer) (b : Bool) (t u : Answer)
-    → HasCase f t → HasCase f u → HasCase f (cond b t u)
-either_case f true t u x y = x
-either_case f false t u x y = y
-
 record_case : (rows : List Row) (ps : List Step) (rs : List Record) (r : Record)
-    → HasCase record_answer_of (record_answer rows ps rs r)
+    → HasCase done_answer_of (record_answer rows ps rs r)
 unfolding record_answer
 record_case rows ps rs r =
     let highest = current rs r.series in
     let fit = is_fit_step ps (row_of rs r.series highest) r in
-    either_case record_answer_of (not (eqb r.edition (highest + 1))) _ _ (RecordCases.NotNext (highest + 1), refl)
-    (either_case record_answer_of (not (held_path rows r.row)) _ _ (RecordCases.BadRecord 1, refl)
-    (either_case record_answer_of (not fit) _ _ (RecordCases.BadRecord 2, refl)
-    (either_case record_answer_of (leb max_records (length rs)) _ _ (RecordCases.RegisterFull, refl)
-    (RecordCases.Recorded, refl))))
+    either_case done_answer_of (not (eqb r.edition (highest + 1))) _ _ (Err (Refused.NotNext (highest + 1)), refl)
+    (either_case done_answer_of (not (held_path rows r.row)) _ _ (Err (Refused.BadRecord 1), refl)
+    (either_case done_answer_of (not fit) _ _ (Err (Refused.BadRecord 2), refl)
+    (either_case done_answer_of (leb max_records (length rs)) _ _ (Err Refused.FullOrInUse, refl)
+    (Ok tt, refl))))
 
-return_case : (names : List ℕ) (n : ℕ) (used : Bool)
-    → HasCase return_answer_of (cond (accepted (return_answer names n) && used) (answer full_or_in_use 0)
+barred_case : (names : List ℕ) (n : ℕ) (used : Bool)
+    → HasCase done_answer_of (cond (accepted (return_answer names n) && used) (answer full_or_in_use 0)
     (return_answer names n))
-unfolding return_answer
-return_case names n used =
-    let barred = accepted (return_answer names n) && used in
-    either_case return_answer_of barred (answer full_or_in_use 0) (return_answer names n) (ReturnCases.InUse, refl)
-    (either_case return_answer_of (leb (length names) (place_of names n)) _ _ (ReturnCases.BadPoint n, refl)
-    (ReturnCases.Accepted, refl))
+barred_case names n used =
+    either_case done_answer_of (accepted (return_answer names n) && used) _ _ (Err Refused.FullOrInUse, refl)
+    (return_case names n)
 
-release_case : (rs : List Record) (place : ℕ) → HasCase release_answer_of (release_answer rs place)
+release_case : (rs : List Record) (place : ℕ) → HasCase done_answer_of (release_answer rs place)
 unfolding release_answer
 release_case rs place =
-    either_case release_answer_of (leb 1 place && leb place (length rs)) _ _ (ReleaseCases.Released, refl)
-    (ReleaseCases.NoRecord place, refl)
+    either_case done_answer_of (leb 1 place && leb place (length rs)) _ _ (Ok tt, refl)
+    (Err (Refused.NoRecord place), refl)
 
 -- what is not barred answers as the session does
 not_barred : (t barred : Answer) → t ≡ cond (accepted t && false) barred t
@@ -263,11 +245,11 @@ met_called r (passed (passed (step p))) a t m =
     (record { answer = o; register = t }) (r, (p.rule, (p.left, (p.right, (p.first, (p.second, tt))))))
     (record { answer = told; left = m.left }))
 met_called r (passed (passed (text names t))) a u m =
-    text_called ([], ([], tt)) (r, (lent names, (lent t, tt)))
-    (record {
-      answer = record { number = a.number; value = a.value };
-      register = u;
-    }) (r, (lent names, (lent t, tt))) m
+    let (o, e) = text_case (view r.session).rows names t in
+    let told = e ∙ not_barred_twice _ in
+    subst (λ a. Called r (passed (passed (text names t))) a u) (told ∙ sym m.answer)
+    (text_called ([], ([], tt)) (r, (lent names, (lent t, tt))) (record { answer = o; register = u })
+    (r, (lent names, (lent t, tt))) (record { answer = told; left = m.left }))
 met_called r (passed (passed (point n))) a t m =
     let (o, e) = point_case (point_names (view r.session).points) n in
     let told = e ∙ not_barred_twice _ in
@@ -276,7 +258,7 @@ met_called r (passed (passed (point n))) a t m =
     (record { answer = told; left = m.left }))
 met_called r (passed (passed (return n))) a t m =
     let used = drops_in_use (view r.session) (records_in r.records) (return n) in
-    let (o, e) = return_case (point_names (view r.session).points) n used in
+    let (o, e) = barred_case (point_names (view r.session).points) n used in
     let told = e ∙ not_barred _ (answer no_record 0) in
     subst (λ a. Called r (passed (passed (return n))) a t) (told ∙ sym m.answer)
     (return_called tt (r, (n, tt)) (record { answer = o; register = t }) (r, (n, tt))
@@ -348,7 +330,7 @@ crew_currents_exist r series =
     (e, crew_current_called tt (r, (series, tt)) e (r, (series, tt)) refl)
 
 pub selects_exist : (s : Session) (row : ℕ) (xs : List ℕ) (x limit : ℕ) (buffer : List ℕ)
-    → (t : SelectAnswer) × (left : List ℕ) × Selected s row xs x limit buffer t left
+    → (t : NumberOrRefusal) × (left : List ℕ) × Selected s row xs x limit buffer t left
 selects_exist s row xs x limit buffer =
     let r : Register = record { session = s; records = no_records; releases = no_releases } in
     let (t, left, m) = below.selects_exist s row xs x limit buffer in (
@@ -359,7 +341,7 @@ selects_exist s row xs x limit buffer =
           (below.select_tied s row xs x limit buffer t left m),
     )
 
-pub replaces_exist : (r : Register) (old new by : List ℕ) → (t : ReplaceAnswer) × Replaced r old new by t
+pub replaces_exist : (r : Register) (old new by : List ℕ) → (t : DoneOrRefusal) × Replaced r old new by t
 replaces_exist r old new by =
     let (t, m) = below.replaces_exist r.session old new by in (
       t,
@@ -367,7 +349,7 @@ replaces_exist r old new by =
           (r, (lent old, (lent new, (lent by, tt)))) (below.replace_tied r.session old new by t m),
     )
 
-pub orders_exist : (q : Register) (i : ℕ) (r : Register) (j : ℕ) → (t : OrderAnswer) × Ordered q i r j t
+pub orders_exist : (q : Register) (i : ℕ) (r : Register) (j : ℕ) → (t : OrderOrRefusal) × Ordered q i r j t
 orders_exist q i r j =
     let (t, m) = below.orders_exist q.session i r.session j in (
       t,
@@ -375,12 +357,12 @@ orders_exist q i r j =
           (below.order_tied q.session i r.session j t m),
     )
 
-pub bundle_orders_exist : (q r : Register) → (t : OrderAnswer) × BundleOrdered q r t
+pub bundle_orders_exist : (q r : Register) → (t : OrderOrRefusal) × BundleOrdered q r t
 bundle_orders_exist q r =
     let (t, m) = below.bundle_orders_exist q.session r.session in
     (t, bundle_order_called tt (q, (r, tt)) t (q, (r, tt)) (below.bundle_order_tied q.session r.session t m))
 
-pub writes_exist : (r : Register) (buffer : List ℕ) → (w : WriteAnswer) × (left : List ℕ) × Write r buffer w left
+pub writes_exist : (r : Register) (buffer : List ℕ) → (w : NumberOrRefusal) × (left : List ℕ) × Write r buffer w left
 writes_exist r buffer =
     let (w, left, m) = below.writes_exist r.session buffer in (
       w,

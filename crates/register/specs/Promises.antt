@@ -6,10 +6,8 @@ use Rattle.records.specs.declared.Records.{Records}
 use Rattle.records.specs.declared.Releases.{Releases}
 use Rattle.register.specs.declared.Register.{Register}
 use Rattle.register.specs.code.Results.{ReadResult}
-use Rattle.register.specs.declared.ReturnAnswer.{ReturnAnswer}
-use Rattle.register.specs.declared.ReturnAnswer.TheVariants as ReturnCases
 use Rattle.calls.specs.Book.{Answer, answer}
-use Rattle.common.specs.Refusals.{bad_point, full_or_in_use, no_record}
+use Rattle.common.specs.Refusals.{full_or_in_use, no_record}
 use Rattle.calls.specs.Runs.{Machine, Made}
 use Rattle.calls.specs.Calls.{Call}
 use Rattle.calls.specs.Above.{Both, both, Layer, above, along}
@@ -21,11 +19,6 @@ use Rattle.records.specs.code.Listed.{flagged, no_releases}
 use Rattle.session.specs.View.{view, fresh_session}
 use Rattle.session.specs.Promises.{session}
 use Rattle.session.specs.ReadCall.{ReadMet}
-
-abbrev pub return_answer_of : ReturnAnswer → Answer
-return_answer_of ReturnCases.Accepted = answer 0 0
-return_answer_of (ReturnCases.BadPoint n) = answer bad_point n
-return_answer_of ReturnCases.InUse = answer full_or_in_use 0
 
 abbrev pub fresh_register : Register
 fresh_register = record { session = fresh_session; records = no_records; releases = no_releases }

@@ -8,40 +8,30 @@ ghost use Rattle.terms.specs.Row.{row};
 ghost use Rattle.calls.specs.Book.{step};
 ghost use Rattle.calls.specs.Calls.{Call};
 ghost use Rattle.calls.specs.Above.{Above};
-ghost use Rattle.calls.specs.code.Answers.{term_answer_of, step_answer_of};
-ghost use Rattle.calls.specs.code.Points.{point_answer_of};
+ghost use Rattle.calls.specs.code.Answers.{answer_of, done_answer_of};
 ghost use Rattle.records.specs.Records.{recorded, current};
-ghost use Rattle.records.specs.code.Held.{record_answer_of, records_in};
-ghost use Rattle.session.specs.Promises.{SelectMet, text_answer_of};
+ghost use Rattle.records.specs.code.Held.{records_in};
+ghost use Rattle.session.specs.Promises.{SelectMet};
 ghost use Rattle.session.specs.ReplaceDemand.{ReplaceMet};
 ghost use Rattle.session.specs.OrderDemand.{OrderMet, BundleOrderMet};
 ghost use Rattle.session.specs.WriteCall.{WriteMet};
 ghost use Rattle.records.specs.Releases.{crew_listing, crew_current};
-ghost use Rattle.records.specs.code.Listed.{release_answer_of, listed};
-ghost use Rattle.register.specs.Promises.{return_answer_of, fresh_register, released_in, RegisterMet};
+ghost use Rattle.records.specs.code.Listed.{listed};
+ghost use Rattle.register.specs.Promises.{fresh_register, released_in, RegisterMet};
 ghost use Rattle.register.specs.Promises.{RegisterReadMet};
 ghost use Rattle.register.specs.code.Results.{over};
 
+use common::Refusal;
 use records::Releases;
-pub use records::{Record, RecordAnswer, Records, ReleaseAnswer};
-use session::{
-    OrderAnswer, PointAnswer, ReadAnswer, ReplaceAnswer, SelectAnswer, Session, StepAnswer,
-    TermAnswer, TextAnswer, WriteAnswer,
-};
+pub use records::{Record, Records};
+use session::{LineRefusal, Session};
+use std::cmp::Ordering;
 
 #[derive(Clone, Copy)]
 pub struct Register {
     session: Session,
     records: Records,
     releases: Releases,
-}
-
-// The answer of a return: the session's, or that a row or step is in use.
-#[derive(Clone, Copy)]
-pub enum ReturnAnswer {
-    Accepted,
-    BadPoint(u16),
-    InUse,
 }
 
 // What a call gives: its answer, and the register that it leaves. The demands name the field, so a session has a type
@@ -67,9 +57,15 @@ impl Register {
 
     // Records an edition of a series: its path row, and the step by which the previous edition's path is contained in
     // it.
-    pub fn record(self, series: u16, edition: u16, row: u16, step: u16) -> Answered<RecordAnswer>
+    pub fn record(
+        self,
+        series: u16,
+        edition: u16,
+        row: u16,
+        step: u16,
+    ) -> Answered<Result<(), Refusal>>
         ensures { RegisterMet self (Above.passed (Above.own (recorded series edition row step)))
-            (record_answer_of result.answer) result.register }
+            (done_answer_of result.answer) result.register }
     {
         let given = Record {
             series,
@@ -81,7 +77,7 @@ impl Register {
         Answered {
             answer: made.answer,
             register: Register {
-                records: made.records,
+                records: made.left,
                 ..self
             },
         }
@@ -95,14 +91,14 @@ impl Register {
     }
 
     // Releases the record at a place, counted from 1.
-    pub fn release(self, place: u16) -> Answered<ReleaseAnswer>
-        ensures { RegisterMet self (Above.own place) (release_answer_of result.answer) result.register }
+    pub fn release(self, place: u16) -> Answered<Result<(), Refusal>>
+        ensures { RegisterMet self (Above.own place) (done_answer_of result.answer) result.register }
     {
         let made = self.releases.release(self.records, place);
         Answered {
             answer: made.answer,
             register: Register {
-                releases: made.releases,
+                releases: made.left,
                 ..self
             },
         }
@@ -131,30 +127,18 @@ impl Register {
     }
 
     // Returns to the point of that name, where that drops no row and no step in use.
-    pub fn return_to(self, name: u16) -> Answered<ReturnAnswer>
+    pub fn return_to(self, name: u16) -> Answered<Result<(), Refusal>>
         ensures { RegisterMet self (Above.passed (Above.passed (Call.return name)))
-            (return_answer_of result.answer) result.register }
+            (done_answer_of result.answer) result.register }
     {
         let made = self.session.return_to(name);
-        if made.answer.number() != 0 {
+        if made.answer.is_ok() && self.session.drops_in_use(self.records, name) {
             return Answered {
-                answer: ReturnAnswer::BadPoint(name),
+                answer: Err(Refusal::FullOrInUse),
                 register: self,
             };
         }
-        if self.session.drops_in_use(self.records, name) {
-            return Answered {
-                answer: ReturnAnswer::InUse,
-                register: self,
-            };
-        }
-        Answered {
-            answer: ReturnAnswer::Accepted,
-            register: Register {
-                session: made.session,
-                ..self
-            },
-        }
+        self.passed_on(made)
     }
 
     // The answer of a call of the session's, and the register over the session that it leaves.
@@ -171,9 +155,9 @@ impl Register {
         }
     }
 
-    pub fn term(self, kind: u16, a: u16, b: u16, c: u16) -> Answered<TermAnswer>
+    pub fn term(self, kind: u16, a: u16, b: u16, c: u16) -> Answered<Result<u16, Refusal>>
         ensures { RegisterMet self (Above.passed (Above.passed (Call.term (row kind a b c))))
-            (term_answer_of result.answer) result.register }
+            (answer_of result.answer) result.register }
     {
         self.passed_on(self.session.term(kind, a, b, c))
     }
@@ -185,24 +169,24 @@ impl Register {
         right: u16,
         first: u16,
         second: u16,
-    ) -> Answered<StepAnswer>
+    ) -> Answered<Result<u16, Refusal>>
         ensures { RegisterMet self (Above.passed (Above.passed (Call.step (step rule left right first second))))
-            (step_answer_of result.answer) result.register }
+            (answer_of result.answer) result.register }
     {
         self.passed_on(self.session.step(rule, left, right, first, second))
     }
 
-    pub fn text(self, names: &[u8], selector: &[u8]) -> Answered<TextAnswer>
+    pub fn text(self, names: &[u8], selector: &[u8]) -> Answered<Result<u16, Refusal>>
         ensures { RegisterMet self
             (Above.passed (Above.passed (Call.text names.now selector.now)))
-            (text_answer_of result.answer) result.register }
+            (answer_of result.answer) result.register }
     {
         self.passed_on(self.session.text(names, selector))
     }
 
-    pub fn point(self, name: u16) -> Answered<PointAnswer>
+    pub fn point(self, name: u16) -> Answered<Result<(), Refusal>>
         ensures { RegisterMet self (Above.passed (Above.passed (Call.point name)))
-            (point_answer_of result.answer) result.register }
+            (done_answer_of result.answer) result.register }
     {
         self.passed_on(self.session.point(name))
     }
@@ -214,39 +198,39 @@ impl Register {
         context: u16,
         limit: u32,
         marks: &mut [u8],
-    ) -> SelectAnswer
+    ) -> Result<u32, Refusal>
         ensures { SelectMet self.session row document.now context limit
             marks.old result marks.new }
     {
         self.session.select(row, document, context, limit, marks)
     }
 
-    pub fn replace<'a>(self, old: &'a [u16], new: &'a [u16], by: &'a [u16]) -> ReplaceAnswer
+    pub fn replace<'a>(self, old: &'a [u16], new: &'a [u16], by: &'a [u16]) -> Result<(), Refusal>
         ensures { ReplaceMet self.session old.now new.now by.now result }
     {
         self.session.replace(old, new, by)
     }
 
-    pub fn order(self, row: u16, other: Register, other_row: u16) -> OrderAnswer
+    pub fn order(self, row: u16, other: Register, other_row: u16) -> Result<Ordering, Refusal>
         ensures { OrderMet self.session row other.session other_row result }
     {
         self.session.order(row, other.session, other_row)
     }
 
-    pub fn bundle_order(self, other: Register) -> OrderAnswer
+    pub fn bundle_order(self, other: Register) -> Result<Ordering, Refusal>
         ensures { BundleOrderMet self.session other.session result }
     {
         self.session.bundle_order(other.session)
     }
 
-    pub fn write(self, out: &mut [u8]) -> WriteAnswer
+    pub fn write(self, out: &mut [u8]) -> Result<usize, Refusal>
         ensures { WriteMet self.session out.old result out.new }
     {
         self.session.write(out)
     }
 
     // A register without records over the session that a bundle reads as.
-    pub fn read(bytes: &[u8]) -> Answered<ReadAnswer>
+    pub fn read(bytes: &[u8]) -> Answered<Result<u16, LineRefusal>>
         ensures { RegisterReadMet bytes.now result }
     {
         let read = Session::read(bytes);
@@ -256,28 +240,6 @@ impl Register {
                 session: read.session,
                 ..Register::new()
             },
-        }
-    }
-}
-
-impl ReturnAnswer {
-    pub fn number(self) -> u16
-        ensures { result ≡ (return_answer_of self).number }
-    {
-        match self {
-            ReturnAnswer::Accepted => 0,
-            ReturnAnswer::BadPoint(_) => common::refusal::BAD_POINT,
-            ReturnAnswer::InUse => common::refusal::FULL_OR_IN_USE,
-        }
-    }
-
-    pub fn value(self) -> u32
-        ensures { result ≡ (return_answer_of self).value }
-    {
-        match self {
-            ReturnAnswer::Accepted => 0,
-            ReturnAnswer::BadPoint(name) => name as u32,
-            ReturnAnswer::InUse => 0,
         }
     }
 }

@@ -1,6 +1,6 @@
 -- The answer of a replace call, test by test. Assumes nothing.
 use Prim.Native.Nat.{ℕ, suc, ◌+◌, ◌≤◌, ◌<◌}
-use mathlib.Core.Path.{◌≡◌, refl, ap, ◌∙◌}
+use mathlib.Core.Path.{◌≡◌, refl, sym, ap}
 use mathlib.Core.Bool.{Bool, true, false, not, cond, ◌||◌}
 use mathlib.Core.List.{List}
 use mathlib.Core.Logic.{◌↔◌}
@@ -8,19 +8,24 @@ use mathlib.Core.Option.{Option, none, some, Option-elim}
 use native.Mathlib.Numerals.{add-one}
 use native.Mathlib.Omega.{arith}
 use lib.Dec.{T, ltb, eqb}
-use lib.ListN.{length}
+use lib.ListN.{length, get_or}
 use borrow.Author.Tests.{ltb-false, eqb-true, not-false}
 use mir.Facts.{and_yes, yes_and, yes_eqb}
 use Rattle.common.specs.Bounded.{first_below, all_below}
-use Rattle.common.proofs.Search.{first_not_yet, first_found, none_iff}
+use Rattle.common.proofs.Search.{none_iff, found_below, first_in}
 use Rattle.common.proofs.Reflect.{true_iff, all_yes, yes_all}
 use Rattle.calls.specs.Book.{Book, answer}
 use Rattle.common.specs.Refusals.{bad_lists, not_covered}
 use Rattle.calls.proofs.StepJudged.{neither}
-use Rattle.replacing.specs.declared.ReplaceAnswer.{ReplaceAnswer}
-use Rattle.replacing.specs.declared.ReplaceAnswer.TheVariants as ReplaceCases
-use Rattle.replacing.specs.Covered.{is_replaced_at, is_covered}
-use Rattle.replacing.specs.ReplaceCall.{max_list, are_bad_lists, first_uncovered, replace_answer, replace_answer_of}
+use Rattle.std.specs.Prelude.{Ok, Err}
+use Rattle.common.specs.declared.refusal.Refusal.TheVariants.{BadLists, NotCovered}
+use Rattle.calls.specs.code.Answers.{DoneOrRefusal, done_answer_of}
+use Rattle.replacing.specs.Covered.{is_replaced, is_replaced_at, is_covered}
+use Rattle.replacing.specs.ReplaceCall.{max_list, are_bad_lists, first_uncovered, replace_answer}
+use Rattle.replacing.specs.code.Places.{IndexIs}
+use Rattle.replacing.proofs.Places.{by_test}
+use Rattle.std.specs.List.{zip, position, position_or_len}
+use Rattle.std.proofs.lemmas.Slice.Zip.{get_or-zip, length-zip}
 
 -- lists that are not refused
 module _ (old new by : List ℕ) (fit : are_bad_lists old new by ≡ false) where
@@ -39,25 +44,44 @@ module _ (b : Book) (old new by : List ℕ) where
   abbrev is_bad : ℕ → Bool
   is_bad k = not (is_replaced_at b old new by k)
 
+  -- the same of an old row and its step
+  abbrev pub is_bad_pair : ℕ × ℕ → Bool
+  is_bad_pair p = not (is_replaced b new p.0 p.1)
+
+  -- the search among the pairs
+  module _ (as_long : length by ≡ length old) where
+    pairs_size : length (zip old by) ≡ length old
+    pairs_size = omega (arith, length-zip old by)
+
+    alike : (k : ℕ) → k < length (zip old by) → is_bad k ≡ is_bad_pair (get_or (zip old by) k (0, 0))
+    unfolding is_replaced_at
+    alike k l =
+        sym (ap is_bad_pair (get_or-zip old by k (0, 0) (omega (arith, pairs_size)) (omega (arith, pairs_size))))
+
+    pub uncovered_found : IndexIs (position is_bad_pair (zip old by)) (first_uncovered b old new by)
+    unfolding first_uncovered
+    uncovered_found =
+        rw (← pairs_size, first_in is_bad is_bad_pair (0, 0) (zip old by) alike)
+        (by_test (ltb (position_or_len is_bad_pair (zip old by)) (length (zip old by))) _)
+
   pub lists_refused : are_bad_lists old new by ≡ true → answer bad_lists 0 ≡ replace_answer b old new by
   unfolding replace_answer
   lists_refused e = rw e
 
-  pub place_passed : (k : ℕ) → first_below k is_bad ≡ none → is_replaced_at b old new by k ≡ true
-      → first_below (k + 1) is_bad ≡ none
-  place_passed k so_far e = ap (λ n. first_below n is_bad) (add-one k) ∙ first_not_yet is_bad k so_far (ap not e)
+  -- lists that are not refused, and what the search gives
+  module _ (fit : are_bad_lists old new by ≡ false) where
+    pub place_few : (k : ℕ) → first_uncovered b old new by ≡ some k → k < max_list
+    unfolding first_uncovered
+    place_few k e = omega (arith, found_below is_bad (length old) k (sym e), few old new by fit)
 
-  -- none of the first k places is refused
-  module _ (fit : are_bad_lists old new by ≡ false) (k : ℕ) (so_far : first_below k is_bad ≡ none) where
-    pub place_refused : k < length old → is_replaced_at b old new by k ≡ false
+    pub place_refused : (k : ℕ) → first_uncovered b old new by ≡ some k
         → answer not_covered (k + 1) ≡ replace_answer b old new by
-    unfolding replace_answer first_uncovered Option-elim
-    place_refused h e =
-        rw (fit, first_found is_bad k (length old) h so_far (ap not e)) (ap (answer not_covered) (add-one k))
+    unfolding replace_answer Option-elim
+    place_refused k e = rw (fit, e) (ap (answer not_covered) (add-one k))
 
-    pub all_passed : k ≡ length old → answer 0 0 ≡ replace_answer b old new by
-    unfolding replace_answer first_uncovered Option-elim
-    all_passed e = rw (fit, ← e, so_far)
+    pub all_passed : first_uncovered b old new by ≡ none → answer 0 0 ≡ replace_answer b old new by
+    unfolding replace_answer Option-elim
+    all_passed e = rw (fit, e)
 
   -- the call accepts just when neither refusal applies
   neither_applies : (bad : Bool) (first : Option ℕ)
@@ -91,14 +115,14 @@ module _ (b : Book) (old new by : List ℕ) where
   )
 
 -- every answer is that of a case of the code's answer
-case_of : (bad : Bool) (first : Option ℕ) → (t : ReplaceAnswer) × (replace_answer_of t
+case_of : (bad : Bool) (first : Option ℕ) → (t : DoneOrRefusal) × (done_answer_of t
     ≡ cond bad (answer bad_lists 0) (Option-elim first (answer 0 0) (λ k. answer not_covered (suc k))))
 unfolding Option-elim
-case_of true first = (ReplaceCases.BadLists, refl)
-case_of false none = (ReplaceCases.Covered, refl)
-case_of false (some k) = (ReplaceCases.NotCovered (suc k), refl)
+case_of true first = (Err BadLists, refl)
+case_of false none = (Ok tt, refl)
+case_of false (some k) = (Err (NotCovered (suc k)), refl)
 
 pub replace_case : (b : Book) (old new by : List ℕ)
-    → (t : ReplaceAnswer) × (replace_answer_of t ≡ replace_answer b old new by)
+    → (t : DoneOrRefusal) × (done_answer_of t ≡ replace_answer b old new by)
 unfolding replace_answer
 replace_case b old new by = case_of (are_bad_lists old new by) (first_uncovered b old new by)

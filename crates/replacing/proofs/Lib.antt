@@ -1,3 +1,4 @@
+pub mod Places
 pub mod In
 pub mod Saying
 pub mod Judged

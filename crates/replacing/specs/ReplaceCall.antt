@@ -4,8 +4,6 @@ use Rattle.std.proofs.Math.Option.{Option, Option-elim}
 use Rattle.common.specs.Bounded.{first_below}
 use Rattle.calls.specs.Book.{Book, Answer, answer}
 use Rattle.common.specs.Refusals.{bad_lists, not_covered}
-use Rattle.replacing.specs.declared.ReplaceAnswer.{ReplaceAnswer}
-use Rattle.replacing.specs.declared.ReplaceAnswer.TheVariants as ReplaceCases
 use Rattle.replacing.specs.Covered.{is_replaced_at}
 
 -- up to 64 old rows, and up to 64 new ones
@@ -26,8 +24,3 @@ unfoldable pub replace_answer : Book → (old new by : List ℕ) → Answer
 replace_answer b old new by =
     cond (are_bad_lists old new by) (answer bad_lists 0)
     (Option-elim (first_uncovered b old new by) (answer 0 0) (λ k. answer not_covered (suc k)))
-
-abbrev pub replace_answer_of : ReplaceAnswer → Answer
-replace_answer_of ReplaceCases.Covered = answer 0 0
-replace_answer_of ReplaceCases.BadLists = answer bad_lists 0
-replace_answer_of (ReplaceCases.NotCovered place) = answer not_covered place

@@ -8,20 +8,19 @@ use native.Mathlib.Omega.{arith}
 use native.Mathlib.Numerals.{add-one}
 use lib.ListN.{length, get_or, drop, length-append, drop_of_length-le}
 use lib.Seq.{drop-cons}
-use Rattle.std.specs.Prelude.{Option as Optional, Some}
+use Rattle.std.specs.Prelude.{Option as Optional, Some, None}
 use Rattle.lines.specs.Line.{newline, space, lines}
 use Rattle.lines.specs.code.NumbersRead.{first_parts, starts_with}
 use Rattle.lines.proofs.Start.{starts}
 use Rattle.lines.proofs.Parts.{first_none}
 use Rattle.script_words.specs.declared.Word.{Word}
-use Rattle.script_words.specs.declared.Shape.{Shape}
 use Rattle.script_words.specs.declared.TheConstants.{WORDS}
-use Rattle.script.specs.declared.Values.{Values}
+use Rattle.script.specs.declared.Command.{Command as Given}
 use Rattle.script.specs.declared.CallLine.{CallLine}
 use Rattle.script.specs.Command.{word_command, word_for, command_by, command_of}
-use Rattle.script_words.specs.Words.{words, shape_of}
-use Rattle.script.specs.code.CommandRead.{size_only, plain_line, CallMet, CallRead, stands_alone}
-use Rattle.script_words.specs.code.Entries.{Fits, text_of, entry_of, no_entry}
+use Rattle.script_words.specs.Words.{words}
+use Rattle.script.specs.code.CommandRead.{AloneRead, CallMet, CallRead}
+use Rattle.script_words.specs.code.Entries.{text_of, entry_of, no_entry}
 use Rattle.script_words.proofs.Table.{Sound, word_sound, word_at, word_count}
 use Rattle.script.proofs.Calls.{read_behind}
 use Rattle.script.proofs.Words.{word_and_numbers, word_alone, word_without_numbers, another_word}
@@ -33,7 +32,7 @@ Tried xs at i = first_parts command_of (lines (drop at xs)) ≡ first_parts (com
 
 -- word i is tried, after those before it
 module _ (xs : List ℕ) (at i : ℕ) (h : i < length WORDS) (so_far : Tried xs at i) (d : Word) (text : List ℕ)
-    (is : text ≡ text_of (get_or WORDS i d)) (shape : Shape) (asks : shape ≡ shape_of (get_or WORDS i d))
+    (is : text ≡ text_of (get_or WORDS i d))
   where
     abbrev word : Word
     word = get_or WORDS i d
@@ -62,9 +61,6 @@ module _ (xs : List ℕ) (at i : ℕ) (h : i < length WORDS) (so_far : Tried xs 
         CallRead command_of xs at r
     by_word r m = read_behind command_of (command_by (entry_of word ∷ later)) xs at at (omega arith) here refl r m
 
-    pub shape_right : (shape_of word ≡ shape) × Fits shape
-    shape_right = (sym asks, subst Fits (sym asks) sound.fits)
-
     -- the word and one more byte are there
     there : (e : ℕ) (t : Bool) → starts_with (text ++ e ∷ []) (drop at xs) ≡ t
         → starts_with (w ++ e ∷ []) (drop at xs) ≡ t
@@ -92,19 +88,17 @@ module _ (xs : List ℕ) (at i : ℕ) (h : i < length WORDS) (so_far : Tried xs 
       pub newline_inside : at + (length text + 1) ≤ length xs
       newline_inside = passed newline alone
 
-      pub word_read : stands_alone shape ≡ true → (r : CallLine) (v : Values)
-          → r ≡ plain_line word v (at + (length text + 1)) → v ≡ size_only 0 → CallMet command_of xs at r
-      word_read t r v e f =
-          subst (CallMet command_of xs at)
-          (sym (e ∙ ap (λ u. plain_line word u (at + (length text + 1))) f
-          ∙ ap (λ u. plain_line word (size_only 0) (at + (length u + 1))) is))
+      pub word_read : (k : Given) → AloneRead word (Some k)
+          → CallMet command_of xs at (record { command = k; next = at + (length text + 1) })
+      word_read k t =
+          subst (λ u. CallMet command_of xs at (record { command = k; next = at + (length u + 1) })) (sym is)
           (by_word (Some _) (word_alone w word later sound.no_newline sound.no_space xs at (there newline true alone)
-          (subst (λ u. stands_alone u ≡ true) asks t)))
+          k t))
 
-      pub nothing_read : stands_alone shape ≡ false → none ≡ first_parts command_of (lines (drop at xs))
+      pub nothing_read : AloneRead word None → none ≡ first_parts command_of (lines (drop at xs))
       nothing_read t =
-          word_without_numbers w word later sound.no_newline sound.no_space xs at (there newline true alone)
-          (subst (λ u. stands_alone u ≡ false) asks t) ∙ sym here
+          word_without_numbers w word later sound.no_newline sound.no_space xs at (there newline true alone) t
+          ∙ sym here
 
     pub next_word : starts_with (text ++ space ∷ []) (drop at xs) ≡ false
         → starts_with (text ++ newline ∷ []) (drop at xs) ≡ false → Tried xs at (i + 1)

@@ -1,62 +1,71 @@
 -- The first part of a line says which call it is. Assumes nothing.
-use Prim.Native.Nat.{ℕ, zero, suc, ◌+◌}
+use Prim.Native.Nat.{ℕ, ◌+◌}
 use mathlib.Core.Path.{◌≡◌, refl, sym, ap, ◌∙◌}
 use mathlib.Core.Bool.{Bool, true, false, false≢true}
 use mathlib.Core.List.{List, [], ◌∷◌, ◌++◌, append_assoc}
-use mathlib.Core.Option.{none, some, Option-elim}
+use mathlib.Core.Logic.{◌⊎◌, inl, inr}
+use mathlib.Core.Option.{none, Option-elim}
 use native.Mathlib.Omega.{arith}
 use lib.ListN.{length, drop, length-append}
-use borrow.Author.Tests.{eq-eqb, le-leb, eqb-true}
-use Rattle.std.specs.Prelude.{Option as Optional}
-use Rattle.lines.specs.Line.{newline, space, lines, same_bytes}
+use borrow.Author.Tests.{eq-eqb}
+use Rattle.std.specs.Prelude.{Option as Optional, Some, None}
+use Rattle.lines.specs.Line.{newline, space, Line, lines, same_bytes}
 use Rattle.lines.specs.Number.{numbers_up_to}
 use Rattle.lines.specs.code.NumbersRead.{first_parts, starts_with}
 use Rattle.lines.proofs.Cutting.{Free, lines_at, no_whole_line}
 use Rattle.lines.proofs.Start.{starts}
 use Rattle.lines.proofs.SameBytes.{same_bytes_lem}
 use Rattle.lines.proofs.Parts.{FirstPart, no_line, only_part, part_before, first_part, before_newline, before_space}
-use Rattle.lines.proofs.Parts.{next_behind, first_mapped}
+use Rattle.lines.proofs.Parts.{next_behind, first_none, first_mapped}
 use Rattle.script_words.specs.declared.Word.{Word}
-use Rattle.script_words.specs.declared.Shape.{Shape}
-use Rattle.script_words.specs.declared.Shape.TheVariants.{Counted, Listed, Selection, Room, Rest}
-use Rattle.script.specs.declared.CallLine.{CallLine}
-use Rattle.script.specs.Command.{command, at_most, numbers_in, named, word_command, word_for, command_by}
+use Rattle.script_words.specs.declared.Word.TheVariants.{Term, Step, Select, Document, Fresh, Old, New, Replace}
+use Rattle.script_words.specs.declared.Word.TheVariants.{Write, Point, Return, Other, Order, BundleOrder, Names, Text}
+use Rattle.script_words.specs.declared.Word.TheVariants.{Record, Current, Release, Records, Released, CrewCurrent}
 use Rattle.script_words.specs.Words.{shape_of}
-use Rattle.script.specs.code.CommandRead.{no_numbers, size_only, values_of, listed_of, plain_line, call_line}
-use Rattle.script.specs.code.CommandRead.{stands_alone, CallMet, CallRead}
-use Rattle.script.proofs.Calls.{is_call, read_behind}
+use Rattle.script.specs.declared.Command.{Command as Given}
+use Rattle.script.specs.declared.CallLine.{CallLine}
+use Rattle.script.specs.Command.{named, word_command, word_for, command_by}
+use Rattle.script.specs.code.CommandRead.{AloneRead, CallMet, CallRead}
+use Rattle.script.proofs.Calls.{read_behind}
 
--- a word that is all of its line has no numbers, or is no call
-alone : (shape : Shape) → stands_alone shape ≡ true → numbers_in shape [] ≡ some []
-unfolding numbers_up_to at_most Option-elim
-alone (Counted n) e = rw (eqb-true n 0 e)
-alone (Listed most) e = rw (le-leb 0 most (omega arith))
-alone Selection e = absurd (false≢true e)
-alone Room e = absurd (false≢true e)
-alone Rest e = refl
+-- any other word wants numbers
+pub other_alone : (w : Word) → ¬ (w ≡ Document) → ¬ (w ≡ Fresh) → ¬ (w ≡ Old) → ¬ (w ≡ New) → ¬ (w ≡ Replace)
+    → ¬ (w ≡ Other) → ¬ (w ≡ BundleOrder) → ¬ (w ≡ Names) → ¬ (w ≡ Text) → ¬ (w ≡ Records) → ¬ (w ≡ Released)
+    → word_command w [] ≡ none
+unfolding shape_of named numbers_up_to Option-elim
+other_alone Term _ _ _ _ _ _ _ _ _ _ _ = refl
+other_alone Step _ _ _ _ _ _ _ _ _ _ _ = refl
+other_alone Select _ _ _ _ _ _ _ _ _ _ _ = refl
+other_alone Document f _ _ _ _ _ _ _ _ _ _ = absurd (f refl)
+other_alone Fresh _ f _ _ _ _ _ _ _ _ _ = absurd (f refl)
+other_alone Old _ _ f _ _ _ _ _ _ _ _ = absurd (f refl)
+other_alone New _ _ _ f _ _ _ _ _ _ _ = absurd (f refl)
+other_alone Replace _ _ _ _ f _ _ _ _ _ _ = absurd (f refl)
+other_alone Write _ _ _ _ _ _ _ _ _ _ _ = refl
+other_alone Point _ _ _ _ _ _ _ _ _ _ _ = refl
+other_alone Return _ _ _ _ _ _ _ _ _ _ _ = refl
+other_alone Other _ _ _ _ _ f _ _ _ _ _ = absurd (f refl)
+other_alone Order _ _ _ _ _ _ _ _ _ _ _ = refl
+other_alone BundleOrder _ _ _ _ _ _ f _ _ _ _ = absurd (f refl)
+other_alone Names _ _ _ _ _ _ _ f _ _ _ = absurd (f refl)
+other_alone Text _ _ _ _ _ _ _ _ f _ _ = absurd (f refl)
+other_alone Record _ _ _ _ _ _ _ _ _ _ _ = refl
+other_alone Current _ _ _ _ _ _ _ _ _ _ _ = refl
+other_alone Release _ _ _ _ _ _ _ _ _ _ _ = refl
+other_alone Records _ _ _ _ _ _ _ _ _ f _ = absurd (f refl)
+other_alone Released _ _ _ _ _ _ _ _ _ _ f = absurd (f refl)
+other_alone CrewCurrent _ _ _ _ _ _ _ _ _ _ _ = refl
 
-not_alone : (shape : Shape) → stands_alone shape ≡ false → numbers_in shape [] ≡ none
-unfolding numbers_up_to
-not_alone (Counted zero) e = absurd (false≢true (sym e))
-not_alone (Counted (suc n)) e = refl
-not_alone (Listed most) e = absurd (false≢true (sym e))
-not_alone Selection e = refl
-not_alone Room e = refl
-not_alone Rest e = absurd (false≢true (sym e))
-
-alone_values : (shape : Shape) → values_of shape [] ≡ size_only 0
-alone_values (Counted n) = refl
-alone_values (Listed most) = refl
-alone_values Selection = refl
-alone_values Room = refl
-alone_values Rest = refl
-
-alone_listed : (shape : Shape) → listed_of shape [] ≡ no_numbers
-alone_listed (Counted n) = refl
-alone_listed (Listed most) = refl
-alone_listed Selection = refl
-alone_listed Room = refl
-alone_listed Rest = refl
+-- a word without numbers has none behind a space either
+pub no_numbers_behind : (w : Word)
+    → (w ≡ Fresh) ⊎ ((w ≡ Other) ⊎ ((w ≡ BundleOrder) ⊎ ((w ≡ Records) ⊎ (w ≡ Released)))) → (ls : List Line)
+    → none ≡ first_parts (word_command w) ls
+unfolding shape_of named numbers_up_to Option-elim
+no_numbers_behind w (inl e) ls = rw e (sym (first_none (word_command Fresh) (λ v ws. refl) ls))
+no_numbers_behind w (inr (inl e)) ls = rw e (sym (first_none (word_command Other) (λ v ws. refl) ls))
+no_numbers_behind w (inr (inr (inl e))) ls = rw e (sym (first_none (word_command BundleOrder) (λ v ws. refl) ls))
+no_numbers_behind w (inr (inr (inr (inl e)))) ls = rw e (sym (first_none (word_command Records) (λ v ws. refl) ls))
+no_numbers_behind w (inr (inr (inr (inr e)))) ls = rw e (sym (first_none (word_command Released) (λ v ws. refl) ls))
 
 same_itself : (xs : List ℕ) → same_bytes xs xs ≡ true
 unfolding same_bytes
@@ -113,23 +122,21 @@ module _ (w : List ℕ) (word : Word) (es : List (List ℕ × Word)) (f : Free n
           ap (λ t. first_parts (command_by table) (lines t)) text ∙ before_newline (command_by table) w behind f g
           ∙ by_word []
 
-      pub word_alone : stands_alone (shape_of word) ≡ true
-          → CallMet (command_by table) xs at (plain_line word (size_only 0) (at + (length w + 1)))
-      unfolding behind named call_line Option-elim
-      word_alone t =
+      pub word_alone : (k : Given) → AloneRead word (Some k)
+          → CallMet (command_by table) xs at (record { command = k; next = at + (length w + 1) })
+      unfolding behind
+      word_alone k t =
           let size = length-append w (newline ∷ []) in
           let start = starts (w ++ newline ∷ []) xs at e in
-          is_call (command_by table) xs at _ (command word [])
-          (rw (alone_values (shape_of word), alone_listed (shape_of word)))
-          (told ∙ ap (named word) (alone (shape_of word) t))
-          (sym (ap (λ t. drop 1 (lines t)) text ∙ ap (λ ls. drop 1 ls) (lines_at w behind f)))
-          (omega arith)
-          (omega (arith, start.inside (omega (arith, size)), size))
+          record {
+            line = sym (told ∙ t);
+            rest = sym (ap (λ t. drop 1 (lines t)) text ∙ ap (λ ls. drop 1 ls) (lines_at w behind f));
+            further = omega arith;
+            inside = omega (arith, start.inside (omega (arith, size)), size);
+          }
 
-      pub word_without_numbers : stands_alone (shape_of word) ≡ false
-          → none ≡ first_parts (command_by table) (lines (drop at xs))
-      unfolding named Option-elim
-      word_without_numbers t = sym (told ∙ ap (named word) (not_alone (shape_of word) t))
+      pub word_without_numbers : AloneRead word None → none ≡ first_parts (command_by table) (lines (drop at xs))
+      word_without_numbers t = sym (told ∙ t)
 
     -- the line starts with another word
     pub another_word : starts_with (w ++ space ∷ []) (drop at xs) ≡ false

@@ -6,8 +6,8 @@ use Rattle.lines.specs.Line.{same_bytes}
 use Rattle.lines.specs.Number.{max_number, numbers_up_to, line_numbers}
 use Rattle.script_words.specs.Words.{words, shape_of}
 use Rattle.script_words.specs.declared.Word.{Word}
-use Rattle.script_words.specs.declared.Shape.{Shape}
-use Rattle.script_words.specs.declared.Shape.TheVariants.{Counted, Listed, Selection, Room, Rest}
+use Rattle.script_words.specs.Words.{Shape}
+use Rattle.script_words.specs.Words.{Counted, Listed, Selection, Room, Rest}
 
 pub record Command : Type 0 where
   pub word : Word

@@ -2,15 +2,18 @@
 #![tactic(auto)]
 
 ghost use Rattle.std.specs.Prelude.{◌≡◌, ◌+◌, ◌≤◌, ◌<◌, min, length, take, drop};
-ghost use Rattle.script_words.specs.Words.{max_numbers, shape_of};
+ghost use Rattle.script_words.specs.Words.{max_numbers};
+ghost use Rattle.script_words.specs.declared.Word.TheVariants as WORD;
 ghost use Rattle.lines.specs.Line.{lines};
 ghost use Rattle.lines.specs.code.NumbersRead.{max_count};
 ghost use Rattle.script.specs.Command.{word_command, command_of};
 ghost use Rattle.script.specs.Rest.{rest_of, newline_for_space, names_of, first_bytes};
-ghost use Rattle.script.specs.code.CommandRead.{no_numbers, size_only, plain_line, CallRead, stands_alone};
-ghost use Rattle.script_words.specs.code.Entries.{Fits};
+ghost use Rattle.script.specs.code.CommandRead.{CountedRead, ListRead, RestRead, AloneRead, CallRead};
 
-use script_words::{MAX_NUMBERS, Shape, WORDS, Word};
+use arrayvec::ArrayVec;
+use calls::STEP_WIDTH;
+use script_words::{MAX_LISTED, MAX_NUMBERS, WORDS, Word};
+use terms::ROW_WIDTH;
 
 const MAX_LIMIT: u32 = u32::MAX;
 
@@ -20,163 +23,184 @@ pub const MAX_MARKS: usize = 1024;
 // The length of the longest buffer of a write.
 pub const MAX_ROOM: usize = common::MAX_BYTES;
 
-// The numbers after a word, by its shape: `a` to `e` are those that are counted, in their order; `size` says how many
-// are listed; a select has its row in `a`, its context node in `b`, its limit, and in `size` the length of the marks
-// buffer that it is lent; and `size` is a buffer's length. The others are 0.
-#[derive(Clone, Copy)]
-pub struct Values {
-    pub a: u16,
-    pub b: u16,
-    pub c: u16,
-    pub d: u16,
-    pub e: u16,
-    pub limit: u32,
-    pub size: usize,
+// Numbers that a line lists. Fixed memory without a heap: a line is read whatever memory is left.
+pub type NumberList = ArrayVec<u16, MAX_NUMBERS>;
+
+// A word with the numbers after it: of a select, the row, the context node, the limit and the length of the marks
+// buffer that it is lent; of a write, the length of its buffer. What `names` and `text` take stays in the line.
+#[derive(Drop)]
+pub enum Command {
+    Term(u16, u16, u16, u16),
+    Step(u16, u16, u16, u16, u16),
+    Select(u16, u16, u32, usize),
+    Document(NumberList),
+    Fresh,
+    Old(NumberList),
+    New(NumberList),
+    Replace(NumberList),
+    Write(usize),
+    Point(u16),
+    Return(u16),
+    Other,
+    Order(u16, u16),
+    BundleOrder,
+    Names,
+    Text,
+    Record(u16, u16, u16, u16),
+    Current(u16),
+    Release(u16),
+    Records,
+    Released,
+    CrewCurrent(u16),
 }
 
-// A call: its word, the numbers after it, those that are listed and zeros after them, and the position of the next
-// line. Fixed memory without a heap: a line is read whatever memory is left.
-#[derive(Clone, Copy)]
+// The command of a line, and the position of the next line.
+#[derive(Drop)]
 pub struct CallLine {
-    pub word: Word,
-    pub values: Values,
-    pub numbers: [u16; MAX_NUMBERS],
+    pub command: Command,
     pub next: usize,
 }
 
-fn no_numbers() -> [u16; MAX_NUMBERS]
-    ensures { result ≡ no_numbers }
-{
-    [0; MAX_NUMBERS]
-}
-
-fn size_only(size: usize) -> Values
-    ensures { result ≡ size_only size }
-{
-    Values {
-        a: 0,
-        b: 0,
-        c: 0,
-        d: 0,
-        e: 0,
-        limit: 0,
-        size,
-    }
-}
-
-// A call that lists no numbers.
-fn plain_line(word: Word, values: Values, next: usize) -> CallLine
-    ensures { result ≡ plain_line word values next }
-{
-    CallLine {
-        word,
-        values,
-        numbers: no_numbers(),
-        next,
-    }
-}
-
-// The call of a word and the numbers at `at`, `count` of them to the line's end.
-fn counted_call(bytes: &[u8], at: usize, word: Word, count: usize) -> Option<CallLine>
-    requires { (shape_of word ≡ Shape.Counted count) × (count ≤ max_count) }
-    ensures { CallRead (word_command word) bytes.now at result }
+// What is made of the `count` numbers at `at`, which go to the line's end. Here and below a text and a place in it are
+// two parameters, since each call of crate lines would take a struct of the two apart.
+fn counted<F: FnOnce(u16, u16, u16, u16, u16) -> Command>(
+    bytes: &[u8],
+    at: usize,
+    count: usize,
+    make: F,
+) -> Option<CallLine>
+    requires { (count ≤ max_count) × F.IsAlwaysCallable make }
+    ensures { CountedRead count (F.post make) bytes.now at result }
 {
     let line = lines::numbers_line(bytes, at, count)?;
     let [a, b, c, d, e] = line.numbers;
-    let values = Values {
-        a,
-        b,
-        c,
-        d,
-        e,
-        ..size_only(0)
-    };
-    Some(plain_line(word, values, line.next))
+    Some(CallLine {
+        command: make(a, b, c, d, e),
+        next: line.next,
+    })
 }
 
 // The same of the numbers of a select.
-fn selection_call(bytes: &[u8], at: usize, word: Word) -> Option<CallLine>
-    requires { shape_of word ≡ Shape.Selection }
-    ensures { CallRead (word_command word) bytes.now at result }
+fn selection(bytes: &[u8], at: usize) -> Option<CallLine>
+    ensures { CallRead (word_command WORD.Select) bytes.now at result }
 {
     let row = lines::number_at(bytes, at, lines::SPACE, lines::MAX_NUMBER)?;
     let context = lines::number_at(bytes, row.next, lines::SPACE, lines::MAX_NUMBER)?;
     let limit = lines::number_at(bytes, context.next, lines::SPACE, MAX_LIMIT)?;
     let marks = lines::number_at(bytes, limit.next, lines::NEWLINE, MAX_MARKS as u32)?;
-    let values = Values {
-        a: row.value as u16,
-        b: context.value as u16,
-        limit: limit.value,
-        ..size_only(marks.value as usize)
-    };
-    Some(plain_line(word, values, marks.next))
+    Some(CallLine {
+        command: Command::Select(
+            row.value as u16,
+            context.value as u16,
+            limit.value,
+            marks.value as usize,
+        ),
+        next: marks.next,
+    })
 }
 
 // The same of the length of a buffer.
-fn room_call(bytes: &[u8], at: usize, word: Word) -> Option<CallLine>
-    requires { shape_of word ≡ Shape.Room }
-    ensures { CallRead (word_command word) bytes.now at result }
+fn room(bytes: &[u8], at: usize) -> Option<CallLine>
+    ensures { CallRead (word_command WORD.Write) bytes.now at result }
 {
     let room = lines::number_at(bytes, at, lines::NEWLINE, MAX_ROOM as u32)?;
-    Some(plain_line(word, size_only(room.value as usize), room.next))
+    Some(CallLine {
+        command: Command::Write(room.value as usize),
+        next: room.next,
+    })
 }
 
 // The same of any bytes up to the line's end.
-fn rest_call(bytes: &[u8], at: usize, word: Word) -> Option<CallLine>
-    requires { shape_of word ≡ Shape.Rest }
-    ensures { CallRead (word_command word) bytes.now at result }
+fn rest_call(bytes: &[u8], at: usize, command: Command) -> Option<CallLine>
+    ensures { RestRead command bytes.now at result }
 {
     let length = lines::find(lines::rest(bytes, at), lines::NEWLINE)?;
-    Some(plain_line(word, size_only(0), at + length + 1))
+    Some(CallLine {
+        command,
+        next: at + length + 1,
+    })
 }
 
 // The same of a list of up to `most` numbers.
-fn list_call(bytes: &[u8], at: usize, word: Word, most: usize) -> Option<CallLine>
-    requires { (shape_of word ≡ Shape.Listed most) × (most ≤ max_numbers) }
-    ensures { CallRead (word_command word) bytes.now at result }
+fn listed<F: FnOnce(NumberList) -> Command>(
+    bytes: &[u8],
+    at: usize,
+    most: usize,
+    make: F,
+) -> Option<CallLine>
+    requires { (most ≤ max_numbers) × F.IsAlwaysCallable make }
+    ensures { ListRead most (F.post make) bytes.now at result }
 {
-    let mut numbers = no_numbers();
+    let mut numbers = NumberList::new();
     let mut from = at;
-    // By count: where the next number begins is known only when this one is read.
-    for count in 0..most {
+    for _ in 0..most {
         let Some(more) = lines::number_at(bytes, from, lines::SPACE, lines::MAX_NUMBER) else {
             let last = lines::number_at(bytes, from, lines::NEWLINE, lines::MAX_NUMBER)?;
-            numbers[count] = last.value as u16;
+            numbers.push(last.value as u16);
             return Some(CallLine {
-                word,
-                values: size_only(count + 1),
-                numbers,
+                command: make(numbers),
                 next: last.next,
             });
         };
-        numbers[count] = more.value as u16;
+        numbers.push(more.value as u16);
         from = more.next;
     }
     None
 }
 
-// The same of what stands after a word of a shape.
-fn shaped_call(bytes: &[u8], at: usize, word: Word, shape: Shape) -> Option<CallLine>
-    requires { (shape_of word ≡ shape) × Fits shape }
+// The command of a word with what stands at `at`, a space behind the word.
+fn behind_word(bytes: &[u8], at: usize, word: Word) -> Option<CallLine>
     ensures { CallRead (word_command word) bytes.now at result }
 {
-    match shape {
-        Shape::Counted(count) => counted_call(bytes, at, word, count),
-        Shape::Listed(most) => list_call(bytes, at, word, most),
-        Shape::Selection => selection_call(bytes, at, word),
-        Shape::Room => room_call(bytes, at, word),
-        Shape::Rest => rest_call(bytes, at, word),
+    match word {
+        Word::Term => counted(bytes, at, ROW_WIDTH, |kind, a, b, c, _| {
+            Command::Term(kind, a, b, c)
+        }),
+        Word::Step => counted(bytes, at, STEP_WIDTH, |rule, left, right, first, second| {
+            Command::Step(rule, left, right, first, second)
+        }),
+        Word::Select => selection(bytes, at),
+        Word::Document => listed(bytes, at, MAX_NUMBERS, Command::Document),
+        Word::Old => listed(bytes, at, MAX_LISTED, Command::Old),
+        Word::New => listed(bytes, at, MAX_LISTED, Command::New),
+        Word::Replace => listed(bytes, at, MAX_LISTED, Command::Replace),
+        Word::Write => room(bytes, at),
+        Word::Point => counted(bytes, at, 1, |name, _, _, _, _| Command::Point(name)),
+        Word::Return => counted(bytes, at, 1, |name, _, _, _, _| Command::Return(name)),
+        Word::Order => counted(bytes, at, 2, |other, row, _, _, _| {
+            Command::Order(other, row)
+        }),
+        Word::Names => rest_call(bytes, at, Command::Names),
+        Word::Text => rest_call(bytes, at, Command::Text),
+        Word::Record => counted(bytes, at, 4, |series, edition, row, step, _| {
+            Command::Record(series, edition, row, step)
+        }),
+        Word::Current => counted(bytes, at, 1, |series, _, _, _, _| Command::Current(series)),
+        Word::Release => counted(bytes, at, 1, |place, _, _, _, _| Command::Release(place)),
+        Word::CrewCurrent => counted(bytes, at, 1, |series, _, _, _, _| {
+            Command::CrewCurrent(series)
+        }),
+        Word::Fresh | Word::Other | Word::BundleOrder | Word::Records | Word::Released => None,
     }
 }
 
-// Whether a word of the shape may be all of its line.
-fn stands_alone(shape: Shape) -> bool
-    ensures { result ≡ stands_alone shape }
+// The command of a word that is all of its line; none where numbers are wanted.
+fn alone(word: Word) -> Option<Command>
+    ensures { AloneRead word result }
 {
-    match shape {
-        Shape::Counted(count) => count == 0,
-        Shape::Listed(_) | Shape::Rest => true,
-        Shape::Selection | Shape::Room => false,
+    match word {
+        Word::Document => Some(Command::Document(NumberList::new())),
+        Word::Fresh => Some(Command::Fresh),
+        Word::Old => Some(Command::Old(NumberList::new())),
+        Word::New => Some(Command::New(NumberList::new())),
+        Word::Replace => Some(Command::Replace(NumberList::new())),
+        Word::Other => Some(Command::Other),
+        Word::BundleOrder => Some(Command::BundleOrder),
+        Word::Names => Some(Command::Names),
+        Word::Text => Some(Command::Text),
+        Word::Records => Some(Command::Records),
+        Word::Released => Some(Command::Released),
+        _ => None,
     }
 }
 
@@ -186,16 +210,16 @@ pub fn call_at(bytes: &[u8], at: usize) -> Option<CallLine>
 {
     for word in WORDS {
         let text = word.text();
-        let shape = word.shape();
         let end = text.len() + 1;
         if lines::word_at(bytes, at, text, lines::SPACE) {
-            return shaped_call(bytes, at + end, word, shape);
+            return behind_word(bytes, at + end, word);
         }
         if lines::is_line(bytes, at, text) {
-            if !stands_alone(shape) {
-                return None;
-            }
-            return Some(plain_line(word, size_only(0), at + end));
+            let command = alone(word)?;
+            return Some(CallLine {
+                command,
+                next: at + end,
+            });
         }
     }
     None

@@ -4,43 +4,22 @@ use mathlib.Core.Path.{◌≡◌, refl, sym, ap, ◌∙◌}
 use mathlib.Core.Bool.{Bool, true, false, ◌&&◌, false≢true}
 use mathlib.Core.List.{List, [], ◌∷◌, map}
 use native.Mathlib.Omega.{arith}
-use lib.Dec.{leb}
 use lib.ListN.{length, get_or, length-map, get_or-map}
-use borrow.Author.Tests.{leb-true}
 use Rattle.lines.specs.Ascii.{ascii}
 use Rattle.lines.specs.Line.{newline, space}
-use Rattle.lines.specs.code.NumbersRead.{max_count}
 use Rattle.lines.proofs.Cutting.{Free, lacks, lacks_free}
 use Rattle.script_words.specs.declared.Word.{Word}
-use Rattle.script_words.specs.declared.TheConstants.{WORDS}
-use Rattle.script_words.specs.declared.Shape.{Shape}
-use Rattle.script_words.specs.declared.Shape.TheVariants.{Counted, Listed, Selection, Room, Rest}
-use Rattle.script_words.specs.Words.{max_numbers, words, shape_of}
-use Rattle.script_words.specs.code.Entries.{Fits, text_of, entry_of, no_entry}
+use Rattle.script_words.specs.declared.TheConstants.{WORDS, MAX_NUMBERS}
+use Rattle.script_words.specs.Words.{max_numbers, words}
+use Rattle.script_words.specs.code.Entries.{text_of, entry_of, no_entry}
 
 -- what the code asks of an entry
 pub record Sound (e : List ℕ × Word) : Type 0 where
   pub no_newline : Free newline e.0
   pub no_space : Free space e.0
-  pub fits : Fits (shape_of e.1)
-
-fitting : Shape → Bool
-fitting (Counted n) = leb n max_count
-fitting (Listed most) = leb most max_numbers
-fitting Selection = true
-fitting Room = true
-fitting Rest = true
-
-fitting_fits : (shape : Shape) → fitting shape ≡ true → Fits shape
-unfolding fitting
-fitting_fits (Counted n) e = leb-true n max_count e
-fitting_fits (Listed most) e = leb-true most max_numbers e
-fitting_fits Selection e = tt
-fitting_fits Room e = tt
-fitting_fits Rest e = tt
 
 sound : List ℕ × Word → Bool
-sound e = lacks newline e.0 && (lacks space e.0 && fitting (shape_of e.1))
+sound e = lacks newline e.0 && lacks space e.0
 
 all_sound : List (List ℕ × Word) → Bool
 all_sound [] = true
@@ -53,13 +32,8 @@ both false b e = absurd (false≢true e)
 is_sound : (e : List ℕ × Word) → sound e ≡ true → Sound e
 unfolding sound
 is_sound e t =
-    let (n, u) = both _ _ t in
-    let (s, f) = both _ _ u in
-    record {
-      no_newline = lacks_free newline e.0 n;
-      no_space = lacks_free space e.0 s;
-      fits = fitting_fits (shape_of e.1) f;
-    }
+    let (n, s) = both _ _ t in
+    record { no_newline = lacks_free newline e.0 n; no_space = lacks_free space e.0 s }
 
 sound_at : (es : List (List ℕ × Word)) → all_sound es ≡ true → (i : ℕ) → i < length es → Sound (get_or es i no_entry)
 unfolding all_sound
@@ -69,7 +43,7 @@ sound_at (e ∷ es) t (suc i) h = sound_at es (both (sound e) (all_sound es) t).
 
 -- by one computation, for all of them
 pub word_sound : (i : ℕ) → i < length words → Sound (get_or words i no_entry)
-unfolding words ascii shape_of all_sound sound lacks fitting
+unfolding words ascii all_sound sound lacks
 word_sound = sound_at words refl
 
 -- the code's words are those of the specification, with their bytes
@@ -90,3 +64,7 @@ pub word_at : (i : ℕ) → i < length WORDS → (d : Word) → get_or words i n
 word_at i h d =
     any_default words i no_entry (entry_of d) (omega (arith, word_count))
     ∙ ap (λ es. get_or es i (entry_of d)) (sym words_same) ∙ get_or-map entry_of WORDS i d
+
+-- a line lists as many numbers in the code as in the specification
+pub most_numbers : MAX_NUMBERS ≡ max_numbers
+most_numbers = refl

@@ -8,8 +8,6 @@ use Rattle.script_words.specs.declared.Word.TheVariants.{Term, Step, Select, Doc
 use Rattle.script_words.specs.declared.Word.TheVariants.{Write, Point, Return, Other, Order, BundleOrder, Names}
 use Rattle.script_words.specs.declared.Word.TheVariants.{Text, Record, Current, Release, Records, Released}
 use Rattle.script_words.specs.declared.Word.TheVariants.{CrewCurrent}
-use Rattle.script_words.specs.declared.Shape.{Shape}
-use Rattle.script_words.specs.declared.Shape.TheVariants.{Counted, Listed, Selection, Room, Rest}
 
 -- one node more than a select takes, three numbers a node
 abbrev pub max_numbers : ℕ
@@ -45,6 +43,15 @@ words =
     ∷ (ascii "released", Released)
     ∷ (ascii "crew-current", CrewCurrent)
     ∷ []
+
+-- what may stand after a word: so many numbers of 16 bits, a list of up to so many, the numbers of a select, the length
+-- of a buffer, or any bytes
+pub data Shape : Type 0 where
+  Counted : ℕ → Shape
+  Listed : ℕ → Shape
+  Selection : Shape
+  Room : Shape
+  Rest : Shape
 
 -- what stands after a word
 unfoldable pub shape_of : Word → Shape

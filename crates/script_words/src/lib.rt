@@ -1,12 +1,8 @@
-// The words of a script's lines, and what stands after each.
+// The words of a script's lines.
 #![tactic(auto)]
 
 ghost use Rattle.std.specs.Prelude.{◌≡◌};
-ghost use Rattle.script_words.specs.Words.{shape_of};
 ghost use Rattle.script_words.specs.code.Entries.{text_of};
-
-use calls::STEP_WIDTH;
-use terms::ROW_WIDTH;
 
 // The numbers of the longest document, three a node: one node more than a select takes.
 pub const MAX_NUMBERS: usize = xpath::NODE_WIDTH * (xpath::MAX_NODES + 1);
@@ -38,17 +34,6 @@ pub enum Word {
     Records,
     Released,
     CrewCurrent,
-}
-
-// What stands after a word: so many numbers of 16 bits, a list of up to so many, the numbers of a select, the length
-// of a buffer, or any bytes.
-#[derive(Clone, Copy)]
-pub enum Shape {
-    Counted(usize),
-    Listed(usize),
-    Selection,
-    Room,
-    Rest,
 }
 
 // The words, in the order in which they are tried.
@@ -106,37 +91,6 @@ impl Word {
             Word::Records => b"records",
             Word::Released => b"released",
             Word::CrewCurrent => b"crew-current",
-        }
-    }
-
-    // What stands after it.
-    #[tactic(auto, unfolding(crate::specs::Words::shape_of))]
-    pub fn shape(self) -> Shape
-        ensures { result ≡ shape_of self }
-    {
-        match self {
-            Word::Term => Shape::Counted(ROW_WIDTH),
-            Word::Step => Shape::Counted(STEP_WIDTH),
-            Word::Select => Shape::Selection,
-            Word::Document => Shape::Listed(MAX_NUMBERS),
-            Word::Fresh => Shape::Counted(0),
-            Word::Old => Shape::Listed(MAX_LISTED),
-            Word::New => Shape::Listed(MAX_LISTED),
-            Word::Replace => Shape::Listed(MAX_LISTED),
-            Word::Write => Shape::Room,
-            Word::Point => Shape::Counted(1),
-            Word::Return => Shape::Counted(1),
-            Word::Other => Shape::Counted(0),
-            Word::Order => Shape::Counted(2),
-            Word::BundleOrder => Shape::Counted(0),
-            Word::Names => Shape::Rest,
-            Word::Text => Shape::Rest,
-            Word::Record => Shape::Counted(4),
-            Word::Current => Shape::Counted(1),
-            Word::Release => Shape::Counted(1),
-            Word::Records => Shape::Counted(0),
-            Word::Released => Shape::Counted(0),
-            Word::CrewCurrent => Shape::Counted(1),
         }
     }
 }

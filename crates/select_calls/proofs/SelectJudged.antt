@@ -16,11 +16,11 @@ use Rattle.terms.specs.Fields.{held_path}
 use Rattle.terms.specs.Terms.{path_at}
 use Rattle.selection.specs.Evaluation.{Outcome, outcome, selected, no_room, too_many_visits, path_evaluated, evaluated}
 use Rattle.selection.specs.Evaluation as evaluation
-use Rattle.calls.specs.declared.SelectAnswer.{SelectAnswer}
-use Rattle.calls.specs.declared.SelectAnswer.TheVariants.{BadDocument, BadArgument}
+use Rattle.std.specs.Prelude.{Err}
+use Rattle.common.specs.declared.refusal.Refusal.TheVariants.{BadDocument, BadArgument}
 use Rattle.calls.specs.Book.{answer, accepted}
 use Rattle.calls.specs.SelectCall.{select_answer, select_buffer}
-use Rattle.calls.specs.code.Answers.{select_answer_of, evaluation_answer}
+use Rattle.calls.specs.code.Answers.{NumberOrRefusal, answer_of, evaluation_answer}
 use Rattle.calls.specs.Promises.{SelectMade}
 use Rattle.calls.proofs.Accepted.{if_refused}
 
@@ -46,26 +46,26 @@ buffer_by_tests v w buffer false false = refl
 
 module _ (rs : List Row) (row : ℕ) (xs : List ℕ) (x limit : ℕ) (buffer : List ℕ) where
   -- a refused call leaves the buffer as it was
-  select_refused : (t : SelectAnswer) → ¬ ((select_answer_of t).number ≡ 0) → select_answer_of t
+  select_refused : (t : NumberOrRefusal) → ¬ ((answer_of t).number ≡ 0) → answer_of t
       ≡ select_answer rs row xs x limit (length buffer)
       → SelectMade rs row xs x limit buffer t buffer
   unfolding select_buffer
   select_refused t f e = record { answer = e; bytes = if_refused _ _ e _ _ f }
 
-  pub bad_document : (v : ℕ) → some v ≡ document_refusal xs → SelectMade rs row xs x limit buffer (BadDocument v) buffer
+  pub bad_document : (v : ℕ) → some v ≡ document_refusal xs → SelectMade rs row xs x limit buffer (Err (BadDocument v)) buffer
   unfolding select_answer Option-elim
-  bad_document v e = select_refused (BadDocument v) (λ z. omega arith) (rw (← e))
+  bad_document v e = select_refused (Err (BadDocument v)) (λ z. omega arith) (rw (← e))
 
   module _ (taken : none ≡ document_refusal xs) where
-    pub bad_context : length (document_of xs) ≤ x → SelectMade rs row xs x limit buffer (BadArgument 1) buffer
+    pub bad_context : length (document_of xs) ≤ x → SelectMade rs row xs x limit buffer (Err (BadArgument 1)) buffer
     unfolding select_answer Option-elim
-    bad_context h = select_refused (BadArgument 1) (λ z. omega arith) (rw (← taken, le-leb _ _ h))
+    bad_context h = select_refused (Err (BadArgument 1)) (λ z. omega arith) (rw (← taken, le-leb _ _ h))
 
     module _ (inside : x < length (document_of xs)) where
-      pub bad_row_lem : held_path rs row ≡ false → SelectMade rs row xs x limit buffer (BadArgument 2) buffer
+      pub bad_row_lem : held_path rs row ≡ false → SelectMade rs row xs x limit buffer (Err (BadArgument 2)) buffer
       unfolding select_answer Option-elim
       bad_row_lem h =
-          select_refused (BadArgument 2) (λ z. omega arith) (rw (← taken, lt-leb (length (document_of xs)) x inside, h))
+          select_refused (Err (BadArgument 2)) (λ z. omega arith) (rw (← taken, lt-leb (length (document_of xs)) x inside, h))
 
       module _ (path : held_path rs row ≡ true) where
         size : ltb max_nodes (length (document_of xs)) ≡ false
@@ -89,7 +89,7 @@ module _ (rs : List Row) (row : ℕ) (xs : List ℕ) (x limit : ℕ) (buffer : L
             (buffer_by_tests (visits (document_of xs) (path_at rs row) x) _ buffer
             (ltb (length buffer) (length (document_of xs))) (leb (visits (document_of xs) (path_at rs row) x) limit))
 
-        pub select_evaluated : (t : SelectAnswer) (e : evaluation.EvaluationAnswer) (left : List ℕ) → select_answer_of t
+        pub select_evaluated : (t : NumberOrRefusal) (e : evaluation.EvaluationAnswer) (left : List ℕ) → answer_of t
             ≡ evaluation_answer e
             → outcome e left ≡ evaluated rs row (document_of xs) x limit buffer
             → SelectMade rs row xs x limit buffer t left

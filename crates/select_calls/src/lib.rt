@@ -3,21 +3,22 @@
 
 ghost use Rattle.std.specs.Prelude.{◌≡◌};
 ghost use Rattle.terms.specs.Row.{table_of};
-ghost use Rattle.selection.specs.code.EvaluatedTypes.{answer_of};
-ghost use Rattle.calls.specs.code.Answers.{select_answer_of, evaluation_answer};
+ghost use Rattle.selection.specs.code.EvaluatedTypes.{answer_of as evaluation_of};
+ghost use Rattle.calls.specs.code.Answers.{answer_of, evaluation_answer};
 ghost use Rattle.calls.specs.Promises.{SelectMade};
 
-use calls::SelectAnswer;
+use common::Refusal;
 use selection::EvaluationError;
+use xpath::Checked;
 
 // The answer of a select call that comes to an evaluation.
-fn select_answer(done: Result<u32, EvaluationError>) -> SelectAnswer
-    ensures { select_answer_of result ≡ evaluation_answer (answer_of done) }
+fn select_answer(done: Result<u32, EvaluationError>) -> Result<u32, Refusal>
+    ensures { answer_of result ≡ evaluation_answer (evaluation_of done) }
 {
     match done {
-        Ok(visits) => SelectAnswer::Selected(visits),
-        Err(EvaluationError::NoRoom) => SelectAnswer::ShortMarks,
-        Err(EvaluationError::LimitPassed) => SelectAnswer::LimitPassed,
+        Ok(visits) => Ok(visits),
+        Err(EvaluationError::NoRoom) => Err(Refusal::ShortMarks),
+        Err(EvaluationError::LimitPassed) => Err(Refusal::LimitPassed),
     }
 }
 
@@ -29,21 +30,25 @@ pub fn select_on(
     context: u16,
     limit: u32,
     marks: &mut [u8],
-) -> SelectAnswer
+) -> Result<u32, Refusal>
     ensures { SelectMade (table_of rows.now) row document.now context limit
         marks.old result marks.new }
 {
     let ends = match xpath::check_document(document) {
         Ok(ends) => ends,
-        Err(value) => return SelectAnswer::BadDocument(value),
+        Err(value) => return Err(Refusal::BadDocument(value)),
     };
     let x = usize::from(context);
     if xpath::node_count(document) <= x {
-        return SelectAnswer::BadArgument(1);
+        return Err(Refusal::BadArgument(1));
     }
     if !terms::is_held_path(rows, row) {
-        return SelectAnswer::BadArgument(2);
+        return Err(Refusal::BadArgument(2));
     }
-    let done = selection::evaluate(rows, usize::from(row), document, &ends, x, limit, marks);
+    let document = Checked {
+        numbers: document,
+        ends: &ends,
+    };
+    let done = selection::evaluate(rows, usize::from(row), document, x, limit, marks);
     select_answer(done)
 }

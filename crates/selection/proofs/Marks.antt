@@ -15,28 +15,28 @@ use Rattle.marking.proofs.Added.{nothing_added, added_cong}
 use Rattle.marking.proofs.Steps.{added_twice}
 use Rattle.selection.proofs.Folds.{any_more}
 
-zeros_at : (n y : ℕ) → get_or {A = ℕ} (replicate n 0) y 0 ≡ 0
+zeros_at : (n y : ℕ) → get_or {A = Bool} (replicate n false) y false ≡ false
 zeros_at zero y = refl
 zeros_at (suc n) zero = refl
 zeros_at (suc n) (suc y) = zeros_at n y
 
-pub clear : Clear (replicate max_nodes 0)
-clear = record { size = length-replicate {A = ℕ} max_nodes 0; zeros = zeros_at max_nodes }
+pub clear : Clear (replicate max_nodes false)
+clear = record { size = length-replicate {A = Bool} max_nodes false; zeros = zeros_at max_nodes }
 
 -- a loop that joins what is selected from the nodes of S, at z; s w is selected from w
 abbrev pub joined_below : (ℕ → Bool) → (ℕ → ℕ → Bool) → ℕ → ℕ → Bool
 joined_below S s z y = any_below z (λ w. S w && s w y)
 
 module _ (S : ℕ → Bool) (s : ℕ → ℕ → Bool) (n : ℕ) where
-  pub none_joined : (old : List ℕ) → Added n old old (joined_below S s 0)
+  pub none_joined : (old : List Bool) → Added n old old (joined_below S s 0)
   unfolding any_below
   none_joined old = nothing_added _ (λ y h. refl)
 
-  module _ {old new : List ℕ} (z : ℕ) (u : Added n old new (joined_below S s z)) where
+  module _ {old new : List Bool} (z : ℕ) (u : Added n old new (joined_below S s z)) where
     pub joined_skipped : S z ≡ false → Added n old new (joined_below S s (z + 1))
     joined_skipped e = added_cong _ u (λ y h. any_more (λ w. S w && s w y) z ∙ rw (e, or-false))
 
-    pub joined_next : (m : List ℕ) → S z ≡ true → Added n new m (s z) → Added n old m (joined_below S s (z + 1))
+    pub joined_next : (m : List Bool) → S z ≡ true → Added n new m (s z) → Added n old m (joined_below S s (z + 1))
     joined_next m e g = added_twice _ (s z) _ u g (λ y h. any_more (λ w. S w && s w y) z ∙ rw e)
 
 pub written_more : (k : ℕ) (s : ℕ → Bool) (old new : List ℕ) (v : ℕ) → new ≡ written k s old → v ≡ cond (s k) 1 0 →

@@ -1,6 +1,7 @@
 -- What the evaluation of a path answers, by its result under the limit. Assumes nothing.
 use Prim.Native.Nat.{ℕ, ◌+◌, ◌≤◌, ◌<◌}
 use mathlib.Core.Path.{◌≡◌, ◌∙◌}
+use mathlib.Core.Bool.{Bool, false}
 use mathlib.Core.List.{List}
 use native.Mathlib.Omega.{arith}
 use lib.ListN.{length, take, replicate, length-take, length-replicate}
@@ -41,10 +42,10 @@ module _ (rs : List Row) (r : ℕ) (d : Document) (x limit : ℕ) (buffer : List
           lt-leb (visits d (path_at rs r) x) limit (omega arith),
         )
 
-    module _ {made : ℕ} (m : List ℕ)
-        (w : Finished (Added (length d) (replicate max_nodes 0) m (selects d (path_in (terms (take top rs)) r) x))
+    module _ {made : ℕ} (m : List Bool)
+        (w : Finished (Added (length d) (replicate max_nodes false) m (selects d (path_in (terms (take top rs)) r) x))
         (visits d (path_in (terms (take top rs)) r) x) 0 limit made) where
-      all_found : Finished (Added (length d) (replicate max_nodes 0) m (selects d (path_at rs r) x))
+      all_found : Finished (Added (length d) (replicate max_nodes false) m (selects d (path_at rs r) x))
           (visits d (path_at rs r) x) 0 limit made
       all_found = rw same_path at w
 
@@ -55,7 +56,7 @@ module _ (rs : List Row) (r : ℕ) (d : Document) (x limit : ℕ) (buffer : List
       unfolding path_evaluated
       copied n new k o =
           let v : made ≡ visits d (path_at rs r) x = omega (arith, all_found.made_is) in
-          let size : length m ≡ max_nodes = all_found.result_is.size ∙ length-replicate {A = ℕ} max_nodes 0 in
+          let size : length m ≡ max_nodes = all_found.result_is.size ∙ length-replicate {A = Bool} max_nodes false in
           let t : length (take n m) ≡ length d = rw length-take (omega arith) in
           rw (
             le-ltb max_nodes (length d) l,
@@ -64,6 +65,6 @@ module _ (rs : List Row) (r : ℕ) (d : Document) (x limit : ℕ) (buffer : List
             o,
             t,
             written_cong (length d) (marked (take n m)) (selects d (path_at rs r) x) buffer
-                (λ y h. rw (get_or-take n m y 0 (omega arith)) (fresh_marks m all_found.result_is y h)),
+                (λ y h. rw (get_or-take n m y false (omega arith)) (fresh_marks m all_found.result_is y h)),
             v,
           )

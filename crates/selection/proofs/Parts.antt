@@ -27,7 +27,7 @@ use Rattle.selection.proofs.Rows.{leaf_visits, leaf_qualifier_visits, leaf_quali
 -- row r of the first `top` rows, from x
 module _ (rs : List Row) (d : Document) (top r x limit : ℕ) where
   module _ (h : top ≤ r) (positive : 1 ≤ limit) where
-    pub void_found : (m : List ℕ) → Finished (Added (length d) m m (selects d (path_in (terms (take top rs)) r) x))
+    pub void_found : (m : List Bool) → Finished (Added (length d) m m (selects d (path_in (terms (take top rs)) r) x))
         (visits d (path_in (terms (take top rs)) r) x) 0 limit 1
     unfolding selects visits as_path
     void_found m =
@@ -45,7 +45,7 @@ module _ (rs : List Row) (d : Document) (top r x limit : ℕ) where
     held : get_or (terms (take top rs)) r no_term ≡ term_by (terms (take r rs)) s
     held = term_held rs top r h ∙ rw e
 
-    pub path_found : {made : ℕ} (old new : List ℕ) →
+    pub path_found : {made : ℕ} (old new : List Bool) →
         Finished (Added (length d) old new (selects d (as_path (term_by (terms (take r rs)) s)) x))
         (visits d (as_path (term_by (terms (take r rs)) s)) x) 1 rest made →
         Finished (Added (length d) old new (selects d (path_in (terms (take top rs)) r) x))
@@ -69,7 +69,7 @@ module _ (rs : List Row) (d : Document) (top r x limit : ℕ) where
 
 -- a row without operands takes no more visits than the first
 module _ (d : Document) (ts : List Term) (r : Row) (x limit : ℕ) where
-  pub leaf_found : ¬ (r.kind ≡ 3) → ¬ (r.kind ≡ 4) → ¬ (r.kind ≡ 5) → (old new : List ℕ) →
+  pub leaf_found : ¬ (r.kind ≡ 3) → ¬ (r.kind ≡ 4) → ¬ (r.kind ≡ 5) → (old new : List Bool) →
       Added (length d) old new (selects d (leaf_path r) x) →
       Finished (Added (length d) old new (selects d (as_path (term_by ts r)) x)) (visits d (as_path (term_by ts r)) x)
       1 limit 0
@@ -89,18 +89,18 @@ module _ (d : Document) (ts : List Term) (r : Row) (x limit : ℕ) where
       })
 
 -- marks that were added to none
-pub fresh_marks : {n : ℕ} {s : ℕ → Bool} (new : List ℕ) → Added n (replicate max_nodes 0) new s → Marks n new s
+pub fresh_marks : {n : ℕ} {s : ℕ → Bool} (new : List Bool) → Added n (replicate max_nodes false) new s → Marks n new s
 fresh_marks new a y h = a.marks y h ∙ rw (clear.zeros y)
 
 -- the second operand, where `first` marks what the first, p, selects from x after `start` visits
-module _ (d : Document) (p : Path) (x limit start : ℕ) (first : List ℕ)
-    (w : Finished (Added (length d) (replicate max_nodes 0) first (selects d p x)) (visits d p x) 0 limit start) where
+module _ (d : Document) (p : Path) (x limit start : ℕ) (first : List Bool)
+    (w : Finished (Added (length d) (replicate max_nodes false) first (selects d p x)) (visits d p x) 0 limit start) where
   same_visits : (v : ℕ → ℕ) → sum_below (length d) (λ z. cond (marked first z) (v z) 0) ≡ sum_below (length d)
       (λ z. cond (selects d p x z) (v z) 0)
   same_visits v = sum_cong _ _ (length d) (λ z h. rw (fresh_marks first w.result_is z h))
 
   module _ (q : Path) where
-    pub composition_found : {used : ℕ} (old new : List ℕ) →
+    pub composition_found : {used : ℕ} (old new : List Bool) →
         Visited (marked first) (visits d q) limit start (length d) used →
         Added (length d) old new (joined_below (marked first) (selects d q) (length d)) →
         Finished (Added (length d) old new (selects d (Composition p q) x)) (visits d (Composition p q) x) 1 limit used
@@ -120,7 +120,7 @@ module _ (d : Document) (p : Path) (x limit start : ℕ) (first : List ℕ)
     composition_passed h = omega (arith, w.made_is, same_visits (visits d q))
 
   module _ (f : Qualifier) where
-    pub filter_found : {used : ℕ} (old new : List ℕ) →
+    pub filter_found : {used : ℕ} (old new : List Bool) →
         Visited (marked first) (qualifier_visits d f) limit start (length d) used →
         Added (length d) old new (λ y. marked first y && holds d f y) →
         Finished (Added (length d) old new (selects d (Filter p f) x)) (visits d (Filter p f) x) 1 limit used

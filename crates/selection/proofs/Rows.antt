@@ -103,20 +103,20 @@ module _ (ts : List Term) (r : Row) where
 
 module _ (d : Document) (x : ℕ) where
   -- the marks of the root and of the void path
-  pub root_added : (m : List ℕ) → 0 < length d → 0 < length m → Added (length d) m (set m 0 1) (selects d Root x)
+  pub root_added : (m : List Bool) → 0 < length d → 0 < length m → Added (length d) m (set m 0 true) (selects d Root x)
   unfolding selects
   root_added m k l =
       added_set (selects d Root x) 0 (nothing_added (λ y. false) (λ y h. refl)) l
       (rw (lt-ltb 0 (length d) k))
       (λ y h ne. rw (ne_eqb y 0 ne, and-false))
 
-  pub step_added : (a t c : ℕ) {old new : List ℕ} →
+  pub step_added : (a t c : ℕ) {old new : List Bool} →
       Added (length d) old new (λ y. on_axis a d x y && passes a t c d y) →
       Added (length d) old new (selects d (AxisStep a t c) x)
   unfolding selects
   step_added a t c u = added_cong _ u (λ y h. rw (lt-ltb y (length d) h))
 
-  pub void_added : (m : List ℕ) (r : Row) → ¬ (r.kind ≡ 2) → ¬ (r.kind ≡ 1) →
+  pub void_added : (m : List Bool) (r : Row) → ¬ (r.kind ≡ 2) → ¬ (r.kind ≡ 1) →
       Added (length d) m m (selects d (leaf_path r) x)
   unfolding selects
   void_added m r n o = nothing_added _ (λ y h. rw (void_leaf r n o))

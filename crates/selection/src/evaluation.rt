@@ -5,10 +5,11 @@ ghost use Rattle.common.specs.RowKinds.{and_row};
 ghost use Rattle.xpath.specs.Document.{max_nodes};
 ghost use Rattle.xpath.specs.Term.{Union, Composition, Filter, In};
 ghost use Rattle.xpath.specs.Meaning.{selects};
+ghost use Rattle.xpath.specs.code.Checked.{doc};
 ghost use Rattle.terms.specs.code.RowTypes.{row_of};
 ghost use Rattle.terms.specs.Terms.{term_by, as_path, as_qualifier, path_in, qualifier_in};
 ghost use Rattle.marking.specs.code.Added.{marked, Added};
-ghost use Rattle.selection.specs.code.Parts.{doc, terms_below, PathAdded, QualifierFound, leaf_path};
+ghost use Rattle.selection.specs.code.Parts.{terms_below, PathAdded, QualifierFound, leaf_path};
 
 use crate::lent::Lent;
 use common::row_kind;
@@ -23,14 +24,14 @@ struct Judged {
 }
 
 // Whether each of the first n nodes that a marks is marked in b.
-fn is_included(a: &[u8; MAX_NODES], b: &[u8; MAX_NODES], n: usize) -> bool
+fn is_included(a: &[bool; MAX_NODES], b: &[bool; MAX_NODES], n: usize) -> bool
     requires { n ≤ max_nodes }
     ensures { result ≡ all_below n (λ y. not (marked a.now y) || marked b.now y) }
 {
     // A loop with no exit, where `all` has one: it takes many bytes at a time, and is several times as fast.
     let mut included = true;
     for y in 0..n {
-        included &= (a[y] != 1) | (b[y] == 1);
+        included &= !a[y] | b[y];
     }
     included
 }
@@ -48,21 +49,20 @@ fn and_or(kind: u16, left: bool, right: bool) -> bool
 
 impl<'a> Lent<'a> {
     // Marks what a path without operands selects.
-    fn mark_leaf(&self, row: Row, x: usize, out: &mut [u8; MAX_NODES])
-        requires { x < length (doc self.now) }
-        ensures { Added (length (doc self.now)) out.old out.new (selects (doc self.now) (leaf_path (row_of row)) x) }
+    fn mark_leaf(&self, row: Row, x: usize, out: &mut [bool; MAX_NODES])
+        requires { x < length (doc self.now.document) }
+        ensures { Added (length (doc self.now.document)) out.old out.new (selects (doc self.now.document) (leaf_path (row_of row)) x) }
     {
         match row.kind {
             row_kind::STEP => marking::mark_step(
                 self.document,
-                self.ends,
                 row.a,
                 row.b,
                 usize::from(row.c),
                 x,
                 out,
             ),
-            row_kind::ROOT => out[0] = 1,
+            row_kind::ROOT => out[0] = true,
             _ => {}
         }
     }
@@ -75,10 +75,10 @@ impl<'a> Lent<'a> {
         r: usize,
         x: usize,
         limit: u32,
-        out: &mut [u8; MAX_NODES],
+        out: &mut [bool; MAX_NODES],
     ) -> Option<u32>
-        requires { x < length (doc self.now) }
-        ensures { PathAdded (doc self.now) (path_in (terms_below self.now.rows.now top) r) x 0 limit result out.old
+        requires { x < length (doc self.now.document) }
+        ensures { PathAdded (doc self.now.document) (path_in (terms_below self.now.rows.now top) r) x 0 limit result out.old
             out.new }
     {
         let rest = limit.checked_sub(1)?;
@@ -99,10 +99,10 @@ impl<'a> Lent<'a> {
         row: Row,
         x: usize,
         limit: u32,
-        out: &mut [u8; MAX_NODES],
+        out: &mut [bool; MAX_NODES],
     ) -> Option<u32>
-        requires { x < length (doc self.now) }
-        ensures { PathAdded (doc self.now) (as_path (term_by (terms_below self.now.rows.now top) (row_of row))) x 1
+        requires { x < length (doc self.now.document) }
+        ensures { PathAdded (doc self.now.document) (as_path (term_by (terms_below self.now.rows.now top) (row_of row))) x 1
             limit result out.old out.new }
     {
         let a = usize::from(row.a);
@@ -128,10 +128,10 @@ impl<'a> Lent<'a> {
         b: usize,
         x: usize,
         limit: u32,
-        out: &mut [u8; MAX_NODES],
+        out: &mut [bool; MAX_NODES],
     ) -> Option<u32>
-        requires { x < length (doc self.now) }
-        ensures { PathAdded (doc self.now) (Union (path_in (terms_below self.now.rows.now top) a)
+        requires { x < length (doc self.now.document) }
+        ensures { PathAdded (doc self.now.document) (Union (path_in (terms_below self.now.rows.now top) a)
             (path_in (terms_below self.now.rows.now top) b)) x 1 limit result out.old out.new }
     {
         let first = self.eval_path(top, a, x, limit, out)?;
@@ -149,16 +149,16 @@ impl<'a> Lent<'a> {
         b: usize,
         x: usize,
         limit: u32,
-        out: &mut [u8; MAX_NODES],
+        out: &mut [bool; MAX_NODES],
     ) -> Option<u32>
-        requires { x < length (doc self.now) }
-        ensures { PathAdded (doc self.now) (Composition (path_in (terms_below self.now.rows.now top) a)
+        requires { x < length (doc self.now.document) }
+        ensures { PathAdded (doc self.now.document) (Composition (path_in (terms_below self.now.rows.now top) a)
             (path_in (terms_below self.now.rows.now top) b)) x 1 limit result out.old out.new }
     {
-        let mut first = [0; MAX_NODES];
+        let mut first = [false; MAX_NODES];
         let mut used = self.eval_path(top, a, x, limit, &mut first)?;
-        for z in 0..xpath::node_count(self.document) {
-            if first[z] == 1 {
+        for z in 0..xpath::node_count(self.document.numbers) {
+            if first[z] {
                 used += self.eval_path(top, b, z, limit - used, out)?;
             }
         }
@@ -175,20 +175,20 @@ impl<'a> Lent<'a> {
         b: usize,
         x: usize,
         limit: u32,
-        out: &mut [u8; MAX_NODES],
+        out: &mut [bool; MAX_NODES],
     ) -> Option<u32>
-        requires { x < length (doc self.now) }
-        ensures { PathAdded (doc self.now) (Filter (path_in (terms_below self.now.rows.now top) a)
+        requires { x < length (doc self.now.document) }
+        ensures { PathAdded (doc self.now.document) (Filter (path_in (terms_below self.now.rows.now top) a)
             (qualifier_in (terms_below self.now.rows.now top) b)) x 1 limit result out.old out.new }
     {
-        let mut first = [0; MAX_NODES];
+        let mut first = [false; MAX_NODES];
         let mut used = self.eval_path(top, a, x, limit, &mut first)?;
-        for z in 0..xpath::node_count(self.document) {
-            if first[z] == 1 {
+        for z in 0..xpath::node_count(self.document.numbers) {
+            if first[z] {
                 let q = self.eval_qualifier(top, b, z, limit - used)?;
                 used += q.visits;
                 if q.value {
-                    out[z] = 1;
+                    out[z] = true;
                 }
             }
         }
@@ -198,8 +198,8 @@ impl<'a> Lent<'a> {
     // Whether the qualifier in row r, of the first `top` rows, is true at x; a row past them is read as false.
     #[cycle(evaluation)]
     fn eval_qualifier(&self, top: usize, r: usize, x: usize, limit: u32) -> Option<Judged>
-        requires { x < length (doc self.now) }
-        ensures { QualifierFound (doc self.now) (qualifier_in (terms_below self.now.rows.now top) r) x 0 limit result }
+        requires { x < length (doc self.now.document) }
+        ensures { QualifierFound (doc self.now.document) (qualifier_in (terms_below self.now.rows.now top) r) x 0 limit result }
     {
         let rest = limit.checked_sub(1)?;
         if top <= r {
@@ -220,8 +220,8 @@ impl<'a> Lent<'a> {
     #[cycle(evaluation)]
     #[tactic(auto, unfolding(terms::specs::Terms::term_by, terms::specs::Terms::as_qualifier))]
     fn eval_qualifier_row(&self, top: usize, row: Row, x: usize, limit: u32) -> Option<Judged>
-        requires { x < length (doc self.now) }
-        ensures { QualifierFound (doc self.now)
+        requires { x < length (doc self.now.document) }
+        ensures { QualifierFound (doc self.now.document)
             (as_qualifier (term_by (terms_below self.now.rows.now top) (row_of row))) x 1 limit result }
     {
         let a = usize::from(row.a);
@@ -254,16 +254,16 @@ impl<'a> Lent<'a> {
     #[cycle(evaluation)]
     #[tactic(auto, unfolding(xpath::specs::Visits::qualifier_visits))]
     fn eval_inclusion(&self, top: usize, a: usize, b: usize, x: usize, limit: u32) -> Option<Judged>
-        requires { x < length (doc self.now) }
-        ensures { QualifierFound (doc self.now) (In (path_in (terms_below self.now.rows.now top) a)
+        requires { x < length (doc self.now.document) }
+        ensures { QualifierFound (doc self.now.document) (In (path_in (terms_below self.now.rows.now top) a)
             (path_in (terms_below self.now.rows.now top) b)) x 1 limit result }
     {
-        let mut marks = [0; MAX_NODES];
+        let mut marks = [false; MAX_NODES];
         let first = self.eval_path(top, a, x, limit, &mut marks)?;
-        let mut others = [0; MAX_NODES];
+        let mut others = [false; MAX_NODES];
         let second = self.eval_path(top, b, x, limit - first, &mut others)?;
         Some(Judged {
-            value: is_included(&marks, &others, xpath::node_count(self.document)),
+            value: is_included(&marks, &others, xpath::node_count(self.document.numbers)),
             visits: first + second,
         })
     }

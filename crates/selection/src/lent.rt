@@ -1,12 +1,9 @@
 // What an evaluation reads.
-ghost use Rattle.xpath.specs.Document.{document_of};
-ghost use Rattle.xpath.specs.code.Ends.{Prepared};
+use xpath::Checked;
 
-// A table of rows, a prepared document, and the ends of its rows' subtrees.
+// A table of rows, and a document that was checked.
 #[derive(Clone, Copy)]
 pub struct Lent<'a> {
     pub rows: &'a [u16],
-    pub document: &'a [u16],
-    pub ends: &'a [u16],
-    ghost prepared: { Prepared (document_of document.now) ends.now },
+    pub document: Checked<'a>,
 }

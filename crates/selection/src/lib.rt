@@ -4,17 +4,16 @@
 mod evaluation;
 mod lent;
 
-ghost use Rattle.std.specs.Prelude.{◌≡◌, ◌≤◌, length};
-ghost use Rattle.xpath.specs.Document.{document_of};
+ghost use Rattle.std.specs.Prelude.{◌≡◌, ◌≤◌, ◌<◌, length};
+ghost use Rattle.xpath.specs.code.Checked.{doc};
 ghost use Rattle.terms.specs.Row.{table_of};
 ghost use Rattle.marking.specs.code.Added.{marked};
 ghost use Rattle.selection.specs.Marks.{written};
-ghost use Rattle.selection.specs.code.Parts.{NodeOf};
 ghost use Rattle.selection.specs.Evaluation.{outcome, evaluated};
 ghost use Rattle.selection.specs.code.EvaluatedTypes.{answer_of};
 
 use lent::Lent;
-use xpath::MAX_NODES;
+use xpath::{Checked, MAX_NODES};
 
 // The marks have no room for the document; or more visits are needed than the limit.
 #[derive(Clone, Copy, Debug, PartialEq, Eq)]
@@ -25,42 +24,37 @@ pub enum EvaluationError {
 
 // Writes 1 or 0 for each node that m has a byte for, as m marks it.
 #[tactic(auto, unfolding(crate::specs::Marks::written), using(crate::proofs::Marks::written_more))]
-fn copy_out(m: &[u8], buffer: &mut [u8])
+fn copy_out(m: &[bool], buffer: &mut [u8])
     requires { length m.now ≤ length buffer.old }
     ensures { buffer.new ≡ written (length m.now) (marked m.now) buffer.old }
 {
     for (y, mark) in m.iter().enumerate() {
-        buffer[y] = u8::from(*mark == 1);
+        buffer[y] = u8::from(*mark);
     }
 }
 
 // Writes 1 or 0 for each node of the document into `marks`, as the path in row `row` selects it from x, and answers
-// the visits made. Where it answers an error, `marks` is as it was. It asks for a document that was checked, its ends
-// and a node of it, since the caller answers for all other input; no user calls it.
+// the visits made. Where it answers an error, `marks` is as it was. It asks for a node of the
+// document, since the caller answers for all other input; no user calls it.
 pub fn evaluate(
     rows: &[u16],
     row: usize,
-    d: &[u16],
-    ends: &[u16],
+    document: Checked,
     x: usize,
     limit: u32,
     marks: &mut [u8],
 ) -> Result<u32, EvaluationError>
-    requires { NodeOf (document_of d.now) ends.now x }
+    requires { x < length (doc document) }
     ensures { outcome (answer_of result) marks.new ≡ evaluated (table_of rows.now) row
-        (document_of d.now) x limit marks.old }
+        (doc document.entry) x limit marks.old }
 {
-    let n = xpath::node_count(d);
+    let n = xpath::node_count(document.numbers);
     if marks.len() < n {
         return Err(EvaluationError::NoRoom);
     }
-    let lent = Lent {
-        rows,
-        document: d,
-        ends,
-    };
+    let lent = Lent { rows, document };
     let top = terms::row_count(rows);
-    let mut out = [0; MAX_NODES];
+    let mut out = [false; MAX_NODES];
     let visits = lent
         .eval_path(top, row, x, limit, &mut out)
         .ok_or(EvaluationError::LimitPassed)?;

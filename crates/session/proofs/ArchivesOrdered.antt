@@ -1,4 +1,5 @@
 -- What order calls mean on two sessions that calls lead to. Assumes nothing.
+use Rattle.calls.specs.code.Answers.{OrderOrRefusal, order_answer_of}
 use Prim.Native.Nat.{ℕ, ◌≤◌}
 use mathlib.Core.Path.{◌≡◌, sym, ap, ap₂, subst, ◌∙◌}
 use mathlib.Core.List.{List, [], ◌∷◌, map}
@@ -7,9 +8,8 @@ use Rattle.terms.specs.Terms.{term_at}
 use Rattle.calls.specs.Book.{Book}
 use Rattle.calls.specs.Runs.{final}
 use Rattle.calls.specs.Calls.{Call, CallSeen, plain_book, book_after}
-use Rattle.ordering.specs.declared.OrderAnswer.{OrderAnswer}
 use Rattle.ordering.specs.TermOrder.{term_order}
-use Rattle.ordering.specs.OrderCall.{order_answer, bundle_order_answer, order_answer_of}
+use Rattle.ordering.specs.OrderCall.{order_answer, bundle_order_answer}
 use Rattle.ordering.specs.OrderLaws.{Sorted}
 use Rattle.session.specs.declared.session.Session.{Session}
 use Rattle.session.specs.View.{view, fresh_session}
@@ -26,11 +26,11 @@ use Rattle.session.proofs.Demand3.{CallsKept}
 
 -- what one relation says of order calls, the other does
 abbrev pub OrdersKept : OrderRelation → OrderRelation → Type 0
-OrdersKept Ordered Kept = (s : Session) (i : ℕ) (t : Session) (j : ℕ) (r : OrderAnswer)
+OrdersKept Ordered Kept = (s : Session) (i : ℕ) (t : Session) (j : ℕ) (r : OrderOrRefusal)
     → Ordered s i t j r → Kept s i t j r
 
 abbrev pub BundleOrdersKept : BundleOrderRelation → BundleOrderRelation → Type 0
-BundleOrdersKept Ordered Kept = (s t : Session) (r : OrderAnswer) → Ordered s t r → Kept s t r
+BundleOrdersKept Ordered Kept = (s t : Session) (r : OrderOrRefusal) → Ordered s t r → Kept s t r
 
 -- calls that meet their promises
 module _ (Ordered : OrderRelation) (order_tied : OrdersKept Ordered OrderMet)
@@ -51,10 +51,10 @@ module _ (Ordered : OrderRelation) (order_tied : OrdersKept Ordered OrderMet)
 
   ordered : (s t : Session) (b c : Book) → view s ≡ b → view t ≡ c → ArchivesOrdered Ordered BundleOrdered s t b c
   ordered s t b c same_s same-t =
-      let told : (i j : ℕ) (r : OrderAnswer) → Ordered s i t j r
+      let told : (i j : ℕ) (r : OrderOrRefusal) → Ordered s i t j r
       → order_answer_of r ≡ order_answer b.rows i c.rows j =
       λ i j r m. order_tied s i t j r m ∙ ap₂ (λ b c. order_answer b.rows i c.rows j) same_s same-t in
-      let bundles_told : (r : OrderAnswer) → BundleOrdered s t r → order_answer_of r ≡ bundle_order_answer b c =
+      let bundles_told : (r : OrderOrRefusal) → BundleOrdered s t r → order_answer_of r ≡ bundle_order_answer b c =
       λ r m. bundle_order_tied s t r m ∙ ap₂ bundle_order_answer same_s same-t in
       record {
         answers = told;

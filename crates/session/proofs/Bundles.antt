@@ -1,4 +1,5 @@
 -- A well-written bundle: its lines read back, and reading it is making its calls. Assumes nothing.
+use Rattle.calls.specs.code.Answers.{NumberOrRefusal}
 use Prim.Native.Nat.{ℕ, ◌+◌, ◌≤◌}
 use mathlib.Core.Path.{◌≡◌, refl, sym, ap, subst, ◌∙◌}
 use mathlib.Core.Bool.{Bool, true, false}
@@ -17,7 +18,6 @@ use Rattle.lines.proofs.Cutting.{lines_at}
 use Rattle.lines.proofs.Written.{line_reads_back}
 use Rattle.session.specs.declared.session.Session.{Session}
 use Rattle.session.specs.code.Results.{ReadResult}
-use Rattle.session.specs.declared.write.WriteAnswer.{WriteAnswer}
 use Rattle.calls.specs.Book.{Step, book, answer}
 use Rattle.calls.specs.Runs.{seen, done, then}
 use Rattle.calls.specs.Calls.{Call, step, CallSeen, book_after}
@@ -182,7 +182,7 @@ pub read_demand_by : (Selected : SelectRelation) (Called : CallRelation) (Read :
     → Type 0) (Write : WriteRelation)
     → SelectsKept Selected SelectMet → CallsKept Called Met → CallsKept Met Called
     → ((bytes : List ℕ) (t : ReadResult) → Read bytes t → ReadMet bytes t)
-    → ((s : Session) (buffer : List ℕ) (w : WriteAnswer) (left : List ℕ) → Write s buffer w left
+    → ((s : Session) (buffer : List ℕ) (w : NumberOrRefusal) (left : List ℕ) → Write s buffer w left
     → WriteMet s buffer w left)
     → ReadDemand Selected Called Read Write
 read_demand_by Selected Called Read Write select_tied call_tied met_called read_tied write_tied =

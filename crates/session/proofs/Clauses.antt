@@ -4,6 +4,7 @@ pub mod ReadClauses
 pub mod ReplaceClauses
 pub mod PointClauses
 pub mod OrderClauses
+use Rattle.calls.specs.code.Answers.{NumberOrRefusal, answer_of}
 use Prim.Native.Nat.{ℕ, ◌≤◌, ◌<◌}
 use mathlib.Core.Path.{◌≡◌}
 use mathlib.Core.Bool.{cond}
@@ -15,13 +16,11 @@ use Rattle.xpath.specs.Term.{Path, Qualifier}
 use Rattle.xpath.specs.Meaning.{selects, holds}
 use Rattle.terms.specs.Terms.{path_at}
 use Rattle.rules.specs.Claim.{Containment, Implication}
-use Rattle.calls.specs.declared.SelectAnswer.{SelectAnswer}
 use Rattle.calls.specs.Book.{Step, no_step, Book, empty_book}
 use Rattle.calls.specs.StepCall.{claim_of}
 use Rattle.calls.specs.SelectCall.{select_answer}
 use Rattle.calls.specs.Runs.{Run, shown, final}
 use Rattle.calls.specs.Calls.{Call, CallSeen, plain_book}
-use Rattle.calls.specs.code.Answers.{select_answer_of}
 use Rattle.session.specs.declared.session.Session.{Session}
 use Rattle.session.specs.View.{view}
 use Rattle.session.specs.Promises.{CallRelation, SelectRelation}
@@ -56,23 +55,23 @@ module _ (Selected : SelectRelation) (New : Session → Type 0) (Called : CallRe
 
       -- two select calls of its rows on the same document from the same node, whatever their limits and buffers
       pub none_lost : (p q : Path) → claim_of held.rows said ≡ Containment p q
-          → (xs : List ℕ) (x limit limit' : ℕ) (buffer buffer' left left' : List ℕ) (t t' : SelectAnswer)
-          → Selected s said.left xs x limit buffer t left → (select_answer_of t).number ≡ 0
-          → Selected s said.right xs x limit' buffer' t' left' → (select_answer_of t').number ≡ 0
+          → (xs : List ℕ) (x limit limit' : ℕ) (buffer buffer' left left' : List ℕ) (t t' : NumberOrRefusal)
+          → Selected s said.left xs x limit buffer t left → (answer_of t).number ≡ 0
+          → Selected s said.right xs x limit' buffer' t' left' → (answer_of t').number ≡ 0
           → (y : ℕ) → y < length (document_of xs) → get_or left y 0 ≡ 1 → get_or left' y 0 ≡ 1
       none_lost = met.upheld.marks_contained i is_held_lem
 
     -- a select call
-    module _ (row : ℕ) (xs : List ℕ) (x limit : ℕ) (buffer left : List ℕ) (t : SelectAnswer)
+    module _ (row : ℕ) (xs : List ℕ) (x limit : ℕ) (buffer left : List ℕ) (t : NumberOrRefusal)
         (selected : Selected s row xs x limit buffer t left)
       where
-        pub answered : select_answer_of t ≡ select_answer held.rows row xs x limit (length buffer)
+        pub answered : answer_of t ≡ select_answer held.rows row xs x limit (length buffer)
         answered = met.upheld.answers row xs x limit buffer left t selected
 
-        pub left_as_it_was : ¬ ((select_answer_of t).number ≡ 0) → left ≡ buffer
+        pub left_as_it_was : ¬ ((answer_of t).number ≡ 0) → left ≡ buffer
         left_as_it_was = met.upheld.refused row xs x limit buffer left t selected
 
-        pub marked : (select_answer_of t).number ≡ 0
+        pub marked : (answer_of t).number ≡ 0
             → T (well_formed (document_of xs))
             × ((y : ℕ) → y < length (document_of xs)
             → get_or left y 0 ≡ cond (selects (document_of xs) (path_at held.rows row) x y) 1 0)

@@ -1,4 +1,5 @@
 -- Demand 3: every list of calls from a fresh session, where the calls meet their promises. Assumes nothing.
+use Rattle.calls.specs.code.Answers.{NumberOrRefusal}
 use Prim.Native.Nat.{ℕ, ◌<◌}
 use mathlib.Core.Path.{◌≡◌, refl, sym, ap, subst, ◌∙◌}
 use mathlib.Core.Bool.{Bool, true, false, cond}
@@ -12,7 +13,6 @@ use Rattle.xpath.specs.Meaning.{selects}
 use Rattle.terms.specs.Terms.{path_at}
 use Rattle.rules.specs.Claim.{Containment, TrueOn, IsTrue}
 use Rattle.session.specs.declared.session.Session.{Session}
-use Rattle.calls.specs.declared.SelectAnswer.{SelectAnswer}
 use Rattle.calls.specs.Book.{no_step, Book, Answer}
 use Rattle.calls.specs.StepCall.{claim_of}
 use Rattle.calls.specs.Runs.{shown, final}
@@ -41,7 +41,8 @@ CallsKept Called Kept = (s : Session) (c : Call) (a : Answer) (t : Session) → 
 
 abbrev pub SelectsKept : SelectRelation → SelectRelation → Type 0
 SelectsKept Selected Kept = (s : Session) (row : ℕ) (xs : List ℕ) (x limit : ℕ) (buffer : List ℕ)
-    (t : SelectAnswer) (left : List ℕ) → Selected s row xs x limit buffer t left → Kept s row xs x limit buffer t left
+    (t : NumberOrRefusal) (left : List ℕ) → Selected s row xs x limit buffer t left
+    → Kept s row xs x limit buffer t left
 
 -- a select that meets its promise
 module _ (Selected : SelectRelation) (select_tied : SelectsKept Selected SelectMet) where

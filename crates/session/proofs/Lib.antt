@@ -13,9 +13,9 @@ pub mod ReadByRows
 pub mod LinesRead
 pub mod LineCalls
 pub mod ReadMade
+pub mod ReadCases
 pub mod StepsAdded
 pub mod ReadCalls
 pub mod Sorted
 pub mod Written
 pub mod Bundles
-pub mod Held

@@ -1,9 +1,14 @@
 -- What the code does at a line of a bundle is what the reading does. Assumes nothing.
+use Rattle.calls.specs.code.Answers.{NumberOrRefusal, answer_of}
 use Prim.Native.Nat.{ℕ, ◌+◌, ◌*◌, ◌≤◌, ◌<◌, min}
 use mathlib.Core.Path.{◌≡◌, refl, sym, ap, subst, ◌∙◌}
-use mathlib.Core.Bool.{Bool, true, false, cond}
+use mathlib.Core.Bool.{true, false}
 use mathlib.Core.List.{List}
 use mathlib.Core.Option.{none, some}
+use Rattle.std.specs.Prelude.{Option, None, Some, Ok, Err, MatchResult, is_ok}
+use Rattle.common.specs.declared.refusal.Refusal.{Refusal}
+use Rattle.std.specs.Option.{ok_or}
+use Rattle.calls.specs.declared.answer.LineRefusal.{LineRefusal}
 use native.Mathlib.Omega.{arith}
 use lib.ListN.{length, take, drop}
 use lib.Seq.{sets}
@@ -17,25 +22,21 @@ use Rattle.lines.proofs.Filled.{first_four, first_five}
 use Rattle.lines.proofs.LineRead.{parts_met, no_parts_met}
 use Rattle.lines.proofs.Start.{line_passed}
 use Rattle.session.specs.declared.session.Session.{Session}
-use Rattle.calls.specs.declared.TermAnswer.{TermAnswer}
-use Rattle.calls.specs.declared.StepAnswer.{StepAnswer}
 use Rattle.calls.specs.Book.{max_steps, book, answer}
 use Rattle.calls.specs.code.Tables.{row_width, step_width, first_rows, first_steps}
 use Rattle.session.specs.View.{view, fresh_session}
 use Rattle.calls.specs.Book.{step_numbers}
-use Rattle.calls.specs.code.Answers.{term_answer_of, step_answer_of}
 use Rattle.calls.specs.Promises.{row_step_answer}
 use Rattle.term_calls.specs.code.Placed.{TermPlaced}
 use Rattle.bundles.specs.Bundle.{row_names, step_names, row_of_numbers, step_of_numbers}
 use Rattle.common.specs.Refusals.{wrong_form}
 use Rattle.session.specs.Reading.{refused_at, steps_read, rows_read}
-use Rattle.session.specs.code.Parts.{holding}
-use Rattle.calls.proofs.Tables.{rows_held_lem, steps_held_lem}
+use Rattle.session.specs.code.Parts.{holding, refused_by}
+use Rattle.calls.proofs.Tables.{steps_held_lem}
 use Rattle.session.proofs.LinesRead.{names_read, row_wrong, row_held, row_refused, step_wrong, step_held}
 use Rattle.session.proofs.LinesRead.{step_refused}
 use Rattle.calls.proofs.StepJudged.{step_accepted}
 use Rattle.session.proofs.session.StepMade.{step_made_held, step_made_refused}
-use Rattle.calls.proofs.TermJudged.{term_accepted}
 use Rattle.session.proofs.session.TermMade.{term_made_held, term_made_refused}
 
 pub row_names_free : Free newline row_names
@@ -45,6 +46,18 @@ row_names_free = lacks_free newline row_names refl
 pub step_names_free : Free newline step_names
 unfolding step_names ascii lacks
 step_names_free = lacks_free newline step_names refl
+
+-- what a `?` behind `ok_or` gives up for
+pub none_by_ok_or : {A E : Type 0} (o : Option A) (w e : E) → Err e ≡ ok_or o w → (o ≡ None) × (e ≡ w)
+none_by_ok_or None w e h = (refl, cc h)
+none_by_ok_or (Some x) w e h = cc h
+
+-- what a `?` behind `map_err` gives up for: a call's refusal, at its line
+pub refused_by_map_err : (t : NumberOrRefusal) (line : ℕ) (e : LineRefusal) (P : ℕ → Type 0) (Q : Refusal → Type 0)
+    → MatchResult t P Q → is_ok t ≡ false → ((k : Refusal) → Q k → e ≡ record { refusal = k; line = line })
+    → refused_by e ≡ refused_at (answer_of t).number line
+refused_by_map_err (Ok x) line e P Q h f told = cc f
+refused_by_map_err (Err k) line e P Q h f told = ap refused_by (told k h)
 
 -- the numbers of a line that has them
 line_numbers_lem : (count : ℕ) (xs : List ℕ) (at : ℕ) → count ≤ max_count → (r : NumbersLine) → LineMet count xs at r →
@@ -83,7 +96,7 @@ module _ (bytes xs : List ℕ) (n line at : ℕ) where
     row_there : row_of_numbers r.numbers ≡ row_of_numbers four
     row_there = rw (first_four r.numbers (omega (arith, m.size)))
 
-    module _ (few : n ≤ max_rows) (ys : List ℕ) (t : TermAnswer)
+    module _ (few : n ≤ max_rows) (ys : List ℕ) (t : NumberOrRefusal)
         (placed : TermPlaced xs n (row_of_numbers r.numbers) ys t)
       where
         four_read : some four ≡ first_numbers row_width (lines (drop at bytes))
@@ -95,13 +108,13 @@ module _ (bytes xs : List ℕ) (n line at : ℕ) where
         count : n ≡ min n max_rows
         count = omega arith
 
-        pub row_refused_there : ¬ ((term_answer_of t).number ≡ 0) → rows_read row_step_answer here line
-            (lines (drop at bytes)) ≡ refused_at (term_answer_of t).number line
+        pub row_refused_there : ¬ ((answer_of t).number ≡ 0) → rows_read row_step_answer here line
+            (lines (drop at bytes)) ≡ refused_at (answer_of t).number line
         row_refused_there f =
             row_refused here line _ other four four_read _ _
             (term_made_refused here (row_of_numbers four) n count ys t four_placed f) f
 
-        module _ (e : (term_answer_of t).number ≡ 0) where
+        module _ (e : (answer_of t).number ≡ 0) where
           pub row_held_there : rows_read row_step_answer here line (lines (drop at bytes)) ≡ rows_read row_step_answer
               (holding ys (n + 1) fresh_session.steps 0) (line + 1) (lines (drop r.next bytes))
           row_held_there =
@@ -109,11 +122,6 @@ module _ (bytes xs : List ℕ) (n line at : ℕ) where
               (term_made_held here (row_of_numbers four) n count ys t four_placed e) e
               ∙ ap (rows_read row_step_answer (holding ys (n + 1) fresh_session.steps 0) (line + 1))
               (sym m.rest)
-
-          pub row_room : length xs ≡ row_width * max_rows → n < max_rows
-          row_room size =
-              let room = (term_accepted _ _ (sym (ap (λ a. a.number) placed.answer) ∙ e)).room in
-              omega (arith, room, rows_held_lem xs (min n max_rows) (omega arith) size)
 
 -- step lines, where the first n rows of xs and the first k steps of ys are held
 module _ (bytes xs : List ℕ) (n : ℕ) (ys : List ℕ) (k line at : ℕ) where
@@ -144,27 +152,27 @@ module _ (bytes xs : List ℕ) (n : ℕ) (ys : List ℕ) (k line at : ℕ) where
     step_there : step_of_numbers r.numbers ≡ step_of_numbers five
     step_there = rw (first_five r.numbers (omega (arith, m.size)))
 
-    module _ (few : k ≤ max_steps) (t : StepAnswer)
-        (judged : step_answer_of t ≡ row_step_answer (book (first_rows n xs) (first_steps k ys))
+    module _ (few : k ≤ max_steps) (t : NumberOrRefusal)
+        (judged : answer_of t ≡ row_step_answer (book (first_rows n xs) (first_steps k ys))
         (step_of_numbers r.numbers))
       where
         five_read : some five ≡ first_numbers step_width (lines (drop at bytes))
         five_read = line_numbers_lem step_width bytes at (omega arith) r m
 
-        five_judged : step_answer_of t ≡ row_step_answer (book (first_rows n xs) (first_steps k ys))
+        five_judged : answer_of t ≡ row_step_answer (book (first_rows n xs) (first_steps k ys))
             (step_of_numbers five)
         five_judged = judged ∙ ap (row_step_answer (book (first_rows n xs) (first_steps k ys))) step_there
 
         steps_counted_lem : k ≡ min k max_steps
         steps_counted_lem = omega arith
 
-        pub step_refused_there : ¬ ((step_answer_of t).number ≡ 0) → steps_read row_step_answer now_held line
-            (lines (drop at bytes)) ≡ refused_at (step_answer_of t).number line
+        pub step_refused_there : ¬ ((answer_of t).number ≡ 0) → steps_read row_step_answer now_held line
+            (lines (drop at bytes)) ≡ refused_at (answer_of t).number line
         step_refused_there f =
             step_refused now_held line _ five five_read _ _
             (step_made_refused now_held (step_of_numbers five) t five_judged f) f
 
-        module _ (e : (step_answer_of t).number ≡ 0) where
+        module _ (e : (answer_of t).number ≡ 0) where
           pub step_held_there : (zs : List ℕ) → zs ≡ sets ys (step_width * k) (step_numbers (step_of_numbers r.numbers))
               → steps_read row_step_answer now_held line (lines (drop at bytes)) ≡ steps_read row_step_answer
               (holding xs n zs (k + 1)) (line + 1) (lines (drop r.next bytes))

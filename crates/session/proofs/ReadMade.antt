@@ -1,43 +1,44 @@
 -- From the reading of a bundle's parts to the call read. Assumes nothing.
-use Prim.Native.Nat.{ℕ, ◌≤◌, ◌<◌}
-use Rattle.std.specs.Prelude.{Result}
+use Prim.Native.Nat.{ℕ, ◌*◌, ◌≤◌}
+use Rattle.std.specs.Prelude.{Result, Ok, Err, is_ok, replicate}
+use Rattle.common.specs.code.Refusal.{refusal_number}
+use Rattle.common.proofs.Refusals.{refusal_some}
 use mathlib.Core.Path.{◌≡◌, refl, sym, ap, ◌∙◌}
 use mathlib.Core.Bool.{true, false, false≢true}
 use mathlib.Core.List.{List, [], ◌∷◌}
-use native.Mathlib.Omega.{arith}
 use lib.ListN.{length, drop}
+use Rattle.terms.specs.Row.{row_width, max_rows}
 use borrow.Author.Tests.{ne_eqb}
 use Rattle.lines.specs.Ascii.{ascii}
 use Rattle.lines.specs.Line.{Line, lines, first_is}
 use Rattle.lines.proofs.Start.{line_passed}
 use Rattle.session.specs.code.Results.{ReadResult}
 use Rattle.session.specs.declared.read.RowsEnd.{RowsEnd}
-use Rattle.session.specs.declared.read.ReadRefusal.{ReadRefusal}
+use Rattle.calls.specs.declared.answer.LineRefusal.{LineRefusal}
 use Rattle.session.specs.declared.session.Session.{Session}
-use Rattle.calls.specs.Book.{answer, accepted}
+use Rattle.calls.specs.Book.{accepted}
 use Rattle.session.specs.View.{fresh_session}
 use Rattle.bundles.specs.Bundle.{row_names}
 use Rattle.calls.specs.Promises.{row_step_answer}
 use Rattle.common.specs.Refusals.{wrong_form}
 use Rattle.session.specs.Reading.{refused_at, steps_read, rows_read, lines_read, reading}
-use Rattle.session.specs.ReadCall.{read_answer_of, is_held, reading_of, ReadMet}
+use Rattle.session.specs.ReadCall.{read_answer_of, reading_of, ReadMet}
 use Rattle.session.specs.code.Parts.{holding}
 use Rattle.session.specs.code.Parts.{after_rows, RowsReadMet, after_steps, StepsReadMet}
 use Rattle.session.proofs.LineCalls.{row_names_free}
 use Rattle.session.proofs.ReadByRows.{reading_by_rows}
 
-pub read_met : (bytes : List ℕ) (t : ReadResult) → is_held t.answer ≡ accepted (read_answer_of t.answer)
-    → reading_of t ≡ reading bytes → ReadMet bytes t
-read_met bytes t v e =
+pub read_met : (bytes : List ℕ) (t : ReadResult) → reading_of t ≡ reading bytes → ReadMet bytes t
+read_met bytes t e =
     record {
       answer = ap (λ r. r.answer) e;
-      variant = v ∙ ap (λ r. accepted r.answer) e;
+      variant = variant t.answer ∙ ap (λ r. accepted r.answer) e;
       session = ap (λ r. r.session) e;
     }
-
--- the variant of a refusal
-pub refused_variant : (k n : ℕ) → 0 < k → false ≡ accepted (answer k n)
-refused_variant k n h = sym (ne_eqb k 0 (λ e. omega arith))
+  where
+    variant : (a : Result ℕ LineRefusal) → is_ok a ≡ accepted (read_answer_of a)
+    variant (Ok n) = refl
+    variant (Err e) = sym (ne_eqb (refusal_number e.refusal) 0 (refusal_some e.refusal))
 
 no_names_read : (ls : List Line) → first_is row_names ls ≡ false → lines_read row_step_answer ls
     ≡ refused_at wrong_form 1
@@ -55,6 +56,10 @@ first_names_read (l ∷ ls) e = rw e
 pub no_names : (bytes : List ℕ) → first_is row_names (lines bytes) ≡ false → refused_at wrong_form 1 ≡ reading bytes
 no_names bytes e = sym (reading_by_rows bytes ∙ no_names_read (lines bytes) e)
 
+pub fresh_rows : fresh_session.rows ≡ replicate (row_width * max_rows) 0
+unfolding fresh_session
+fresh_rows = refl
+
 fresh_tables : fresh_session ≡ holding fresh_session.rows 0 fresh_session.steps 0
 unfolding fresh_session
 fresh_tables = refl
@@ -71,14 +76,14 @@ module _ (bytes : List ℕ) (e : first_is row_names (lines bytes) ≡ true) wher
       ∙ ap (rows_read row_step_answer fresh_session 2)
       (sym (line_passed row_names bytes 0 row_names_free e).rest)
 
-  pub rows_read_lem : (xs ys : List ℕ) → xs ≡ fresh_session.rows → (t : Result RowsEnd ReadRefusal)
-      → RowsReadMet bytes 11 xs ys t → after_rows bytes ys t ≡ reading bytes
-  rows_read_lem xs ys fresh t m =
+  pub rows_read_lem : (xs ys : List ℕ) (n : ℕ) → xs ≡ fresh_session.rows → (t : Result RowsEnd LineRefusal)
+      → RowsReadMet bytes 11 xs ys n t → after_rows bytes ys n t ≡ reading bytes
+  rows_read_lem xs ys n fresh t m =
       m.reading ∙ rw fresh (ap (λ s. rows_read row_step_answer s 2 (lines (drop 11 bytes))) (sym fresh_tables))
       ∙ sym from_line_2
 
 pub steps_read_lem : (bytes ys : List ℕ) (n line at : ℕ) (zs₀ zs : List ℕ) → zs₀ ≡ fresh_session.steps
-    → (t : Result ℕ ReadRefusal) → StepsReadMet bytes at line ys n zs₀ zs t
+    → (t : Result ℕ LineRefusal) → StepsReadMet bytes at line ys n zs₀ zs t
     → steps_read row_step_answer (holding ys n fresh_session.steps 0) line (lines (drop at bytes)) ≡ reading bytes
     → after_steps ys n zs t ≡ reading bytes
 steps_read_lem bytes ys n line at zs₀ zs fresh t m e =

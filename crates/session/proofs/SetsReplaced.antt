@@ -1,12 +1,12 @@
 -- What a replace call means on a session that calls lead to. Assumes nothing.
+use Rattle.calls.specs.code.Answers.{DoneOrRefusal, done_answer_of}
 use Prim.Native.Nat.{ℕ}
 use mathlib.Core.Path.{◌≡◌, sym, ap, subst, ◌∙◌}
 use mathlib.Core.List.{List}
 use Rattle.calls.specs.Book.{Book}
 use Rattle.calls.specs.Runs.{final}
 use Rattle.calls.specs.Calls.{Call, CallSeen, plain_book, book_after}
-use Rattle.replacing.specs.declared.ReplaceAnswer.{ReplaceAnswer}
-use Rattle.replacing.specs.ReplaceCall.{replace_answer, replace_answer_of}
+use Rattle.replacing.specs.ReplaceCall.{replace_answer}
 use Rattle.replacing.specs.NoneLost.{paths_of}
 use Rattle.session.specs.declared.session.Session.{Session}
 use Rattle.session.specs.View.{view, fresh_session}
@@ -23,18 +23,18 @@ use Rattle.session.proofs.Demand3.{CallsKept}
 
 -- what one relation says of replace calls, the other does
 abbrev pub ReplacesKept : ReplaceRelation → ReplaceRelation → Type 0
-ReplacesKept Replaced Kept = (s : Session) (old new by : List ℕ) (t : ReplaceAnswer)
+ReplacesKept Replaced Kept = (s : Session) (old new by : List ℕ) (t : DoneOrRefusal)
     → Replaced s old new by t → Kept s old new by t
 
 -- a replace that meets its promise
 module _ (Replaced : ReplaceRelation) (replace_tied : ReplacesKept Replaced ReplaceMet) where
   sets_replaced : (s : Session) (b : Book) → view s ≡ b → HeldLaws b.rows b.steps → SetsReplaced Replaced s b
   sets_replaced s b same laws =
-      let told : (old new by : List ℕ) (t : ReplaceAnswer) → Replaced s old new by t
-      → replace_answer_of t ≡ replace_answer b old new by =
+      let told : (old new by : List ℕ) (t : DoneOrRefusal) → Replaced s old new by t
+      → done_answer_of t ≡ replace_answer b old new by =
       λ old new by t m. replace_tied s old new by t m ∙ ap (λ b. replace_answer b old new by) same in
-      let number : (old new by : List ℕ) (t : ReplaceAnswer) → Replaced s old new by t
-      → (replace_answer_of t).number ≡ (replace_answer b old new by).number =
+      let number : (old new by : List ℕ) (t : DoneOrRefusal) → Replaced s old new by t
+      → (done_answer_of t).number ≡ (replace_answer b old new by).number =
       λ old new by t m. ap (λ a. a.number) (told old new by t m) in
       record {
         none_lost = covered_none_lost b laws;

@@ -1,51 +1,45 @@
 -- What the contracts in the source say of each call, as the toolchain reads them off it, and demand 3 of them.
 -- Assumes nothing.
-use Prim.Native.Nat.{ℕ, zero, suc}
+use Rattle.calls.specs.code.Answers.{NumberOrRefusal, DoneOrRefusal, OrderOrRefusal, answer_of, done_answer_of}
+use Prim.Native.Nat.{ℕ}
 use mathlib.Core.Path.{◌≡◌, refl, sym, subst, ◌∙◌}
 use mathlib.Core.Bool.{Bool, true, false, cond}
 use mathlib.Core.List.{List, []}
-use native.Mathlib.Omega.{arith}
 use lib.Dec.{leb}
-use borrow.Author.Tests.{ne_eqb}
 use denote.Ref.{Bor}
 use denote.MutBor.{MutBor}
 use lib.ListN.{length}
 use Rattle.terms.specs.Row.{row}
 use Rattle.session.specs.declared.session.Session.{Session}
 use Rattle.session.specs.code.Results.{ReadResult}
-use Rattle.calls.specs.declared.SelectAnswer.{SelectAnswer}
 use Rattle.calls.specs.Book as book
-use Rattle.calls.specs.Book.{Answer, answer, accepted}
+use Rattle.calls.specs.Book.{Answer, answer}
 use Rattle.calls.specs.Calls.{Call, term, step, text, point, return, CallSeen}
 use Rattle.calls.specs.PointCall.{point_names}
-use Rattle.calls.specs.code.Answers.{term_answer_of, step_answer_of}
-use Rattle.calls.specs.code.Points.{point_answer_of}
 use Rattle.calls.specs.SelectCall.{select_buffer}
 use Rattle.calls.specs.Runs.{next, Run}
 use Rattle.calls.specs.Promises.{row_yielded, row_step_answer}
 use Rattle.session.specs.View.{view, fresh_session}
-use Rattle.session.specs.Promises.{session_answer, text_answer_of, session, Met, SelectMet}
+use Rattle.session.specs.Promises.{session_answer, session, Met, SelectMet}
 use Rattle.session.specs.Demand3.{DemandThree}
 use Rattle.session.specs.SessionLaws.{WholeSession, NoPointLeft, SessionRestored}
-use Rattle.session.specs.declared.read.ReadAnswer.{ReadAnswer}
-use Rattle.session.specs.declared.read.ReadAnswer.TheVariants as ReadCases
-use Rattle.session.specs.declared.write.WriteAnswer.{WriteAnswer}
-use Rattle.session.specs.declared.write.WriteAnswer.TheVariants as WriteCases
+use Rattle.std.specs.Prelude.{Ok, Err}
+use Rattle.common.specs.declared.refusal.Refusal.TheVariants.{ShortBuffer}
 use Rattle.common.specs.Refusals.{short_buffer}
 use Rattle.session.specs.Reading.{reading}
-use Rattle.session.specs.ReadCall.{read_answer_of, is_held, ReadMet}
-use Rattle.session.specs.WriteCall.{session_text, write_answer, write_buffer, write_answer_of, WriteMet}
+use Rattle.session.specs.ReadCall.{ReadMet}
+use Rattle.session.specs.WriteCall.{session_text, write_answer, write_buffer, WriteMet}
 use Rattle.session.specs.ReadDemand.{ReadDemand}
 use Rattle.session.specs.ReplaceDemand.{ReplaceMet, ReplaceDemand}
 use Rattle.session.specs.OrderDemand.{OrderMet, BundleOrderMet, OrderDemand}
-use Rattle.replacing.specs.declared.ReplaceAnswer.{ReplaceAnswer}
 use Rattle.replacing.proofs.Judged.{replace_case}
-use Rattle.ordering.specs.declared.OrderAnswer.{OrderAnswer}
 use Rattle.ordering.proofs.Judged.{order_case, bundle_order_case}
 use Rattle.calls.proofs.Runs.{made, run_exists}
-use Rattle.calls.proofs.Cases.{term_case, step_case, point_case, return_case, select_case}
+use Rattle.calls.proofs.Cases.{term_case, step_case, text_case, point_case, return_case, select_case}
 use Rattle.session.proofs.Demand3.{CallsKept, SelectsKept, demand3_by}
 use Rattle.session.proofs.Restored.{whole_by, no_point_left_by, restored_by}
+use Rattle.session.proofs.ReadMade.{read_met}
+use Rattle.session.proofs.ReadCases.{reading_case}
 use Rattle.session.proofs.Bundles.{read_demand_by}
 use Rattle.session.proofs.SetsReplaced.{ReplacesKept, replace_demand_by}
 use Rattle.session.proofs.ArchivesOrdered.{OrdersKept, BundleOrdersKept, order_demand_by}
@@ -71,21 +65,21 @@ pub data New : Session → Type 0 where
 pub data Called : Session → Call → Answer → Session → Type 0 where
   term_called : (κs : _) (a : _) (r : _) (x : _) → term-reads.Post κs a r x
       → Called a.0 (term (row a.1.0 a.1.1.0 a.1.1.1.0 a.1.1.1.1.0))
-      (term_answer_of r.answer) r.session
+      (answer_of r.answer) r.session
   step_called : (κs : _) (a : _) (r : _) (x : _) → step-reads.Post κs a r x
       → Called a.0
       (step (book.step a.1.0 a.1.1.0 a.1.1.1.0 a.1.1.1.1.0 a.1.1.1.1.1.0))
-      (step_answer_of r.answer) r.session
+      (answer_of r.answer) r.session
   text_called : (κs : _) (a : _) (r : _) (x : _) → text-reads.Post κs a r x
-      → Called a.0 (text a.1.0.now a.1.1.0.now) (text_answer_of r.answer) r.session
+      → Called a.0 (text a.1.0.now a.1.1.0.now) (answer_of r.answer) r.session
   point_called : (κs : _) (a : _) (r : _) (x : _) → point-reads.Post κs a r x
-      → Called a.0 (point a.1.0) (point_answer_of r.answer) r.session
+      → Called a.0 (point a.1.0) (done_answer_of r.answer) r.session
   return_called : (κs : _) (a : _) (r : _) (x : _) → return-reads.Post κs a r x
-      → Called a.0 (return a.1.0) (point_answer_of r.answer) r.session
+      → Called a.0 (return a.1.0) (done_answer_of r.answer) r.session
 
 -- `Session::select` on a session with a row, lent numbers, a node, a limit and a buffer has the answer r and leaves
 -- bytes
-pub data Selected : Session → (row : ℕ) → List ℕ → (x limit : ℕ) → List ℕ → SelectAnswer → List ℕ → Type 0 where
+pub data Selected : Session → (row : ℕ) → List ℕ → (x limit : ℕ) → List ℕ → NumberOrRefusal → List ℕ → Type 0 where
   select_called : (κs : _) (a : _) (r : _) (x : _) → select-reads.Post κs a r x
       → Selected a.0 a.1.0 a.1.1.0.now a.1.1.1.0 a.1.1.1.1.0
       a.1.1.1.1.1.0.now r x.1.1.1.1.1.0.now
@@ -95,22 +89,22 @@ pub data Read : List ℕ → ReadResult → Type 0 where
   read_called : (κs : _) (a : _) (r : _) (x : _) → read-reads.Post κs a r x → Read a.0.now r
 
 -- `Session::replace` on a session with old rows, new rows and steps has the answer r
-pub data Replaced : Session → (old new by : List ℕ) → ReplaceAnswer → Type 0 where
+pub data Replaced : Session → (old new by : List ℕ) → DoneOrRefusal → Type 0 where
   replace_called : (κs : _) (a : _) (r : _) (x : _) → replace-reads.Post κs a r x
       → Replaced a.0 a.1.0.now a.1.1.0.now a.1.1.1.0.now r
 
 -- `Session::order` on a session with a row, another session and a row of it has the answer r
-pub data Ordered : Session → (i : ℕ) → Session → (j : ℕ) → OrderAnswer → Type 0 where
+pub data Ordered : Session → (i : ℕ) → Session → (j : ℕ) → OrderOrRefusal → Type 0 where
   order_called : (κs : _) (a : _) (r : _) (x : _) → order-reads.Post κs a r x
       → Ordered a.0 a.1.0 a.1.1.0 a.1.1.1.0 r
 
 -- `Session::bundle_order` on two sessions has the answer r
-pub data BundleOrdered : Session → Session → OrderAnswer → Type 0 where
+pub data BundleOrdered : Session → Session → OrderOrRefusal → Type 0 where
   bundle_order_called : (κs : _) (a : _) (r : _) (x : _) → bundle-order-reads.Post κs a r x
       → BundleOrdered a.0 a.1.0 r
 
 -- `Session::write` on a session with a buffer has the answer r and leaves bytes
-pub data Write : Session → List ℕ → WriteAnswer → List ℕ → Type 0 where
+pub data Write : Session → List ℕ → NumberOrRefusal → List ℕ → Type 0 where
   write_called : (κs : _) (a : _) (r : _) (x : _) → write-reads.Post κs a r x
       → Write a.0 a.1.0.now r x.1.0.now
 
@@ -140,7 +134,7 @@ order_tied s i t j o (order_called κs a r x m) = m
 pub bundle_order_tied : BundleOrdersKept BundleOrdered BundleOrderMet
 bundle_order_tied s t o (bundle_order_called κs a r x m) = m
 
-pub write_tied : (s : Session) (buffer : List ℕ) (w : WriteAnswer) (left : List ℕ) → Write s buffer w left
+pub write_tied : (s : Session) (buffer : List ℕ) (w : NumberOrRefusal) (left : List ℕ) → Write s buffer w left
     → WriteMet s buffer w left
 write_tied s buffer w left (write_called κs a r x m) = m
 
@@ -165,8 +159,10 @@ met_called s (step p) a t m =
     (record { answer = o; session = t }) (s, (p.rule, (p.left, (p.right, (p.first, (p.second, tt))))))
     (record { answer = e; left = m.left }))
 met_called s (text names t) a u m =
-    text_called ([], ([], tt)) (s, (lent names, (lent t, tt)))
-    (record { answer = record { number = a.number; value = a.value }; session = u }) (s, (lent names, (lent t, tt))) m
+    let (o, e) = text_case (view s).rows names t in
+    subst (λ a. Called s (text names t) a u) (e ∙ sym m.answer)
+    (text_called ([], ([], tt)) (s, (lent names, (lent t, tt))) (record { answer = o; session = u })
+    (s, (lent names, (lent t, tt))) (record { answer = e; left = m.left }))
 met_called s (point n) a t m =
     let (o, e) = point_case (point_names (view s).points) n in
     subst (λ a. Called s (point n) a t) (e ∙ sym m.answer)
@@ -204,7 +200,7 @@ calls_exist =
 
 -- and so can every select, every read, every replace, every order, every bundle order and every write
 pub selects_exist : (s : Session) (row : ℕ) (xs : List ℕ) (x limit : ℕ) (buffer : List ℕ)
-    → (t : SelectAnswer) × (left : List ℕ) × Selected s row xs x limit buffer t left
+    → (t : NumberOrRefusal) × (left : List ℕ) × Selected s row xs x limit buffer t left
 selects_exist s row xs x limit buffer =
     let (t, e) = select_case (view s).rows row xs x limit (length buffer) in
     let left = select_buffer (view s).rows row xs x limit buffer in (
@@ -214,18 +210,16 @@ selects_exist s row xs x limit buffer =
           t (s, (row, (lent xs, (x, (limit, (lent_to_write left, tt)))))) (record { answer = e; bytes = refl }),
     )
 
-read_case : (k n : ℕ) → (o : ReadAnswer) × (read_answer_of o ≡ answer k n) × (is_held o ≡ accepted (answer k n))
-read_case zero n = (ReadCases.Held n, refl, refl)
-read_case (suc k) n = (ReadCases.Refused (suc k) n, refl, sym (ne_eqb (suc k) 0 (λ e. absurd (omega arith))))
-
 pub reads_exist : (bytes : List ℕ) → (t : ReadResult) × Read bytes t
 reads_exist bytes =
-    let told = (reading bytes).answer in
-    let (o, e, f) = read_case told.number told.value in
-    let t : ReadResult = record { answer = o; session = (reading bytes).session } in
-    (t, read_called ([], tt) (lent bytes, tt) t (lent bytes, tt) (record { answer = e; variant = f; session = refl }))
+    let (o, e) = reading_case bytes in
+    let t : ReadResult = record { answer = o; session = (reading bytes).session } in (
+      t,
+      read_called ([], tt) (lent bytes, tt) t (lent bytes, tt)
+          (read_met bytes t (λ i. record { answer = e i; session = t.session })),
+    )
 
-pub replaces_exist : (s : Session) (old new by : List ℕ) → (t : ReplaceAnswer) × Replaced s old new by t
+pub replaces_exist : (s : Session) (old new by : List ℕ) → (t : DoneOrRefusal) × Replaced s old new by t
 replaces_exist s old new by =
     let (t, e) = replace_case (view s) old new by in (
       t,
@@ -236,12 +230,12 @@ replaces_exist s old new by =
 pub replace_demand : ReplaceDemand Replaced New Called
 replace_demand = replace_demand_by Replaced replace_tied New Called new_tied call_tied
 
-pub orders_exist : (s : Session) (i : ℕ) (t : Session) (j : ℕ) → (r : OrderAnswer) × Ordered s i t j r
+pub orders_exist : (s : Session) (i : ℕ) (t : Session) (j : ℕ) → (r : OrderOrRefusal) × Ordered s i t j r
 orders_exist s i t j =
     let (r, e) = order_case (view s).rows i (view t).rows j in
     (r, order_called tt (s, (i, (t, (j, tt)))) r (s, (i, (t, (j, tt)))) e)
 
-pub bundle_orders_exist : (s t : Session) → (r : OrderAnswer) × BundleOrdered s t r
+pub bundle_orders_exist : (s t : Session) → (r : OrderOrRefusal) × BundleOrdered s t r
 bundle_orders_exist s t =
     let (r, e) = bundle_order_case (view s) (view t) in
     (r, bundle_order_called tt (s, (t, tt)) r (s, (t, tt)) e)
@@ -249,15 +243,15 @@ bundle_orders_exist s t =
 pub order_demand : OrderDemand Ordered BundleOrdered New Called
 order_demand = order_demand_by Ordered order_tied BundleOrdered bundle_order_tied New Called new_tied call_tied
 
-write_case : (bundle : List ℕ) (room : ℕ) → (w : WriteAnswer) × (write_answer_of w ≡ write_answer bundle room)
+write_case : (bundle : List ℕ) (room : ℕ) → (w : NumberOrRefusal) × (answer_of w ≡ write_answer bundle room)
 write_case bundle room = by_test (leb (length bundle) room)
   where
-    by_test : (b : Bool) → (w : WriteAnswer) ×
-        (write_answer_of w ≡ cond b (answer 0 (length bundle)) (answer short_buffer (length bundle)))
-    by_test true = (WriteCases.Written (length bundle), refl)
-    by_test false = (WriteCases.ShortBuffer (length bundle), refl)
+    by_test : (b : Bool) → (w : NumberOrRefusal) ×
+        (answer_of w ≡ cond b (answer 0 (length bundle)) (answer short_buffer (length bundle)))
+    by_test true = (Ok (length bundle), refl)
+    by_test false = (Err (ShortBuffer (length bundle)), refl)
 
-pub writes_exist : (s : Session) (buffer : List ℕ) → (w : WriteAnswer) × (left : List ℕ) × Write s buffer w left
+pub writes_exist : (s : Session) (buffer : List ℕ) → (w : NumberOrRefusal) × (left : List ℕ) × Write s buffer w left
 writes_exist s buffer =
     let (w, e) = write_case (session_text s) (length buffer) in
     let left = write_buffer (session_text s) buffer in (

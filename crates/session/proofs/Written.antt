@@ -1,4 +1,5 @@
 -- What a write call leaves, and what is read from it. Assumes nothing.
+use Rattle.calls.specs.code.Answers.{NumberOrRefusal, answer_of}
 use Prim.Native.Nat.{ℕ, ◌+◌, ◌*◌, ◌≤◌, ◌<◌}
 use mathlib.Core.Path.{◌≡◌, refl, sym, ap, ap₂, subst, ◌∙◌}
 use mathlib.Core.Bool.{Bool, true, false, cond}
@@ -13,8 +14,8 @@ use Rattle.common.specs.Limits.{max_bytes}
 use Rattle.common.specs.Lists.{Every}
 use Rattle.lines.specs.Line.{newline, lines}
 use Rattle.session.specs.declared.session.Session.{Session}
-use Rattle.session.specs.declared.write.WriteAnswer.{WriteAnswer}
-use Rattle.session.specs.declared.write.WriteAnswer.TheVariants as WriteCases
+use Rattle.std.specs.Prelude.{Ok, Err}
+use Rattle.common.specs.declared.refusal.Refusal.TheVariants.{ShortBuffer}
 use Rattle.calls.specs.Book.{Step, max_steps, Book, answer}
 use Rattle.common.specs.Refusals.{short_buffer}
 use Rattle.calls.specs.Calls.{CallSeen}
@@ -26,26 +27,26 @@ use Rattle.bundles.proofs.Tables.{tables_text_lem}
 use Rattle.bundles.proofs.Spelling.{text_of, lines_joined, text_append, rows_spelled, steps_spelled}
 use Rattle.session.specs.View.{rows_held, steps_held, view, fresh_session}
 use Rattle.session.specs.Promises.{CallsMade}
-use Rattle.session.specs.WriteCall.{session_text, write_answer_of, WriteMet}
+use Rattle.session.specs.WriteCall.{session_text, WriteMet}
 use Rattle.session.specs.ReadDemand.{IsAccepted, calls_of, IsBundle}
 use Rattle.session.proofs.Sorted.{AllSorted}
 use Rattle.session.proofs.StepsAdded.{calls_held}
 
-module _ (s : Session) (buffer : List ℕ) (w : WriteAnswer) (left : List ℕ) (m : WriteMet s buffer w left) where
+module _ (s : Session) (buffer : List ℕ) (w : NumberOrRefusal) (left : List ℕ) (m : WriteMet s buffer w left) where
   -- an accepted write leaves the text at the start
-  pub written_text : (write_answer_of w).number ≡ 0 → take (write_answer_of w).value left ≡ session_text s
+  pub written_text : (answer_of w).number ≡ 0 → take (answer_of w).value left ≡ session_text s
   written_text e = by_test (leb (length (session_text s)) (length buffer)) m.answer m.bytes
     where
-      by_test : (b : Bool) → write_answer_of w ≡ cond b (answer 0 (length (session_text s)))
+      by_test : (b : Bool) → answer_of w ≡ cond b (answer 0 (length (session_text s)))
           (answer short_buffer (length (session_text s)))
           → left ≡ cond b (session_text s ++ drop (length (session_text s)) buffer) buffer
-          → take (write_answer_of w).value left ≡ session_text s
+          → take (answer_of w).value left ≡ session_text s
       by_test true told bytes =
           ap₂ (λ n ys. take n ys) (ap (λ a. a.value) told) bytes
           ∙ take_at (session_text s) (drop (length (session_text s)) buffer) (length (session_text s)) refl
       by_test false told bytes = absurd (omega (arith, sym (ap (λ a. a.number) told) ∙ e))
 
-  pub written_where_room : length (session_text s) ≤ length buffer → (write_answer_of w).number ≡ 0
+  pub written_where_room : length (session_text s) ≤ length buffer → (answer_of w).number ≡ 0
   written_where_room h = ap (λ a. a.number) m.answer ∙ rw (le-leb (length (session_text s)) (length buffer) h)
 
 -- 40 + 15 * 1024 + 23 * 2048 is 62,504
@@ -86,22 +87,18 @@ session_tables s rows steps =
     (length-take-le (row_width * rows_held s) s.rows (omega (arith, rows)))
     (length-take-le (step_width * steps_held s) s.steps (omega (arith, steps)))
 
-pub text_as : {buffer w text left : List ℕ} {at size : ℕ} → w ≡ text → TextWritten buffer at w size left
-    → TextWritten buffer at text size left
-text_as {buffer} {left = left} {at = at} {size = size} e m = subst (λ w. TextWritten buffer at w size left) e m
-
 -- the answer, where the text has the length told
 module _ (s : Session) (buffer : List ℕ) (size : ℕ) (left : List ℕ)
     (m : TextWritten buffer 0 (session_text s) size left) where
   from_zero : 0 + length (session_text s) ≡ length (session_text s)
   from_zero = omega arith
 
-  pub write_refused : length buffer < size → WriteMet s buffer (WriteCases.ShortBuffer size) left
+  pub write_refused : length buffer < size → WriteMet s buffer (Err (ShortBuffer size)) left
   write_refused h =
       let short = lt-leb (length (session_text s)) (length buffer) (omega (arith, m.length_told)) in
       record { answer = rw short (ap (answer short_buffer) m.length_told); bytes = m.bytes ∙ rw (from_zero, short) }
 
-  pub write_held : size ≤ length buffer → WriteMet s buffer (WriteCases.Written size) left
+  pub write_held : size ≤ length buffer → WriteMet s buffer (Ok size) left
   write_held h =
       let room : length (session_text s) ≤ length buffer = omega (arith, m.length_told) in
       let fits = le-leb (length (session_text s)) (length buffer) room in

@@ -1,5 +1,6 @@
 -- Demand 3, for lists of term, step, text, point and return calls from a fresh session, refused ones included. Assumes
 -- nothing.
+use Rattle.calls.specs.code.Answers.{NumberOrRefusal, answer_of}
 use Rattle.std.specs.Prelude.{ℕ, ◌≤◌, ◌<◌, ◌≡◌, cond, List, T, length, get_or}
 use Rattle.xpath.specs.Document.{Document, document_of, well_formed}
 use Rattle.xpath.specs.Term.{Path, Qualifier}
@@ -7,11 +8,9 @@ use Rattle.xpath.specs.Meaning.{selects, holds}
 use Rattle.terms.specs.Terms.{path_at}
 use Rattle.rules.specs.Claim.{Containment, Implication}
 use Rattle.session.specs.declared.session.Session.{Session}
-use Rattle.calls.specs.declared.SelectAnswer.{SelectAnswer}
 use Rattle.calls.specs.Book.{no_step, Book}
 use Rattle.calls.specs.StepCall.{claim_of}
 use Rattle.calls.specs.SelectCall.{select_answer}
-use Rattle.calls.specs.code.Answers.{select_answer_of}
 use Rattle.calls.specs.Runs.{Run}
 use Rattle.calls.specs.Calls.{Call, CallSeen, book_seen, book_after}
 use Rattle.session.specs.View.{view}
@@ -32,16 +31,16 @@ module _ (Selected : SelectRelation) where
         → (f g : Qualifier) → claim_of b.rows (get_or b.steps i no_step) ≡ Implication f g
         → (d : Document) → T (well_formed d) → (x : ℕ) → x < length d → T (holds d f x) → T (holds d g x)
     -- select on the session so left answers the first refusal that applies, else 0 with the visits
-    pub answers : (row : ℕ) (xs : List ℕ) (x limit : ℕ) (buffer left : List ℕ) (t : SelectAnswer)
+    pub answers : (row : ℕ) (xs : List ℕ) (x limit : ℕ) (buffer left : List ℕ) (t : NumberOrRefusal)
         → Selected s row xs x limit buffer t left
-        → select_answer_of t ≡ select_answer b.rows row xs x limit (length buffer)
+        → answer_of t ≡ select_answer b.rows row xs x limit (length buffer)
     -- a refused select leaves the buffer
-    pub refused : (row : ℕ) (xs : List ℕ) (x limit : ℕ) (buffer left : List ℕ) (t : SelectAnswer)
-        → Selected s row xs x limit buffer t left → ¬ ((select_answer_of t).number ≡ 0) → left ≡ buffer
+    pub refused : (row : ℕ) (xs : List ℕ) (x limit : ℕ) (buffer left : List ℕ) (t : NumberOrRefusal)
+        → Selected s row xs x limit buffer t left → ¬ ((answer_of t).number ≡ 0) → left ≡ buffer
     -- where select accepts, the lent numbers are a well-formed document, its nodes are marked 1 or 0 as the path
     -- selects them, and later bytes stay
-    pub marks : (row : ℕ) (xs : List ℕ) (x limit : ℕ) (buffer left : List ℕ) (t : SelectAnswer)
-        → Selected s row xs x limit buffer t left → (select_answer_of t).number ≡ 0
+    pub marks : (row : ℕ) (xs : List ℕ) (x limit : ℕ) (buffer left : List ℕ) (t : NumberOrRefusal)
+        → Selected s row xs x limit buffer t left → (answer_of t).number ≡ 0
         → T (well_formed (document_of xs))
         × ((y : ℕ) → y < length (document_of xs)
         → get_or left y 0 ≡ cond (selects (document_of xs) (path_at b.rows row) x y) 1 0)
@@ -50,9 +49,9 @@ module _ (Selected : SelectRelation) where
     -- for q
     pub marks_contained : (i : ℕ) → i < length b.steps
         → (p q : Path) → claim_of b.rows (get_or b.steps i no_step) ≡ Containment p q
-        → (xs : List ℕ) (x limit limit' : ℕ) (buffer buffer' left left' : List ℕ) (t t' : SelectAnswer)
-        → Selected s (get_or b.steps i no_step).left xs x limit buffer t left → (select_answer_of t).number ≡ 0
-        → Selected s (get_or b.steps i no_step).right xs x limit' buffer' t' left' → (select_answer_of t').number ≡ 0
+        → (xs : List ℕ) (x limit limit' : ℕ) (buffer buffer' left left' : List ℕ) (t t' : NumberOrRefusal)
+        → Selected s (get_or b.steps i no_step).left xs x limit buffer t left → (answer_of t).number ≡ 0
+        → Selected s (get_or b.steps i no_step).right xs x limit' buffer' t' left' → (answer_of t').number ≡ 0
         → (y : ℕ) → y < length (document_of xs) → get_or left y 0 ≡ 1 → get_or left' y 0 ≡ 1
 
   -- what demand 3 asks of the calls cs, of which os was seen and which left s

@@ -1,14 +1,14 @@
 -- The calls order and bundle order on two sessions, and what they mean on every two sessions that calls lead to.
 -- Assumes nothing.
+use Rattle.calls.specs.code.Answers.{OrderOrRefusal, order_answer_of}
 use Rattle.std.specs.Prelude.{ℕ, ◌≤◌, ◌<◌, ◌≡◌, List, [], ◌∷◌, map, ◌↔◌, length}
 use Rattle.terms.specs.Terms.{term_at}
 use Rattle.calls.specs.Book.{Book, answer}
 use Rattle.calls.specs.Runs.{Run}
 use Rattle.calls.specs.Calls.{Call, CallSeen, book_after}
-use Rattle.ordering.specs.declared.OrderAnswer.{OrderAnswer}
 use Rattle.ordering.specs.TermOrder.{term_order}
 use Rattle.ordering.specs.BundleOrder.{term_steps}
-use Rattle.ordering.specs.OrderCall.{order_answer, bundle_order_answer, order_answer_of}
+use Rattle.ordering.specs.OrderCall.{order_answer, bundle_order_answer}
 use Rattle.ordering.specs.OrderLaws.{HoldSame}
 use Rattle.session.specs.declared.session.Session.{Session}
 use Rattle.session.specs.View.{view}
@@ -16,11 +16,11 @@ use Rattle.session.specs.Promises.{CallRelation}
 
 -- what may be said of an order call: a session and a row, another session and a row, and the answer
 abbrev pub OrderRelation : Type 1
-OrderRelation = Session → (i : ℕ) → Session → (j : ℕ) → OrderAnswer → Type 0
+OrderRelation = Session → (i : ℕ) → Session → (j : ℕ) → OrderOrRefusal → Type 0
 
 -- what may be said of a bundle order call: two sessions, and the answer
 abbrev pub BundleOrderRelation : Type 1
-BundleOrderRelation = Session → Session → OrderAnswer → Type 0
+BundleOrderRelation = Session → Session → OrderOrRefusal → Type 0
 
 -- `Session::order` and `Session::bundle_order` on s and t; both sessions stay the caller's
 abbrev pub OrderMet : OrderRelation
@@ -33,7 +33,7 @@ module _ (Ordered : OrderRelation) (BundleOrdered : BundleOrderRelation) where
   -- an order call on rows i and j of s answered less or equal
   abbrev pub RowAtMost : Session → (i j : ℕ) → Type 0
   RowAtMost s i j =
-      (r : OrderAnswer) × Ordered s i s j r × ((order_answer_of r).number ≡ 0) × ((order_answer_of r).value ≤ 1)
+      (r : OrderOrRefusal) × Ordered s i s j r × ((order_answer_of r).number ≡ 0) × ((order_answer_of r).value ≤ 1)
 
   -- a list of rows that is sorted by such calls
   abbrev pub SortedRows : Session → List ℕ → Type 0
@@ -43,19 +43,19 @@ module _ (Ordered : OrderRelation) (BundleOrdered : BundleOrderRelation) where
 
   -- what is asked of the sessions s and t that calls left; b and c are the plain books fed the same calls
   pub record ArchivesOrdered (s t : Session) (b c : Book) : Type 0 where
-    pub answers : (i j : ℕ) (r : OrderAnswer) → Ordered s i t j r
+    pub answers : (i j : ℕ) (r : OrderOrRefusal) → Ordered s i t j r
         → order_answer_of r ≡ order_answer b.rows i c.rows j
     -- the answer is equal just when both rows are held and have the same term
-    pub equal : (i j : ℕ) (r : OrderAnswer) → Ordered s i t j r
+    pub equal : (i j : ℕ) (r : OrderOrRefusal) → Ordered s i t j r
         → (order_answer_of r ≡ answer 0 1)
         ↔ ((i < length b.rows) × (j < length c.rows) × (term_at b.rows i ≡ term_at c.rows j))
     -- lists of rows, of any length, each sorted in its session: where they hold the same terms, these match
     pub sorted : (is js : List ℕ) → SortedRows s is → SortedRows t js
         → HoldSame term_order (map (term_at b.rows) is) (map (term_at c.rows) js)
         → map (term_at b.rows) is ≡ map (term_at c.rows) js
-    pub bundle_answers : (r : OrderAnswer) → BundleOrdered s t r → order_answer_of r ≡ bundle_order_answer b c
+    pub bundle_answers : (r : OrderOrRefusal) → BundleOrdered s t r → order_answer_of r ≡ bundle_order_answer b c
     -- bundles are equal just when their steps are the same, as terms
-    pub bundle_equal : (r : OrderAnswer) → BundleOrdered s t r
+    pub bundle_equal : (r : OrderOrRefusal) → BundleOrdered s t r
         → (order_answer_of r ≡ answer 0 1) ↔ (term_steps b ≡ term_steps c)
 
   -- the demand: every two lists of calls, run from what `Session::new` gives, refused ones included

@@ -1,13 +1,12 @@
 -- What the calls promise, for every session, and what calls lead to. Assumes nothing.
+use Rattle.calls.specs.code.Answers.{NumberOrRefusal}
 use Rattle.std.specs.Prelude.{ℕ, ◌≡◌, List}
 use Rattle.session.specs.declared.session.Session.{Session}
-use Rattle.calls.specs.declared.SelectAnswer.{SelectAnswer}
-use Rattle.calls.specs.Book.{Answer, answer}
+use Rattle.calls.specs.Book.{Answer}
 use Rattle.calls.specs.TextCall.{text_reply}
 use Rattle.calls.specs.Runs.{Machine, Made, Run}
 use Rattle.calls.specs.Calls.{Call, term, step, text, point, return, CallSeen, book_answer, row_answer, Reachable}
 use Rattle.calls.specs.Promises.{SelectMade}
-use Rattle.session.specs.declared.session.TextAnswer.{TextAnswer}
 use Rattle.session.specs.View.{view, with_row, with_rows, with_step, with_point, at_point}
 
 -- what may be said of a call on a session, its answer, and the session that it leaves
@@ -17,7 +16,7 @@ CallRelation = Session → Call → Answer → Session → Type 0
 -- what may be said of a select call: the session, the row, the lent numbers, the context node, the limit, the buffer,
 -- the answer, and the bytes that it leaves
 abbrev pub SelectRelation : Type 1
-SelectRelation = Session → (row : ℕ) → List ℕ → (x limit : ℕ) → List ℕ → SelectAnswer → List ℕ → Type 0
+SelectRelation = Session → (row : ℕ) → List ℕ → (x limit : ℕ) → List ℕ → NumberOrRefusal → List ℕ → Type 0
 
 -- what a call on the session s answers: steps are judged by row numbers
 abbrev pub session_answer : Session → Call → Answer
@@ -30,10 +29,6 @@ session_with s (step p) = with_step s p
 session_with s (text names t) = with_rows s (text_reply names t (view s).rows).rows
 session_with s (point n) = with_point s n
 session_with s (return n) = at_point s n
-
--- number and value of the code's answer to a text call
-abbrev pub text_answer_of : TextAnswer → Answer
-text_answer_of a = answer a.number a.value
 
 abbrev pub session : Machine Session Call
 session = record { answer = session_answer; with = session_with }

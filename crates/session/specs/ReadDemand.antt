@@ -1,4 +1,5 @@
 -- What is demanded of the calls read and write, with demand 3 of the calls that read makes. Assumes nothing.
+use Rattle.calls.specs.code.Answers.{NumberOrRefusal, answer_of}
 use Rattle.std.specs.Prelude.{ℕ, ◌≤◌, ◌≡◌, true, List, ◌∷◌, ◌++◌, map, length, take}
 use Rattle.std.proofs.Math.Option.{some}
 use Rattle.terms.specs.Row.{Row}
@@ -8,7 +9,6 @@ use Rattle.lines.specs.Line.{Line, line, lines}
 use Rattle.lines.specs.Written.{AllFit}
 use Rattle.session.specs.declared.session.Session.{Session}
 use Rattle.session.specs.code.Results.{ReadResult}
-use Rattle.session.specs.declared.write.WriteAnswer.{WriteAnswer}
 use Rattle.calls.specs.Book.{Step, answer}
 use Rattle.calls.specs.Calls.{Call, term, step, text, point, return, CallSeen}
 use Rattle.calls.specs.Runs.{Run}
@@ -18,7 +18,7 @@ use Rattle.calls.specs.Book.{step_numbers}
 use Rattle.session.specs.Promises.{CallRelation, SelectRelation}
 use Rattle.bundles.specs.Bundle.{row_names, step_names, row_of_line, step_of_line, bundle_text}
 use Rattle.session.specs.ReadCall.{read_answer_of}
-use Rattle.session.specs.WriteCall.{write_answer_of, WriteRelation}
+use Rattle.session.specs.WriteCall.{WriteRelation}
 use Rattle.session.specs.Demand3.{Demand3}
 use Rattle.session.specs.SessionLaws.{without_points}
 
@@ -86,15 +86,15 @@ module _ (Selected : SelectRelation) (Called : CallRelation) where
     -- that very session but for its points
     pub written_reads_back : (cs : List Call) (os : List CallSeen) (s : Session)
         → Run view Called fresh_session cs os s → Every CallFits cs
-        → (buffer left : List ℕ) (w : WriteAnswer) → Write s buffer w left → (write_answer_of w).number ≡ 0
-        → (t : ReadResult) → Read (take (write_answer_of w).value left) t
+        → (buffer left : List ℕ) (w : NumberOrRefusal) → Write s buffer w left → (answer_of w).number ≡ 0
+        → (t : ReadResult) → Read (take (answer_of w).value left) t
         → (read_answer_of t.answer ≡ answer 0 (length (view s).steps)) × (t.session ≡ without_points s)
     -- what read accepted and is written again is the same bytes
     pub same_bytes : (bytes : List ℕ) (t : ReadResult) → Read bytes t → (read_answer_of t.answer).number ≡ 0
-        → (buffer left : List ℕ) (w : WriteAnswer) → Write t.session buffer w left → (write_answer_of w).number ≡ 0
-        → take (write_answer_of w).value left ≡ bytes
+        → (buffer left : List ℕ) (w : NumberOrRefusal) → Write t.session buffer w left → (answer_of w).number ≡ 0
+        → take (answer_of w).value left ≡ bytes
     -- a buffer as long as the longest text that audit takes has room for every session that calls lead to
     pub always_room : (cs : List Call) (os : List CallSeen) (s : Session)
         → Run view Called fresh_session cs os s → Every CallFits cs
-        → (buffer left : List ℕ) (w : WriteAnswer) → Write s buffer w left → max_bytes ≤ length buffer
-        → (write_answer_of w).number ≡ 0
+        → (buffer left : List ℕ) (w : NumberOrRefusal) → Write s buffer w left → max_bytes ≤ length buffer
+        → (answer_of w).number ≡ 0

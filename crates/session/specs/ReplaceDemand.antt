@@ -1,4 +1,5 @@
 -- The call replace on a session, and what its acceptance means on every session that calls lead to. Assumes nothing.
+use Rattle.calls.specs.code.Answers.{DoneOrRefusal, done_answer_of}
 use Rattle.std.specs.Prelude.{ℕ, ◌≡◌, false, List, ◌↔◌, T}
 use Rattle.common.specs.Lists.{Every}
 use Rattle.xpath.specs.Term.{Path}
@@ -6,9 +7,8 @@ use Rattle.terms.specs.Fields.{held_path}
 use Rattle.calls.specs.Book.{Book}
 use Rattle.calls.specs.Runs.{Run}
 use Rattle.calls.specs.Calls.{Call, CallSeen, book_after}
-use Rattle.replacing.specs.declared.ReplaceAnswer.{ReplaceAnswer}
 use Rattle.replacing.specs.Covered.{is_replaced, is_covered}
-use Rattle.replacing.specs.ReplaceCall.{are_bad_lists, replace_answer, replace_answer_of}
+use Rattle.replacing.specs.ReplaceCall.{are_bad_lists, replace_answer}
 use Rattle.replacing.specs.NoneLost.{paths_of, ReplacedByTerms, Covered, NoneLost}
 use Rattle.session.specs.declared.session.Session.{Session}
 use Rattle.session.specs.View.{view}
@@ -16,11 +16,11 @@ use Rattle.session.specs.Promises.{CallRelation}
 
 -- what may be said of a replace call: the session, the old rows, the new rows, the steps, and the answer
 abbrev pub ReplaceRelation : Type 1
-ReplaceRelation = Session → (old new by : List ℕ) → ReplaceAnswer → Type 0
+ReplaceRelation = Session → (old new by : List ℕ) → DoneOrRefusal → Type 0
 
 -- `Session::replace` on s; the session stays the caller's
 abbrev pub ReplaceMet : ReplaceRelation
-ReplaceMet s old new by t = replace_answer_of t ≡ replace_answer (view s) old new by
+ReplaceMet s old new by t = done_answer_of t ≡ replace_answer (view s) old new by
 
 module _ (Replaced : ReplaceRelation) where
   -- what is asked of the session s that calls left; b is the plain book fed the same calls
@@ -33,13 +33,13 @@ module _ (Replaced : ReplaceRelation) where
     pub rows_covered : (old new by : List ℕ) → T (is_covered b old new by)
         → Every (λ n. T (held_path b.rows n)) old × Covered b (paths_of b.rows old) (paths_of b.rows new)
     -- the call answers the first refusal that applies, and accepts just when neither does
-    pub answers : (old new by : List ℕ) (t : ReplaceAnswer) → Replaced s old new by t
-        → replace_answer_of t ≡ replace_answer b old new by
-    pub accepts : (old new by : List ℕ) (t : ReplaceAnswer) → Replaced s old new by t
-        → ((replace_answer_of t).number ≡ 0) ↔ ((are_bad_lists old new by ≡ false) × T (is_covered b old new by))
+    pub answers : (old new by : List ℕ) (t : DoneOrRefusal) → Replaced s old new by t
+        → done_answer_of t ≡ replace_answer b old new by
+    pub accepts : (old new by : List ℕ) (t : DoneOrRefusal) → Replaced s old new by t
+        → ((done_answer_of t).number ≡ 0) ↔ ((are_bad_lists old new by ≡ false) × T (is_covered b old new by))
     -- where it accepts, each node that any old path selects is selected by some new one
-    pub accepted : (old new by : List ℕ) (t : ReplaceAnswer) → Replaced s old new by t
-        → (replace_answer_of t).number ≡ 0
+    pub accepted : (old new by : List ℕ) (t : DoneOrRefusal) → Replaced s old new by t
+        → (done_answer_of t).number ≡ 0
         → Every (λ n. T (held_path b.rows n)) old × NoneLost (paths_of b.rows old) (paths_of b.rows new)
 
   -- the demand: every list of calls, run from what `Session::new` gives, refused ones included

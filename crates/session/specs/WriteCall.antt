@@ -1,8 +1,7 @@
 -- What the call write promises. Assumes nothing.
+use Rattle.calls.specs.code.Answers.{NumberOrRefusal, answer_of}
 use Rattle.std.specs.Prelude.{ℕ, ◌≡◌, cond, List, ◌++◌, leb, length, drop}
 use Rattle.session.specs.declared.session.Session.{Session}
-use Rattle.session.specs.declared.write.WriteAnswer.{WriteAnswer}
-use Rattle.session.specs.declared.write.WriteAnswer.TheVariants as WriteCases
 use Rattle.calls.specs.Book.{Answer, answer}
 use Rattle.common.specs.Refusals.{short_buffer}
 use Rattle.bundles.specs.Bundle.{bundle_text}
@@ -21,15 +20,11 @@ write_answer text room = cond (leb (length text) room) (answer 0 (length text)) 
 abbrev pub write_buffer : (text buffer : List ℕ) → List ℕ
 write_buffer text buffer = cond (leb (length text) (length buffer)) (text ++ drop (length text) buffer) buffer
 
-abbrev pub write_answer_of : WriteAnswer → Answer
-write_answer_of (WriteCases.Written n) = answer 0 n
-write_answer_of (WriteCases.ShortBuffer n) = answer short_buffer n
-
 -- what may be said of a write call: the session, the buffer, the answer, and the bytes that it leaves
 abbrev pub WriteRelation : Type 1
-WriteRelation = Session → List ℕ → WriteAnswer → List ℕ → Type 0
+WriteRelation = Session → List ℕ → NumberOrRefusal → List ℕ → Type 0
 
 -- `Session::write` on s; the session stays the caller's
-pub record WriteMet (s : Session) (buffer : List ℕ) (t : WriteAnswer) (left : List ℕ) : Type 0 where
-  pub answer : write_answer_of t ≡ write_answer (session_text s) (length buffer)
+pub record WriteMet (s : Session) (buffer : List ℕ) (t : NumberOrRefusal) (left : List ℕ) : Type 0 where
+  pub answer : answer_of t ≡ write_answer (session_text s) (length buffer)
   pub bytes : left ≡ write_buffer (session_text s) buffer

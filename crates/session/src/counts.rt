@@ -10,6 +10,7 @@ use crate::session::Session;
 use matching::Sides;
 
 impl Session {
+    #[tactic(auto, using(crate::proofs::Views::steps_viewed))]
     pub fn steps_held(self) -> u16
         ensures { result ≡ length (view self).steps }
     {
@@ -17,6 +18,7 @@ impl Session {
     }
 
     // How many of the steps are held by the rule.
+    #[tactic(auto, unfolding(crate::specs::View::view))]
     pub fn rule_uses(self, rule: u16) -> usize
         ensures { result ≡ uses_of rule (view self).steps }
     {
@@ -25,6 +27,7 @@ impl Session {
     }
 
     // The rows of the last step; zeros where there is none, as the program audit prints them.
+    #[tactic(auto, using(crate::proofs::Views::steps_viewed), unfolding(crate::specs::View::view))]
     pub fn last_step(self) -> Sides
         ensures { sides_in result ≡ sides_of (step_numbered (view self).steps (length (view self).steps)) }
     {

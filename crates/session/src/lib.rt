@@ -9,9 +9,5 @@ mod replace;
 mod session;
 mod write;
 
-pub use calls::{PointAnswer, SelectAnswer, StepAnswer, TermAnswer};
-pub use ordering::OrderAnswer;
-pub use read::ReadAnswer;
-pub use replacing::ReplaceAnswer;
-pub use session::{Answered, Session, TextAnswer};
-pub use write::WriteAnswer;
+pub use calls::LineRefusal;
+pub use session::{Answered, Session};

@@ -2,11 +2,13 @@
 ghost use Rattle.session.specs.OrderDemand.{OrderMet, BundleOrderMet};
 
 use crate::session::Session;
-use ordering::OrderAnswer;
+use common::Refusal;
+use std::cmp::Ordering;
 
 impl Session {
     // Row `row` against row `other_row` of the other session.
-    pub fn order(self, row: u16, other: Session, other_row: u16) -> OrderAnswer
+    #[tactic(auto, unfolding(crate::specs::View::view))]
+    pub fn order(self, row: u16, other: Session, other_row: u16) -> Result<Ordering, Refusal>
         ensures { OrderMet self row other other_row result }
     {
         let left = self.held_rows();
@@ -14,7 +16,7 @@ impl Session {
         ordering::order_on(left, row, right, other_row)
     }
 
-    pub fn bundle_order(self, other: Session) -> OrderAnswer
+    pub fn bundle_order(self, other: Session) -> Result<Ordering, Refusal>
         ensures { BundleOrderMet self other result }
     {
         let left = self.held_rows();

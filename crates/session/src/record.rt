@@ -8,11 +8,12 @@ ghost use Rattle.records.specs.Register.{drops_in_use};
 ghost use Rattle.session.specs.View.{view};
 
 use crate::session::Session;
-use records::{Record, Records, RecordsMade};
+use records::{Answered, Record, Records};
 
 impl Session {
     // A record call on the caller's records: the answer, and the records that it leaves.
-    pub fn record(self, records: Records, given: Record) -> RecordsMade
+    #[tactic(auto, unfolding(crate::specs::View::view))]
+    pub fn record(self, records: Records, given: Record) -> Answered<Records>
         ensures { RecordMade (view self).rows (view self).steps records given result }
     {
         let rows = self.held_rows();

@@ -5,29 +5,20 @@ ghost use Rattle.session.specs.View.{view};
 ghost use Rattle.session.specs.ReplaceDemand.{ReplaceMet};
 
 use crate::session::Session;
-use replacing::ReplaceAnswer;
+use common::Refusal;
 
 impl Session {
     // `by` has the number of a step for each old row.
-    pub fn replace<'a>(self, old: &'a [u16], new: &'a [u16], by: &'a [u16]) -> ReplaceAnswer
+    pub fn replace<'a>(self, old: &'a [u16], new: &'a [u16], by: &'a [u16]) -> Result<(), Refusal>
         ensures { ReplaceMet self old.now new.now by.now result }
     {
-        let rows = self.held_rows();
-        let steps = self.held_steps();
-        replacing::replace_on(rows, steps, old, new, by)
+        replacing::replace_on(self.held(), old, new, by)
     }
 
     // The first step, counted from 1, that says that row `old`, a path, is contained in row `new`.
-    pub fn step_saying(self, old: u16, new: u16) -> Option<u16>
+    pub fn step_saying(self, old: u16, new: u16) -> Option<usize>
         ensures { PlaceIs result (step_saying (view self) old new) }
     {
-        replacing::step_saying(
-            &self.rows,
-            self.row_count,
-            &self.steps,
-            self.step_count,
-            old,
-            new,
-        )
+        replacing::step_saying(self.held(), old, new)
     }
 }

@@ -1,18 +1,16 @@
 // A session: rows of terms, steps of derivations and named points, held by value, and the calls on it.
+ghost use Rattle.calls.specs.code.Answers.{answer_of, done_answer_of};
 ghost use Rattle.std.specs.Prelude.{◌≡◌};
 ghost use Rattle.terms.specs.Row.{row};
-ghost use Rattle.calls.specs.Book.{step, answer};
+ghost use Rattle.calls.specs.Book.{step};
 ghost use Rattle.calls.specs.Calls.{Call};
-ghost use Rattle.calls.specs.code.Answers.{term_answer_of, step_answer_of};
-ghost use Rattle.calls.specs.code.Points.{point_answer_of};
 ghost use Rattle.calls.specs.code.Tables.{first_row_numbers, first_step_numbers};
-ghost use Rattle.text.specs.Promises.{refusal_number, refusal_value};
 ghost use Rattle.session.specs.View.{rows_held, steps_held, points_held, fresh_session};
-ghost use Rattle.session.specs.Promises.{Met, SelectMet, text_answer_of};
+ghost use Rattle.session.specs.Promises.{Met, SelectMet};
 
-use calls::{PointAnswer, PointCounts, SelectAnswer, Step, StepAnswer, TermAnswer};
+use calls::{Held, PointCounts, Step};
+use common::Refusal;
 use terms::Row;
-use text::TextRefusal;
 
 // The numbers of a session's tables.
 const ROW_NUMBERS: usize = terms::ROW_WIDTH * terms::MAX_ROWS;
@@ -22,7 +20,7 @@ const STEP_NUMBERS: usize = calls::STEP_WIDTH * calls::MAX_STEPS;
 const POINT_NUMBERS: usize = calls::POINT_WIDTH * calls::MAX_POINTS;
 
 // Rows, four numbers each, steps, five each, and points, three each; of each the first ones are held, as many as the
-// counts say. Fixed memory without a heap: no call can fail for want of it.
+// counts say. Fixed memory without a heap: no call can fail for want of it. No ArrayVec: calls copy sessions.
 #[derive(Clone, Copy)]
 pub struct Session {
     pub(crate) rows: [u16; ROW_NUMBERS],
@@ -41,23 +39,6 @@ pub struct Answered<A> {
     pub session: Session,
 }
 
-// The answer of a text call: 0 and the row of the text's term, or a refusal and its value, which may be a place in a
-// text of any length.
-#[derive(Clone, Copy)]
-pub struct TextAnswer {
-    pub number: u16,
-    pub value: usize,
-}
-
-fn refused_text(refused: TextRefusal) -> TextAnswer
-    ensures { text_answer_of result ≡ answer (refusal_number refused) (refusal_value refused) }
-{
-    TextAnswer {
-        number: refused.number(),
-        value: refused.value(),
-    }
-}
-
 impl Session {
     pub const ROWS: usize = terms::MAX_ROWS;
 
@@ -69,6 +50,7 @@ impl Session {
 
     pub const NODES: usize = xpath::MAX_NODES;
 
+    #[tactic(auto, unfolding(crate::specs::View::fresh_session))]
     pub fn new() -> Session
         ensures { result ≡ fresh_session }
     {
@@ -115,12 +97,20 @@ impl Session {
         calls::first_steps(&self.steps, self.step_count)
     }
 
-    pub fn term(mut self, kind: u16, a: u16, b: u16, c: u16) -> Answered<TermAnswer>
-        ensures { Met self (Call.term (row kind a b c)) (term_answer_of result.answer) result.session }
+    // The rows and the steps held.
+    pub(crate) fn held(&self) -> Held<'_>
+        ensures { (result.rows.now ≡ first_row_numbers self.now.row_count self.now.rows)
+            × (result.steps.now ≡ first_step_numbers self.now.step_count self.now.steps) }
+    {
+        Held::first(&self.rows, self.row_count, &self.steps, self.step_count)
+    }
+
+    pub fn term(mut self, kind: u16, a: u16, b: u16, c: u16) -> Answered<Result<u16, Refusal>>
+        ensures { Met self (Call.term (row kind a b c)) (answer_of result.answer) result.session }
     {
         let n = self.rows_counted();
         let answer = term_calls::term_in_place(&mut self.rows, n, Row { kind, a, b, c });
-        if answer.number() == 0 {
+        if answer.is_ok() {
             self.row_count = n + 1;
         }
         Answered {
@@ -136,8 +126,8 @@ impl Session {
         right: u16,
         first: u16,
         second: u16,
-    ) -> Answered<StepAnswer>
-        ensures { Met self (Call.step (step rule left right first second)) (step_answer_of result.answer)
+    ) -> Answered<Result<u16, Refusal>>
+        ensures { Met self (Call.step (step rule left right first second)) (answer_of result.answer)
             result.session }
     {
         let m = self.steps_counted();
@@ -148,17 +138,9 @@ impl Session {
             first,
             second,
         };
-        let table = matching::rule_table();
-        let judged = step_calls::judge_step(
-            &self.rows,
-            self.row_count,
-            &self.steps,
-            self.step_count,
-            &table,
-            step,
-        );
-        if judged.number() == 0 {
-            step_calls::put_step(&mut self.steps, m, step);
+        let judged = step_calls::judge_step(self.held(), step);
+        if judged.is_ok() {
+            common::put_record(&mut self.steps, m, step.into());
             self.step_count = m + 1;
         }
         Answered {
@@ -168,20 +150,20 @@ impl Session {
     }
 
     // Sets a point of that name.
-    pub fn point(mut self, name: u16) -> Answered<PointAnswer>
-        ensures { Met self (Call.point name) (point_answer_of result.answer) result.session }
+    pub fn point(mut self, name: u16) -> Answered<Result<(), Refusal>>
+        ensures { Met self (Call.point name) (done_answer_of result.answer) result.session }
     {
         let n = self.rows_counted();
         let m = self.steps_counted();
         let k = self.points_counted();
         let told = point_calls::judge_point(&self.points, self.point_count, name);
-        if told.number() == 0 {
+        if told.is_ok() {
             let point = PointCounts {
                 name,
                 rows: n as u16,
                 steps: m as u16,
             };
-            point_calls::put_point(&mut self.points, k, point);
+            common::put_record(&mut self.points, k, point.into());
             self.point_count = k + 1;
         }
         Answered {
@@ -192,11 +174,11 @@ impl Session {
 
     // Returns to the point of that name: just the rows and steps held when it was set are left, and later points are
     // forgotten.
-    pub fn return_to(mut self, name: u16) -> Answered<PointAnswer>
-        ensures { Met self (Call.return name) (point_answer_of result.answer) result.session }
+    pub fn return_to(mut self, name: u16) -> Answered<Result<(), Refusal>>
+        ensures { Met self (Call.return name) (done_answer_of result.answer) result.session }
     {
         let found = point_calls::judge_return(&self.points, self.point_count, name);
-        if found.number() == 0 {
+        if found.is_ok() {
             let place = point_calls::point_place(&self.points, self.point_count, name);
             let point = point_calls::point_named(&self.points, self.point_count, name);
             let n = usize::from(point.rows);
@@ -215,8 +197,8 @@ impl Session {
     }
 
     // Holds the rows that the term of the selector needs, with the numbers that the lent list gives to names.
-    pub fn text(mut self, names: &[u8], selector: &[u8]) -> Answered<TextAnswer>
-        ensures { Met self (Call.text names.now selector.now) (text_answer_of result.answer)
+    pub fn text(mut self, names: &[u8], selector: &[u8]) -> Answered<Result<u16, Refusal>>
+        ensures { Met self (Call.text names.now selector.now) (answer_of result.answer)
             result.session }
     {
         let held_rows = self.rows;
@@ -225,12 +207,9 @@ impl Session {
                 let rows = held.rows;
                 self.rows = rows;
                 self.row_count = held.count;
-                TextAnswer {
-                    number: 0,
-                    value: usize::from(held.row),
-                }
+                Ok(held.row)
             }
-            Err(refused) => refused_text(refused),
+            Err(refused) => Err(refused),
         };
         Answered {
             answer,
@@ -239,6 +218,7 @@ impl Session {
     }
 
     // Marks the nodes that the path in row `row` selects from the context node.
+    #[tactic(auto, unfolding(crate::specs::View::view))]
     pub fn select(
         self,
         row: u16,
@@ -246,7 +226,7 @@ impl Session {
         context: u16,
         limit: u32,
         marks: &mut [u8],
-    ) -> SelectAnswer
+    ) -> Result<u32, Refusal>
         ensures { SelectMet self row document.now context limit marks.old result
             marks.new }
     {

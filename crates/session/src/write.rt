@@ -1,16 +1,10 @@
 // The writing of a session's bundle into a caller's buffer.
 ghost use Rattle.std.specs.Prelude.{◌≡◌};
 ghost use Rattle.bundles.specs.code.TextPut.{TextWritten};
-ghost use Rattle.session.specs.WriteCall.{session_text, write_answer_of, WriteMet};
+ghost use Rattle.session.specs.WriteCall.{session_text, WriteMet};
 
 use crate::session::Session;
-
-// The answer of a write call: how many bytes were written, or how many are needed.
-#[derive(Clone, Copy)]
-pub enum WriteAnswer {
-    Written(usize),
-    ShortBuffer(usize),
-}
+use common::Refusal;
 
 // What lines are appended to, which T-02 speaks of: a caller's buffer, and the position of the next line.
 #[derive(Drop)]
@@ -20,6 +14,7 @@ pub struct Writer<'a> {
 }
 
 // Writes the session's bundle at `at`, where there is room for all of it. It gives the bundle's length.
+#[tactic(auto, using(crate::proofs::Written::session_tables))]
 fn write_at(out: &mut [u8], at: usize, s: Session) -> usize
     ensures { TextWritten out.old at (session_text s) result out.new }
 {
@@ -50,36 +45,17 @@ fn write_lines(out: &mut [u8], s: Session) -> usize
     Writer::at_start(out).append(s)
 }
 
-impl WriteAnswer {
-    pub fn number(self) -> u16
-        ensures { result ≡ (write_answer_of self).number }
-    {
-        match self {
-            WriteAnswer::Written(_) => 0,
-            WriteAnswer::ShortBuffer(_) => common::refusal::SHORT_BUFFER,
-        }
-    }
-
-    pub fn value(self) -> usize
-        ensures { result ≡ (write_answer_of self).value }
-    {
-        match self {
-            WriteAnswer::Written(n) => n,
-            WriteAnswer::ShortBuffer(n) => n,
-        }
-    }
-}
-
 impl Session {
     // Writes the bundle of the rows and steps held into the buffer.
-    pub fn write(self, out: &mut [u8]) -> WriteAnswer
+    #[tactic(auto, using(crate::proofs::Written::write_refused))]
+    pub fn write(self, out: &mut [u8]) -> Result<usize, Refusal>
         ensures { WriteMet self out.old result out.new }
     {
         let room = out.len();
         let size = write_lines(out, self);
         if room < size {
-            return WriteAnswer::ShortBuffer(size);
+            return Err(Refusal::ShortBuffer(size));
         }
-        WriteAnswer::Written(size)
+        Ok(size)
     }
 }

@@ -2,15 +2,16 @@
 use Prim.Native.Nat.{ℕ, ◌≤◌, ◌<◌}
 use mathlib.Core.Path.{◌≡◌, refl, sym, ap, ◌∙◌}
 use mathlib.Core.Bool.{Bool, true, false, cond, not, ◌&&◌}
-use mathlib.Core.List.{List}
-use lib.Dec.{leb, eqb}
+use mathlib.Core.List.{List, []}
+use lib.Dec.{leb}
 use lib.ListN.{length}
-use borrow.Author.Tests.{le-leb, lt-leb, eq-eqb, ne_eqb}
+use borrow.Author.Tests.{le-leb, lt-leb}
+use Rattle.std.specs.Prelude.{is_ok}
 use Rattle.calls.specs.Book.{accepted}
 use Rattle.session.specs.code.Results.{ReadResult}
 use Rattle.session.specs.View.{view}
 use Rattle.session.specs.Reading.{reading}
-use Rattle.session.specs.ReadCall.{read_answer_of, ReadMet}
+use Rattle.session.specs.ReadCall.{ReadMet}
 use Rattle.tallies.specs.declared.Tally.{Tally}
 use Rattle.common.specs.Limits.{max_bytes}
 use Rattle.tallies.specs.Count.{File, file, is_accepted}
@@ -28,36 +29,34 @@ by_tests : (failed : Bool) (bytes : List ℕ) (a b c : Bool)
 unfolding is_accepted
 by_tests failed bytes a b c is-a is_b is_c = λ i. not (is-a i) && is_b i && is_c i
 
-module _ (t : Tally) (failed : Bool) (bytes : List ℕ) where
-  pub failed_left : failed ≡ true → t ≡ with_file t (file failed bytes)
-  failed_left e = by_accepted t (file failed bytes) false (by_tests failed bytes true _ _ e refl refl)
+pub failed_left : (t : Tally) → t ≡ with_file t (file true [])
+failed_left t = by_accepted t (file true []) false (by_tests true [] true _ _ refl refl refl)
 
-  pub long_left : failed ≡ false → max_bytes < length bytes → t ≡ with_file t (file failed bytes)
-  long_left e h =
-      by_accepted t (file failed bytes) false
-      (by_tests failed bytes false false _ e (lt-leb (length bytes) max_bytes h) refl)
+module _ (t : Tally) (bytes : List ℕ) where
+  pub long_left : max_bytes < length bytes → t ≡ with_file t (file false bytes)
+  long_left h =
+      by_accepted t (file false bytes) false
+      (by_tests false bytes false false _ refl (lt-leb (length bytes) max_bytes h) refl)
 
-  module _ (ok : failed ≡ false) (short : length bytes ≤ max_bytes) (r : ReadResult) (met : ReadMet bytes r)
-      (n : ℕ) (is-n : n ≡ (read_answer_of r.answer).number)
+  module _ (short : length bytes ≤ max_bytes) (r : ReadResult) (met : ReadMet bytes r) (b : Bool)
+      (failed : is_ok r.answer ≡ not b)
     where
-      number_read : (reading bytes).answer.number ≡ n
-      number_read = sym (is-n ∙ ap (λ a. a.number) met.answer)
+      counted_if : (c : Bool) → b ≡ c
+          → cond (not c) (with_steps t (view (reading bytes).session).steps) t ≡ with_file t (file false bytes)
+      counted_if c e =
+          by_accepted t (file false bytes) (not c)
+          (by_tests false bytes false true (not c) refl (le-leb (length bytes) max_bytes short)
+          (sym met.variant ∙ failed ∙ ap not e))
 
-      pub refused_left : ¬ (n ≡ 0) → t ≡ with_file t (file failed bytes)
-      refused_left f =
-          by_accepted t (file failed bytes) false
-          (by_tests failed bytes false true false ok (le-leb (length bytes) max_bytes short)
-          (ap (λ k. eqb k 0) number_read ∙ ne_eqb n 0 f))
+      pub refused_left : b ≡ true → t ≡ with_file t (file false bytes)
+      refused_left = counted_if true
 
-      pub file_counted : n ≡ 0 → (us : List ℕ) (total : ℕ)
+      pub file_counted : b ≡ false → (us : List ℕ) (total : ℕ)
           → us ≡ plus_each t.uses (column_of (view r.session).steps)
           → total ≡ plus t.total (length (view r.session).steps)
-          → tally us total ≡ with_file t (file failed bytes)
+          → tally us total ≡ with_file t (file false bytes)
       unfolding with_steps
       file_counted e us total is_us is-total =
           let column = is_us ∙ ap (λ s. plus_each t.uses (column_of (view s).steps)) met.session in
           let steps = is-total ∙ ap (λ s. plus t.total (length (view s).steps)) met.session in
-          (λ i. tally (column i) (steps i))
-          ∙ by_accepted t (file failed bytes) true
-          (by_tests failed bytes false true true ok (le-leb (length bytes) max_bytes short)
-          (ap (λ k. eqb k 0) number_read ∙ eq-eqb n 0 e))
+          (λ i. tally (column i) (steps i)) ∙ counted_if false e

@@ -1,17 +1,19 @@
 -- The lines of a tally, one by one, and the uses with those of a session's steps. Assumes nothing.
 use Prim.Native.Nat.{ℕ, zero, suc, ◌+◌, ◌≤◌, ◌<◌}
 use mathlib.Core.Path.{◌≡◌, refl, sym, ap, ◌∙◌}
-use mathlib.Core.List.{List, [], ◌∷◌, ◌++◌}
+use mathlib.Core.List.{List, [], ◌∷◌}
 use mathlib.Core.Logic.{⊎_elim}
 use native.Mathlib.Omega.{arith}
-use lib.ListN.{length, get_or, set, length-append, length-set, get_or-append, get_or-eq_default}
+use lib.ListN.{length, get_or, set, length-append, length-set, get_or-append}
 use lib.Seq.{get_or_at, ext_get_or, get_or-set_same, get_or-set_other}
 use Rattle.common.proofs.Reflect.{below_suc}
 use Rattle.rules.specs.Yields.{max_rule}
 use Rattle.calls.specs.Book.{Step}
 use Rattle.calls.specs.Uses.{uses_of}
 use Rattle.tallies.specs.Count.{entry, rule_entries, entries_by}
-use Rattle.tallies.specs.code.Tally.{plus, plus_each, column_of, no_entry}
+use Rattle.std.specs.Prelude.{Some, None}
+use Rattle.tallies.specs.declared.TallyLine.TheVariants.{Rule, Total}
+use Rattle.tallies.specs.code.Tally.{plus, plus_each, column_of, no_entry, LineIs}
 use Rattle.tallies.proofs.Each.{each_length, each_at, plus_length, plus_at}
 
 rule_entries_length : (r : ℕ) (ns : List ℕ) → length (rule_entries r ns) ≡ length ns
@@ -30,25 +32,30 @@ rule_entries_at r (n ∷ ns) (suc j) h =
 
 -- a line of a rule, the last line, and what is past it
 module _ (us : List ℕ) (n k : ℕ) (size : length us ≡ max_rule) where
-  pub rule_line : k < max_rule → entry (k + 1) (get_or us k 0) ≡ get_or (entries_by us n) k no_entry
+  lines_length : length (entries_by us n) ≡ max_rule + 1
+  unfolding entries_by
+  lines_length = omega (arith, length-append (rule_entries 1 us) (entry 0 n ∷ []), rule_entries_length 1 us)
+
+  pub rule_line : k < max_rule → LineIs (entries_by us n) k (Some (Rule (k + 1) (get_or us k 0)))
   unfolding entries_by
   rule_line h =
       let place : k + 1 ≡ 1 + k = omega arith in
-      let inside : k < length (rule_entries 1 us) = omega (arith, rule_entries_length 1 us) in
-      ap (λ r. entry r (get_or us k 0)) place
-      ∙ sym (get_or-append (rule_entries 1 us) (entry 0 n ∷ []) no_entry k inside
-      ∙ rule_entries_at 1 us k (omega arith))
+      let inside : k < length (rule_entries 1 us) = omega (arith, rule_entries_length 1 us) in (
+        omega (arith, lines_length),
+        ap (λ r. entry r (get_or us k 0)) place
+            ∙ sym (get_or-append (rule_entries 1 us) (entry 0 n ∷ []) no_entry k inside
+            ∙ rule_entries_at 1 us k (omega arith)),
+      )
 
-  pub total_line : k ≡ max_rule → entry 0 n ≡ get_or (entries_by us n) k no_entry
+  pub total_line : k ≡ max_rule → LineIs (entries_by us n) k (Some (Total n))
   unfolding entries_by
-  total_line e = sym (get_or_at (rule_entries 1 us) (entry 0 n) [] no_entry k (rule_entries_length 1 us ∙ size ∙ sym e))
+  total_line e = (
+    omega (arith, lines_length),
+    sym (get_or_at (rule_entries 1 us) (entry 0 n) [] no_entry k (rule_entries_length 1 us ∙ size ∙ sym e)),
+  )
 
-  pub no_line : max_rule < k → no_entry ≡ get_or (entries_by us n) k no_entry
-  unfolding entries_by
-  no_line h =
-      let all : length (rule_entries 1 us ++ (entry 0 n ∷ [])) ≤ k =
-      omega (arith, length-append (rule_entries 1 us) (entry 0 n ∷ []), rule_entries_length 1 us) in
-      sym (get_or-eq_default (rule_entries 1 us ++ (entry 0 n ∷ [])) no_entry {n = k} all)
+  pub no_line : max_rule < k → LineIs (entries_by us n) k None
+  no_line h = omega (arith, lines_length)
 
 -- the first i of the uses us have those of the steps ps added, and are now vs
 pub record AddedTo (us : List ℕ) (ps : List Step) (i : ℕ) (vs : List ℕ) : Type 0 where

@@ -5,8 +5,6 @@ use Rattle.common.specs.Bounded.{first_below}
 use Rattle.lines.specs.Line.{lines}
 use Rattle.calls.specs.Book.{Answer, answer}
 use Rattle.common.specs.Refusals.{bad_name}
-use Rattle.tallies.specs.declared.ListAnswer.{ListAnswer}
-use Rattle.tallies.specs.declared.ListAnswer.TheVariants as ListCases
 
 -- up to 64 names
 abbrev pub max_files : ℕ
@@ -21,7 +19,3 @@ is_bad_name opened k = leb max_files k || not (get_or opened k false)
 unfoldable pub list_answer : (list : List ℕ) (opened : List Bool) → Answer
 list_answer list opened =
     Option-elim (first_below (length (lines list)) (is_bad_name opened)) (answer 0 0) (λ k. answer bad_name (suc k))
-
-abbrev pub list_answer_of : ListAnswer → Answer
-list_answer_of ListCases.Taken = answer 0 0
-list_answer_of (ListCases.BadName line) = answer bad_name line

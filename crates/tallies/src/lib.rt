@@ -1,14 +1,16 @@
 // The yearly tally: the uses of each rule over bundles, and the total of their steps.
 #![tactic(auto)]
 
-ghost use Rattle.std.specs.Prelude.{◌≡◌, get_or};
+ghost use Rattle.std.specs.Prelude.{◌≡◌};
+ghost use Rattle.calls.specs.code.Answers.{done_answer_of};
 ghost use Rattle.session.specs.View.{view};
-ghost use Rattle.tallies.specs.NameList.{is_bad_name, list_answer, list_answer_of};
-ghost use Rattle.tallies.specs.Count.{file};
-ghost use Rattle.tallies.specs.code.Tally.{plus_each, column_of, fresh_tally, with_file};
-ghost use Rattle.tallies.specs.code.Tally.{entries_of, entry_of, no_entry};
+ghost use Rattle.tallies.specs.NameList.{is_bad_name, list_answer};
+ghost use Rattle.tallies.specs.code.Tally.{plus_each, column_of, fresh_tally, file_read, with_file};
+ghost use Rattle.tallies.specs.code.Tally.{entries_of, LineIs};
 
+use common::Refusal;
 use session::Session;
+use std::fmt;
 
 // The most names of a list.
 pub const MAX_FILES: usize = 64;
@@ -18,13 +20,6 @@ pub const LINES: usize = RULES + 1;
 
 const RULES: usize = matching::MAX_RULE as usize;
 
-// The answer to a list of file names.
-#[derive(Clone, Copy)]
-pub enum ListAnswer {
-    Taken,
-    BadName(usize),
-}
-
 // The uses of each rule, from 1 up, and the total of the steps.
 #[derive(Clone, Copy)]
 pub struct Tally {
@@ -32,11 +27,21 @@ pub struct Tally {
     total: u64,
 }
 
-// A line of a tally: a rule and its uses, or 0 and the total.
-#[derive(Clone, Copy)]
-pub struct TallyLine {
-    pub rule: u16,
-    pub count: u64,
+// A line of a tally.
+#[derive(Clone, Copy, Debug, PartialEq, Eq)]
+pub enum TallyLine {
+    Rule { rule: u16, uses: u64 },
+    Total(u64),
+}
+
+// As it is printed: the rule and its uses, or 0 and the total.
+impl fmt::Display for TallyLine {
+    fn fmt<W: fmt::Write>(&self, f: &mut fmt::Formatter<W>) -> fmt::Result {
+        match self {
+            TallyLine::Rule { rule, uses } => write!(f, "{rule} {uses}"),
+            TallyLine::Total(total) => write!(f, "0 {total}"),
+        }
+    }
 }
 
 // Whether the line at place k, counted from 0, is refused.
@@ -47,36 +52,16 @@ fn is_bad_name(opened: &[bool], k: usize) -> bool
 }
 
 // Judges a list of names, where `opened` says of each place, counted from 0, whether its file was opened.
-pub fn judge_list<'a>(list: &'a [u8], opened: &'a [bool]) -> ListAnswer
-    ensures { list_answer_of result ≡ list_answer list.now opened.now }
+pub fn judge_list<'a>(list: &'a [u8], opened: &'a [bool]) -> Result<(), Refusal>
+    ensures { done_answer_of result ≡ list_answer list.now opened.now }
 {
     let count = names::count(list);
     for k in 0..count {
         if is_bad_name(opened, k) {
-            return ListAnswer::BadName(k + 1);
+            return Err(Refusal::BadName(k + 1));
         }
     }
-    ListAnswer::Taken
-}
-
-impl ListAnswer {
-    pub fn number(self) -> u16
-        ensures { result ≡ (list_answer_of self).number }
-    {
-        match self {
-            ListAnswer::Taken => 0,
-            ListAnswer::BadName(_) => common::refusal::BAD_NAME,
-        }
-    }
-
-    pub fn value(self) -> usize
-        ensures { result ≡ (list_answer_of self).value }
-    {
-        match self {
-            ListAnswer::Taken => 0,
-            ListAnswer::BadName(line) => line,
-        }
-    }
+    Ok(())
 }
 
 // The uses, and those among the session's steps.
@@ -100,17 +85,18 @@ impl Tally {
         }
     }
 
-    // The tally with one file more: its bytes, and whether its reading failed.
-    pub fn add(self, failed: bool, bytes: &[u8]) -> Tally
-        ensures { result ≡ with_file self (file failed bytes.now) }
+    // The tally with one file more: its bytes, or none where its reading failed.
+    pub fn add(self, bytes: Option<&[u8]>) -> Tally
+        ensures { result ≡ with_file self (file_read bytes.entry) }
     {
-        if failed || common::MAX_BYTES < bytes.len() {
+        let Some(bytes) = bytes else {
+            return self;
+        };
+        if common::MAX_BYTES < bytes.len() {
             return self;
         }
         let read = Session::read(bytes);
-        let answer = read.answer;
-        let number = answer.number();
-        if number != 0 {
+        if read.answer.is_err() {
             return self;
         }
         let session = read.session;
@@ -120,17 +106,19 @@ impl Tally {
         }
     }
 
-    // Line k of the tally, counted from 0; zeros past the last.
-    pub fn line(self, k: usize) -> TallyLine
-        ensures { entry_of result ≡ get_or (entries_of self) k no_entry }
+    // Line k of the tally, counted from 0; none past the last.
+    pub fn line(self, k: usize) -> Option<TallyLine>
+        ensures { LineIs (entries_of self) k result }
     {
         if k < RULES {
-            return TallyLine {
+            return Some(TallyLine::Rule {
                 rule: k as u16 + 1,
-                count: self.uses[k],
-            };
+                uses: self.uses[k],
+            });
         }
-        let count = if k == RULES { self.total } else { 0 };
-        TallyLine { rule: 0, count }
+        if k == RULES {
+            return Some(TallyLine::Total(self.total));
+        }
+        None
     }
 }

@@ -5,7 +5,7 @@ ghost use Rattle.std.specs.Prelude.{IfOk};
 ghost use Rattle.io.specs.Counts.{IsPrefixLen};
 
 use arrayvec::ArrayString;
-use std::fmt::Write;
+use std::fmt::{Display, Write};
 use std::fs::File;
 use std::io::Read;
 use std::rt::Files;
@@ -21,7 +21,8 @@ pub const LONGEST_LIST: usize = tallies::MAX_FILES * (LONGEST_NAME + 1) + 1;
 // Longer than a line of two numbers.
 const LONGEST_LINE: usize = 64;
 
-// The open files, in the order of their names.
+// The open files, in the order of their names. Fixed memory without a heap: no list can fail for want of it. An
+// ArrayVec asks for a default of what it holds, and a file has none.
 type OpenFiles = [Option<File>; tallies::MAX_FILES];
 
 const NO_FILE: Option<File> = None;
@@ -66,32 +67,31 @@ fn add_file(tally: Tally, mut file: File) -> Tally {
     // One byte more than a bundle has, so that a longer file shows.
     let mut bytes = [0u8; common::MAX_BYTES + 1];
     match read_file(&mut file, &mut bytes) {
-        Ok(length) => tally.add(false, &bytes[..length]),
-        Err(_) => tally.add(true, &[]),
+        Ok(length) => tally.add(Some(&bytes[..length])),
+        Err(_) => tally.add(None),
     }
 }
 
 fn add_all(files: OpenFiles) -> Tally {
     let mut tally = Tally::new();
-    for file in files {
-        if let Some(file) = file {
-            tally = add_file(tally, file);
-        }
+    for file in files.into_iter().flatten() {
+        tally = add_file(tally, file);
     }
     tally
 }
 
-fn print_line(first: u64, second: u64) {
-    let mut line = ArrayString::<LONGEST_LINE>::new();
-    let _ = writeln!(line, "{first} {second}");
-    io::write_all(1, line.as_str().as_bytes());
+fn print_line<T: Display + Drop>(line: T) {
+    let mut text = ArrayString::<LONGEST_LINE>::new();
+    let _ = writeln!(text, "{line}");
+    io::write_all(1, text.as_str().as_bytes());
 }
 
 fn print_tally(tally: Tally) {
-    io::write_all(1, b"rule uses\n");
+    print_line("rule uses");
     for k in 0..tallies::LINES {
-        let line = tally.line(k);
-        print_line(u64::from(line.rule), line.count);
+        if let Some(line) = tally.line(k) {
+            print_line(line);
+        }
     }
 }
 
@@ -105,9 +105,8 @@ pub fn print_list(rt: &impl Files<File = File>, list: &[u8]) {
     for (open, file) in opened.iter_mut().zip(&files) {
         *open = file.is_some();
     }
-    let answer = tallies::judge_list(list, &opened);
-    if answer.number() != 0 {
-        print_line(u64::from(answer.number()), answer.value() as u64);
+    if let Err(refused) = tallies::judge_list(list, &opened) {
+        print_line(format_args!("{} {}", refused.number(), refused.value()));
         return;
     }
     print_tally(add_all(files));

@@ -1,7 +1,7 @@
 -- The twelve kinds of rows, for proofs by cases. Assumes nothing.
 use Prim.Native.Nat.{ℕ, zero, suc, ◌≤◌}
 use mathlib.Core.Path.{◌≡◌, refl}
-use mathlib.Core.List.{List, [], ◌∷◌}
+use mathlib.Core.List.{List}
 use native.Mathlib.Omega.{arith}
 use Rattle.xpath.specs.Term.{Void, Root, AxisStep, Union, Composition, Filter, True, False, Not, And, Or, In}
 use Rattle.terms.specs.Row.{row}
@@ -99,12 +99,3 @@ module _ (ts : List Term) (x y z : ℕ) where
   term_qualifier and_kind h = refl
   term_qualifier or_kind h = refl
   term_qualifier in_kind h = refl
-
--- k is none of the listed numbers
-abbrev pub NoneOf : ℕ → List ℕ → Type 0
-NoneOf k [] = Unit {0}
-NoneOf k (j ∷ js) = NoneOf k js × ¬ (k ≡ j)
-
--- the kinds with a field in use, the last first
-abbrev pub kinds_in_use : List ℕ
-kinds_in_use = 11 ∷ 10 ∷ 9 ∷ 8 ∷ 5 ∷ 4 ∷ 3 ∷ 2 ∷ []

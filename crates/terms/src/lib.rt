@@ -1,19 +1,21 @@
 // Tables of rows lent as 16-bit numbers, four a row: what the fields of a row must be, its nesting, the search for an
-// equal row, and the putting of a row. An incomplete last row is no row. Notes of what a search found of rows.
+// equal row, and rows that are put and kept. An incomplete last row is no row. Notes of what a search found of rows.
 #![tactic(auto)]
 
 mod kept;
 
-ghost use Rattle.std.specs.Prelude.{◌≡◌, Some, None, cond, leb, eqb, suc, ◌+◌, ◌*◌, ◌≤◌, ◌<◌};
+ghost use Rattle.std.specs.Prelude.{◌≡◌, ◌↔◌, IsTrue, Some, None, cond, leb, ◌+◌, ◌≤◌};
 ghost use Rattle.std.specs.Prelude.{map, length, get_or, set, take};
-ghost use Rattle.std.proofs.lemmas.List.Edits.{sets};
-ghost use Rattle.terms.specs.Row.{row_at, row_width, row_numbers, table_of, max_rows, find};
-ghost use Rattle.terms.specs.Fields.{fields_of, held_path, held_qualifier, field_ok, bad_place};
+ghost use Rattle.terms.specs.Row.{row_at, row_numbers, table_of, max_rows, find};
+ghost use Rattle.terms.specs.Fields.{is_path, is_qualifier, fields_of, held_path, held_qualifier, field_ok, bad_place};
 ghost use Rattle.terms.specs.Nesting.{operand_nesting, nesting_by, nestings, nesting};
-ghost use Rattle.terms.specs.code.RowTypes.{row_of, row_in, field_of, fields_in, PlaceIs, FoundIs};
+ghost use Rattle.terms.specs.code.RowTypes.{row_of, row_in, field_of, fields_in, KindIs, PlaceIs, FoundIs};
 
-use common::{axis, node_test, row_kind};
-pub use kept::{SLOTS, clear_filter, find_kept, keep, nesting_kept, no_nestings};
+use common::axis::Axis;
+use common::node_test::NodeTest;
+use common::row_kind::RowKind;
+pub use kept::KeptRows;
+use kept::nesting_kept;
 
 // The most rows of a table.
 pub const MAX_ROWS: usize = 1024;
@@ -23,13 +25,6 @@ pub const MAX_NESTING: u16 = 32;
 
 // How many numbers a row has.
 pub const ROW_WIDTH: usize = 4;
-
-// The kinds up to LAST_PATH are paths, those from FIRST_QUALIFIER to MAX_KIND qualifiers.
-pub const LAST_PATH: u16 = row_kind::FILTER;
-
-const FIRST_QUALIFIER: u16 = row_kind::TRUE;
-
-pub const MAX_KIND: u16 = row_kind::INCLUSION;
 
 #[derive(Clone, Copy, PartialEq, Eq, Debug)]
 pub struct Row {
@@ -41,7 +36,7 @@ pub struct Row {
 
 // What stands past the end of a table.
 const NO_ROW: Row = Row {
-    kind: row_kind::VOID,
+    kind: RowKind::Void as u16,
     a: 0,
     b: 0,
     c: 0,
@@ -59,21 +54,52 @@ pub enum Field {
 }
 
 impl Row {
-    // Its numbers, in order.
-    fn numbers(self) -> [u16; ROW_WIDTH]
-        ensures { result ≡ row_numbers (row_of self) }
+    // Its kind; none of a number that no kind has, which a row that a caller lends may have.
+    pub fn read_kind(self) -> Option<RowKind>
+        ensures { KindIs result (row_of self).kind }
     {
-        [self.kind, self.a, self.b, self.c]
+        RowKind::try_from(self.kind).ok()
+    }
+
+    #[tactic(auto, unfolding(crate::specs::Fields::is_path))]
+    pub fn is_path(self) -> bool
+        ensures { result ≡ is_path (row_of self) }
+    {
+        self.read_kind().is_some_and(|kind| kind.is_path())
+    }
+
+    #[tactic(auto, unfolding(crate::specs::Fields::is_qualifier))]
+    pub fn is_qualifier(self) -> bool
+        ensures { result ≡ is_qualifier (row_of self) }
+    {
+        self.read_kind().is_some_and(|kind| !kind.is_path())
     }
 }
 
+impl From<[u16; ROW_WIDTH]> for Row {
+    ghost from_gives = { λ numbers row. row_of row ≡ row_in numbers };
+
+    fn from([kind, a, b, c]: [u16; ROW_WIDTH]) -> Row {
+        Row { kind, a, b, c }
+    }
+}
+
+impl From<Row> for [u16; ROW_WIDTH] {
+    ghost from_gives = { λ row numbers. numbers ≡ row_numbers (row_of row) };
+
+    fn from(row: Row) -> [u16; ROW_WIDTH] {
+        [row.kind, row.a, row.b, row.c]
+    }
+}
+
+// A division, as for steps and points: a function of any width would be no plainer.
 pub fn row_count(rows: &[u16]) -> usize
     ensures { result ≡ length (table_of rows.now) }
 {
     rows.len() / ROW_WIDTH
 }
 
-// The rows, each as its numbers.
+// The rows, each as its numbers. `as_chunks` is what rows, steps and points share; each says what its numbers are.
 fn whole_rows(rows: &[u16]) -> &[[u16; ROW_WIDTH]]
     ensures { map row_in result.now ≡ table_of rows.now }
 {
@@ -85,28 +111,27 @@ pub fn row_at(rows: &[u16], i: usize) -> Row
     ensures { row_of result ≡ row_at (table_of rows.now) i }
 {
     match whole_rows(rows).get(i) {
-        Some(&[kind, a, b, c]) => Row { kind, a, b, c },
+        Some(&numbers) => Row::from(numbers),
         None => NO_ROW,
     }
 }
 
 // Whether x is the number of a row that is a path.
-#[tactic(auto, unfolding(crate::specs::Fields::held_path, crate::specs::Fields::is_path))]
+#[tactic(auto, unfolding(crate::specs::Fields::held_path))]
 pub fn is_held_path(rows: &[u16], x: u16) -> bool
     ensures { result ≡ held_path (table_of rows.now) x }
 {
     let i = usize::from(x);
-    i < row_count(rows) && row_at(rows, i).kind <= LAST_PATH
+    i < row_count(rows) && row_at(rows, i).is_path()
 }
 
 // Whether x is the number of a row that is a qualifier.
-#[tactic(auto, unfolding(crate::specs::Fields::held_qualifier, crate::specs::Fields::is_qualifier))]
+#[tactic(auto, unfolding(crate::specs::Fields::held_qualifier))]
 pub fn is_held_qualifier(rows: &[u16], x: u16) -> bool
     ensures { result ≡ held_qualifier (table_of rows.now) x }
 {
     let i = usize::from(x);
-    let kind = row_at(rows, i).kind;
-    i < row_count(rows) && FIRST_QUALIFIER <= kind && kind <= MAX_KIND
+    i < row_count(rows) && row_at(rows, i).is_qualifier()
 }
 
 // What the fields a, b and c of a row of that kind must be.
@@ -114,15 +139,17 @@ pub fn is_held_qualifier(rows: &[u16], x: u16) -> bool
 pub fn fields_of(kind: u16) -> (Field, Field, Field)
     ensures { fields_in result.0 result.1 result.2 ≡ fields_of kind }
 {
-    match kind {
-        row_kind::STEP => (Field::Axis, Field::Test, Field::Name),
-        row_kind::UNION | row_kind::COMPOSITION | row_kind::INCLUSION => {
+    match RowKind::try_from(kind) {
+        Ok(RowKind::Step) => (Field::Axis, Field::Test, Field::Name),
+        Ok(RowKind::Union | RowKind::Composition | RowKind::Inclusion) => {
             (Field::Path, Field::Path, Field::Unused)
         }
-        row_kind::FILTER => (Field::Path, Field::Qualifier, Field::Unused),
-        row_kind::NOT => (Field::Qualifier, Field::Unused, Field::Unused),
-        row_kind::AND | row_kind::OR => (Field::Qualifier, Field::Qualifier, Field::Unused),
-        _ => (Field::Unused, Field::Unused, Field::Unused),
+        Ok(RowKind::Filter) => (Field::Path, Field::Qualifier, Field::Unused),
+        Ok(RowKind::Not) => (Field::Qualifier, Field::Unused, Field::Unused),
+        Ok(RowKind::And | RowKind::Or) => (Field::Qualifier, Field::Qualifier, Field::Unused),
+        Ok(RowKind::Void | RowKind::Root | RowKind::True | RowKind::False) | Err(_) => {
+            (Field::Unused, Field::Unused, Field::Unused)
+        }
     }
 }
 
@@ -133,15 +160,12 @@ fn field_ok(rows: &[u16], field: Field, x: u16, t: u16) -> bool
 {
     match field {
         Field::Unused => x == 0,
-        Field::Axis => x <= axis::LAST,
-        Field::Test => x <= node_test::LAST,
-        Field::Name => {
-            if t == node_test::NAME || t == node_test::TARGET {
-                1 <= x
-            } else {
-                x == 0
-            }
-        }
+        Field::Axis => Axis::try_from(x).is_ok(),
+        Field::Test => NodeTest::try_from(x).is_ok(),
+        Field::Name => match NodeTest::try_from(t) {
+            Ok(NodeTest::Name | NodeTest::Target) => 1 <= x,
+            _ => x == 0,
+        },
         Field::Path => is_held_path(rows, x),
         Field::Qualifier => is_held_qualifier(rows, x),
     }
@@ -168,9 +192,10 @@ pub fn bad_place(rows: &[u16], row: Row) -> Option<u16>
 pub fn find_row(rows: &[u16], row: Row) -> Option<usize>
     ensures { FoundIs result (find (table_of rows.now) (row_of row)) (length (table_of rows.now)) }
 {
-    whole_rows(rows)
-        .iter()
-        .position(|&[kind, a, b, c]| Row { kind, a, b, c } == row)
+    // Field by field: with `==` of rows a selector's text took 1.4 to 2 times as long to read.
+    whole_rows(rows).iter().position(|&[kind, a, b, c]| {
+        (kind == row.kind) & (a == row.a) & (b == row.b) & (c == row.c)
+    })
 }
 
 // Entry x, 0 past the last one: the nesting of a row that isn't there adds nothing.
@@ -236,28 +261,19 @@ pub fn nesting_of(rows: &[u16], row: Row) -> Option<u16>
     }
 }
 
-// Row n becomes `row`. It asks for a table of its size and a place in it, which its callers have.
-pub fn put_row(rows: &mut [u16], n: usize, row: Row)
-    requires { (n < max_rows) × (length rows.old ≡ row_width * max_rows) }
-    ensures { rows.new ≡ sets rows.old (row_width * n) (row_numbers (row_of row)) }
+// Whether it is noted that a search found row j for row i: at i stands j.
+pub fn is_noted(noted: &[Option<u16>], i: u16, j: u16) -> bool
+    ensures { IsTrue result ↔ (get_or noted.now i None ≡ Some j) }
 {
-    let at = ROW_WIDTH * n;
-    rows[at..at + ROW_WIDTH].copy_from_slice(&row.numbers());
-}
-
-// Whether it is noted that a search found row j for row i: at i stands j + 1.
-pub fn is_noted(noted: &[usize], i: u16, j: u16) -> bool
-    ensures { result ≡ eqb (get_or noted.now i 0) (suc j) }
-{
-    noted.get(usize::from(i)) == Some(&(usize::from(j) + 1))
+    noted.get(usize::from(i)) == Some(&Some(j))
 }
 
 // Notes it, where the table of notes reaches to i.
-pub fn note(noted: &mut [usize], i: u16, j: u16)
-    ensures { noted.new ≡ set noted.old i (suc j) }
+pub fn note(noted: &mut [Option<u16>], i: u16, j: u16)
+    ensures { noted.new ≡ set noted.old i (Some j) }
 {
     let at = usize::from(i);
     if at < noted.len() {
-        noted[at] = usize::from(j) + 1;
+        noted[at] = Some(j);
     }
 }

@@ -341,7 +341,7 @@ module _ (s list : Bytes) (left : ℕ) (xs : List ℕ) (x : Standing) (to : ℕ)
       const_wrong : (byte_at s c.to ≡ 41 → ⊥) → UnaryMet s list left xs x ys y
       unfolding step finish
       const_wrong f =
-          let shut = c.wrong f in
+          let shut = (c.wrong f).0 in
           let no : y.ok ≡ false = ap (λ (r : Standing). r.ok) shut in
           let at : y.at ≡ c.to = ap (λ (r : Standing). r.at) shut in
           let v = c.passed in

@@ -21,11 +21,12 @@ use Rattle.grammar.proofs.Answered.{given}
 use Rattle.grammar.proofs.Longer.{answer_longer, refused_stays}
 use Rattle.std.specs.Prelude.{Result, Ok, Err}
 use Rattle.readings.specs.declared.Reading.{Reading}
-use Rattle.text.specs.declared.TextRefusal.{TextRefusal}
-use Rattle.text.specs.declared.TextRefusal.TheVariants as Refusal
+use Rattle.common.specs.declared.refusal.Refusal.{Refusal}
+use Rattle.common.specs.code.Refusal.{refusal_number, refusal_value}
+use Rattle.common.proofs.Refusals.{refusal_some}
 use Rattle.heads.specs.code.Head.{callable}
 use Rattle.readings.specs.code.Build.{Standing, Sized, Holds, first_of, nothing_read}
-use Rattle.text.specs.Promises.{held_rows, refusal_number, refusal_value, TextRead}
+use Rattle.text.specs.Promises.{held_rows, TextRead}
 use Rattle.text.specs.code.Readers.{after_union, union_at_top, refusal_of, end_of, UnionRead, UnionMet, TextMet}
 use Rattle.common.specs.Lists.{joined as numbers_of}
 use Rattle.readings.proofs.Built.{refuse, table_count}
@@ -161,16 +162,9 @@ module _ (s list : Bytes) (xs : List ℕ) (count : ℕ) (z : Sized xs count) (ys
                 beyond = λ _. read.made.puts.beyond g;
               }
 
--- a refusal has a number
-pub refusal_some : (e : TextRefusal) → ¬ (refusal_number e ≡ 0)
-refusal_some (Refusal.OutsideGrammar at) h = omega (arith, h)
-refusal_some (Refusal.UnlistedName at) h = omega (arith, h)
-refusal_some Refusal.TooDeep h = omega (arith, h)
-refusal_some Refusal.TermsFull h = omega (arith, h)
-
 -- the table that is left: the rows of an accepted text stand in it, and nothing else has changed
 module _ (s list : Bytes) (xs : List ℕ) (count : ℕ) (n : ℕ) (few : n ≡ min count max_rows) (z : Sized xs n)
-    (ys : List ℕ) (a : Result Reading TextRefusal) (m : TextMet s list xs n ys (end_of n a)) where
+    (ys : List ℕ) (a : Result Reading Refusal) (m : TextMet s list xs n ys (end_of n a)) where
   abbrev rows : List Row
   rows = held_rows xs n
 
@@ -180,12 +174,12 @@ module _ (s list : Bytes) (xs : List ℕ) (count : ℕ) (n : ℕ) (few : n ≡ m
       (subst (λ (k : ℕ). Answers list s rows (answer list s rows).number k (answer list s rows).rows)
       (sym m.value) (given list s rows))
 
-  pub read_refused : (e : TextRefusal) → a ≡ Err e → TextRead list s xs (min count max_rows) (Err e)
+  pub read_refused : (e : Refusal) → a ≡ Err e → TextRead list s xs (min count max_rows) (Err e)
   unfolding table_with numbers_of
   read_refused e f =
       let all : length rows ≡ n = table_count xs n z in
       let here : Answers list s rows (refusal_number e) (refusal_value e) (answer list s rows).rows =
-      subst (λ (r : Result Reading TextRefusal). Answers list s rows (end_of n r).number (end_of n r).value
+      subst (λ (r : Result Reading Refusal). Answers list s rows (end_of n r).number (end_of n r).value
       (answer list s rows).rows) f told in
       let same : (answer list s rows).rows ≡ rows = refused_stays list s rows _ _ _ here (refusal_some e) in
       let none : drop n rows ≡ [] = drop_of_length-le rows {i = n} (omega (arith, all)) in
@@ -200,9 +194,9 @@ module _ (s list : Bytes) (xs : List ℕ) (count : ℕ) (n : ℕ) (few : n ≡ m
   pub read_accepted : (r : Reading) → a ≡ Ok r
       → TextRead list s xs (min count max_rows) (Ok (record { row = r.row; rows = ys; count = r.count }))
   read_accepted r f =
-      let met = subst (λ (q : Result Reading TextRefusal). TextMet s list xs n ys (end_of n q)) f m in
+      let met = subst (λ (q : Result Reading Refusal). TextMet s list xs n ys (end_of n q)) f m in
       let here : Answers list s rows 0 r.row (answer list s rows).rows =
-      subst (λ (q : Result Reading TextRefusal). Answers list s rows (end_of n q).number (end_of n q).value
+      subst (λ (q : Result Reading Refusal). Answers list s rows (end_of n q).number (end_of n q).value
       (answer list s rows).rows) f told in
       let left = met.accepted refl in
       let (new, grown) = answer_longer list s rows _ _ _ here in

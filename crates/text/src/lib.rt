@@ -11,9 +11,10 @@ ghost use Rattle.words.specs.code.Index.{max_length};
 ghost use Rattle.readings.specs.code.Build.{stands, ended, Sized};
 ghost use Rattle.text.specs.code.Readers.{Ready, PredicateMet, StepMet, PathMet, UnionMet, UnaryMet, AndMet};
 ghost use Rattle.text.specs.code.Readers.{OrMet, TextMet, end_of};
-ghost use Rattle.text.specs.Promises.{refusal_number, refusal_value, TextRead};
+ghost use Rattle.text.specs.Promises.{TextRead};
 
-use common::{refusal, row_kind};
+use common::Refusal;
+use common::row_kind::RowKind;
 use heads::Opens;
 use readings::{Reading, Start};
 use words::Names;
@@ -32,38 +33,6 @@ const MIN_TEXT: usize = 32;
 
 const MAX_LIST: usize = 4294967295;
 
-// Why a text is refused: the place of the first byte that can't continue, or of the first name that is not listed; the
-// term is nested too deep, or its rows don't fit.
-#[derive(Clone, Copy, PartialEq, Eq, Debug)]
-pub enum TextRefusal {
-    OutsideGrammar(usize),
-    UnlistedName(usize),
-    TooDeep,
-    TermsFull,
-}
-
-impl TextRefusal {
-    pub fn number(self) -> u16
-        ensures { result ≡ refusal_number self }
-    {
-        match self {
-            TextRefusal::OutsideGrammar(_) => refusal::OUTSIDE_GRAMMAR,
-            TextRefusal::UnlistedName(_) => refusal::UNLISTED_NAME,
-            TextRefusal::TooDeep => refusal::TOO_DEEP,
-            TextRefusal::TermsFull => refusal::TERMS_FULL,
-        }
-    }
-
-    pub fn value(self) -> usize
-        ensures { result ≡ refusal_value self }
-    {
-        match self {
-            TextRefusal::OutsideGrammar(at) | TextRefusal::UnlistedName(at) => at,
-            TextRefusal::TooDeep | TextRefusal::TermsFull => 0,
-        }
-    }
-}
-
 // The row of a text's term, and the table with the rows that it needs, of which the first are held, as many as `count`
 // says. Fixed memory without a heap: no call can fail for want of it.
 #[derive(Clone, Copy)]
@@ -73,224 +42,189 @@ pub struct TextHeld {
     pub count: usize,
 }
 
-// A predicate whose `[` is where `from`, the step so far, ends.
-#[cycle(expression)]
-fn read_predicate(
-    s: &[u8],
-    names: Names<'_>,
-    rows: &mut [u16],
-    from: Reading,
-    left: usize,
-) -> Result<Reading, usize>
-    requires ready { Ready s.now rows.old (stands from) }
-    requires at_value { byte_at s.now from.at ≡ open_bracket }
-    ensures { PredicateMet s.now names.entry.list.now
-        left rows.old (stands from) rows.new (ended result) }
-{
-    if left == 0 {
-        return Err(from.at);
-    }
-    let at = from.at + 1;
-    let inner = read_or(s, names, rows, Reading { at, ..from }, left - 1)?;
-    let shut = readings::close(s, inner, b']')?;
-    Ok(readings::join(rows, row_kind::FILTER, from, shut))
+// What is read: the text, and the list of its names. What its methods ask of a reading, `Ready`, is no ghost field: it
+// is of the reading and the table together, and each method changes both.
+#[derive(Clone, Copy)]
+struct Reader<'a> {
+    s: &'a [u8],
+    names: Names<'a>,
 }
 
-// A step that begins at a place without whitespace: its head and predicates.
-#[cycle(expression)]
-fn read_step(
-    s: &[u8],
-    names: Names<'_>,
-    rows: &mut [u16],
-    from: Reading,
-    left: usize,
-) -> Result<Reading, usize>
-    requires ready { Ready s.now rows.old (stands from) }
-    requires at_value { is_space (byte_at s.now from.at) ≡ false }
-    ensures { StepMet s.now names.entry.list.now
-        left rows.old (stands from) rows.new (ended result) }
-{
-    let head = heads::read_head(s, names, from.at)?;
-    let mut got = readings::put_head(rows, from, head);
-    if !head.filters {
-        return readings::step_end(s, got);
-    }
-    // By `while`: where the next predicate begins is known only when this one is read.
-    while byte_at(s, got.at) == b'[' {
-        got = read_predicate(s, names, rows, got, left)?;
-    }
-    readings::step_end(s, got)
-}
-
-// Steps joined by `/` and `//`, which may stand in front of them too; or `/` alone.
-#[cycle(expression)]
-fn read_path(
-    s: &[u8],
-    names: Names<'_>,
-    rows: &mut [u16],
-    from: Reading,
-    left: usize,
-) -> Result<Reading, usize>
-    requires ready { Ready s.now rows.old (stands from) }
-    ensures { PathMet s.now names.entry.list.now
-        left rows.old (stands from) rows.new (ended result) }
-{
-    let mut got = match readings::begin_path(s, rows, from)? {
-        Start::Root(root) => {
-            return Ok(root);
+impl Reader<'_> {
+    // A predicate whose `[` is where `from`, the step so far, ends.
+    #[cycle(expression)]
+    fn read_predicate(self, rows: &mut [u16], from: Reading, left: usize) -> Result<Reading, usize>
+        requires ready { Ready self.s.now rows.old (stands from) }
+        requires at_value { byte_at self.s.now from.at ≡ open_bracket }
+        ensures { PredicateMet self.entry.s.now self.entry.names.list.now
+            left rows.old (stands from) rows.new (ended result) }
+    {
+        if left == 0 {
+            return Err(from.at);
         }
-        Start::First(lead) => read_step(s, names, rows, lead, left)?,
-        Start::Below(lead) => {
-            let step = read_step(s, names, rows, lead, left)?;
-            readings::join(rows, row_kind::COMPOSITION, lead, step)
-        }
-    };
-    // By `while`: where the next step begins is known only when this one is read.
-    while byte_at(s, got.at) == b'/' {
-        let before = readings::pass_slash(s, rows, got);
-        let step = read_step(s, names, rows, before, left)?;
-        got = readings::join(rows, row_kind::COMPOSITION, before, step);
+        let at = from.at + 1;
+        let inner = self.read_or(rows, Reading { at, ..from }, left - 1)?;
+        let shut = readings::close(self.s, inner, b']')?;
+        Ok(readings::join(rows, RowKind::Filter, from, shut))
     }
-    Ok(got)
-}
 
-// Paths joined by `|`. `read_and` and `read_or` are no one function with this: they share a loop of a few lines, and
-// each promises the tree of its own rule.
-#[cycle(expression)]
-fn read_union(
-    s: &[u8],
-    names: Names<'_>,
-    rows: &mut [u16],
-    from: Reading,
-    left: usize,
-) -> Result<Reading, usize>
-    requires ready { Ready s.now rows.old (stands from) }
-    ensures { UnionMet s.now names.entry.list.now
-        left rows.old (stands from) rows.new (ended result) }
-{
-    let mut got = read_path(s, names, rows, from, left)?;
-    // By `while`: where the next path begins is known only when this one is read.
-    while byte_at(s, got.at) == b'|' {
-        let at = got.at + 1;
-        let path = read_path(s, names, rows, Reading { at, ..got }, left)?;
-        got = readings::join(rows, row_kind::UNION, got, path);
-    }
-    Ok(got)
-}
-
-// An operand of `and` or `or`: paths, of which there must be some; an expression in `( )` or `not ( )`; `true ( )` or
-// `false ( )`.
-#[cycle(expression)]
-fn read_operand(
-    s: &[u8],
-    names: Names<'_>,
-    rows: &mut [u16],
-    from: Reading,
-    left: usize,
-) -> Result<Reading, usize>
-    requires ready { Ready s.now rows.old (stands from) }
-    ensures { UnaryMet s.now names.entry.list.now
-        left rows.old (stands from) rows.new (ended result) }
-{
-    let operand = heads::operand_at(s, skip(s, from.at));
-    let paren = operand.paren;
-    match operand.opens {
-        Opens::Paths => {
-            let paths = read_union(s, names, rows, from, left)?;
-            return Ok(readings::some_of(rows, paths));
+    // A step that begins at a place without whitespace: its head and predicates.
+    #[cycle(expression)]
+    fn read_step(self, rows: &mut [u16], from: Reading, left: usize) -> Result<Reading, usize>
+        requires ready { Ready self.s.now rows.old (stands from) }
+        requires at_value { is_space (byte_at self.s.now from.at) ≡ false }
+        ensures { StepMet self.entry.s.now self.entry.names.list.now
+            left rows.old (stands from) rows.new (ended result) }
+    {
+        let head = heads::read_head(self.s, self.names, from.at)?;
+        let mut got = readings::put_head(rows, from, head);
+        if !head.filters {
+            return readings::step_end(self.s, got);
         }
-        Opens::True => {
-            let at = paren + 1;
-            return readings::constant(s, rows, Reading { at, ..from }, row_kind::TRUE);
+        // By `while`: where the next predicate begins is known only when this one is read.
+        while byte_at(self.s, got.at) == b'[' {
+            got = self.read_predicate(rows, got, left)?;
         }
-        Opens::False => {
-            let at = paren + 1;
-            return readings::constant(s, rows, Reading { at, ..from }, row_kind::FALSE);
+        readings::step_end(self.s, got)
+    }
+
+    // Steps joined by `/` and `//`, which may stand in front of them too; or `/` alone.
+    #[cycle(expression)]
+    fn read_path(self, rows: &mut [u16], from: Reading, left: usize) -> Result<Reading, usize>
+        requires ready { Ready self.s.now rows.old (stands from) }
+        ensures { PathMet self.entry.s.now self.entry.names.list.now
+            left rows.old (stands from) rows.new (ended result) }
+    {
+        let mut got = match readings::begin_path(self.s, rows, from)? {
+            Start::Root(root) => {
+                return Ok(root);
+            }
+            Start::First(lead) => self.read_step(rows, lead, left)?,
+            Start::Below(lead) => {
+                let step = self.read_step(rows, lead, left)?;
+                readings::join(rows, RowKind::Composition, lead, step)
+            }
+        };
+        // By `while`: where the next step begins is known only when this one is read.
+        while byte_at(self.s, got.at) == b'/' {
+            let before = readings::pass_slash(self.s, rows, got);
+            let step = self.read_step(rows, before, left)?;
+            got = readings::join(rows, RowKind::Composition, before, step);
         }
-        Opens::Group | Opens::Not => {}
+        Ok(got)
     }
-    if left == 0 {
-        return Err(paren);
-    }
-    let at = paren + 1;
-    let inner = read_or(s, names, rows, Reading { at, ..from }, left - 1)?;
-    let shut = readings::close(s, inner, b')')?;
-    Ok(readings::negate_if(rows, operand.opens, shut))
-}
 
-// Operands joined by `and`.
-#[cycle(expression)]
-fn read_and(
-    s: &[u8],
-    names: Names<'_>,
-    rows: &mut [u16],
-    from: Reading,
-    left: usize,
-) -> Result<Reading, usize>
-    requires ready { Ready s.now rows.old (stands from) }
-    ensures { AndMet s.now names.entry.list.now left rows.old (stands from) rows.new (ended result) }
-{
-    let mut got = read_operand(s, names, rows, from, left)?;
-    // By `while`: where the next operand begins is known only when this one is read.
-    while byte_at(s, got.at) == b'a' {
-        let word = readings::pass_word(s, got, b"and")?;
-        let right = read_operand(s, names, rows, word, left)?;
-        got = readings::join(rows, row_kind::AND, got, right);
+    // Paths joined by `|`. `read_and` and `read_or` are no one function with this: they share a loop of a few lines,
+    // and each promises the tree of its own rule.
+    #[cycle(expression)]
+    fn read_union(self, rows: &mut [u16], from: Reading, left: usize) -> Result<Reading, usize>
+        requires ready { Ready self.s.now rows.old (stands from) }
+        ensures { UnionMet self.entry.s.now self.entry.names.list.now
+            left rows.old (stands from) rows.new (ended result) }
+    {
+        let mut got = self.read_path(rows, from, left)?;
+        // By `while`: where the next path begins is known only when this one is read.
+        while byte_at(self.s, got.at) == b'|' {
+            let at = got.at + 1;
+            let path = self.read_path(rows, Reading { at, ..got }, left)?;
+            got = readings::join(rows, RowKind::Union, got, path);
+        }
+        Ok(got)
     }
-    Ok(got)
-}
 
-// Those joined by `or`.
-#[cycle(expression)]
-fn read_or(
-    s: &[u8],
-    names: Names<'_>,
-    rows: &mut [u16],
-    from: Reading,
-    left: usize,
-) -> Result<Reading, usize>
-    requires ready { Ready s.now rows.old (stands from) }
-    ensures { OrMet s.now names.entry.list.now left rows.old (stands from) rows.new (ended result) }
-{
-    let mut got = read_and(s, names, rows, from, left)?;
-    // By `while`: where the next operand begins is known only when this one is read.
-    while byte_at(s, got.at) == b'o' {
-        let word = readings::pass_word(s, got, b"or")?;
-        let right = read_and(s, names, rows, word, left)?;
-        got = readings::join(rows, row_kind::OR, got, right);
+    // An operand of `and` or `or`: paths, of which there must be some; an expression in `( )` or `not ( )`;
+    // `true ( )` or `false ( )`.
+    #[cycle(expression)]
+    fn read_operand(self, rows: &mut [u16], from: Reading, left: usize) -> Result<Reading, usize>
+        requires ready { Ready self.s.now rows.old (stands from) }
+        ensures { UnaryMet self.entry.s.now self.entry.names.list.now
+            left rows.old (stands from) rows.new (ended result) }
+    {
+        let operand = heads::operand_at(self.s, skip(self.s, from.at));
+        let paren = operand.paren;
+        match operand.opens {
+            Opens::Paths => {
+                let paths = self.read_union(rows, from, left)?;
+                return Ok(readings::some_of(rows, paths));
+            }
+            Opens::True => {
+                let at = paren + 1;
+                return readings::constant(self.s, rows, Reading { at, ..from }, RowKind::True);
+            }
+            Opens::False => {
+                let at = paren + 1;
+                return readings::constant(self.s, rows, Reading { at, ..from }, RowKind::False);
+            }
+            Opens::Group | Opens::Not => {}
+        }
+        if left == 0 {
+            return Err(paren);
+        }
+        let at = paren + 1;
+        let inner = self.read_or(rows, Reading { at, ..from }, left - 1)?;
+        let shut = readings::close(self.s, inner, b')')?;
+        Ok(readings::negate_if(rows, operand.opens, shut))
     }
-    Ok(got)
+
+    // Operands joined by `and`.
+    #[cycle(expression)]
+    fn read_and(self, rows: &mut [u16], from: Reading, left: usize) -> Result<Reading, usize>
+        requires ready { Ready self.s.now rows.old (stands from) }
+        ensures { AndMet self.entry.s.now self.entry.names.list.now
+            left rows.old (stands from) rows.new (ended result) }
+    {
+        let mut got = self.read_operand(rows, from, left)?;
+        // By `while`: where the next operand begins is known only when this one is read.
+        while byte_at(self.s, got.at) == b'a' {
+            let word = readings::pass_word(self.s, got, b"and")?;
+            let right = self.read_operand(rows, word, left)?;
+            got = readings::join(rows, RowKind::And, got, right);
+        }
+        Ok(got)
+    }
+
+    // Those joined by `or`.
+    #[cycle(expression)]
+    fn read_or(self, rows: &mut [u16], from: Reading, left: usize) -> Result<Reading, usize>
+        requires ready { Ready self.s.now rows.old (stands from) }
+        ensures { OrMet self.entry.s.now self.entry.names.list.now left rows.old (stands from) rows.new (ended result) }
+    {
+        let mut got = self.read_and(rows, from, left)?;
+        // By `while`: where the next operand begins is known only when this one is read.
+        while byte_at(self.s, got.at) == b'o' {
+            let word = readings::pass_word(self.s, got, b"or")?;
+            let right = self.read_and(rows, word, left)?;
+            got = readings::join(rows, RowKind::Or, got, right);
+        }
+        Ok(got)
+    }
 }
 
 // The reading of the whole text, where the first rows of the table are held, as many as `count` says. A refused text
 // may leave other rows after them.
-fn read_in(
-    s: &[u8],
-    names: Names<'_>,
-    rows: &mut [u16],
-    count: usize,
-) -> Result<Reading, TextRefusal>
+fn read_in(s: &[u8], names: Names<'_>, rows: &mut [u16], count: usize) -> Result<Reading, Refusal>
     requires sized { Sized rows.old count }
     ensures { TextMet s.now names.entry.list.now rows.old count rows.new (end_of count result) }
 {
     let start = readings::nothing_read(count);
-    let got = match read_union(s, names, rows, start, MAX_LEVELS) {
+    let reader = Reader { s, names };
+    let got = match reader.read_union(rows, start, MAX_LEVELS) {
         Ok(got) => got,
         Err(at) => {
-            return Err(TextRefusal::OutsideGrammar(at));
+            return Err(Refusal::OutsideGrammar(at));
         }
     };
     if got.at < s.len() {
-        return Err(TextRefusal::OutsideGrammar(got.at));
+        return Err(Refusal::OutsideGrammar(got.at));
     }
     if let Some(place) = got.missing {
-        return Err(TextRefusal::UnlistedName(place));
+        return Err(Refusal::UnlistedName(place));
     }
     if terms::MAX_NESTING < got.nesting {
-        return Err(TextRefusal::TooDeep);
+        return Err(Refusal::TooDeep);
     }
     if !got.fits {
-        return Err(TextRefusal::TermsFull);
+        return Err(Refusal::TermsFull);
     }
     Ok(got)
 }
@@ -304,37 +238,35 @@ fn is_indexed(s: &[u8], names: &[u8]) -> bool
 }
 
 // The same reading, by an index of the list.
-fn read_indexed(
-    s: &[u8],
-    names: &[u8],
-    rows: &mut [u16],
-    count: usize,
-) -> Result<Reading, TextRefusal>
+fn read_indexed(s: &[u8], names: &[u8], rows: &mut [u16], count: usize) -> Result<Reading, Refusal>
     requires sized { Sized rows.old count }
     requires names_len_bound { length names.now ≤ max_length }
     ensures { TextMet s.now names.now rows.old count rows.new (end_of count result) }
 {
     let mut index = words::index::blank_index();
-    let size = words::index::index_lines(names, &mut index);
-    let index = &index[..size];
-    read_in(s, Names { list: names, index }, rows, count)
+    let (size, others) = words::index::index_lines(names, &mut index);
+    let names = Names {
+        list: names,
+        index: &index[..size],
+        others,
+    };
+    read_in(s, names, rows, count)
 }
 
 // The same reading, with an index or without.
-fn read_listed(
-    s: &[u8],
-    names: &[u8],
-    rows: &mut [u16],
-    count: usize,
-) -> Result<Reading, TextRefusal>
+fn read_listed(s: &[u8], names: &[u8], rows: &mut [u16], count: usize) -> Result<Reading, Refusal>
     requires { Sized rows.old count }
     ensures { TextMet s.now names.now rows.old count rows.new (end_of count result) }
 {
     if is_indexed(s, names) {
         return read_indexed(s, names, rows, count);
     }
-    let index = &[0];
-    read_in(s, Names { list: names, index }, rows, count)
+    let names = Names {
+        list: names,
+        index: &[],
+        others: 0,
+    };
+    read_in(s, names, rows, count)
 }
 
 // The reading of the text `s` with the lent list of names, where the first rows of the table are held, as many as
@@ -344,7 +276,7 @@ pub fn read_text(
     names: &[u8],
     mut rows: [u16; TABLE_SIZE],
     count: usize,
-) -> Result<TextHeld, TextRefusal>
+) -> Result<TextHeld, Refusal>
     ensures { TextRead names.now s.now rows (min count max_rows) result }
 {
     let held = count.min(terms::MAX_ROWS);

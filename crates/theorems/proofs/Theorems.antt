@@ -13,14 +13,13 @@ use Rattle.calls.specs.PointLaws.{ReturnRestores}
 use Rattle.calls.specs.Runs.{Run}
 use Rattle.calls.specs.SelectLaws.{LimitSuffices, MarksSameElsewhere}
 use Rattle.calls.specs.TextLaws.{AnswersAsDefined, AsTermCalls, GivesItsTerm, GivesItsNesting}
-use Rattle.calls.specs.declared.SelectAnswer.{SelectAnswer}
+use Rattle.calls.specs.code.Answers.{NumberOrRefusal, DoneOrRefusal, OrderOrRefusal}
 use Rattle.common.specs.Lists.{Every}
 use Rattle.grammar.specs.Abbreviations.{Expanded, Meant}
 use Rattle.matching.specs.code.RowYields.{Sides, one_sort, says_of, row_yields}
 use Rattle.ordering.specs.BundleOrder.{steps_order}
 use Rattle.ordering.specs.OrderLaws.{TotalOrder, SortedMatch}
 use Rattle.ordering.specs.TermOrder.{term_order}
-use Rattle.ordering.specs.declared.OrderAnswer.{OrderAnswer}
 use Rattle.records.specs.code.Held.{records_in}
 use Rattle.records.specs.code.Listed.{listed}
 use Rattle.records.specs.Records.{current}
@@ -30,7 +29,6 @@ use Rattle.records.specs.declared.Records.{Records}
 use Rattle.register.specs.Demand.{DemandOfRegister, ReleasesKept, ReleasedAgain, CrewIsolated}
 use Rattle.register.specs.Promises.{fresh_register, RegisterMet, RegisterReadMet, holdings, released_in}
 use Rattle.register.specs.declared.Register.{Register}
-use Rattle.replacing.specs.declared.ReplaceAnswer.{ReplaceAnswer}
 use Rattle.rules.specs.Claim.{Claim, IsTrue}
 use Rattle.rules.specs.Yields.{Yields}
 use Rattle.session.specs.Demand3.{DemandThree}
@@ -43,7 +41,6 @@ use Rattle.session.specs.SessionLaws.{WholeSession, NoPointLeft, SessionRestored
 use Rattle.session.specs.View.{view, fresh_session}
 use Rattle.session.specs.WriteCall.{WriteMet}
 use Rattle.session.specs.declared.session.Session.{Session}
-use Rattle.session.specs.declared.write.WriteAnswer.{WriteAnswer}
 use Rattle.terms.specs.AcceptedRows.{Built}
 use Rattle.terms.specs.Row.{Row}
 use Rattle.xpath.specs.Chain.{ChainVisits}
@@ -103,20 +100,20 @@ pub record SessionTheorems : Type 0 where
   pub meant : Meant
   -- select answers the first refusal that applies and leaves the buffer, or marks the nodes that the path selects and
   -- answers the visits
-  pub select : (s : Session) (row : ℕ) (xs : List ℕ) (x limit : ℕ) (buffer : List ℕ) (t : SelectAnswer) (left : List ℕ)
-      → session.Selected s row xs x limit buffer t left → SelectMet s row xs x limit buffer t left
+  pub select : (s : Session) (row : ℕ) (xs : List ℕ) (x limit : ℕ) (buffer : List ℕ) (t : NumberOrRefusal)
+      (left : List ℕ) → session.Selected s row xs x limit buffer t left → SelectMet s row xs x limit buffer t left
   -- read answers the first refused line and leaves a fresh session, or the number of steps and leaves what the calls do
   pub read : (bytes : List ℕ) (t : ReadResult) → session.Read bytes t → ReadMet bytes t
   -- replace answers the first refusal that applies, or accepts
-  pub replace : (s : Session) (old new by : List ℕ) (t : ReplaceAnswer)
+  pub replace : (s : Session) (old new by : List ℕ) (t : DoneOrRefusal)
       → session.Replaced s old new by t → ReplaceMet s old new by t
   -- order answers 5 for a row that is not held, or the order of the rows' terms; bundle order answers that of the steps
-  pub order : (s : Session) (i : ℕ) (t : Session) (j : ℕ) (r : OrderAnswer) → session.Ordered s i t j r
+  pub order : (s : Session) (i : ℕ) (t : Session) (j : ℕ) (r : OrderOrRefusal) → session.Ordered s i t j r
       → OrderMet s i t j r
-  pub bundle_order_lem : (s t : Session) (r : OrderAnswer) → session.BundleOrdered s t r → BundleOrderMet s t r
+  pub bundle_order_lem : (s t : Session) (r : OrderOrRefusal) → session.BundleOrdered s t r → BundleOrderMet s t r
   -- write answers 0 with the length and leaves the bundle's text at the buffer's start, or 16 with the length needed
   -- and the buffer as it was
-  pub write : (s : Session) (buffer : List ℕ) (w : WriteAnswer) (left : List ℕ) → session.Write s buffer w left
+  pub write : (s : Session) (buffer : List ℕ) (w : NumberOrRefusal) (left : List ℕ) → session.Write s buffer w left
       → WriteMet s buffer w left
   -- the first step that says that one row is contained in another, if there is one, the number of steps, that of a
   -- rule's steps, and the rows of the last step are those of the steps held
@@ -158,13 +155,13 @@ pub record SessionTheorems : Type 0 where
   pub calls_exist : (s : Session) (cs : List Call)
       → (os : List CallSeen) × (t : Session) × Run view session.Called s cs os t
   pub selects_exist : (s : Session) (row : ℕ) (xs : List ℕ) (x limit : ℕ) (buffer : List ℕ)
-      → (t : SelectAnswer) × (left : List ℕ) × session.Selected s row xs x limit buffer t left
+      → (t : NumberOrRefusal) × (left : List ℕ) × session.Selected s row xs x limit buffer t left
   pub reads_exist : (bytes : List ℕ) → (t : ReadResult) × session.Read bytes t
-  pub replaces_exist : (s : Session) (old new by : List ℕ) → (t : ReplaceAnswer) × session.Replaced s old new by t
-  pub orders_exist : (s : Session) (i : ℕ) (t : Session) (j : ℕ) → (r : OrderAnswer) × session.Ordered s i t j r
-  pub bundle_orders_exist : (s t : Session) → (r : OrderAnswer) × session.BundleOrdered s t r
+  pub replaces_exist : (s : Session) (old new by : List ℕ) → (t : DoneOrRefusal) × session.Replaced s old new by t
+  pub orders_exist : (s : Session) (i : ℕ) (t : Session) (j : ℕ) → (r : OrderOrRefusal) × session.Ordered s i t j r
+  pub bundle_orders_exist : (s t : Session) → (r : OrderOrRefusal) × session.BundleOrdered s t r
   pub writes_exist : (s : Session) (buffer : List ℕ)
-      → (w : WriteAnswer) × (left : List ℕ) × session.Write s buffer w left
+      → (w : NumberOrRefusal) × (left : List ℕ) × session.Write s buffer w left
   -- a select call on a path of k steps, with a limit of at least the bound, is never answered 15; two accepted calls of
   -- one step of a path, on lent numbers that differ in the name of one node, mark every other node alike
   pub limit_suffices : LimitSuffices
@@ -204,15 +201,15 @@ pub record RegisterTheorems : Type 0 where
   pub crew_current_lem : (r : Register) (series e : ℕ) → register.CrewCurrent r series e
       → e ≡ crew_current (released_in r) series
   -- select, replace, order, bundle order and write are those of the register's session
-  pub select : (s : Session) (row : ℕ) (xs : List ℕ) (x limit : ℕ) (buffer : List ℕ) (t : SelectAnswer) (left : List ℕ)
-      → register.Selected s row xs x limit buffer t left → SelectMet s row xs x limit buffer t left
-  pub replace : (r : Register) (old new by : List ℕ) (t : ReplaceAnswer) → register.Replaced r old new by t
+  pub select : (s : Session) (row : ℕ) (xs : List ℕ) (x limit : ℕ) (buffer : List ℕ) (t : NumberOrRefusal)
+      (left : List ℕ) → register.Selected s row xs x limit buffer t left → SelectMet s row xs x limit buffer t left
+  pub replace : (r : Register) (old new by : List ℕ) (t : DoneOrRefusal) → register.Replaced r old new by t
       → ReplaceMet r.session old new by t
-  pub order : (q : Register) (i : ℕ) (r : Register) (j : ℕ) (t : OrderAnswer) → register.Ordered q i r j t
+  pub order : (q : Register) (i : ℕ) (r : Register) (j : ℕ) (t : OrderOrRefusal) → register.Ordered q i r j t
       → OrderMet q.session i r.session j t
-  pub bundle_order_lem : (q r : Register) (t : OrderAnswer) → register.BundleOrdered q r t
+  pub bundle_order_lem : (q r : Register) (t : OrderOrRefusal) → register.BundleOrdered q r t
       → BundleOrderMet q.session r.session t
-  pub write : (r : Register) (buffer : List ℕ) (w : WriteAnswer) (left : List ℕ) → register.Write r buffer w left
+  pub write : (r : Register) (buffer : List ℕ) (w : NumberOrRefusal) (left : List ℕ) → register.Write r buffer w left
       → WriteMet r.session buffer w left
   -- read gives what the session's does, without records and releases
   pub read : (bytes : List ℕ) (t : register-read.ReadResult) → register.Read bytes t → RegisterReadMet bytes t
@@ -239,12 +236,12 @@ pub record RegisterTheorems : Type 0 where
   pub crew_listings_exist : (r : Register) → (l : Records) × register.CrewListing r l
   pub crew_currents_exist : (r : Register) (series : ℕ) → (e : ℕ) × register.CrewCurrent r series e
   pub selects_exist : (s : Session) (row : ℕ) (xs : List ℕ) (x limit : ℕ) (buffer : List ℕ)
-      → (t : SelectAnswer) × (left : List ℕ) × register.Selected s row xs x limit buffer t left
-  pub replaces_exist : (r : Register) (old new by : List ℕ) → (t : ReplaceAnswer) × register.Replaced r old new by t
-  pub orders_exist : (q : Register) (i : ℕ) (r : Register) (j : ℕ) → (t : OrderAnswer) × register.Ordered q i r j t
-  pub bundle_orders_exist : (q r : Register) → (t : OrderAnswer) × register.BundleOrdered q r t
+      → (t : NumberOrRefusal) × (left : List ℕ) × register.Selected s row xs x limit buffer t left
+  pub replaces_exist : (r : Register) (old new by : List ℕ) → (t : DoneOrRefusal) × register.Replaced r old new by t
+  pub orders_exist : (q : Register) (i : ℕ) (r : Register) (j : ℕ) → (t : OrderOrRefusal) × register.Ordered q i r j t
+  pub bundle_orders_exist : (q r : Register) → (t : OrderOrRefusal) × register.BundleOrdered q r t
   pub writes_exist : (r : Register) (buffer : List ℕ)
-      → (w : WriteAnswer) × (left : List ℕ) × register.Write r buffer w left
+      → (w : NumberOrRefusal) × (left : List ℕ) × register.Write r buffer w left
   pub reads_exist : (bytes : List ℕ) → (t : register-read.ReadResult) × register.Read bytes t
 
 -- the calls for a host in C

@@ -1,16 +1,16 @@
 -- What a line that is read tells of the line that ends the run. Assumes nothing.
 use Prim.Native.Nat.{ℕ, ◌+◌, ◌≤◌, ◌<◌}
 use mathlib.Core.Path.{◌≡◌, refl, sym, ap, ◌∙◌}
-use mathlib.Core.Bool.{Bool, true, false, cond, ◌&&◌, false≢true}
+use mathlib.Core.Bool.{Bool, true, false, cond}
 use mathlib.Core.List.{List, [], ◌∷◌}
-use mathlib.Core.Option.{Option, none, some, Option-elim, some-injective, some-ne-none}
+use mathlib.Core.Option.{none}
 use lib.ListN.{length, drop}
 use Rattle.lines.specs.Line.{Line, lines}
 use Rattle.lines.specs.code.NumbersRead.{first_parts}
 use Rattle.lines.proofs.Cutting.{no_lines, some_line}
 use Rattle.script.specs.declared.CallLine.{CallLine}
-use Rattle.script.specs.Command.{Command, command_of}
-use Rattle.script.specs.code.CommandRead.{call_line, CallMet}
+use Rattle.script.specs.Command.{command_of}
+use Rattle.script.specs.code.CommandRead.{written_command, CallMet}
 use Rattle.transcript.specs.declared.Style.{Style}
 use Rattle.transcript.specs.Transcript.{word_taken, is_taken, ending_line}
 
@@ -33,16 +33,11 @@ module _ (style : Style) (n : ℕ) (xs : List ℕ) (at : ℕ) (inside : at < len
       sym (by_first_line style n _ (some_line xs at inside)
       ∙ ap (λ o. cond (is_taken style o) (ending_line style (n + 1) (drop 1 (lines (drop at xs)))) n) (sym e))
 
-  module _ (r : CallLine) (m : CallMet command_of xs at r) (taken : Bool) (told : taken ≡ word_taken style r.word)
+  module _ (r : CallLine) (m : CallMet command_of xs at r) (taken : Bool)
+      (told : taken ≡ word_taken style (written_command r.command).word)
     where
       first_taken : is_taken style (first_parts command_of (lines (drop at xs))) ≡ taken
-      unfolding call_line Option-elim
-      first_taken = by_command (first_parts command_of (lines (drop at xs))) m.line ∙ sym told
-        where
-          by_command : (o : Option Command) → some r ≡ Option-elim o none (λ k. some (call_line r.next k))
-              → is_taken style o ≡ word_taken style r.word
-          by_command none e = absurd (some-ne-none _ e)
-          by_command (some k) e = ap (λ (l : CallLine). word_taken style l.word) (sym (some-injective _ _ e))
+      first_taken = ap (is_taken style) (sym m.line) ∙ sym told
 
       pub line_ends : taken ≡ false → n ≡ ending_line style n (lines (drop at xs))
       line_ends e = sym (by_first_line style n _ (some_line xs at inside) ∙ rw (first_taken, e))

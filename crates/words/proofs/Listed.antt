@@ -5,14 +5,14 @@ use mathlib.Core.Bool.{Bool, true, false, cond, ◌&&◌, ◌||◌}
 use mathlib.Core.List.{List, [], ◌∷◌}
 use mathlib.Core.Option.{Option, none, some}
 use native.Mathlib.Omega.{arith}
-use lib.Dec.{eqb, leb, le→leb, leb→le}
+use lib.Dec.{eqb, leb}
 use lib.ListN.{length, get_or, drop, drop_of_length-le}
 use lib.Seq.{drop-cons, drop-drop, get_or-drop}
 use Rattle.lines.specs.Line.{Line, lines, in_first_line}
 use Rattle.lines.specs.code.NumbersRead.{starts_with}
 use Rattle.grammar.specs.Bytes.{Bytes, is_word}
 use Rattle.grammar.specs.Words.{find, next, bytes_of, numbered, number_of}
-use Rattle.grammar.proofs.Basics.{so, is_true, never, and_out, and_in, eq_byte}
+use Rattle.grammar.proofs.Basics.{never, and_out, and_in, eq_byte}
 use Rattle.words.specs.code.Scan.{byte_at}
 use Rattle.words.specs.code.Names.{first_line_is, numbered_from, LinesPassed, Sought, Searched}
 use Rattle.words.specs.code.Index.{ended}
@@ -82,17 +82,6 @@ pub word_there : (n : Bytes) → is_word n ≡ true → 0 < length n
 unfolding is_word
 word_there [] h = absurd (never h)
 word_there (b ∷ n) h = omega arith
-
--- number_after
-pub numbered_in : (n : ℕ) → n < 65535 → n + 1 ≡ cond (leb (n + 1) 65535) (n + 1) 0
-numbered_in n h = sym (rw (is_true (leb (n + 1) 65535) (le→leb (n + 1) 65535 (omega (arith, h)))) refl)
-
-pub numbered_out : (n : ℕ) → 65535 ≤ n → 0 ≡ cond (leb (n + 1) 65535) (n + 1) 0
-numbered_out n h = sym (rw (go (leb (n + 1) 65535) refl) refl)
-  where
-    go : (b : Bool) → leb (n + 1) 65535 ≡ b → leb (n + 1) 65535 ≡ false
-    go true e = absurd (omega (arith, h, leb→le (n + 1) 65535 (so (leb (n + 1) 65535) e)))
-    go false e = e
 
 -- a look so far, which may find that none of the lines is the name
 pub record LookMet (list name : Bytes) (from to ends : ℕ) (may : Bool) : Type 0 where
@@ -195,13 +184,6 @@ module _ (list n : Bytes) where
         sought_end e ∙ rw (find_hit n (lines (drop (i + 1) list)) f, z) refl
 
   -- walk
-  pub searched_none : (from : ℕ) → Searched list n from from 0 false
-  searched_none from = record {
-    on = λ _ k g. let z : k + 0 ≡ k = omega arith in rw z g;
-    hit = λ e. absurd (never e);
-    few = omega arith;
-  }
-
   module _ (from i ends one : ℕ) (s : Searched list n from i ends false) (h : i < length list)
       (q : one ≡ cond (eqb (byte_at list i) 10) 1 0) where
     pub searched_byte : (byte_at list i ≡ 10 → Begins i ≡ false) → Searched list n from (i + 1) (ends + one) false
@@ -243,9 +225,6 @@ module _ (list n : Bytes) where
             rw z at (searched_byte from i ends 0 s h (rw e refl) (λ y. absurd (x y)))
 
   -- look
-  pub look_none : (from to : ℕ) → to ≡ from → LookMet list n from to 0 false
-  look_none from to e = rw e (record { none = λ _. searched_none from; few = omega arith })
-
   pub look_byte : (from i to ends one : ℕ) (may here more : Bool) → LookMet list n from i ends may → i < length list
       → one ≡ cond (eqb (byte_at list i) 10) 1 0 → (here ≡ false → byte_at list i ≡ 10 → Begins i ≡ false)
       → more ≡ (may || here) → to ≡ i + 1 → LookMet list n from to (ends + one) more

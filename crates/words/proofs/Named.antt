@@ -5,17 +5,17 @@ use mathlib.Core.Bool.{Bool, true, false, cond, ◌&&◌}
 use mathlib.Core.List.{List, [], ◌∷◌}
 use native.Mathlib.Omega.{arith}
 use lib.Dec.{eqb, eqb_refl}
-use lib.ListN.{length, drop, length-drop}
+use lib.ListN.{length, get_or, drop, length-drop}
 use lib.Seq.{drop-drop}
 use Rattle.std.specs.Borrow.{Bor}
-use Rattle.std.specs.Prelude.{Option as Maybe, Some, None, MatchOption}
-use Rattle.std.specs.List.{AllWithin, HoldsAt}
+use Rattle.std.specs.Prelude.{Option as Maybe, Some, None, MatchOption, option_map, map}
+use Rattle.std.specs.List.{AllWithin, HoldsAt, range_with_len}
 use Rattle.lines.specs.Line.{Line, line, lines, in_first_line, same_bytes}
 use Rattle.lines.specs.code.NumbersRead.{starts_with}
 use Rattle.grammar.specs.Bytes.{Bytes, is_start, is_name, every, is_word}
 use Rattle.grammar.proofs.Basics.{never, and_out, eq_byte, start_name, is_true}
 use Rattle.lines.proofs.SameBytes.{same_bytes_lem}
-use Rattle.words.specs.code.Names.{found, first_line_is}
+use Rattle.words.specs.code.Names.{pick_from, found, first_line_is}
 use Rattle.words.specs.code.Index.{line_of, ended}
 
 pub eqb_sym : (x y : ℕ) → eqb x y ≡ eqb y x
@@ -135,31 +135,26 @@ not_same t u h = go (same_bytes t u) refl
     go true f = absurd (h (same_bytes_lem t u f))
     go false f = f
 
--- same
-pub same_is : (t u : Bytes) (r : Bool) → (r ≡ true → t ≡ u) → (r ≡ false → t ≡ u → ⊥) → r ≡ same_bytes t u
-same_is t u true y n = sym (same_of t u (y refl))
-same_is t u false y n = sym (not_same t u (n refl))
-
-module _ (n : Bytes) where
-  abbrev pub Hit : Bor Bytes × ℕ → Type 0
+module _ {T : Type 0} (n : Bytes) where
+  abbrev pub Hit : Bor Bytes × T → Type 0
   Hit e = same_bytes n e.0.now ≡ true
 
-  abbrev pub Miss : Bor Bytes × ℕ → Type 0
+  abbrev pub Miss : Bor Bytes × T → Type 0
   Miss e = same_bytes n e.0.now ≡ false
 
-  pub hit : (e : Bor Bytes × ℕ) → e.0.now ≡ n → Hit e
+  pub hit : (e : Bor Bytes × T) → e.0.now ≡ n → Hit e
   hit e h = same_of n e.0.now (sym h)
 
-  pub miss : (e : Bor Bytes × ℕ) → (e.0.now ≡ n → ⊥) → Miss e
+  pub miss : (e : Bor Bytes × T) → (e.0.now ≡ n → ⊥) → Miss e
   miss e h = not_same n e.0.now (λ f. h (sym f))
 
-  none_found : (t : List (Bor Bytes × ℕ)) → AllWithin Miss t 0 (length t) → None ≡ found n t
+  none_found : (t : List (Bor Bytes × T)) → AllWithin Miss t 0 (length t) → None ≡ found n t
   unfolding found
   none_found [] a = refl
   none_found (e ∷ t) a =
       rw (a 0 e (omega arith) (omega arith)) (none_found t (λ k d l h. a (suc k) d (omega arith) (omega (arith, h))))
 
-  one_found : (t : List (Bor Bytes × ℕ)) (x : Bor Bytes × ℕ) (i : ℕ) → i < length t → HoldsAt (λ y. y ≡ x) t i
+  one_found : (t : List (Bor Bytes × T)) (x : Bor Bytes × T) (i : ℕ) → i < length t → HoldsAt (λ y. y ≡ x) t i
       → AllWithin Miss t 0 i → Hit x → Some x.1 ≡ found n t
   unfolding found
   one_found [] x i h y a z = absurd (omega (arith, h))
@@ -169,9 +164,25 @@ module _ (n : Bytes) where
       (λ k d l j. a (suc k) d (omega arith) (omega (arith, j))) z)
 
   -- what a search of the table finds
-  pub found_first : (t : List (Bor Bytes × ℕ)) (r : Maybe (Bor (Bor Bytes × ℕ))) (m : Maybe ℕ)
+  pub found_first : (t : List (Bor Bytes × T)) (r : Maybe (Bor (Bor Bytes × T))) (m : Maybe T)
       → MatchOption r (AllWithin Miss t 0 (length t))
       (λ x. Hit x.now × (i : ℕ) × (i < length t) × HoldsAt (λ y. y ≡ x.now) t i × AllWithin Miss t 0 i)
       → MatchOption r (m ≡ None) (λ x. m ≡ Some x.now.1) → m ≡ found n t
   found_first t None m a e = e ∙ none_found t a
   found_first t (Some x) m a e = e ∙ one_found t x.now a.1 a.2 a.3 a.4 a.0
+
+-- a table of words whose values have the numbers from i up has for a word what its place is
+pub picked_by : {T : Type 0} (f : T → ℕ) (n : Bytes) (t : List (Bor Bytes × T)) (i : ℕ)
+    → map (λ e. f e.1) t ≡ range_with_len i (length t)
+    → option_map f (found n t) ≡ pick_from i (map (λ e. e.0.now) t) n
+unfolding found pick_from
+picked_by f n [] i h = refl
+picked_by f n (e ∷ t) i h =
+    let z : i + 1 ≡ suc i = omega arith in
+    go (same_bytes n e.0.now) (ap (λ (ns : List ℕ). get_or ns 0 i) h)
+    (rw z at (picked_by f n t (i + 1) (ap (drop 1) h)))
+  where
+    go : (b : Bool) → f e.1 ≡ i → option_map f (found n t) ≡ pick_from (suc i) (map (λ x. x.0.now) t) n
+        → option_map f (cond b (Some e.1) (found n t)) ≡ cond b (Some i) (pick_from (suc i) (map (λ x. x.0.now) t) n)
+    go true x y = ap (λ (k : ℕ). Some k) x
+    go false x y = y

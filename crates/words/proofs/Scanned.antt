@@ -6,10 +6,8 @@ use mathlib.Core.List.{[], ◌∷◌, ◌++◌, append_assoc}
 use native.Mathlib.Omega.{arith}
 use native.Mathlib.Decide.{dec_lt}
 use native.Mathlib.Numerals.{add-one}
-use lib.ListN.{length, get_or, drop, length-drop, get_or-eq_default}
+use lib.ListN.{length, get_or, drop, get_or-eq_default}
 use lib.Seq.{drop-cons, get_or-drop}
-use Rattle.std.specs.Prelude.{Option, Some, None, MatchOption}
-use Rattle.std.specs.List.{AllWithin, HoldsAt}
 use Rattle.grammar.specs.Bytes.{Bytes, every}
 use Rattle.grammar.proofs.Basics.{never, and_out, and_in}
 use Rattle.words.specs.code.Scan.{byte_at, PassedOver, Passed}
@@ -55,35 +53,22 @@ module _ (p : ℕ → Bool) (s : Bytes) (at : ℕ) where
         split = g.split ∙ (rw (add-one, append_assoc, drop-cons s (at + n) 0) refl);
       })
 
-  -- where a search for the first byte that fails the test ends
-  pub passed_first : (r : Option ℕ) (to : ℕ) → at ≤ length s
-      → MatchOption r (AllWithin (λ b. p b ≡ true) (drop at s) 0 (length (drop at s)))
-      (λ i. (i < length (drop at s)) × HoldsAt (λ b. p b ≡ false) (drop at s) i
-      × AllWithin (λ b. p b ≡ true) (drop at s) 0 i)
-      → MatchOption r (to ≡ length s) (λ i. to ≡ at + i) → PassedOver p s at to
-  passed_first None to l a e =
-      let n : at + (length s - at) ≡ length s = omega (arith, l) in
-      let g = rw n at (so_far (length s - at) (omega (arith, l))
-      (λ k i. rw get_or-drop at (a k 0 (omega arith) (rw length-drop (omega (arith, i)))))) in
-      rw e (record {
+  -- the bytes up to a place, each of which passes, and the next doesn't
+  pub passed_up_to : (to : ℕ) → at ≤ to → to ≤ length s
+      → ((k : ℕ) → at ≤ k → k < to → p (byte_at s k) ≡ true)
+      → (to < length s → p (byte_at s to) ≡ false) → PassedOver p s at to
+  passed_up_to to f l a e =
+      let n : at + (to - at) ≡ to = omega (arith, f) in
+      let g = rw n at (so_far (to - at) (omega (arith, f, l))
+      (λ k i. a (at + k) (omega arith) (omega (arith, i, f)))) in
+      record {
         bytes = g.bytes;
         all = g.all;
         split = g.split;
-        from = l;
-        fits = omega arith;
-        stops = λ h. absurd (omega (arith, h));
-      })
-  passed_first (Some i) to l a e =
-      let h : at + i < length s = omega (arith, a.0, length-drop at s) in
-      let g = so_far i (omega (arith, h)) (λ k j. rw get_or-drop at (a.2 k 0 (omega arith) j)) in
-      rw e (record {
-        bytes = g.bytes;
-        all = g.all;
-        split = g.split;
-        from = omega arith;
-        fits = omega (arith, h);
-        stops = λ _. rw get_or-drop at (a.1 0);
-      })
+        from = f;
+        fits = l;
+        stops = e;
+      }
 
   -- a test that the end of the text fails
   pub passed : (to : ℕ) → p 0 ≡ false → PassedOver p s at to → Passed p s at to

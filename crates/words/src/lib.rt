@@ -6,66 +6,60 @@ pub mod index;
 pub mod list;
 pub mod names;
 
-ghost use Rattle.std.specs.Prelude.{◌≡◌};
+ghost use Rattle.std.specs.Prelude.{◌≡◌, option_map};
 ghost use Rattle.common.specs.NodeTests.{node_test};
-ghost use Rattle.lines.specs.Line.{same_bytes};
+ghost use Rattle.common.specs.code.Numbers.{axis_number, test_number};
 ghost use Rattle.grammar.specs.Words.{axes, types};
 ghost use Rattle.words.specs.code.Names.{pick_from, found};
 
-pub use crate::names::Names;
-use common::{axis, node_test};
+pub use crate::names::{Names, Word};
+use common::axis::Axis;
+use common::node_test::NodeTest;
 
 // The names of the axes, with the axes. Tables: of a match on byte strings a proof knows the lengths alone.
-const AXES: [(&[u8], u16); 12] = [
-    (b"self", axis::SELF),
-    (b"child", axis::CHILD),
-    (b"parent", axis::PARENT),
-    (b"descendant", axis::DESCENDANT),
-    (b"ancestor", axis::ANCESTOR),
-    (b"descendant-or-self", axis::DESCENDANT_OR_SELF),
-    (b"ancestor-or-self", axis::ANCESTOR_OR_SELF),
-    (b"following-sibling", axis::FOLLOWING_SIBLING),
-    (b"preceding-sibling", axis::PRECEDING_SIBLING),
-    (b"following", axis::FOLLOWING),
-    (b"preceding", axis::PRECEDING),
-    (b"attribute", axis::ATTRIBUTE),
+const AXES: [(&[u8], Axis); 12] = [
+    (b"self", Axis::Itself),
+    (b"child", Axis::Child),
+    (b"parent", Axis::Parent),
+    (b"descendant", Axis::Descendant),
+    (b"ancestor", Axis::Ancestor),
+    (b"descendant-or-self", Axis::DescendantOrSelf),
+    (b"ancestor-or-self", Axis::AncestorOrSelf),
+    (b"following-sibling", Axis::FollowingSibling),
+    (b"preceding-sibling", Axis::PrecedingSibling),
+    (b"following", Axis::Following),
+    (b"preceding", Axis::Preceding),
+    (b"attribute", Axis::Attribute),
 ];
 
 // The names of the node types, with their tests.
-const TYPES: [(&[u8], u16); 4] = [
-    (b"node", node_test::NODE),
-    (b"text", node_test::TEXT),
-    (b"comment", node_test::COMMENT),
-    (b"processing-instruction", node_test::INSTRUCTION),
+const TYPES: [(&[u8], NodeTest); 4] = [
+    (b"node", NodeTest::Node),
+    (b"text", NodeTest::Text),
+    (b"comment", NodeTest::Comment),
+    (b"processing-instruction", NodeTest::Instruction),
 ];
 
-// The same bytes.
-pub fn same(word: &[u8], other: &[u8]) -> bool
-    ensures { result ≡ same_bytes word.now other.now }
-{
-    word == other
-}
-
 // What a table has for the word.
-fn find(table: &[(&[u8], u16)], word: &[u8]) -> Option<u16>
+pub fn find<T: Copy>(table: &[(&[u8], T)], word: &[u8]) -> Option<T>
     ensures { result ≡ found word.now table.now }
 {
     table
         .iter()
         .find(|(name, _)| *name == word)
-        .map(|(_, number)| *number)
+        .map(|(_, value)| *value)
 }
 
 // The axis of a name.
-pub fn axis_of(word: &[u8]) -> Option<u16>
-    ensures { result ≡ pick_from 0 axes word.now }
+pub fn axis_of(word: &[u8]) -> Option<Axis>
+    ensures { option_map axis_number result ≡ pick_from 0 axes word.now }
 {
     find(&AXES, word)
 }
 
 // The test of a node type.
-pub fn type_of(word: &[u8]) -> Option<u16>
-    ensures { result ≡ pick_from node_test types word.now }
+pub fn type_of(word: &[u8]) -> Option<NodeTest>
+    ensures { option_map test_number result ≡ pick_from node_test types word.now }
 {
     find(&TYPES, word)
 }

@@ -7,7 +7,10 @@ use native.Mathlib.Omega.{arith}
 use lib.Dec.{ltb}
 use lib.ListN.{length, get_or, get_or-eq_default}
 use Rattle.std.specs.Int.{div_ceil}
-use borrow.Author.Tests.{ltb-true, ltb-false, lt-ltb}
+use Rattle.std.proofs.Common.{map}
+use Rattle.std.specs.Simd.{first_chunks}
+use borrow.Author.Tests.{ltb-true, ltb-false}
+use Rattle.xpath.specs.code.Nodes.{node_in}
 use Rattle.xpath.specs.Document.{Node, node, root_node, kind_at, parent_at, name_at, document_of, lent_rows}
 
 -- a whole row is three numbers
@@ -17,6 +20,19 @@ nodes_lent [] = refl
 nodes_lent (k ∷ []) = refl
 nodes_lent (k ∷ p ∷ []) = refl
 nodes_lent (k ∷ p ∷ m ∷ xs) = let h = nodes_lent xs in omega arith
+
+-- the nodes are the numbers three by three
+pub nodes_by_three : (n : ℕ) (xs : List ℕ) → n ≡ length xs / 3 → map node_in (first_chunks 3 n xs) ≡ document_of xs
+unfolding document_of
+nodes_by_three zero [] e = refl
+nodes_by_three (suc n) [] e = absurd (omega arith)
+nodes_by_three zero (k ∷ []) e = refl
+nodes_by_three (suc n) (k ∷ []) e = absurd (omega arith)
+nodes_by_three zero (k ∷ p ∷ []) e = refl
+nodes_by_three (suc n) (k ∷ p ∷ []) e = absurd (omega arith)
+nodes_by_three zero (k ∷ p ∷ m ∷ xs) e = absurd (omega arith)
+nodes_by_three (suc n) (k ∷ p ∷ m ∷ xs) e =
+    ap (λ (ns : List Node). node k p m ∷ ns) (nodes_by_three n xs (omega arith))
 
 -- row n of the numbers
 abbrev lent_node : List ℕ → ℕ → Node
@@ -64,10 +80,6 @@ module _ (xs : List ℕ) (n : ℕ) where
   pub name_lent : name_at (document_of xs) n ≡ cond (ltb n (length xs / 3)) (get_or xs (3 * n + 2) 0) 0
   unfolding name_at
   name_lent = field_of (λ r. r.name) refl
-
-  -- in a whole row it is the number itself
-  pub whole_lent : (v : ℕ) → n < length (document_of xs) → cond (ltb n (length xs / 3)) v 0 ≡ v
-  whole_lent v l = let e = nodes_lent xs in let h : n < length xs / 3 = omega arith in rw (lt-ltb n (length xs / 3) h)
 
 -- a last row that is not whole counts
 pub rows_counted : (xs : List ℕ) → div_ceil (length xs) 3 ≡ lent_rows xs

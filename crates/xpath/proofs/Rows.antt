@@ -3,7 +3,8 @@ use Prim.Native.Nat.{ℕ, zero, suc, ◌+◌, ◌*◌, ◌%◌, ◌≤◌, ◌<�
 use mathlib.Core.Path.{◌≡◌, refl, sym, ap, subst, ◌∙◌}
 use mathlib.Core.Bool.{Bool, true, false}
 use mathlib.Core.List.{List}
-use mathlib.Core.Logic.{inl}
+use mathlib.Core.Logic.{inl, ⊎_elim}
+use Rattle.common.proofs.Reflect.{le_or_lt}
 use mathlib.Core.Option.{none}
 use Rattle.std.specs.Prelude.{Some, None, Ok, Err}
 use native.Mathlib.Omega.{arith}
@@ -21,7 +22,7 @@ use Rattle.xpath.specs.declared.document.Climb.{Climb}
 use Rattle.common.proofs.Search.{first_not_yet, first_found, found_below}
 use Rattle.xpath.proofs.LentNumbers.{nodes_lent}
 use Rattle.xpath.proofs.Refusal.{accepted_iff}
-use Rattle.xpath.proofs.Climbing.{takes_none, refuses_alike}
+use Rattle.xpath.proofs.Climbing.{takes_none, not_met, refuses_alike}
 use Rattle.xpath.proofs.Ends.{ends_found}
 
 -- closing subtrees changes no length
@@ -121,6 +122,17 @@ module _ (d : Document) (p n : ℕ) (es : List ℕ) where
   pub climb_placed : (e : ℕ) (r : Climb) (left : List ℕ) → e ≡ suc n → ¬ (p ≡ n) → ClimbMade d p n e es r left →
       Placed d p n es r.met left
   climb_placed e r left q ne m = record { placed = m.met ∙ rw (ne_eqb p n ne); ends = m.ends ∙ rw q }
+
+  -- such a row is no later one
+  pub placed_below : (r : Bool) (left : List ℕ) → Placed d p n es r left → r ≡ true → p ≤ n
+  placed_below r left w e =
+      ⊎_elim
+      (λ h. h)
+      (λ h. let ne = ne_eqb p n (λ q. omega arith) in
+      let no : climb_met d p n ≡ false = not_met d p n (omega arith) in
+      let f : r ≡ false = w.placed ∙ rw (ne, no) in
+      let z : ◌≡◌ {A = ℕ} 0 1 = cc in absurd (omega arith))
+      (le_or_lt p n)
 
 -- row n + 1, i by its number and p by its parent's
 module _ (d : Document) (n i p : ℕ) (es left : List ℕ) (placed : Bool)

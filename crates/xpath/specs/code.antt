@@ -1,3 +1,5 @@
 pub mod Check
+pub mod Checked
 pub mod Ends
+pub mod Nodes
 pub mod Tests

@@ -1,14 +1,15 @@
 // Documents lent as 16-bit numbers, three a row: their rows, and their check, which climbs toward ancestors and finds
 // the ends of the rows' subtrees.
-ghost use Rattle.std.specs.Prelude.{◌≡◌, ◌||◌, not, cond, suc, ◌+◌, ◌*◌, ◌/◌, ◌<◌, ◌≤◌, length, get_or, ltb};
+ghost use Rattle.std.specs.Prelude.{◌≡◌, ◌||◌, not, suc, ◌<◌, ◌≤◌, length, get_or, eqb, map};
 ghost use Rattle.xpath.specs.Document.{kind_at, parent_at, name_at, is_attribute, attribute_placed, kind_and_name_ok};
-ghost use Rattle.xpath.specs.Document.{row_ok_by, document_of, node_width, max_nodes};
+ghost use Rattle.xpath.specs.Document.{row_ok_by, document_of, root_node, max_nodes};
+ghost use Rattle.xpath.specs.code.Nodes.{node_of, node_in};
+ghost use Rattle.common.specs.NodeKinds.{attribute_kind};
 ghost use Rattle.xpath.specs.Climb.{climb_met};
 ghost use Rattle.xpath.specs.code.Check.{DocumentChecked, ClimbMade, Placed, FirstBad, closed_before};
 
 use crate::{MAX_NODES, NODE_WIDTH};
 use common::node_kind;
-use common::node_kind::NodeKind;
 
 // The number of whole rows.
 pub fn node_count(d: &[u16]) -> usize
@@ -17,59 +18,105 @@ pub fn node_count(d: &[u16]) -> usize
     d.len() / NODE_WIDTH
 }
 
-// Number j of a whole row: without a test, which would make the climb and with it the check slower.
-fn number_of(d: &[u16], y: usize, j: usize) -> u16
-    requires y_in_bounds { y < length d.now / node_width }
-    requires j_lt_node_width { j < node_width }
-    ensures { result ≡ get_or d.now (node_width * y + j) 0 }
-{
-    d[NODE_WIDTH * y + j]
+// A node, as its row has it.
+#[derive(Clone, Copy, Debug, PartialEq, Eq)]
+pub struct Node {
+    pub kind: u16,
+    pub parent: u16,
+    pub name: u16,
 }
 
-// Number j of row y, if that row is whole.
-fn number_at(d: &[u16], y: usize, j: usize) -> u16
-    requires { j < node_width }
-    ensures { result ≡ cond (ltb y (length d.now / node_width))
-        (get_or d.now (node_width * y + j) 0) 0 }
-{
-    if y < d.len() / NODE_WIDTH {
-        number_of(d, y, j)
-    } else {
-        0
+// What stands past the last row.
+const NO_NODE: Node = Node {
+    kind: node_kind::ROOT,
+    parent: 0,
+    name: 0,
+};
+
+impl From<[u16; NODE_WIDTH]> for Node {
+    ghost from_gives = { λ numbers node. node_of node ≡ node_in numbers };
+
+    fn from([kind, parent, name]: [u16; NODE_WIDTH]) -> Node {
+        Node { kind, parent, name }
     }
 }
 
+impl Node {
+    // By its number, as the rows have it: a kind that is compared once isn't read as a NodeKind, here and below.
+    pub fn is_attribute(self) -> bool
+        ensures { result ≡ eqb self.kind attribute_kind }
+    {
+        self.kind == node_kind::ATTRIBUTE
+    }
+}
+
+// The whole rows, each as its numbers.
+fn nodes(d: &[u16]) -> &[[u16; NODE_WIDTH]]
+    ensures { map node_in result.now ≡ document_of d.now }
+{
+    d.as_chunks().0
+}
+
+// The node in row y; `0 0 0` past the last row.
+pub fn node_at(d: &[u16], y: usize) -> Node
+    ensures { node_of result ≡ get_or (document_of d.now) y root_node }
+{
+    match nodes(d).get(y) {
+        Some(&numbers) => Node::from(numbers),
+        None => NO_NODE,
+    }
+}
+
+// The node in a whole row: without a test, which would make the climb and the steps slower.
+pub fn whole_node(d: &[u16], y: usize) -> Node
+    requires { y < length (document_of d.now) }
+    ensures { node_of result ≡ get_or (document_of d.now) y root_node }
+{
+    Node::from(nodes(d)[y])
+}
+
+#[tactic(auto, unfolding(crate::specs::Document::kind_at))]
 pub fn kind_at(d: &[u16], y: usize) -> u16
     ensures { result ≡ kind_at (document_of d.now) y }
 {
-    number_at(d, y, 0)
+    node_at(d, y).kind
 }
 
+#[tactic(auto, unfolding(crate::specs::Document::parent_at))]
 pub fn parent_at(d: &[u16], y: usize) -> usize
     ensures { result ≡ parent_at (document_of d.now) y }
 {
-    usize::from(number_at(d, y, 1))
+    usize::from(node_at(d, y).parent)
 }
 
-// The parent of a whole row.
+#[tactic(auto, unfolding(crate::specs::Document::name_at))]
+pub fn name_at(d: &[u16], y: usize) -> u16
+    ensures { result ≡ name_at (document_of d.now) y }
+{
+    node_at(d, y).name
+}
+
+#[tactic(auto, unfolding(crate::specs::Document::kind_at))]
+pub fn is_attribute(d: &[u16], y: usize) -> bool
+    ensures { result ≡ is_attribute (document_of d.now) y }
+{
+    node_at(d, y).is_attribute()
+}
+
+#[tactic(auto, unfolding(crate::specs::Document::parent_at))]
 fn parent_of(d: &[u16], y: usize) -> usize
     requires { y < length (document_of d.now) }
     ensures { result ≡ parent_at (document_of d.now) y }
 {
-    usize::from(number_of(d, y, 1))
+    usize::from(whole_node(d, y).parent)
 }
 
-pub fn name_at(d: &[u16], y: usize) -> u16
-    ensures { result ≡ name_at (document_of d.now) y }
+#[tactic(auto, unfolding(crate::specs::Document::kind_at))]
+fn kind_of(d: &[u16], y: usize) -> u16
+    requires { y < length (document_of d.now) }
+    ensures { result ≡ kind_at (document_of d.now) y }
 {
-    number_at(d, y, 2)
-}
-
-// By its number, as the rows have it: a kind that is compared once isn't read as a NodeKind, here and below.
-pub fn is_attribute(d: &[u16], y: usize) -> bool
-    ensures { result ≡ is_attribute (document_of d.now) y }
-{
-    kind_at(d, y) == node_kind::ATTRIBUTE
+    whole_node(d, y).kind
 }
 
 // What the climb toward a row gives: whether it met that row, and how many parents it took, which it also has where it
@@ -108,22 +155,21 @@ fn climb_toward(d: &[u16], x: usize, y: usize, end: u16, ends: &mut [u16]) -> Cl
     }
 }
 
-// The kinds that may have no name, and those that may have one: a row after row 0 has a kind other than root's.
+// The kinds that may have no name, and those that may have one, by their numbers: a conversion to NodeKind makes the
+// check of a document slower.
+#[tactic(auto, unfolding(crate::specs::Document::kind_and_name_ok))]
 fn kind_and_name_ok(kind: u16, name: u16) -> bool
     ensures { result ≡ kind_and_name_ok kind name }
 {
-    let Ok(kind) = NodeKind::try_from(kind) else {
-        return false;
-    };
     if name == 0 {
         matches!(
             kind,
-            NodeKind::Text | NodeKind::Comment | NodeKind::Instruction
+            node_kind::TEXT | node_kind::COMMENT | node_kind::INSTRUCTION
         )
     } else {
         matches!(
             kind,
-            NodeKind::Element | NodeKind::Attribute | NodeKind::Instruction
+            node_kind::ELEMENT | node_kind::ATTRIBUTE | node_kind::INSTRUCTION
         )
     }
 }
@@ -171,7 +217,7 @@ fn later_row_ok(d: &[u16], n: usize, ends: &mut [u16]) -> bool
     let i = n + 1;
     let parent = parent_at(d, i);
     is_placed(d, parent, n, ends)
-        && kind_at(d, parent) <= node_kind::ELEMENT
+        && kind_of(d, parent) <= node_kind::ELEMENT
         && kind_and_name_ok(kind_at(d, i), name_at(d, i))
         && attribute_ok(d, n)
 }

@@ -1,12 +1,17 @@
-// Documents lent as 16-bit numbers, three a row: their check, with the ends of the rows' subtrees, and the node tests.
+// Documents lent as 16-bit numbers, three a row, as C lends them: their check, with the ends of the rows' subtrees, and
+// the node tests.
 // Every public function takes every input; a number that no whole row has is read as 0.
 #![tactic(auto)]
 
+mod checked;
 mod document;
 mod node_tests;
 
-pub use document::{check_document, is_attribute, node_count, parent_at};
-pub use node_tests::{StepTest, passes_test};
+pub use checked::Checked;
+pub use document::{
+    Node, check_document, is_attribute, node_at, node_count, parent_at, whole_node,
+};
+pub use node_tests::{AnyNode, Named, NodeSet, OfKind, StepTest, passes_test};
 
 // The largest document that a call takes.
 pub const MAX_NODES: usize = 512;

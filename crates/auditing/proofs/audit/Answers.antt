@@ -3,10 +3,9 @@ use Rattle.auditing.proofs.Audited.{too_long, reported}
 use Rattle.auditing.proofs.audit.Goals as goal
 
 pub returns-then-bytes-gt-MAX_BYTES : goal.returns-then-bytes-gt-MAX_BYTES
-returns-then-bytes-gt-MAX_BYTES c = too_long c.args.bytes.now c.if-bytes-gt-MAX_BYTES.true
+returns-then-bytes-gt-MAX_BYTES c = rw c.number.ensures (too_long c.args.bytes.now c.if-bytes-gt-MAX_BYTES.true)
 
 pub returns : goal.returns
 returns c =
-    reported c.args.bytes.now c.if-bytes-gt-MAX_BYTES.false _ c.read-read.ensures _ _ _ _ _
-    c.number-number.ensures c.value.ensures c.refused_line.ensures
-    c.steps_held.ensures c.last_step-last.ensures
+    reported c.args.bytes.now c.if-bytes-gt-MAX_BYTES.false _ c.read-read.ensures _ _ _ _ c.number-2.ensures
+    c.refused_line.ensures c.steps_held.ensures c.last_step-last.ensures

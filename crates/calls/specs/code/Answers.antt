@@ -1,43 +1,53 @@
--- The code's types as the definitions have them; document 01's number and value for each case of the answers. Assumes
--- nothing.
+-- The code's types as the definitions have them; number and value of the answers. Assumes nothing.
+use Rattle.std.specs.Prelude.{ℕ, Result, Ok, Err}
+use Rattle.std.specs.declared.cmp.Ordering.{Ordering}
+use Rattle.std.specs.declared.cmp.Ordering.TheVariants.{Less, Equal, Greater}
+use Rattle.common.specs.declared.refusal.Refusal.{Refusal}
+use Rattle.common.specs.code.Refusal.{refusal_number, refusal_value}
+use Rattle.common.specs.Refusals.{short_marks, limit_passed}
 use Rattle.selection.specs.Evaluation as evaluation
-use Rattle.calls.specs.declared.TermAnswer.{TermAnswer}
-use Rattle.calls.specs.declared.TermAnswer.TheVariants as TermCases
-use Rattle.calls.specs.declared.StepAnswer.{StepAnswer}
-use Rattle.calls.specs.declared.StepAnswer.TheVariants as StepCases
-use Rattle.calls.specs.declared.SelectAnswer.{SelectAnswer}
-use Rattle.calls.specs.declared.SelectAnswer.TheVariants as SelectCases
+use Rattle.calls.specs.declared.answer.LineRefusal.{LineRefusal}
 use Rattle.calls.specs.declared.step.Step.{Step as CodeStep}
 use Rattle.calls.specs.Book.{Step, step, Answer, answer}
-use Rattle.common.specs.Refusals.{bad_kind, bad_field, too_deep, no_rule, bad_side, bad_premise, not_yielded}
-use Rattle.common.specs.Refusals.{bad_document}
-use Rattle.common.specs.Refusals.{bad_argument, terms_full, already_held, steps_full, short_marks, limit_passed}
 
 abbrev pub step_of : CodeStep → Step
 step_of p = step p.rule p.left p.right p.first p.second
 
-abbrev pub term_answer_of : TermAnswer → Answer
-term_answer_of (TermCases.Held n) = answer 0 n
-term_answer_of TermCases.BadKind = answer bad_kind 0
-term_answer_of (TermCases.BadField place) = answer bad_field place
-term_answer_of TermCases.TooDeep = answer too_deep 0
-term_answer_of (TermCases.AlreadyHeld n) = answer already_held n
-term_answer_of TermCases.TermsFull = answer terms_full 0
+-- what a call gives: a number, nothing, or an order; or a refusal
+abbrev pub NumberOrRefusal : Type 0
+NumberOrRefusal = Result ℕ Refusal
 
-abbrev pub step_answer_of : StepAnswer → Answer
-step_answer_of (StepCases.Held n) = answer 0 n
-step_answer_of StepCases.NoRule = answer no_rule 0
-step_answer_of (StepCases.BadSide place) = answer bad_side place
-step_answer_of (StepCases.BadPremise place) = answer bad_premise place
-step_answer_of StepCases.NotYielded = answer not_yielded 0
-step_answer_of StepCases.StepsFull = answer steps_full 0
+abbrev pub DoneOrRefusal : Type 0
+DoneOrRefusal = Result (Unit {0}) Refusal
 
-abbrev pub select_answer_of : SelectAnswer → Answer
-select_answer_of (SelectCases.Selected visits) = answer 0 visits
-select_answer_of (SelectCases.BadDocument value) = answer bad_document value
-select_answer_of (SelectCases.BadArgument place) = answer bad_argument place
-select_answer_of SelectCases.ShortMarks = answer short_marks 0
-select_answer_of SelectCases.LimitPassed = answer limit_passed 0
+abbrev pub OrderOrRefusal : Type 0
+OrderOrRefusal = Result Ordering Refusal
+
+abbrev pub refusal_answer : Refusal → Answer
+refusal_answer r = answer (refusal_number r) (refusal_value r)
+
+-- the same where a line of a text is refused: its number as the value
+abbrev pub line_answer : LineRefusal → Answer
+line_answer e = answer (refusal_number e.refusal) e.line
+
+-- number and value of an answer: 0 and the value of what is given, or a refusal's
+abbrev pub answer_with : {A E : Type 0} → (A → ℕ) → (E → Answer) → Result A E → Answer
+answer_with f g (Ok a) = answer 0 (f a)
+answer_with f g (Err e) = g e
+
+abbrev pub order_number : Ordering → ℕ
+order_number Less = 0
+order_number Equal = 1
+order_number Greater = 2
+
+abbrev pub answer_of : NumberOrRefusal → Answer
+answer_of = answer_with (λ n. n) refusal_answer
+
+abbrev pub done_answer_of : DoneOrRefusal → Answer
+done_answer_of = answer_with (λ u. 0) refusal_answer
+
+abbrev pub order_answer_of : OrderOrRefusal → Answer
+order_answer_of = answer_with order_number refusal_answer
 
 -- the same for what an evaluation answers: no room is refusal 14, a passed limit 15
 abbrev pub evaluation_answer : evaluation.EvaluationAnswer → Answer

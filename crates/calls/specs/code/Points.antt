@@ -2,16 +2,8 @@
 use Rattle.std.specs.Prelude.{ℕ, ◌-◌, ◌*◌, min, List, [], ◌∷◌, ◌++◌, map, length, get_or, take, replicate}
 pub use Rattle.terms.specs.code.RowTypes.{FoundIs}
 use Rattle.calls.specs.declared.points.PointCounts.{PointCounts}
-use Rattle.calls.specs.declared.points.PointAnswer.{PointAnswer}
-use Rattle.calls.specs.declared.points.PointAnswer.TheVariants as PointCases
-use Rattle.calls.specs.Book.{max_points, Answer, answer}
-use Rattle.common.specs.Refusals.{bad_point, points_full}
+use Rattle.calls.specs.Book.{max_points}
 use Rattle.calls.specs.PointCall.{place_of}
-
-abbrev pub point_answer_of : PointAnswer → Answer
-point_answer_of PointCases.Accepted = answer 0 0
-point_answer_of (PointCases.BadPoint n) = answer bad_point n
-point_answer_of PointCases.PointsFull = answer points_full 0
 
 -- how many numbers a point has
 abbrev pub point_width : ℕ

@@ -2,7 +2,8 @@
 use Rattle.std.specs.Prelude.{ℕ, ◌*◌, min, List, [], ◌∷◌, get_or, take}
 use Rattle.terms.specs.Row.{Row, table_of, max_rows}
 pub use Rattle.terms.specs.Row.{row_width}
-use Rattle.calls.specs.Book.{Step, step, max_steps}
+use Rattle.calls.specs.declared.held.Held.{Held}
+use Rattle.calls.specs.Book.{Step, step, max_steps, Book, book}
 
 -- how many numbers a step has
 abbrev pub step_width : ℕ
@@ -41,3 +42,7 @@ first_rows n xs = table_of (first_row_numbers n xs)
 
 abbrev pub first_steps : (n : ℕ) → List ℕ → List Step
 first_steps n xs = steps_of (first_step_numbers n xs)
+
+-- the book of lent rows and steps, without points
+abbrev pub book_held : Held → Book
+book_held held = book (table_of held.rows.now) (steps_of held.steps.now)

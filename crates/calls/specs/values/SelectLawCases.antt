@@ -17,10 +17,9 @@ use Rattle.terms.specs.Row.{Row, row, entries_from}
 use Rattle.terms.specs.Fields.{is_path, held_path}
 use Rattle.terms.specs.Terms.{as_path, as_qualifier, term_by, terms, term_at, path_at}
 use Rattle.selection.specs.Marks.{written}
-use Rattle.calls.specs.declared.SelectAnswer.{SelectAnswer}
 use Rattle.calls.specs.Book.{Answer, answer}
 use Rattle.calls.specs.SelectCall.{select_answer, select_buffer}
-use Rattle.calls.specs.code.Answers.{select_answer_of}
+use Rattle.calls.specs.code.Answers.{NumberOrRefusal, answer_of}
 use Rattle.calls.specs.Promises.{SelectMade}
 use Rattle.calls.specs.SelectLaws.{LimitSuffices, MarksSameElsewhere}
 
@@ -68,8 +67,8 @@ unfolding
 at_the_bound = refl
 
 -- with the bound for a limit, three steps from any node and with any buffer
-pub three_on_log : LimitSuffices → (x : ℕ) (buffer left : List ℕ) (t : SelectAnswer)
-    → SelectMade held 2 log_numbers x 17 buffer t left → ¬ ((select_answer_of t).number ≡ 15)
+pub three_on_log : LimitSuffices → (x : ℕ) (buffer left : List ℕ) (t : NumberOrRefusal)
+    → SelectMade held 2 log_numbers x 17 buffer t left → ¬ ((answer_of t).number ≡ 15)
 unfolding document_of
 three_on_log law x buffer left t made = law held 2 log_numbers x 17 buffer left t made 3 three_steps (omega arith)
 
@@ -91,9 +90,9 @@ one_mark = refl
 
 -- from any node, the same marks of the nodes but node 2
 pub marks_but_one : MarksSameElsewhere → LentRenamed
-    → (x : ℕ) (buffer buffer' left left' : List ℕ) (t t' : SelectAnswer)
-    → SelectMade held 6 log_numbers x 1 buffer t left → (select_answer_of t).number ≡ 0
-    → SelectMade held 6 other x 2 buffer' t' left' → (select_answer_of t').number ≡ 0
+    → (x : ℕ) (buffer buffer' left left' : List ℕ) (t t' : NumberOrRefusal)
+    → SelectMade held 6 log_numbers x 1 buffer t left → (answer_of t).number ≡ 0
+    → SelectMade held 6 other x 2 buffer' t' left' → (answer_of t').number ≡ 0
     → (y : ℕ) → y < 7 → ¬ (y ≡ 2) → get_or left y 0 ≡ get_or left' y 0
 unfolding document_of
 marks_but_one law renamed x buffer buffer' left left' t t' =

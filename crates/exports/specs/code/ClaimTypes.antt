@@ -1,35 +1,24 @@
 -- The code's answer to a claim. Assumes nothing.
-use Rattle.std.specs.Prelude.{ℕ, ◌≡◌, Result, Ok, Err}
-use Rattle.grammar.specs.Bytes.{Bytes}
-use Rattle.calls.specs.Book.{answer}
-use Rattle.calls.specs.Calls.{text}
-use Rattle.session.specs.declared.session.Session.{Session}
-use Rattle.session.specs.declared.session.Answered.{Answered}
-use Rattle.session.specs.Promises.{Met}
-use Rattle.exports.specs.declared.claim.Part.{Part}
-use Rattle.exports.specs.declared.claim.Part.TheVariants as Parts
+use Rattle.std.specs.Prelude.{ℕ, Result, Ok, Err}
+use Rattle.calls.specs.Book.{Answer, answer}
+use Rattle.calls.specs.code.Answers.{refusal_answer, line_answer}
 use Rattle.exports.specs.declared.claim.ClaimRefusal.{ClaimRefusal}
+use Rattle.exports.specs.declared.claim.ClaimRefusal.TheVariants.{Bundle, OldSelector, NewSelector, Claim}
 use Rattle.exports.specs.ClaimCall.{Claimed, claimed, the_claim, the_bundle, old_selector, new_selector}
 
--- what an answer is about
-abbrev pub part_of : Part → ℕ
-part_of Parts.Claim = the_claim
-part_of Parts.Bundle = the_bundle
-part_of Parts.OldSelector = old_selector
-part_of Parts.NewSelector = new_selector
+-- what a refusal is about, and its number and value
+abbrev pub part_of : ClaimRefusal → ℕ
+part_of (Bundle e) = the_bundle
+part_of (OldSelector k) = old_selector
+part_of (NewSelector k) = new_selector
+part_of (Claim k) = the_claim
+
+abbrev pub claim_refusal_answer : ClaimRefusal → Answer
+claim_refusal_answer (Bundle e) = line_answer e
+claim_refusal_answer (OldSelector k) = refusal_answer k
+claim_refusal_answer (NewSelector k) = refusal_answer k
+claim_refusal_answer (Claim k) = refusal_answer k
 
 abbrev pub claimed_of : Result ℕ ClaimRefusal → Claimed
 claimed_of (Ok i) = claimed the_claim (answer 0 i)
-claimed_of (Err e) = claimed (part_of e.part) (answer e.number e.value)
-
--- a refused text call on s, whose refusal is about p
-pub record SelectorRefused (s : Session) (names t : Bytes) (p : Part) (e : ClaimRefusal) : Type 0 where
-  pub part : e.part ≡ p
-  pub refused : ¬ (e.number ≡ 0)
-  pub left : Session
-  pub met : Met s (text names t) (answer e.number e.value) left
-
--- a text call on s: the row and the session with it, or a refusal about p
-abbrev pub SelectorRead : Session → (names t : Bytes) → Part → Result (Answered ℕ) ClaimRefusal → Type 0
-SelectorRead s names t p (Ok r) = Met s (text names t) (answer 0 r.answer) r.session
-SelectorRead s names t p (Err e) = SelectorRefused s names t p e
+claimed_of (Err e) = claimed (part_of e) (claim_refusal_answer e)

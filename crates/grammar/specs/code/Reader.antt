@@ -1,5 +1,5 @@
 -- A reader of the whole grammar, one byte at a time; what it has read is in its state, as trees. Assumes nothing.
-use Rattle.std.specs.Prelude.{ℕ, suc, ◌-◌, Bool, true, false, not, cond, ◌&&◌, [], ◌∷◌, ◌++◌, eqb, ltb, length}
+use Rattle.std.specs.Prelude.{ℕ, suc, ◌-◌, Bool, true, false, cond, ◌&&◌, [], ◌∷◌, ◌++◌, eqb, ltb, length}
 use Rattle.std.proofs.Math.Option.{Option, none, some}
 use Rattle.lines.specs.Line.{same_bytes}
 use Rattle.grammar.specs.Bytes.{Bytes, is_space, is_start, is_name, is_quote, not_word, true_word}

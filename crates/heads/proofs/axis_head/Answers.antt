@@ -28,19 +28,19 @@ returns-in-None c =
 pub overflow_add-second : goal.overflow_add-second
 overflow_add-second c = omega (arith, byte_there c.args.s.now c.args.colon 58 refl c.requires.colon_value)
 
-pub returns-then-byte_at-ne-COLON : goal.returns-then-byte_at-ne-COLON
-returns-then-byte_at-ne-COLON c =
+pub returns-then-byte_at-ne58 : goal.returns-then-byte_at-ne58
+returns-then-byte_at-ne58 c =
     (axis_one c.args.s.now c.args.names.list.now c.args.at c.args.end
     c.args.colon c.requires.name_at c.requires.colon_value
     (axis_some _ _ c.in-Some.ensures).0
-    (λ e. c.if-byte_at-ne-COLON.true (c.byte_at.ensures ∙ e)))
+    (λ e. c.if-byte_at-ne58.true (c.byte_at.ensures ∙ e)))
 
 pub overflow_add-second-2 : goal.overflow_add-second-2
 overflow_add-second-2 c =
     omega (
       arith,
       byte_there c.args.s.now (c.args.colon + 1) 58 refl
-          (sym c.byte_at.ensures ∙ c.if-byte_at-ne-COLON.false),
+          (sym c.byte_at.ensures ∙ c.if-byte_at-ne58.false),
     )
 
 pub skip-requires : goal.skip-requires
@@ -48,7 +48,7 @@ skip-requires c =
     omega (
       arith,
       byte_there c.args.s.now (c.args.colon + 1) 58 refl
-          (sym c.byte_at.ensures ∙ c.if-byte_at-ne-COLON.false),
+          (sym c.byte_at.ensures ∙ c.if-byte_at-ne58.false),
     )
 
 pub test_head-requires : goal.test_head-requires
@@ -59,5 +59,5 @@ returns c =
     let z = axis_some _ _ c.in-Some.ensures in axis_two
     c.args.s.now c.args.names.list.now c.args.at c.args.end c.args.colon
     c.requires.name_at c.requires.colon_value z.0 _ _ _ _ z.1
-    (sym c.byte_at.ensures ∙ c.if-byte_at-ne-COLON.false)
+    (sym c.byte_at.ensures ∙ c.if-byte_at-ne58.false)
     c.skip.ensures c.test_head.ensures

@@ -8,12 +8,12 @@ use Rattle.heads.proofs.dot_head.Goals as goal
 pub overflow_add-next : goal.overflow_add-next
 overflow_add-next c = omega (arith, byte_there c.args.s.now c.args.at 46 refl c.requires)
 
-pub overflow_add-next-then-byte_at-eq-DOT : goal.overflow_add-next-then-byte_at-eq-DOT
-overflow_add-next-then-byte_at-eq-DOT c =
+pub overflow_add-next-then-byte_at-eq46 : goal.overflow_add-next-then-byte_at-eq46
+overflow_add-next-then-byte_at-eq46 c =
     omega (
       arith,
       byte_there c.args.s.now (c.args.at + 1) 46 refl
-          (sym c.byte_at.ensures ∙ c.if-byte_at-eq-DOT.true),
+          (sym c.byte_at.ensures ∙ c.if-byte_at-eq46.true),
     )
 
 pub skip-requires : goal.skip-requires
@@ -21,14 +21,14 @@ skip-requires c =
     omega (
       arith,
       byte_there c.args.s.now (c.args.at + 1) 46 refl
-          (sym c.byte_at.ensures ∙ c.if-byte_at-eq-DOT.true),
+          (sym c.byte_at.ensures ∙ c.if-byte_at-eq46.true),
     )
 
-pub returns-then-byte_at-eq-DOT : goal.returns-then-byte_at-eq-DOT
-returns-then-byte_at-eq-DOT c =
+pub returns-then-byte_at-eq46 : goal.returns-then-byte_at-eq46
+returns-then-byte_at-eq46 c =
     rw c.plain_head.ensures
     (dot_two c.args.s.now c.args.at c.requires _
-    (sym c.byte_at.ensures ∙ c.if-byte_at-eq-DOT.true)
+    (sym c.byte_at.ensures ∙ c.if-byte_at-eq46.true)
     c.skip.ensures)
 
 pub skip-requires-2 : goal.skip-requires-2
@@ -43,5 +43,5 @@ pub returns : goal.returns
 returns c =
     rw c.plain_head-2.ensures
     (dot_one c.args.s.now c.args.at c.requires _
-    (λ e. c.if-byte_at-eq-DOT.false (c.byte_at.ensures ∙ e))
+    (λ e. c.if-byte_at-eq46.false (c.byte_at.ensures ∙ e))
     c.skip-2.ensures)

@@ -15,12 +15,12 @@ named_head-requires c = record {
       c.requires.name_at.names;
 }
 
-pub returns-then-byte_at-ne-OPEN : goal.returns-then-byte_at-ne-OPEN
-returns-then-byte_at-ne-OPEN c =
+pub returns-then-byte_at-ne40 : goal.returns-then-byte_at-ne40
+returns-then-byte_at-ne40 c =
     rw c.named_head.ensures
     (name_plain c.args.s.now c.args.names.list.now c.args.at c.args.end
-    c.args.to c.args.axis c.requires.name_at
-    (λ e. c.if-byte_at-ne-OPEN.true (c.byte_at.ensures ∙ e)))
+    c.args.to c.requires.name_at c.args.axis
+    (λ e. c.if-byte_at-ne40.true (c.byte_at.ensures ∙ e)))
 
 pub slice_bounds-type_of-count : goal.slice_bounds-type_of-count
 slice_bounds-type_of-count c = omega (arith, c.requires.name_at.names.from)
@@ -42,7 +42,7 @@ overflow_add-to c =
     omega (
       arith,
       byte_there c.args.s.now c.args.to 40 refl
-          (sym c.byte_at.ensures ∙ c.if-byte_at-ne-OPEN.false),
+          (sym c.byte_at.ensures ∙ c.if-byte_at-ne40.false),
     )
 
 pub type_head-requires : goal.type_head-requires
@@ -50,15 +50,16 @@ type_head-requires c = record {
   at_in_bounds = omega (
     arith,
     byte_there c.args.s.now c.args.to 40 refl
-        (sym c.byte_at.ensures ∙ c.if-byte_at-ne-OPEN.false),
+        (sym c.byte_at.ensures ∙ c.if-byte_at-ne40.false),
   );
 }
 
 pub returns-in-Some : goal.returns-in-Some
 returns-in-Some c =
     let z = type_some _ _ c.in-Some.ensures in
-    name_type c.args.s.now c.args.names.list.now c.args.at c.args.end c.args.to c.args.axis c.requires.name_at _ _
-    (sym c.byte_at.ensures ∙ c.if-byte_at-ne-OPEN.false) z.0 z.1 c.type_head.ensures
+    name_type c.args.s.now c.args.names.list.now c.args.at c.args.end
+    c.args.to c.requires.name_at c.args.axis _ _
+    (sym c.byte_at.ensures ∙ c.if-byte_at-ne40.false) z.0 z.1 c.type_head.ensures
 
 pub named_head-requires-in-None : goal.named_head-requires-in-None
 named_head-requires-in-None c = record {
@@ -73,5 +74,6 @@ named_head-requires-in-None c = record {
 pub returns-in-None : goal.returns-in-None
 returns-in-None c =
     rw c.named_head-in-None.ensures
-    (name_call c.args.s.now c.args.names.list.now c.args.at c.args.end c.args.to c.args.axis c.requires.name_at
-    (sym c.byte_at.ensures ∙ c.if-byte_at-ne-OPEN.false) (type_none _ c.in-None.ensures))
+    (name_call c.args.s.now c.args.names.list.now c.args.at c.args.end
+    c.args.to c.requires.name_at c.args.axis
+    (sym c.byte_at.ensures ∙ c.if-byte_at-ne40.false) (type_none _ c.in-None.ensures))

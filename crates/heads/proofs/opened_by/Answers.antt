@@ -1,34 +1,12 @@
 -- `opened_by` meets its contract. Assumes nothing.
-use mathlib.Core.Path.{refl, sym, ◌∙◌}
+use mathlib.Core.Path.{ap, ◌∙◌}
+use Rattle.std.specs.Prelude.{unwrap_or}
 use Rattle.lines.specs.Ascii.{ascii}
+use Rattle.words.specs.code.Names.{found}
+use Rattle.heads.specs.declared.Opens.TheVariants as Opening
+use Rattle.heads.proofs.Headed.{opened}
 use Rattle.heads.proofs.opened_by.Goals as goal
 
-pub returns-then-same : goal.returns-then-same
-unfolding ascii
-returns-then-same c = sym (rw (sym c.same.ensures ∙ c.if-same.true) refl)
-
-pub returns-then-same-2 : goal.returns-then-same-2
-unfolding ascii
-returns-then-same-2 c =
-    sym (rw (
-      sym c.same.ensures ∙ c.if-same.false,
-      sym c.same-else-same.ensures ∙ c.if-same-2.true,
-    ) refl)
-
-pub returns-then-same-3 : goal.returns-then-same-3
-unfolding ascii
-returns-then-same-3 c =
-    sym (rw (
-      sym c.same.ensures ∙ c.if-same.false,
-      sym c.same-else-same.ensures ∙ c.if-same-2.false,
-      sym c.same-else-same-2.ensures ∙ c.if-same-3.true,
-    ) refl)
-
-pub returns-else-same-3 : goal.returns-else-same-3
-unfolding ascii
-returns-else-same-3 c =
-    sym (rw (
-      sym c.same.ensures ∙ c.if-same.false,
-      sym c.same-else-same.ensures ∙ c.if-same-2.false,
-      sym c.same-else-same-2.ensures ∙ c.if-same-3.false,
-    ) refl)
+pub returns : goal.returns
+unfolding found ascii
+returns c = c.unwrap_or.ensures ∙ ap (λ x. unwrap_or x Opening.Paths) c.find.ensures ∙ opened _ _ _

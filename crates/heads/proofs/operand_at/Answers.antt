@@ -5,15 +5,15 @@ use borrow.Author.Tests.{not-true, not-false}
 use Rattle.heads.proofs.Headed.{operand_group, operand_other, operand_named, operand_opened, start_there}
 use Rattle.heads.proofs.operand_at.Goals as goal
 
-pub returns-then-b-eq-OPEN : goal.returns-then-b-eq-OPEN
-returns-then-b-eq-OPEN c =
+pub returns-then-b-eq40 : goal.returns-then-b-eq40
+returns-then-b-eq40 c =
     operand_group c.args.s.now c.args.at
-    (sym c.byte_at-b.ensures ∙ c.if-b-eq-OPEN.true)
+    (sym c.byte_at-b.ensures ∙ c.if-b-eq40.true)
 
 pub returns-then-not-is_start : goal.returns-then-not-is_start
 returns-then-not-is_start c =
     operand_other c.args.s.now c.args.at
-    (λ e. c.if-b-eq-OPEN.false (c.byte_at-b.ensures ∙ e))
+    (λ e. c.if-b-eq40.false (c.byte_at-b.ensures ∙ e))
     (rw c.byte_at-b.ensures at
     (sym c.is_start.ensures ∙ not-true _ c.if-not-is_start.true-raw))
 
@@ -38,8 +38,8 @@ name_end-end-requires c =
 pub skip-paren-requires : goal.skip-paren-requires
 skip-paren-requires c = c.name_end-end.ensures.fits
 
-pub returns-then-byte_at-ne-OPEN : goal.returns-then-byte_at-ne-OPEN
-returns-then-byte_at-ne-OPEN c =
+pub returns-then-byte_at-ne40 : goal.returns-then-byte_at-ne40
+returns-then-byte_at-ne40 c =
     operand_named c.args.s.now c.args.at _ _
     (record {
       begins = rw c.byte_at-b.ensures at
@@ -47,7 +47,7 @@ returns-then-byte_at-ne-OPEN c =
       names = c.name_end-end.ensures;
       spaces = c.skip-paren.ensures;
     })
-    (λ e. c.if-byte_at-ne-OPEN.true (c.byte_at.ensures ∙ e))
+    (λ e. c.if-byte_at-ne40.true (c.byte_at.ensures ∙ e))
 
 pub slice_bounds-opened_by-count : goal.slice_bounds-opened_by-count
 slice_bounds-opened_by-count c = omega (arith, c.name_end-end.ensures.from)
@@ -73,5 +73,5 @@ returns c =
           c.name_end-end.ensures;
       spaces = c.skip-paren.ensures;
     }) _
-    (sym c.byte_at.ensures ∙ c.if-byte_at-ne-OPEN.false)
+    (sym c.byte_at.ensures ∙ c.if-byte_at-ne40.false)
     c.opened_by.ensures

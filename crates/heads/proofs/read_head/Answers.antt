@@ -6,17 +6,17 @@ use Rattle.heads.proofs.Headed.{head_dot, head_at, head_test, byte_there, start_
 use Rattle.heads.proofs.read_head.Goals as goal
 
 pub dot_head-requires : goal.dot_head-requires
-dot_head-requires c = sym c.byte_at-b.ensures ∙ c.if-b-eq-DOT.true
+dot_head-requires c = sym c.byte_at-b.ensures ∙ c.if-b-eq46.true
 
-pub returns-then-b-eq-DOT : goal.returns-then-b-eq-DOT
-returns-then-b-eq-DOT c = head_dot c.args.s.now c.args.names.list.now c.args.at _ c.dot_head.ensures
+pub returns-then-b-eq46 : goal.returns-then-b-eq46
+returns-then-b-eq46 c = head_dot c.args.s.now c.args.names.list.now c.args.at _ c.dot_head.ensures
 
 pub overflow_add-at : goal.overflow_add-at
 overflow_add-at c =
     omega (
       arith,
       byte_there c.args.s.now c.args.at 64 refl
-          (sym c.byte_at-b.ensures ∙ c.if-b-eq-AT.true),
+          (sym c.byte_at-b.ensures ∙ c.if-b-eq64.true),
     )
 
 pub skip-requires : goal.skip-requires
@@ -24,16 +24,16 @@ skip-requires c =
     omega (
       arith,
       byte_there c.args.s.now c.args.at 64 refl
-          (sym c.byte_at-b.ensures ∙ c.if-b-eq-AT.true),
+          (sym c.byte_at-b.ensures ∙ c.if-b-eq64.true),
     )
 
 pub test_head-requires : goal.test_head-requires
 test_head-requires c = record { at_in_bounds = c.skip.ensures.fits }
 
-pub returns-then-b-eq-AT : goal.returns-then-b-eq-AT
-returns-then-b-eq-AT c =
+pub returns-then-b-eq64 : goal.returns-then-b-eq64
+returns-then-b-eq64 c =
     head_at c.args.s.now c.args.names.list.now c.args.at _ _ _
-    (sym c.byte_at-b.ensures ∙ c.if-b-eq-AT.true)
+    (sym c.byte_at-b.ensures ∙ c.if-b-eq64.true)
     c.skip.ensures c.test_head.ensures
 
 pub test_head-requires-then-not-is_start : goal.test_head-requires-then-not-is_start
@@ -42,8 +42,8 @@ test_head-requires-then-not-is_start c = record { at_in_bounds = c.requires.at_i
 pub returns-then-not-is_start : goal.returns-then-not-is_start
 returns-then-not-is_start c =
     head_test c.args.s.now c.args.names.list.now c.args.at c.requires.at_value
-    (λ e. c.if-b-eq-DOT.false (c.byte_at-b.ensures ∙ e))
-    (λ e. c.if-b-eq-AT.false (c.byte_at-b.ensures ∙ e)) _ _
+    (λ e. c.if-b-eq46.false (c.byte_at-b.ensures ∙ e))
+    (λ e. c.if-b-eq64.false (c.byte_at-b.ensures ∙ e)) _ _
     (rw c.byte_at-b.ensures at
     (sym c.is_start.ensures ∙ not-true _ c.if-not-is_start.true-raw))
     c.test_head-then-not-is_start.ensures
@@ -78,11 +78,11 @@ axis_head-requires c = record {
         c.name_end-end.ensures;
     spaces = c.skip-to.ensures;
   };
-  colon_value = sym c.byte_at.ensures ∙ c.if-byte_at-eq-COLON.true;
+  colon_value = sym c.byte_at.ensures ∙ c.if-byte_at-eq58.true;
 }
 
-pub returns-then-byte_at-eq-COLON : goal.returns-then-byte_at-eq-COLON
-returns-then-byte_at-eq-COLON c = c.axis_head.ensures
+pub returns-then-byte_at-eq58 : goal.returns-then-byte_at-eq58
+returns-then-byte_at-eq58 c = c.axis_head.ensures
 
 pub name_test-requires : goal.name_test-requires
 name_test-requires c = record {
@@ -97,6 +97,6 @@ name_test-requires c = record {
 pub returns : goal.returns
 returns c =
     head_test c.args.s.now c.args.names.list.now c.args.at c.requires.at_value
-    (λ e. c.if-b-eq-DOT.false (c.byte_at-b.ensures ∙ e))
-    (λ e. c.if-b-eq-AT.false (c.byte_at-b.ensures ∙ e)) _ _
-    (λ e. c.if-byte_at-eq-COLON.false (c.byte_at.ensures ∙ e)) c.name_test.ensures
+    (λ e. c.if-b-eq46.false (c.byte_at-b.ensures ∙ e))
+    (λ e. c.if-b-eq64.false (c.byte_at-b.ensures ∙ e)) _ _
+    (λ e. c.if-byte_at-eq58.false (c.byte_at.ensures ∙ e)) c.name_test.ensures

@@ -65,22 +65,22 @@ skip-close-requires c =
           (rw (sym c.byte_at-2.ensures ∙ c.if-byte_at-quote.false ∙ c.byte_at-quote.ensures) c.requires.at_value),
     )
 
-pub returns-then-byte_at-ne-CLOSE : goal.returns-then-byte_at-ne-CLOSE
-returns-then-byte_at-ne-CLOSE c =
+pub returns-then-byte_at-ne41 : goal.returns-then-byte_at-ne41
+returns-then-byte_at-ne41 c =
     (target_unclosed c.args.s.now c.args.names.list.now c.args.at c.args.axis
     c.requires.at_value (rw c.byte_at.ensures at
     (sym c.is_start.ensures ∙ not-false _ c.if-not-is_start.false-raw)) _
     c.name_end-end.ensures
     (sym c.byte_at-2.ensures ∙ c.if-byte_at-quote.false
     ∙ c.byte_at-quote.ensures) _ c.skip-close.ensures
-    (λ e. c.if-byte_at-ne-CLOSE.true (c.byte_at-3.ensures ∙ e)))
+    (λ e. c.if-byte_at-ne41.true (c.byte_at-3.ensures ∙ e)))
 
 pub overflow_add-close : goal.overflow_add-close
 overflow_add-close c =
     omega (
       arith,
       byte_there c.args.s.now c.skip-close.result 41 refl
-          (sym c.byte_at-3.ensures ∙ c.if-byte_at-ne-CLOSE.false),
+          (sym c.byte_at-3.ensures ∙ c.if-byte_at-ne41.false),
     )
 
 pub skip-at-requires : goal.skip-at-requires
@@ -88,7 +88,7 @@ skip-at-requires c =
     omega (
       arith,
       byte_there c.args.s.now c.skip-close.result 41 refl
-          (sym c.byte_at-3.ensures ∙ c.if-byte_at-ne-CLOSE.false),
+          (sym c.byte_at-3.ensures ∙ c.if-byte_at-ne41.false),
     )
 
 pub named_head-requires : goal.named_head-requires
@@ -109,5 +109,5 @@ returns c =
     c.name_end-end.ensures
     (sym c.byte_at-2.ensures ∙ c.if-byte_at-quote.false ∙ c.byte_at-quote.ensures) _
     c.skip-close.ensures _
-    (sym c.byte_at-3.ensures ∙ c.if-byte_at-ne-CLOSE.false)
+    (sym c.byte_at-3.ensures ∙ c.if-byte_at-ne41.false)
     c.skip-at.ensures)

@@ -10,7 +10,7 @@ overflow_add-at c =
     omega (
       arith,
       byte_there c.args.s.now c.args.at 42 refl
-          (sym c.byte_at-b.ensures ∙ c.if-b-eq-STAR.true),
+          (sym c.byte_at-b.ensures ∙ c.if-b-eq42.true),
     )
 
 pub skip-requires : goal.skip-requires
@@ -18,20 +18,20 @@ skip-requires c =
     omega (
       arith,
       byte_there c.args.s.now
-          c.args.at 42 refl (sym c.byte_at-b.ensures ∙ c.if-b-eq-STAR.true),
+          c.args.at 42 refl (sym c.byte_at-b.ensures ∙ c.if-b-eq42.true),
     )
 
-pub returns-then-b-eq-STAR : goal.returns-then-b-eq-STAR
-returns-then-b-eq-STAR c =
+pub returns-then-b-eq42 : goal.returns-then-b-eq42
+returns-then-b-eq42 c =
     rw c.plain_head.ensures
     (test_star c.args.s.now c.args.names.list.now c.args.at c.args.axis _
-    (sym c.byte_at-b.ensures ∙ c.if-b-eq-STAR.true)
+    (sym c.byte_at-b.ensures ∙ c.if-b-eq42.true)
     c.skip.ensures)
 
 pub returns-then-not-is_start : goal.returns-then-not-is_start
 returns-then-not-is_start c =
     (test_none c.args.s.now c.args.names.list.now c.args.at c.args.axis (omega arith)
-    (λ e. c.if-b-eq-STAR.false (c.byte_at-b.ensures ∙ e))
+    (λ e. c.if-b-eq42.false (c.byte_at-b.ensures ∙ e))
     (rw c.byte_at-b.ensures at
     (sym c.is_start.ensures ∙ not-true _ c.if-not-is_start.true-raw)))
 

@@ -3,7 +3,10 @@ use Rattle.std.specs.Prelude.{ℕ, suc, ◌+◌, ◌-◌, ◌≤◌, ◌≡◌, 
 use Rattle.std.specs.Prelude.{eqb, length, drop, take}
 use Rattle.std.specs.Prelude.{Option as Maybe, Some, None, Result, Ok, Err, IfOk, IfErr}
 use Rattle.std.proofs.Math.Option.{Option, none, some}
-use Rattle.common.specs.NodeTests.{target_test}
+use Rattle.common.specs.code.Numbers.{axis_number, test_number}
+use Rattle.common.specs.declared.axis.Axis.{Axis as CodeAxis}
+use Rattle.common.specs.declared.node_test.NodeTest.{NodeTest}
+use Rattle.common.specs.declared.node_test.NodeTest.TheVariants as Tests
 use Rattle.xpath.specs.Term as term
 use Rattle.lines.specs.Line.{same_bytes}
 use Rattle.grammar.specs.Bytes.{Bytes, is_space, is_start, is_name, is_word, not_word, true_word}
@@ -18,6 +21,8 @@ use Rattle.grammar.specs.code.Reader.{Alt, first, more, Lead, start, bare, at_ro
 use Rattle.grammar.specs.code.Reader.{follow, Outcome, finish, run, bad, paren_byte_next, colon_byte_next}
 use Rattle.grammar.specs.code.Reader.{lead_byte, lead_end}
 use Rattle.heads.specs.declared.Head.{Head}
+use Rattle.heads.specs.declared.StepName.{StepName}
+use Rattle.heads.specs.declared.StepName.TheVariants as Naming
 use Rattle.heads.specs.declared.Opens.{Opens}
 use Rattle.heads.specs.declared.Opens.TheVariants as Opening
 use Rattle.words.specs.code.Scan.{byte_at, Passed, begins_step}
@@ -26,21 +31,29 @@ use Rattle.words.specs.code.Scan.{byte_at, Passed, begins_step}
 unfoldable pub proceed : Bytes → ℕ → Next → Outcome
 proceed s at n = follow n (bad (length s - at)) (λ st. run (drop (suc at) s) st)
 
--- a head without a name
-abbrev pub plain_head : (i a t : ℕ) → Bool → Head
-plain_head i a t f = record { at = i; axis = a; test = t; name = 0; filters = f; unlisted = None }
+-- the number of a step's name in its row, 0 where the list gives none
+abbrev pub name_number : StepName → ℕ
+name_number Naming.Unnamed = 0
+name_number (Naming.Listed n) = n
+name_number (Naming.Unlisted p) = 0
 
--- a head with a name whose number is 0 where it is not listed
-abbrev pub named_head : (i a t number place : ℕ) → Head
-named_head i a t number p =
-    record {
-      at = i;
-      axis = a;
-      test = t;
-      name = number;
-      filters = true;
-      unlisted = cond (eqb number 0) (Some p) None;
-    }
+-- the place of a name that is not listed
+abbrev pub name_place : StepName → Maybe ℕ
+name_place Naming.Unnamed = None
+name_place (Naming.Listed n) = None
+name_place (Naming.Unlisted p) = Some p
+
+-- a name at a place, whose number is 0 where it is not listed
+abbrev pub name_by : (number place : ℕ) → StepName
+name_by n p = cond (eqb n 0) (Naming.Unlisted p) (Naming.Listed n)
+
+-- a head without a name
+abbrev pub plain_head : ℕ → CodeAxis → NodeTest → Bool → Head
+plain_head i a t f = record { at = i; axis = a; test = t; name = Naming.Unnamed; filters = f }
+
+-- a head with a name
+abbrev pub named_head : ℕ → CodeAxis → NodeTest → (number place : ℕ) → Head
+named_head i a t n p = record { at = i; axis = a; test = t; name = name_by n p; filters = true }
 
 -- the first place after a head; or the first byte that can't continue
 abbrev pub end_of : Result Head ℕ → ℕ
@@ -107,9 +120,10 @@ Stuck st b = is_start b ≡ false → eqb b star_byte ≡ false → (step st b �
 -- whitespace w before it ends
 pub record TestTold (s list : Bytes) (at : ℕ) (noColon : Type 0) (tree : Bytes → Test) (spaces : Bytes)
     (h : Head) : Type 0 where
-  pub term : (k : ℕ) (w : Bytes) → test_of (number_of list) k (tree w) ≡ term.AxisStep k h.test h.name
+  pub term : (k : ℕ) (w : Bytes) → test_of (number_of list) k (tree w)
+      ≡ term.AxisStep k (test_number h.test) (name_number h.name)
   pub names : (w : Bytes) (i : ℕ) → i + length w ≡ at → unlisted (number_of list) (test_names i (tree w))
-      ≡ place_of h.unlisted
+      ≡ place_of (name_place h.name)
   pub paren : (c : Ctx) (g : Alt) (l : Lead) (a : Axis) (w : Bytes)
       → (is_implied a ≡ true → callable c g l ≡ true → NoCall s at) → byte_at s h.at ≡ open_byte
       → paren_byte_next c g l (test a (tree w)) spaces ≡ none
@@ -126,7 +140,7 @@ pub record TestRead (s list : Bytes) (at : ℕ) (noColon : Type 0) (h : Head) : 
       → run (drop at s) st ≡ run (drop h.at s) (after c g l (test a (tree w)) spaces)
   pub told : TestTold s list at noColon tree spaces h
 
-pub record TestMet (s list : Bytes) (at ax : ℕ) (noColon : Type 0) (r : Result Head ℕ) : Type 0 where
+pub record TestMet (s list : Bytes) (at : ℕ) (ax : CodeAxis) (noColon : Type 0) (r : Result Head ℕ) : Type 0 where
   pub between : Between s at (end_of r)
   pub axis : IfOk r (λ h. h.axis ≡ ax)
   pub read : IfOk r (TestRead s list at noColon)
@@ -139,9 +153,10 @@ pub record TypeRead (s list : Bytes) (at : ℕ) (n v : Bytes) (h : Head) : Type 
   pub spaces : Bytes
   pub runs : (c : Ctx) (g : Alt) (l : Lead) (a : Axis) (w : Bytes) → run (drop at s) (type_open c g l a w n v [])
       ≡ run (drop h.at s) (after c g l (test a (tree w)) spaces)
-  pub term : (k : ℕ) (w : Bytes) → test_of (number_of list) k (tree w) ≡ term.AxisStep k h.test h.name
+  pub term : (k : ℕ) (w : Bytes) → test_of (number_of list) k (tree w)
+      ≡ term.AxisStep k (test_number h.test) (name_number h.name)
   pub names : (w : Bytes) (i : ℕ) → i + length (w ++ (n ++ (v ++ (open_byte ∷ [])))) ≡ at
-      → unlisted (number_of list) (test_names i (tree w)) ≡ place_of h.unlisted
+      → unlisted (number_of list) (test_names i (tree w)) ≡ place_of (name_place h.name)
   pub paren : (c : Ctx) (g : Alt) (l : Lead) (a : Axis) (w : Bytes)
       → paren_byte_next c g l (test a (tree w)) spaces ≡ none
   pub colon : (c : Ctx) (g : Alt) (l : Lead) (a : Axis) (w : Bytes)
@@ -151,11 +166,11 @@ pub record TypeRead (s list : Bytes) (at : ℕ) (n v : Bytes) (h : Head) : Type 
       ≡ length (w ++ (n ++ (v ++ (open_byte ∷ [])))) + h.at
   pub stops : is_space (byte_at s h.at) ≡ false
 
-pub record TypeMet (s list : Bytes) (at ax t : ℕ) (r : Result Head ℕ) : Type 0 where
+pub record TypeMet (s list : Bytes) (at : ℕ) (ax : CodeAxis) (t : NodeTest) (r : Result Head ℕ) : Type 0 where
   pub between : Between s at (end_of r)
   pub axis : IfOk r (λ h. h.axis ≡ ax)
-  pub read : IfOk r (λ h. (n v : Bytes) → is_type n ≡ true → t ≡ type_code n → TypeRead s list at n v h)
-  pub failed : IfErr r (λ i. (n v : Bytes) → is_type n ≡ true → t ≡ type_code n
+  pub read : IfOk r (λ h. (n v : Bytes) → is_type n ≡ true → test_number t ≡ type_code n → TypeRead s list at n v h)
+  pub failed : IfErr r (λ i. (n v : Bytes) → is_type n ≡ true → test_number t ≡ type_code n
       → (c : Ctx) (g : Alt) (l : Lead) (a : Axis) (w : Bytes) → run (drop at s) (type_open c g l a w n v [])
       ≡ bad (length s - i))
 
@@ -167,14 +182,13 @@ pub record TargetRead (s list : Bytes) (at : ℕ) (h : Head) : Type 0 where
   pub runs : (c : Ctx) (g : Alt) (l : Lead) (a : Axis) (w v u : Bytes)
       → run (drop (at + 1) s) (quote c g l a w v u (byte_at s at))
       ≡ run (drop h.at s) (after c g l (test a (target w v u (byte_at s at) word inner)) spaces)
-  pub test : h.test ≡ target_test
-  pub name : h.name ≡ number_of list word
-  pub place : h.unlisted ≡ cond (eqb (number_of list word) 0) (Some (at + 1)) None
+  pub test : h.test ≡ Tests.Target
+  pub name : h.name ≡ name_by (number_of list word) (at + 1)
   pub takes : h.filters ≡ true
   pub size : at + length word + length inner + length spaces + 3 ≡ h.at
   pub stops : is_space (byte_at s h.at) ≡ false
 
-pub record TargetMet (s list : Bytes) (at ax : ℕ) (r : Result Head ℕ) : Type 0 where
+pub record TargetMet (s list : Bytes) (at : ℕ) (ax : CodeAxis) (r : Result Head ℕ) : Type 0 where
   pub between : Between s (at + 1) (end_of r)
   pub axis : IfOk r (λ h. h.axis ≡ ax)
   pub read : IfOk r (TargetRead s list at)
@@ -192,9 +206,10 @@ pub record HeadRead (s list : Bytes) (at : ℕ) (h : Head) : Type 0 where
   pub spaces : Bytes
   pub runs : (c : Ctx) (g : Alt) (l : Lead) (w : Bytes) → run (drop at s) (need c g l w)
       ≡ run (drop h.at s) (after c g l (tree w) spaces)
-  pub term : (w : Bytes) → step_of (number_of list) (tree w) ≡ term.AxisStep h.axis h.test h.name
+  pub term : (w : Bytes) → step_of (number_of list) (tree w)
+      ≡ term.AxisStep (axis_number h.axis) (test_number h.test) (name_number h.name)
   pub names : (w : Bytes) (i : ℕ) → i + length w ≡ at → unlisted (number_of list) (step_names (tree w) i)
-      ≡ place_of h.unlisted
+      ≡ place_of (name_place h.name)
   pub paren : (c : Ctx) (g : Alt) (l : Lead) (w : Bytes) → (callable c g l ≡ true → NoCall s at) → byte_at s h.at
       ≡ open_byte → paren_byte_next c g l (tree w) spaces ≡ none
   pub colon : (c : Ctx) (g : Alt) (l : Lead) (w : Bytes) → byte_at s h.at ≡ colon_byte

@@ -92,3 +92,8 @@ unfoldable pub starts_with : (ys xs : List ℕ) → Bool
 starts_with [] xs = true
 starts_with (y ∷ ys) [] = false
 starts_with (y ∷ ys) (x ∷ xs) = eqb x y && starts_with ys xs
+
+-- the length of the first line, without its newline; 0 where there is none
+unfoldable pub first_length : List Line → ℕ
+first_length [] = 0
+first_length (l ∷ ls) = length l.bytes

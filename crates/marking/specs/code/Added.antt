@@ -1,17 +1,15 @@
 -- Marks that are added to marks. Assumes nothing.
-use Rattle.std.specs.Prelude.{ℕ, ◌≤◌, ◌<◌, ◌≡◌, Bool, true, not, cond, ◌&&◌, ◌||◌, List, eqb, length, get_or}
+use Rattle.std.specs.Prelude.{ℕ, ◌≤◌, ◌<◌, ◌≡◌, Bool, true, false, not, cond, ◌&&◌, ◌||◌, List, eqb, length, get_or}
 use Rattle.xpath.specs.Document.{Document, is_attribute, is_child, max_nodes}
 use Rattle.common.specs.Axes.{attribute}
-use Rattle.xpath.specs.declared.node_tests.StepTest.{StepTest}
 use Rattle.xpath.specs.code.Tests.{picks}
-use Rattle.xpath.specs.code.Ends.{Prepared}
 
 -- y is marked
-abbrev pub marked : List ℕ → ℕ → Bool
-marked m y = eqb (get_or m y 0) 1
+abbrev pub marked : List Bool → ℕ → Bool
+marked m y = get_or m y false
 
 -- of the first n nodes, those of the set s are marked in `new` beside those that were marked in `old`
-pub record Added (n : ℕ) (old new : List ℕ) (s : ℕ → Bool) : Type 0 where
+pub record Added (n : ℕ) (old new : List Bool) (s : ℕ → Bool) : Type 0 where
   pub size : length new ≡ length old
   pub marks : (y : ℕ) → y < n → marked new y ≡ (marked old y || s y)
 
@@ -20,9 +18,9 @@ pub record Added (n : ℕ) (old new : List ℕ) (s : ℕ → Bool) : Type 0 wher
 unfoldable pub may_hold : ℕ → Document → ℕ → Bool
 may_hold a d y = cond (eqb a attribute) (is_attribute d y) (not (is_attribute d y))
 
--- axis a may hold y, and y is one of the nodes of the test
-abbrev pub candidate : ℕ → StepTest → Document → ℕ → Bool
-candidate a t d y = may_hold a d y && picks t d y
+-- axis a may hold y, and y is one of the nodes that `has` tells by their kinds and names
+abbrev pub candidate : ℕ → (has : (kind name : ℕ) → Bool) → Document → ℕ → Bool
+candidate a has d y = may_hold a d y && picks has d y
 
 -- lo is a child of p unless hi is reached; hi is no further than the end of p's subtree
 pub record ChildrenFrom (d : Document) (es : List ℕ) (p lo hi : ℕ) : Type 0 where
@@ -31,8 +29,7 @@ pub record ChildrenFrom (d : Document) (es : List ℕ) (p lo hi : ℕ) : Type 0 
   pub inside : hi ≤ get_or es p 0
   pub first : lo < hi → is_child d p lo ≡ true
 
--- x is a row of a prepared document, and the marks have room for every row
-pub record StepFrom (d : Document) (es : List ℕ) (x : ℕ) (m : List ℕ) : Type 0 where
-  pub prepared : Prepared d es
+-- x is a row of the document, and the marks have room for every row
+pub record StepFrom (d : Document) (x : ℕ) (m : List Bool) : Type 0 where
   pub row : x < length d
   pub room : length m ≡ max_nodes

@@ -1,10 +1,11 @@
--- The entry of the rule says it. Assumes nothing.
-use mathlib.Core.Path.{◌∙◌, ap}
-use Rattle.matching.specs.code.Unpack.{Entry, rule_at}
-use Rattle.matching.proofs.Decoded.{premises_known}
+-- The first form says it. Assumes nothing.
+use borrow.Author.Rules.{rules}
+use Rattle.rules.specs.Yields.{forms_of, premise_count}
+use Rattle.matching.proofs.Forms.{count_read}
 use Rattle.matching.proofs.premise_count.Goals as goal
 
 pub returns : goal.returns
+unfolding premise_count
 returns c =
-    let n = c.args.rule in
-    λ e. ap (λ (w : Entry). w.third) c.rule_at.ensures ∙ ap (λ t. (rule_at t n).third) e ∙ premises_known n
+    count_read c.forms_of.result.now (forms_of c.args.rule) c.first.result c.map_or.result _ c.first.ensures.value
+    c.forms_of.ensures c.map_or.ensures (λ x q. search rules)

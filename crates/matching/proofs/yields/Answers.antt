@@ -1,21 +1,24 @@
--- The way back, or the forms from the rule's first one on, which are the rule's. Assumes nothing.
+-- The way back, or one of the rule's forms. Assumes nothing.
+use mathlib.Core.Path.{◌∙◌, ap}
 use mathlib.Core.List.{[], ◌∷◌}
+use borrow.Author.Rules.{rules}
+use borrow.Author.Tests.{tests}
+use Rattle.std.proofs.lemmas.Iterator.{YieldsList-from_slice}
+use Rattle.std.proofs.lemmas.Iterator.Search.{any_from_yields_List}
+use Rattle.common.specs.Lists.{any_of}
 use Rattle.terms.specs.Row.{table_of}
-use Rattle.matching.specs.code.RowYields.{sides}
+use Rattle.matching.specs.code.PatternTypes.{form_of}
+use Rattle.matching.specs.code.RowYields.{yields_by}
 use Rattle.matching.specs.code.MatchTypes.{sides_in}
-use Rattle.matching.proofs.FormSearch.{rule_way, way_back_way, other_rule_way}
+use Rattle.matching.proofs.Forms.{way_back_way, other_rule_way, rule_way, any_mapped}
 use Rattle.matching.proofs.yields.Goals as goal
-
-pub is_with_back-requires : goal.is_with_back-requires
-is_with_back-requires c = c.requires
 
 pub returns-then-rule-eq-WAY_BACK_RULE : goal.returns-then-rule-eq-WAY_BACK_RULE
 returns-then-rule-eq-WAY_BACK_RULE c =
     let a = c.args in
     let done = c.is_with_back.ensures in (
-      λ e. way_back_way (table_of a.rows.now) (sides a.left a.right)
-          (sides_in a.first ∷ sides_in a.second ∷ [])
-          a.rule c.if-rule-eq-WAY_BACK_RULE.true done.0,
+      way_back_way (table_of a.rows.now) (sides_in a.step) (sides_in a.first ∷ sides_in a.second ∷ []) a.rule
+          c.if-rule-eq-WAY_BACK_RULE.true done.0,
       done.1,
     )
 
@@ -23,9 +26,13 @@ pub returns : goal.returns
 returns c =
     let a = c.args in
     let rs = table_of a.rows.now in
-    let s = sides a.left a.right in
-    let ss = sides_in a.first ∷ sides_in a.second ∷ [] in (
-      λ e. other_rule_way rs s _ a.rule c.if-rule-eq-WAY_BACK_RULE.false
-          (rule_way rs s ss a.rule e c.rule_at.ensures c.some_form_yields.ensures),
-      c.requires,
-    )
+    let s = sides_in a.step in
+    let ss = sides_in a.first ∷ sides_in a.second ∷ [] in
+    let forms = c.forms_of.result.now in
+    let found =
+    any_from_yields_List (λ w. yields_by rs s ss (form_of w)) _ _ c.any.result c.any.ensures.ran
+    (YieldsList-from_slice forms cc) (λ x b q k. search (rules, tests))
+    ∙ any_mapped (yields_by rs s ss) form_of forms
+    ∙ ap (any_of (yields_by rs s ss)) c.forms_of.ensures
+    ∙ rule_way rs s ss a.rule in
+    (other_rule_way rs s _ a.rule c.if-rule-eq-WAY_BACK_RULE.false found, c.requires)

@@ -1,5 +1,5 @@
 -- The code's types as the definitions have them. Assumes nothing.
-use Rattle.std.specs.Prelude.{ℕ, ◌≡◌, Bool, true, false, ◌&&◌, List, map, get_or, Option, None, Some}
+use Rattle.std.specs.Prelude.{ℕ, ◌≡◌, Bool, true, false, ◌&&◌, List, map, Option, None, Some}
 use Rattle.terms.specs.Row.{Row}
 use Rattle.matching.specs.declared.matcher.Sides.{Sides as CodeSides}
 use Rattle.matching.specs.declared.matcher.Letters.{Letters}
@@ -7,7 +7,6 @@ use Rattle.matching.specs.declared.way_back.Reversal.{Reversal}
 use Rattle.matching.specs.declared.way_back.Reversal.TheVariants.{Never, Always, Operands}
 use Rattle.matching.specs.code.RowYields.{Sides, sides, Match}
 use Rattle.matching.specs.code.RowWayBack.{is_back_by}
-use Rattle.matching.specs.code.Unpack.{Entry}
 
 abbrev pub sides_in : CodeSides → Sides
 sides_in s = sides s.left s.right
@@ -33,12 +32,6 @@ matched l = record { fits = true; known = map has_value l.values; value = values
 pub record Matches (fits : Bool) (l : Letters) (m : Match) : Type 0 where
   pub answer : fits ≡ m.fits
   pub letters : fits ≡ true → matched l ≡ m
-
-abbrev pub entry_of : List ℕ → Entry
-entry_of f = record { first = get_or f 0 0; second = get_or f 1 0; third = get_or f 2 0; fourth = get_or f 3 0 }
-
-unfoldable pub pairs_of : List (List ℕ) → List (ℕ × ℕ)
-pairs_of ps = map (λ p. (get_or p 0 0, get_or p 1 0)) ps
 
 -- what is seen is a way back, by a test for the operands
 abbrev pub reversed_by : (ℕ → ℕ → Bool) → Reversal → Bool

@@ -1,11 +1,11 @@
 -- Patterns of rows, and the forms of the rules as such patterns. Assumes nothing.
-use Rattle.std.specs.Prelude.{ℕ, List, [], ◌∷◌, ◌++◌, map}
+use Rattle.std.specs.Prelude.{ℕ, List, map}
 use Rattle.common.specs.RowKinds.{void_row, root_row, step_row, union_row, composition_row, filter_row}
 use Rattle.common.specs.RowKinds.{true_row, false_row, not_row, and_row, or_row, inclusion_row}
 use Rattle.rules.specs.Form.{PathLetter, QualifierLetter, AxisLetter, TestLetter, AxisForm, axis, axis_letter, TestForm}
 use Rattle.rules.specs.Form.{test, test_letter, PathForm, path_letter, Void, Root, ◌::◌, ◌¦◌, ◌∕◌, ◌⟦◌⟧, QualifierForm}
 use Rattle.rules.specs.Form.{qualifier_letter, True, False, Not◌, ◌And◌, ◌Or◌, ◌In◌, ClaimForm, ◌<=◌, ◌=>◌, Condition}
-use Rattle.rules.specs.Form.{Form, Rule}
+use Rattle.rules.specs.Form.{Form}
 
 -- of a number in a row: this number; the one that a letter stands for;
 -- the number of a held row of a kind, with patterns of its fields
@@ -91,23 +91,15 @@ unfoldable pub claim_pattern : ClaimForm → ClaimPattern
 claim_pattern (u <= v) = record { left = path_pattern u; right = path_pattern v }
 claim_pattern (u => v) = record { left = qualifier_pattern u; right = qualifier_pattern v }
 
--- a form with its rule's number
 pub record FormPattern : Type 0 where
-  pub rule : ℕ
   pub conclusion : ClaimPattern
   pub premises : List ClaimPattern
   pub conditions : List Condition
 
-unfoldable pub form_pattern : ℕ → Form → FormPattern
-form_pattern n w =
+unfoldable pub form_pattern : Form → FormPattern
+form_pattern w =
     record {
-      rule = n;
       conclusion = claim_pattern w.conclusion;
       premises = map claim_pattern w.premises;
       conditions = w.conditions;
     }
-
--- the forms of a table, in order
-unfoldable pub form_patterns : List Rule → List FormPattern
-form_patterns [] = []
-form_patterns (r ∷ rs) = map (form_pattern r.number) r.forms ++ form_patterns rs

@@ -1,5 +1,5 @@
 -- The way back, judged on row numbers: no term is expanded. Assumes nothing.
-use Rattle.std.specs.Prelude.{ℕ, suc, ◌<◌, ◌≡◌, Bool, true, false, ◌&&◌, List, [], ◌∷◌, eqb, length, get_or}
+use Rattle.std.specs.Prelude.{ℕ, ◌<◌, ◌≡◌, Bool, true, false, ◌&&◌, List, [], ◌∷◌, eqb, length, get_or, Option, Some, None}
 use Rattle.common.specs.Axes.{self}
 use Rattle.common.specs.NodeTests.{node_test}
 use Rattle.common.specs.RowKinds.{void_row, step_row, union_row, composition_row, filter_row, not_row, inclusion_row}
@@ -65,12 +65,12 @@ module _ (rs : List Row) where
       && (eqb f.kind not_row && (eqb g.kind inclusion_row && eqb (row_at rs g.b).kind void_row))
       && is_back left g.a
 
-  -- what a table of noted rows says is so: at i stands j + 1 where row j is the way back of row i, or 0
-  unfoldable pub Noted : List ℕ → Type 0
-  Noted xs = (i j : ℕ) → get_or xs i 0 ≡ suc j → is_back i j ≡ true
+  -- what a table of noted rows says is so: at i stands j where row j is the way back of row i, or none
+  unfoldable pub Noted : List (Option ℕ) → Type 0
+  Noted xs = (i j : ℕ) → get_or xs i None ≡ Some j → is_back i j ≡ true
 
   -- whether row j is the way back of row i, and what is noted then: what is found of a path other than a step is
-  pub record BackFound (i j : ℕ) (found : Bool) (xs : List ℕ) : Type 0 where
+  pub record BackFound (i j : ℕ) (found : Bool) (xs : List (Option ℕ)) : Type 0 where
     pub answer : found ≡ is_back i j
     pub noted : Noted xs
-    pub found_noted : found ≡ true → ¬ ((row_at rs i).kind ≡ step_row) → i < length xs → get_or xs i 0 ≡ suc j
+    pub found_noted : found ≡ true → ¬ ((row_at rs i).kind ≡ step_row) → i < length xs → get_or xs i None ≡ Some j

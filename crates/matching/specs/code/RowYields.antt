@@ -1,6 +1,6 @@
 -- When a rule yields a step, judged on row numbers: no term is expanded. Assumes nothing.
 use Rattle.std.specs.Prelude.{ℕ, Bool, true, false, not, cond, ◌&&◌, ◌||◌, List, [], ◌∷◌, map, ltb, eqb, length}
-use Rattle.std.specs.Prelude.{get_or, set, replicate}
+use Rattle.std.specs.Prelude.{get_or, set, take, replicate}
 use Rattle.xpath.specs.Term.{Path, Qualifier}
 use Rattle.terms.specs.Row.{Row, row_at}
 use Rattle.terms.specs.Fields.{held_path, held_qualifier}
@@ -96,9 +96,13 @@ match_form rs s ss w = match_claims rs w.premises ss (match_claim rs w.conclusio
 unfoldable pub form_yields : List Row → Sides → List Sides → FormPattern → Bool
 form_yields rs s ss w = let m = match_form rs s ss w in m.fits && all_of (meets (numbers_in m.value)) w.conditions
 
+-- the same from as many of the steps as it has premises
+unfoldable pub yields_by : List Row → Sides → List Sides → FormPattern → Bool
+yields_by rs s ss w = form_yields rs s (take (length w.premises) ss) w
+
 -- a form of rule n yields a step about s, from steps about ss
 unfoldable pub forms_yield : List Row → ℕ → Sides → List Sides → Bool
-forms_yield rs n s ss = any_of (form_yields rs s ss) (map (form_pattern n) (forms_of n))
+forms_yield rs n s ss = any_of (form_yields rs s ss) (map form_pattern (forms_of n))
 
 -- rule 59 does
 unfoldable pub way_back_yields : List Row → ℕ → Sides → List Sides → Bool

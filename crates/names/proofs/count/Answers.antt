@@ -1,23 +1,19 @@
--- `count` meets its contract. The loop's invariant: the lines counted, and those from `at` on, are all.
--- Assumes nothing.
-use native.Mathlib.Omega.{arith}
-use Rattle.names.proofs.Walk.{one_counted, none_left}
+-- `count` meets its contract: the list has as many lines as pieces that end at a newline. Assumes nothing.
+use mathlib.Core.Path.{ap, ◌∙◌}
+use borrow.Author.Tests.{tests}
+use lib.ListN.{length}
+use Rattle.std.proofs.Common.{rules}
+use Rattle.std.specs.Slice.Iter.{split_inclusive_rest, split_inclusive_callee}
+use Rattle.std.proofs.lemmas.Iterator.Consumers.{count_from_yields_List}
+use Rattle.std.proofs.lemmas.List.Sorted.{answers_always}
+use Rattle.lines.specs.Line.{lines}
+use Rattle.names.proofs.Pieces.{pieces_count, pieces_yielded}
 use Rattle.names.proofs.count.Goals as goal
-
-pub loop-at-smaller : goal.loop-at-smaller
-loop-at-smaller c =
-    let m = c.next_line-at.ensures in
-    omega (arith, m.further c.loop-at-test.true, m.inside)
-
-pub loop-at-preserved : goal.loop-at-preserved
-loop-at-preserved c =
-    let l = c.loop-at in
-    let m = c.next_line-at.ensures in
-    let inside = c.loop-at-test.true in
-    let xs = c.args.list.now in
-    (omega (arith, m.further inside), m.inside, one_counted xs l.n l.at _ m l.invariant.2 inside)
 
 pub returns : goal.returns
 returns c =
-    let l = c.loop-at in
-    omega (arith, l.invariant.2, none_left c.args.list.now l.at c.loop-at-test.false)
+    let cut = c.split_inclusive in
+    count_from_yields_List cut.result c.count.result c.count.ensures.ran
+    (pieces_yielded _ split_inclusive_rest split_inclusive_callee cut.result
+    (answers_always _ _ _ (λ f a r q k. search (rules, tests))))
+    ∙ pieces_count _ ∙ ap (λ xs. length (lines xs)) cut.ensures.rest

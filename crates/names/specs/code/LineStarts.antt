@@ -1,11 +1,6 @@
 -- Where the lines of a list start and end. Assumes nothing.
-use Rattle.std.specs.Prelude.{ℕ, ◌≤◌, ◌<◌, ◌≡◌, List, [], ◌∷◌, length, drop}
-use Rattle.lines.specs.Line.{Line, lines}
-
--- the length of the first line, without its newline; 0 where there is none
-unfoldable pub first_length : List Line → ℕ
-first_length [] = 0
-first_length (l ∷ ls) = length l.bytes
+use Rattle.std.specs.Prelude.{ℕ, ◌≤◌, ◌<◌, ◌≡◌, List, length, drop}
+use Rattle.lines.specs.Line.{lines}
 
 -- the line after the one that starts at `at` of the list xs starts at `next`
 pub record NextMet (xs : List ℕ) (at next : ℕ) : Type 0 where

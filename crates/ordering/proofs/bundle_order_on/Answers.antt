@@ -1,30 +1,24 @@
--- `bundle_order_on` meets its contract. The loop's invariant: the order is that of the steps from k on, and what is
+-- `bundle_order_on` meets its contract. The loop's invariant: the order is that of the steps that are left, and what is
 -- noted is so. Assumes nothing.
 use mathlib.Core.Path.{refl, sym, ap, ap₂, ◌∙◌}
+use mathlib.Core.List.{[]}
 use native.Mathlib.Omega.{arith}
+use lib.ListN.{length}
+use Rattle.std.proofs.lemmas.List.{length_push}
+use Rattle.std.proofs.lemmas.Slice.Zip.{zip_turn, zip_end}
 use Rattle.terms.specs.Row.{table_of}
 use Rattle.calls.specs.Book.{answer}
 use Rattle.calls.specs.code.Tables.{steps_of}
-use Rattle.calls.proofs.Tables.{steps_lent}
 use Rattle.ordering.specs.Order.{number_order}
 use Rattle.ordering.specs.BundleOrder.{term_step, step_order, term_steps, bundle_order}
 use Rattle.ordering.specs.OrderCall.{order_value, bundle_order_answer}
-use Rattle.ordering.specs.code.Sorts.{order_of}
-use Rattle.ordering.proofs.Compared.{none_noted, numbers_compared}
-use Rattle.ordering.proofs.Steps.{step_decides, step_passes, ends}
+use Rattle.ordering.specs.code.FieldsCompared.{order_of}
+use Rattle.ordering.proofs.Compared.{number_of_order, none_noted, numbers_compared}
+use Rattle.ordering.proofs.Steps.{step_there, steps_there, step_decides, step_passes, ends}
 use Rattle.ordering.proofs.bundle_order_on.Goals as goal
 
-pub loop-k-init : goal.loop-k-init
-loop-k-init c = (none_noted (table_of c.args.left.now) (table_of c.args.right.now) 1024, refl)
-
-pub step_at-requires : goal.step_at-requires
-step_at-requires c = omega (arith, steps_lent c.args.left_steps.now)
-
-pub step_at-requires-in-loop-k : goal.step_at-requires-in-loop-k
-step_at-requires-in-loop-k c = omega (arith, steps_lent c.args.right_steps.now)
-
-pub order_steps-order-requires : goal.order_steps-order-requires
-order_steps-order-requires c = c.loop-k.invariant.0
+pub loop-p-init : goal.loop-p-init
+loop-p-init c = (none_noted (table_of c.args.left.now) (table_of c.args.right.now) 1024, refl)
 
 pub returns-then-is_ne : goal.returns-then-is_ne
 unfolding bundle_order_answer bundle_order term_steps
@@ -32,32 +26,56 @@ returns-then-is_ne c =
     let a = c.args in
     let rs = table_of a.left.now in
     let ss = table_of a.right.now in
-    let ps = steps_of a.left_steps.now in
-    let qs = steps_of a.right_steps.now in
-    let l = c.loop-k in
+    let ps = c.whole_steps-ps.result.now in
+    let qs = c.whole_steps-qs.result.now in
+    let us = steps_of a.left_steps.now in
+    let vs = steps_of a.right_steps.now in
+    let l = c.loop-p in
+    let lefts = steps_there ps us c.whole_steps-ps.ensures in
+    let rights = steps_there qs vs c.whole_steps-qs.ensures in
+    let t =
+    zip_turn ps qs l.yielded c.into_iter-p-iterator.result l.p-iterator c.next.new.self c.next.result (cc) (cc)
+    l.yielded_by
+    (c.in-Some.p, c.in-Some.q) c.in-Some.is c.next.ensures.steps in
+    let k = length l.yielded in
     let found =
     c.order_steps-order.ensures.answer
-    ∙ ap₂ (λ p q. step_order (term_step rs p) (term_step ss q)) c.step_at.ensures c.step_at-in-loop-k.ensures in
+    ∙ ap₂ (λ p q. step_order (term_step rs p) (term_step ss q))
+    (step_there ps us k c.from.ensures (t.2 []) c.whole_steps-ps.ensures)
+    (step_there qs vs k c.from-in-loop-p.ensures (t.3 []) c.whole_steps-qs.ensures) in
     ap (answer 0)
-    (c.value_of.ensures
-    ∙ ap order_value (step_decides rs ss ps qs l.k (omega arith) (omega arith) c.order_steps-order.result found
+    (number_of_order c.order_steps-order.result
+    ∙ ap order_value (step_decides rs ss us vs k (omega (arith, t.0, lefts)) (omega (arith, t.1, rights))
+    c.order_steps-order.result found
     (sym c.is_ne.ensures ∙ c.if-is_ne.true) ∙ sym l.invariant.1))
 
-pub loop-k-preserved : goal.loop-k-preserved
-loop-k-preserved c =
+pub loop-p-preserved : goal.loop-p-preserved
+loop-p-preserved c =
     let a = c.args in
     let rs = table_of a.left.now in
     let ss = table_of a.right.now in
-    let ps = steps_of a.left_steps.now in
-    let qs = steps_of a.right_steps.now in
-    let l = c.loop-k in
+    let ps = c.whole_steps-ps.result.now in
+    let qs = c.whole_steps-qs.result.now in
+    let us = steps_of a.left_steps.now in
+    let vs = steps_of a.right_steps.now in
+    let l = c.loop-p in
+    let lefts = steps_there ps us c.whole_steps-ps.ensures in
+    let rights = steps_there qs vs c.whole_steps-qs.ensures in
+    let t =
+    zip_turn ps qs l.yielded c.into_iter-p-iterator.result l.p-iterator c.next.new.self c.next.result (cc) (cc)
+    l.yielded_by
+    (c.in-Some.p, c.in-Some.q) c.in-Some.is c.next.ensures.steps in
+    let k = length l.yielded in
     let found =
     c.order_steps-order.ensures.answer
-    ∙ ap₂ (λ p q. step_order (term_step rs p) (term_step ss q)) c.step_at.ensures c.step_at-in-loop-k.ensures in (
+    ∙ ap₂ (λ p q. step_order (term_step rs p) (term_step ss q))
+    (step_there ps us k c.from.ensures (t.2 []) c.whole_steps-ps.ensures)
+    (step_there qs vs k c.from-in-loop-p.ensures (t.3 []) c.whole_steps-qs.ensures) in
+    rw (length_push l.yielded (c.in-Some.p, c.in-Some.q)) (
       c.order_steps-order.ensures.noted,
       l.invariant.1
-          ∙ step_passes rs ss ps qs l.k (omega arith) (omega arith) c.order_steps-order.result found (sym
-          c.is_ne.ensures ∙ c.if-is_ne.false),
+          ∙ step_passes rs ss us vs k (omega (arith, t.0, lefts)) (omega (arith, t.1, rights))
+          c.order_steps-order.result found (sym c.is_ne.ensures ∙ c.if-is_ne.false),
     )
 
 pub returns : goal.returns
@@ -66,12 +84,19 @@ returns c =
     let a = c.args in
     let rs = table_of a.left.now in
     let ss = table_of a.right.now in
-    let ps = steps_of a.left_steps.now in
-    let qs = steps_of a.right_steps.now in
-    let l = c.loop-k in
+    let ps = c.whole_steps-ps.result.now in
+    let qs = c.whole_steps-qs.result.now in
+    let us = steps_of a.left_steps.now in
+    let vs = steps_of a.right_steps.now in
+    let l = c.loop-p in
+    let lefts = steps_there ps us c.whole_steps-ps.ensures in
+    let rights = steps_there qs vs c.whole_steps-qs.ensures in
+    let t =
+    zip_end ps qs l.yielded c.into_iter-p-iterator.result l.p-iterator c.next.new.self c.next.result (cc) (cc)
+    l.yielded_by c.in-None.is c.next.ensures.steps in
     let compared =
-    ap order_of c.cmp.ensures ∙ numbers_compared c.step_count-n.result c.step_count-m.result
-    ∙ ap₂ number_order c.step_count-n.ensures c.step_count-m.ensures in
+    ap order_of c.cmp.ensures ∙ numbers_compared (length ps) (length qs) ∙ ap₂ number_order lefts rights in
     ap (answer 0)
-    (c.value_of-2.ensures
-    ∙ ap order_value (compared ∙ ends rs ss ps qs l.k (omega arith) ∙ sym l.invariant.1))
+    (number_of_order c.cmp.result
+    ∙ ap order_value (compared ∙ ends rs ss us vs (length l.yielded) (omega (arith, t, lefts, rights))
+    ∙ sym l.invariant.1))

@@ -1,13 +1,14 @@
--- `bundle_order_on` meets its contract. The loop's invariant: the order is that of the steps from k on, and what is
+-- `bundle_order_on` meets its contract. The loop's invariant: the order is that of the steps that are left, and what is
 -- noted is so. Assumes nothing.
 use mathlib.Core.Path.{◌≡◌}
+use lib.ListN.{length}
 use Rattle.terms.specs.Row.{table_of}
 use Rattle.calls.specs.code.Tables.{steps_of}
-use Rattle.ordering.specs.code.Sorts.{Noted}
+use Rattle.ordering.specs.code.FieldsCompared.{Noted}
 use Rattle.ordering.proofs.Steps.{from}
 use Rattle.ordering.proofs.bundle_order_on.Given as goal
 
-abbrev pub invariant-loop-k : goal.invariant-loop-k
-invariant-loop-k l =
+abbrev pub invariant-loop-p : goal.invariant-loop-p
+invariant-loop-p l =
     let order = from (table_of l.left) (table_of l.right) (steps_of l.left_steps) (steps_of l.right_steps) in
-    Noted (table_of l.left) (table_of l.right) l.noted × (order 0 ≡ order l.k)
+    Noted (table_of l.left) (table_of l.right) l.noted × (order 0 ≡ order (length l.yielded))

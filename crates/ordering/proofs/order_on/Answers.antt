@@ -7,7 +7,7 @@ use lib.ListN.{length}
 use Rattle.terms.specs.Row.{table_of}
 use Rattle.calls.specs.Book.{answer}
 use Rattle.ordering.specs.OrderCall.{order_value, order_answer}
-use Rattle.ordering.proofs.Compared.{none_noted}
+use Rattle.ordering.proofs.Compared.{number_of_order, none_noted}
 use Rattle.ordering.proofs.order_on.Goals as goal
 
 pub returns-then-row_count-from : goal.returns-then-row_count-from
@@ -34,4 +34,4 @@ returns c =
       lt-leb (length (table_of a.left.now)) a.i (omega arith),
       lt-leb (length (table_of a.right.now)) a.j (omega arith),
     )
-    (ap (answer 0) (c.value_of.ensures ∙ ap order_value c.order_rows.ensures.answer))
+    (ap (answer 0) (number_of_order c.order_rows.result ∙ ap order_value c.order_rows.ensures.answer))

@@ -2,7 +2,6 @@
 use mathlib.Core.Path.{◌≡◌, refl, sym}
 use mathlib.Core.List.{List}
 use lib.ListN.{length, take}
-use mathlib.Core.Bool.{true, false}
 use native.Mathlib.Omega.{arith}
 use borrow.Author.Tests.{not-true, not-false}
 use lib.Seq.{length-take-le}
@@ -63,7 +62,8 @@ pub returns : goal.returns
 returns c =
     let fits = c.requires in
     let held = held_rows c.args.rows.now c.args.r.count (omega (arith, fits.size, fits.bound)) in
+    let put = rw c.into.ensures at c.put_record.ensures in
     rw c.at_row-2.ensures
     (put_added (row_of c.args.row) c.args.nesting c.args.rows.now (stands c.args.r)
     fits (not-false _ c.if-not-r.false) _ refl (omega (arith, held, c.in_default.ensures)) _
-    (omega arith) c.put_row.ensures)
+    (omega arith) put)

@@ -8,5 +8,6 @@ put-step-requires c = record { size = c.requires.size; bound = c.requires.bound 
 
 pub returns : goal.returns
 returns c =
-    head_put c.args.rows.now (stands c.args.from) c.args.head _ c.put-step.result _ c.or-missing.ensures
-    c.put-step.ensures
+    head_put c.args.rows.now (stands c.args.from) c.args.head _ c.put-step.result _
+    (rw c.unlisted.ensures at c.or-missing.ensures)
+    (rw (c.step_row-row.ensures, c.number.ensures) at c.put-step.ensures)

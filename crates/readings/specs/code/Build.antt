@@ -1,18 +1,19 @@
 -- What the functions that put rows promise. Assumes nothing.
-use Rattle.std.specs.Prelude.{ℕ, suc, ◌*◌, ◌<◌, ◌≤◌, min, max, ◌≡◌, Bool, true, false, cond, ◌||◌, ◌&&◌, List}
+use Rattle.std.specs.Prelude.{ℕ, suc, ◌*◌, ◌<◌, ◌≤◌, min, ◌≡◌, Bool, true, false, ◌||◌, List}
 use Rattle.std.specs.Prelude.{eqb, length, take, drop, Result, Ok, Err}
 use Rattle.std.proofs.Math.Option.{Option, none, some}
 use Rattle.grammar.specs.Bytes.{open_byte, colon_byte, open_bracket}
 use Rattle.common.specs.RowKinds.{void_row, step_row, composition_row, not_row, inclusion_row}
 use Rattle.common.specs.Axes.{descendant_or_self}
 use Rattle.common.specs.NodeTests.{node_test}
+use Rattle.common.specs.code.Numbers.{axis_number, test_number}
 use Rattle.terms.specs.Row.{Row, row, table_of, max_rows}
 use Rattle.terms.specs.Nesting.{max_nesting}
 pub use Rattle.terms.specs.Row.{row_width, row_numbers}
 use Rattle.grammar.specs.Denotes.{Put, put}
 use Rattle.readings.specs.declared.Reading.{Reading}
 use Rattle.heads.specs.declared.Head.{Head}
-use Rattle.heads.specs.code.Head.{place_of}
+use Rattle.heads.specs.code.Head.{place_of, name_number, name_place}
 
 -- one more than the deepest nesting of a row; a nesting above is counted as this
 abbrev pub too_deep_nesting : ℕ
@@ -169,7 +170,8 @@ pub record HeadPut (xs : List ℕ) (x : Standing) (h : Head) (ys : List ℕ) (y 
   pub sized : Sized ys y.count
   pub at : y.at ≡ h.at
   pub ok : y.ok ≡ x.ok
-  pub made : Made (λ rs. put rs (row step_row h.axis h.test h.name)) 1 (place_of h.unlisted) xs x ys y
+  pub made : Made (λ rs. put rs (row step_row (axis_number h.axis) (test_number h.test) (name_number h.name))) 1
+      (place_of (name_place h.name)) xs x ys y
 
 abbrev pub nothing_read : ℕ → Standing
 nothing_read n = record { ok = true; at = 0; row = 0; nesting = 0; count = n; fits = true; missing = none }

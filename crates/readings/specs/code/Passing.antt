@@ -59,12 +59,12 @@ pub record FirstPut (rooted : Bool) (lead step : Standing) (xs ys : List ℕ) (q
       step ys q
   pub stays : rooted ≡ false → (ys ≡ xs) × (q ≡ step)
 
--- the whitespace, the `)` and the row of `true()` or `false()`
+-- the whitespace, the `)` and the row of `true()` or `false()`; without the `)`, no row
 pub record ConstPut (s : Bytes) (kind : ℕ) (xs : List ℕ) (r : Standing) (ys : List ℕ) (q : Standing) : Type 0 where
   pub to : ℕ
   pub passed : Passed is_space s r.at to
   pub sized : Sized ys q.count
-  pub wrong : (byte_at s to ≡ close_byte → ⊥) → q ≡ refused_at to
+  pub wrong : (byte_at s to ≡ close_byte → ⊥) → (q ≡ refused_at to) × (ys ≡ xs)
   pub right : byte_at s to ≡ close_byte
       → (end : ℕ) × Passed is_space s (to + 1) end × PutMet (row kind 0 0 0) 1 xs (moved_to r end) ys q
 

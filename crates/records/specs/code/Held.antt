@@ -2,17 +2,9 @@
 use Rattle.std.specs.Prelude.{ℕ, ◌+◌, min, List, take, set, replicate}
 use Rattle.records.specs.declared.Record.{Record}
 use Rattle.records.specs.declared.Records.{Records}
-use Rattle.records.specs.declared.RecordAnswer.{RecordAnswer}
-use Rattle.records.specs.declared.RecordAnswer.TheVariants as RecordCases
 use Rattle.calls.specs.Book.{Answer, answer}
 use Rattle.common.specs.Refusals.{not_next, bad_record, full_or_in_use}
 use Rattle.records.specs.Records.{empty_record, max_records}
-
-abbrev pub record_answer_of : RecordAnswer → Answer
-record_answer_of RecordCases.Recorded = answer 0 0
-record_answer_of (RecordCases.NotNext due) = answer not_next due
-record_answer_of (RecordCases.BadRecord place) = answer bad_record place
-record_answer_of RecordCases.RegisterFull = answer full_or_in_use 0
 
 -- how many records are held: a count above the limit is read as the limit
 abbrev pub size_of : Records → ℕ

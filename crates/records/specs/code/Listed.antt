@@ -3,16 +3,10 @@ use Rattle.std.specs.Prelude.{ℕ, ◌-◌, List, ◌++◌, length, replicate}
 use Rattle.records.specs.declared.Record.{Record}
 use Rattle.records.specs.declared.Records.{Records}
 use Rattle.records.specs.declared.Releases.{Releases}
-use Rattle.records.specs.declared.ReleaseAnswer.{ReleaseAnswer}
-use Rattle.records.specs.declared.ReleaseAnswer.TheVariants as ReleaseCases
 use Rattle.calls.specs.Book.{Answer, answer}
 use Rattle.common.specs.Refusals.{no_record}
 use Rattle.records.specs.Records.{empty_record, max_records}
 use Rattle.records.specs.Releases.{none_released}
-
-abbrev pub release_answer_of : ReleaseAnswer → Answer
-release_answer_of ReleaseCases.Released = answer 0 0
-release_answer_of (ReleaseCases.NoRecord place) = answer no_record place
 
 abbrev pub flagged : List ℕ → Releases
 flagged fs = record { flags = fs }

@@ -1,67 +1,49 @@
 -- What the functions that read a line promise. Assumes nothing.
-use Rattle.std.specs.Prelude.{ℕ, ◌≤◌, ◌<◌, ◌≡◌, Bool, true, false, List, ◌++◌, eqb, length, get_or, drop}
-use Rattle.std.specs.Prelude.{replicate, Option as Optional, Some, None}
-use Rattle.std.proofs.Math.Option.{Option, none, some, Option-elim}
+use Rattle.std.specs.Prelude.{ℕ, ◌≤◌, ◌<◌, ◌≡◌, List, [], ◌∷◌, length, take, drop}
+use Rattle.std.specs.Prelude.{Option as Optional, Some, None}
+use Rattle.std.proofs.Math.Option.{Option, none, some}
+use Rattle.arrayvec.specs.ArrayVec.{ArrayVec}
 use Rattle.lines.specs.Line.{lines}
 use Rattle.lines.specs.code.NumbersRead.{first_parts}
 use Rattle.script_words.specs.declared.Word.{Word}
-use Rattle.script_words.specs.declared.Shape.{Shape}
-use Rattle.script_words.specs.declared.Shape.TheVariants.{Counted, Listed, Selection, Room, Rest}
-use Rattle.script.specs.declared.Values.{Values}
+use Rattle.script_words.specs.declared.Word.TheVariants.{Term, Step, Select, Document, Fresh, Old, New, Replace}
+use Rattle.script_words.specs.declared.Word.TheVariants.{Write, Point, Return, Other, Order, BundleOrder, Names, Text}
+use Rattle.script_words.specs.declared.Word.TheVariants.{Record, Current, Release, Records, Released, CrewCurrent}
+use Rattle.script_words.specs.Words.{Counted, Listed, Rest}
+use Rattle.script_words.specs.Words.{shape_of}
+use Rattle.script.specs.declared.Command.{Command as Given}
+use Rattle.script.specs.declared.Command.TheVariants as given
 use Rattle.script.specs.declared.CallLine.{CallLine}
-use Rattle.script_words.specs.Words.{max_numbers, shape_of}
-use Rattle.script.specs.Command.{Command}
+use Rattle.script.specs.Command.{Command, command, word_command}
 
-unfoldable pub no_numbers : List ℕ
-no_numbers = replicate max_numbers 0
-
--- no value but `size`
-abbrev pub size_only : (size : ℕ) → Values
-size_only n = record { a = 0; b = 0; c = 0; d = 0; e = 0; limit = 0; size = n }
-
--- the values of the numbers after a word
-abbrev pub values_of : Shape → List ℕ → Values
-values_of (Counted n) ns =
-    record {
-      a = get_or ns 0 0;
-      b = get_or ns 1 0;
-      c = get_or ns 2 0;
-      d = get_or ns 3 0;
-      e = get_or ns 4 0;
-      limit = 0;
-      size = 0;
-    }
-values_of (Listed most) ns = size_only (length ns)
-values_of Selection ns =
-    record { a = get_or ns 0 0; b = get_or ns 1 0; c = 0; d = 0; e = 0; limit = get_or ns 2 0; size = get_or ns 3 0 }
-values_of Room ns = size_only (get_or ns 0 0)
-values_of Rest ns = size_only 0
-
--- the numbers that are listed, and zeros after them
-abbrev pub listed_of : Shape → List ℕ → List ℕ
-listed_of (Counted n) ns = no_numbers
-listed_of (Listed most) ns = ns ++ drop (length ns) no_numbers
-listed_of Selection ns = no_numbers
-listed_of Room ns = no_numbers
-listed_of Rest ns = no_numbers
-
--- a call that lists no numbers
-abbrev pub plain_line : Word → Values → ℕ → CallLine
-plain_line word values next = record { word = word; values = values; numbers = no_numbers; next = next }
-
--- what is given for a command
-unfoldable pub call_line : ℕ → Command → CallLine
-call_line next k =
-    record {
-      word = k.word;
-      values = values_of (shape_of k.word) k.numbers;
-      numbers = listed_of (shape_of k.word) k.numbers;
-      next = next;
-    }
+-- the command that the code gives
+abbrev pub written_command : Given → Command
+written_command (given.Term k a b c) = command Term (k ∷ a ∷ b ∷ c ∷ [])
+written_command (given.Step k a b c d) = command Step (k ∷ a ∷ b ∷ c ∷ d ∷ [])
+written_command (given.Select r x l m) = command Select (r ∷ x ∷ l ∷ m ∷ [])
+written_command (given.Document ns) = command Document ns.items
+written_command given.Fresh = command Fresh []
+written_command (given.Old ns) = command Old ns.items
+written_command (given.New ns) = command New ns.items
+written_command (given.Replace ns) = command Replace ns.items
+written_command (given.Write n) = command Write (n ∷ [])
+written_command (given.Point n) = command Point (n ∷ [])
+written_command (given.Return n) = command Return (n ∷ [])
+written_command given.Other = command Other []
+written_command (given.Order r s) = command Order (r ∷ s ∷ [])
+written_command given.BundleOrder = command BundleOrder []
+written_command given.Names = command Names []
+written_command given.Text = command Text []
+written_command (given.Record s e r p) = command Record (s ∷ e ∷ r ∷ p ∷ [])
+written_command (given.Current s) = command Current (s ∷ [])
+written_command (given.Release p) = command Release (p ∷ [])
+written_command given.Records = command Records []
+written_command given.Released = command Released []
+written_command (given.CrewCurrent s) = command CrewCurrent (s ∷ [])
 
 -- the line that starts at `at` of the text xs, read by its parts, is this call, and where the next line starts
 pub record CallMet (read : List (List ℕ) → Option Command) (xs : List ℕ) (at : ℕ) (r : CallLine) : Type 0 where
-  pub line : some r ≡ Option-elim (first_parts read (lines (drop at xs))) none (λ k. some (call_line r.next k))
+  pub line : some (written_command r.command) ≡ first_parts read (lines (drop at xs))
   pub rest : lines (drop r.next xs) ≡ drop 1 (lines (drop at xs))
   pub further : at < r.next
   pub inside : r.next ≤ length xs
@@ -71,10 +53,28 @@ abbrev pub CallRead : (read : List (List ℕ) → Option Command) (xs : List ℕ
 CallRead read xs at None = none ≡ first_parts read (lines (drop at xs))
 CallRead read xs at (Some r) = CallMet read xs at r
 
--- whether a word may be all of its line
-abbrev pub stands_alone : Shape → Bool
-stands_alone (Counted n) = eqb n 0
-stands_alone (Listed most) = true
-stands_alone Selection = false
-stands_alone Room = false
-stands_alone Rest = true
+-- what is made of the numbers at `at`, for each word that has numbers of this shape and of which it makes the command
+abbrev pub CountedRead : (count : ℕ) (makes : (a b c d e : ℕ) → Given → Type 0) (xs : List ℕ) (at : ℕ)
+    → Optional CallLine → Type 0
+CountedRead count makes xs at r =
+    (word : Word) → shape_of word ≡ Counted count
+    → ((a b c d e : ℕ) (k : Given) → makes a b c d e k
+    → written_command k ≡ command word (take count (a ∷ b ∷ c ∷ d ∷ e ∷ [])))
+    → CallRead (word_command word) xs at r
+
+abbrev pub ListRead : (most : ℕ) (makes : ArrayVec ℕ → Given → Type 0) (xs : List ℕ) (at : ℕ) → Optional CallLine
+    → Type 0
+ListRead most makes xs at r =
+    (word : Word) → shape_of word ≡ Listed most
+    → ((ns : ArrayVec ℕ) (k : Given) → makes ns k → written_command k ≡ command word ns.items)
+    → CallRead (word_command word) xs at r
+
+-- any bytes are the rest of this command
+abbrev pub RestRead : Given → (xs : List ℕ) (at : ℕ) → Optional CallLine → Type 0
+RestRead k xs at r =
+    (word : Word) → shape_of word ≡ Rest → written_command k ≡ command word [] → CallRead (word_command word) xs at r
+
+-- the command of a word without numbers
+abbrev pub AloneRead : Word → Optional Given → Type 0
+AloneRead word None = word_command word [] ≡ none
+AloneRead word (Some k) = word_command word [] ≡ some (written_command k)

@@ -1,23 +1,11 @@
 -- The code's words. Assumes nothing.
-use Rattle.std.specs.Prelude.{ℕ, ◌≤◌, List, []}
+use Rattle.std.specs.Prelude.{ℕ, List, []}
 use Rattle.lines.specs.Ascii.{ascii}
-use Rattle.lines.specs.code.NumbersRead.{max_count}
 use Rattle.script_words.specs.declared.Word.{Word}
 use Rattle.script_words.specs.declared.Word.TheVariants.{Term, Step, Select, Document, Fresh, Old, New, Replace}
 use Rattle.script_words.specs.declared.Word.TheVariants.{Write, Point, Return, Other, Order, BundleOrder, Names}
 use Rattle.script_words.specs.declared.Word.TheVariants.{Text, Record, Current, Release, Records, Released}
 use Rattle.script_words.specs.declared.Word.TheVariants.{CrewCurrent}
-use Rattle.script_words.specs.declared.Shape.{Shape}
-use Rattle.script_words.specs.declared.Shape.TheVariants.{Counted, Listed, Selection, Room, Rest}
-use Rattle.script_words.specs.Words.{max_numbers}
-
--- there is room for what stands after a word
-abbrev pub Fits : Shape → Type 0
-Fits (Counted n) = n ≤ max_count
-Fits (Listed most) = most ≤ max_numbers
-Fits Selection = Unit {0}
-Fits Room = Unit {0}
-Fits Rest = Unit {0}
 
 -- the bytes of a word
 unfoldable pub text_of : Word → List ℕ

@@ -19,15 +19,11 @@ returns-then-not-is_held_path c =
     let taken = c.in-Ok.ensures.refusal in
     bad_row_lem _ _ _ _ _ _ taken (omega arith) (sym c.is_held_path.ensures ∙ not-true _ c.if-not-is_held_path.true-raw)
 
-pub evaluate-done-requires : goal.evaluate-done-requires
-evaluate-done-requires c =
+pub invariant_of-document : goal.invariant_of-document
+invariant_of-document c =
     let taken = c.in-Ok.ensures.refusal in
     let (whole, few, formed) = (accepted_iff _).0 (sym taken) in
-    record {
-      prepared =
-          record { few = few; formed = formed; ends = c.in-Ok.ensures.ends };
-      row = omega arith;
-    }
+    record { prepared = record { few = few; formed = formed; ends = c.in-Ok.ensures.ends } }
 
 pub returns : goal.returns
 returns c =

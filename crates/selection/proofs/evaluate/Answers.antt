@@ -8,7 +8,7 @@ use Rattle.selection.proofs.Outcome.{too_short, passed, copied}
 use Rattle.selection.proofs.evaluate.Goals as goal
 
 pub returns-then-marks-n : goal.returns-then-marks-n
-returns-then-marks-n c = too_short _ _ _ _ _ _ c.requires.prepared.few (omega arith)
+returns-then-marks-n c = too_short _ _ _ _ _ _ c.args.document.prepared.few (omega arith)
 
 pub returns-in_err-visits : goal.returns-in_err-visits
 returns-in_err-visits c =
@@ -17,11 +17,11 @@ returns-in_err-visits c =
     let v = rw z.ok_part at z.value in
     let e : c.from_residual.result ≡ Err LimitPassed = cc (p.1, p.2) in
     rw e
-    (passed _ _ _ _ _ _ c.requires.prepared.few (omega (arith, c.node_count-n.ensures)) _ c.row_count-top.ensures
+    (passed _ _ _ _ _ _ c.args.document.prepared.few (omega (arith, c.node_count-n.ensures)) _ c.row_count-top.ensures
     (rw z.ok_part at c.eval_path.ensures))
 
 pub returns : goal.returns
 returns c =
     let z = c.in_ok-visits.ensures in
-    copied _ _ _ _ _ _ c.requires.prepared.few (omega (arith, c.node_count-n.ensures)) _ c.row_count-top.ensures
+    copied _ _ _ _ _ _ c.args.document.prepared.few (omega (arith, c.node_count-n.ensures)) _ c.row_count-top.ensures
     _ (rw z.ok_part at c.eval_path.ensures) _ _ c.node_count-n.ensures c.copy_out.ensures

@@ -1,19 +1,17 @@
 -- What the parts of an evaluation find: a path's marks, a qualifier's value. Assumes nothing.
-use Rattle.std.specs.Prelude.{ℕ, ◌<◌, ◌≡◌, List, [], ◌∷◌, length, get_or, take, Option}
-use Rattle.xpath.specs.Document.{Document, document_of}
-use Rattle.xpath.specs.code.Ends.{Prepared}
+use Rattle.std.specs.Prelude.{ℕ, ◌≡◌, Bool, List, [], ◌∷◌, length, get_or, take, Option}
+use Rattle.xpath.specs.Document.{Document}
 use Rattle.xpath.specs.Term.{Path, Qualifier, Void, Root, AxisStep}
 use Rattle.xpath.specs.Meaning.{selects, holds}
 use Rattle.xpath.specs.Visits.{visits, qualifier_visits}
 use Rattle.terms.specs.Row.{Row, table_of}
 use Rattle.terms.specs.Terms.{Term, terms}
 use Rattle.marking.specs.code.Added.{Added}
-use Rattle.selection.specs.declared.lent.Lent.{Lent}
 use Rattle.selection.specs.declared.evaluation.Judged.{Judged}
 use Rattle.selection.specs.code.Limit.{UnderLimit}
 
 -- what p selects from x is marked in `new` beside what `old` marks
-abbrev pub PathAdded : Document → Path → ℕ → (before limit : ℕ) (made : Option ℕ) (old new : List ℕ) → Type 0
+abbrev pub PathAdded : Document → Path → ℕ → (before limit : ℕ) (made : Option ℕ) (old new : List Bool) → Type 0
 PathAdded d p x before limit made old new =
     UnderLimit (λ n. n) (λ _. Added (length d) old new (selects d p x)) (visits d p x) before limit made
 
@@ -21,15 +19,6 @@ PathAdded d p x before limit made old new =
 abbrev pub QualifierFound : Document → Qualifier → ℕ → (before limit : ℕ) → Option Judged → Type 0
 QualifierFound d f x before limit result =
     UnderLimit (λ (q : Judged). q.visits) (λ q. q.value ≡ holds d f x) (qualifier_visits d f x) before limit result
-
--- x is a node of a prepared document
-pub record NodeOf (d : Document) (es : List ℕ) (x : ℕ) : Type 0 where
-  pub prepared : Prepared d es
-  pub row : x < length d
-
--- the document that is lent
-abbrev pub doc : Lent → Document
-doc lent = document_of lent.document.now
 
 -- the terms of the first `top` rows of the lent table
 abbrev pub terms_below : List ℕ → ℕ → List Term

@@ -1,5 +1,6 @@
 -- Each clause of what is demanded of order and bundle order, written out once more: without one of them this fails.
 -- Assumes nothing.
+use Rattle.calls.specs.code.Answers.{OrderOrRefusal, order_answer_of}
 use Prim.Native.Nat.{ℕ, ◌≤◌, ◌<◌}
 use mathlib.Core.Path.{◌≡◌}
 use mathlib.Core.List.{List, [], ◌∷◌, map}
@@ -9,10 +10,9 @@ use Rattle.terms.specs.Terms.{Term, term_at}
 use Rattle.calls.specs.Book.{Book, answer, empty_book}
 use Rattle.calls.specs.Runs.{Run, final}
 use Rattle.calls.specs.Calls.{Call, CallSeen, plain_book}
-use Rattle.ordering.specs.declared.OrderAnswer.{OrderAnswer}
 use Rattle.ordering.specs.TermOrder.{term_order}
 use Rattle.ordering.specs.BundleOrder.{term_step, term_steps}
-use Rattle.ordering.specs.OrderCall.{order_answer, bundle_order_answer, order_answer_of}
+use Rattle.ordering.specs.OrderCall.{order_answer, bundle_order_answer}
 use Rattle.ordering.specs.OrderLaws.{occurrences}
 use Rattle.session.specs.declared.session.Session.{Session}
 use Rattle.session.specs.View.{view}
@@ -37,7 +37,7 @@ module _ (s₀ t₀ s t : Session) (cs ds : List Call) (os us : List CallSeen) (
   right_terms js = map (term_at right.rows) js
 
   -- an order call
-  module _ (i j : ℕ) (r : OrderAnswer) (ordered : Ordered s i t j r) where
+  module _ (i j : ℕ) (r : OrderOrRefusal) (ordered : Ordered s i t j r) where
     pub answered : order_answer_of r ≡ order_answer left.rows i right.rows j
     answered = met.answers i j r ordered
 
@@ -47,7 +47,7 @@ module _ (s₀ t₀ s t : Session) (cs ds : List Call) (os us : List CallSeen) (
 
   -- order calls of a session say that row i is at most row j; that each row of a list is at most the next one
   abbrev AtMost : Session → (i j : ℕ) → Type 0
-  AtMost u i j = (r : OrderAnswer) × Ordered u i u j r × ((order_answer_of r).number ≡ 0)
+  AtMost u i j = (r : OrderOrRefusal) × Ordered u i u j r × ((order_answer_of r).number ≡ 0)
       × ((order_answer_of r).value ≤ 1)
 
   abbrev InOrder : Session → List ℕ → Type 0
@@ -67,7 +67,7 @@ module _ (s₀ t₀ s t : Session) (cs ds : List Call) (os us : List CallSeen) (
   sorted_rows is js h k = met.sorted is js (in_order s is h) (in_order t js k)
 
   -- a bundle order call
-  module _ (r : OrderAnswer) (ordered : BundleOrdered s t r) where
+  module _ (r : OrderOrRefusal) (ordered : BundleOrdered s t r) where
     pub bundle_answered : order_answer_of r ≡ bundle_order_answer left right
     bundle_answered = met.bundle_answers r ordered
 

@@ -1,4 +1,5 @@
 -- Each clause of what is promised of points, written out once more: without one of them this fails. Assumes nothing.
+use Rattle.calls.specs.code.Answers.{NumberOrRefusal, answer_of}
 use Prim.Native.Nat.{ℕ}
 use mathlib.Core.Path.{◌≡◌, ◌∙◌}
 use mathlib.Core.List.{List, ◌∷◌}
@@ -12,11 +13,9 @@ use Rattle.calls.specs.PointLaws.{KeepsPoints}
 use Rattle.calls.proofs.Returns.{return_restores}
 use Rattle.session.specs.declared.session.Session.{Session}
 use Rattle.session.specs.code.Results.{ReadResult}
-use Rattle.session.specs.declared.write.WriteAnswer.{WriteAnswer}
 use Rattle.session.specs.View.{view, fresh_session}
 use Rattle.session.specs.SessionLaws.{session_of, without_points, SetsNoPoint}
 use Rattle.session.specs.ReadCall.{read_answer_of}
-use Rattle.session.specs.WriteCall.{write_answer_of}
 use Rattle.session.specs.ReadDemand.{CallFits}
 use Rattle.session.proofs.Source.{New, Called, Read, Write, new_exists, read_demand}
 use Rattle.session.proofs.Source.{whole_session, no_point_left, session_restored}
@@ -57,8 +56,8 @@ module _ (s₀ s : Session) (cs : List Call) (os : List CallSeen) (is-new : New 
 -- as that very session
 pub same_session : (cs : List Call) (os : List CallSeen) (s : Session) → Run view Called fresh_session cs os s
     → Every CallFits cs → Every SetsNoPoint cs
-    → (buffer left : List ℕ) (w : WriteAnswer) → Write s buffer w left → (write_answer_of w).number ≡ 0
-    → (t : ReadResult) → Read (take (write_answer_of w).value left) t
+    → (buffer left : List ℕ) (w : NumberOrRefusal) → Write s buffer w left → (answer_of w).number ≡ 0
+    → (t : ReadResult) → Read (take (answer_of w).value left) t
     → (read_answer_of t.answer ≡ answer 0 (length (view s).steps)) × (t.session ≡ s)
 same_session cs os s run fits none_set buffer left w m e t r =
     let back = read_demand.written_reads_back cs os s run fits buffer left w m e t r in

@@ -1,5 +1,6 @@
 -- Each clause of what is demanded of read and write, written out once more: without one of them this fails. Assumes
 -- nothing.
+use Rattle.calls.specs.code.Answers.{NumberOrRefusal, answer_of}
 use Prim.Native.Nat.{ℕ, ◌≤◌, ◌<◌}
 use mathlib.Core.Path.{◌≡◌, refl, sym, ap, subst, ◌∙◌}
 use mathlib.Core.Bool.{Bool, true, false, cond}
@@ -18,7 +19,6 @@ use Rattle.calls.specs.Runs.{Run}
 use Rattle.calls.specs.Calls.{Call, term, step, CallSeen}
 use Rattle.session.specs.declared.session.Session.{Session}
 use Rattle.session.specs.code.Results.{ReadResult}
-use Rattle.session.specs.declared.write.WriteAnswer.{WriteAnswer}
 use Rattle.session.specs.View.{view, fresh_session}
 use Rattle.terms.specs.Row.{row_numbers}
 use Rattle.calls.specs.Book.{step_numbers}
@@ -27,7 +27,7 @@ use Rattle.bundles.specs.Bundle.{row_names, step_names, row_of_line, step_of_lin
 use Rattle.session.specs.ReadCall.{read_answer_of}
 use Rattle.session.specs.Demand3.{Demand3}
 use Rattle.session.specs.SessionLaws.{without_points}
-use Rattle.session.specs.WriteCall.{session_text, write_answer_of, WriteRelation, WriteMet}
+use Rattle.session.specs.WriteCall.{session_text, WriteRelation, WriteMet}
 use Rattle.session.specs.ReadDemand.{CallFits, ReadAccepted, ReadDemand}
 
 abbrev bundle_calls : List Row → List Step → List Call
@@ -76,8 +76,8 @@ module _ (Selected : SelectRelation) (Called : CallRelation) (Read : List ℕ �
 
     -- a write call that is accepted, and the text that it leaves
     abbrev Filed : Session → (text : List ℕ) → Type 0
-    Filed s text = (buffer : List ℕ) × (left : List ℕ) × (w : WriteAnswer) × Write s buffer w left
-        × ((write_answer_of w).number ≡ 0) × (text ≡ take (write_answer_of w).value left)
+    Filed s text = (buffer : List ℕ) × (left : List ℕ) × (w : NumberOrRefusal) × Write s buffer w left
+        × ((answer_of w).number ≡ 0) × (text ≡ take (answer_of w).value left)
 
     abbrev AllFit16 : List Call → Type 0
     AllFit16 cs = Every CallFits cs
@@ -96,35 +96,35 @@ module _ (Selected : SelectRelation) (Called : CallRelation) (Read : List ℕ �
 
     pub room_for_all : (cs : List Call) (os : List CallSeen) (s : Session) → Run view Called fresh_session cs os s
         → AllFit16 cs
-        → (buffer left : List ℕ) (w : WriteAnswer) → Write s buffer w left → 65536 ≤ length buffer
-        → (write_answer_of w).number ≡ 0
+        → (buffer left : List ℕ) (w : NumberOrRefusal) → Write s buffer w left → 65536 ≤ length buffer
+        → (answer_of w).number ≡ 0
     room_for_all = demand.always_room
 
 -- what a write call promises of the session's bundle and every byte of the buffer
-module _ (s : Session) (buffer : List ℕ) (w : WriteAnswer) (left : List ℕ) (met : WriteMet s buffer w left) where
+module _ (s : Session) (buffer : List ℕ) (w : NumberOrRefusal) (left : List ℕ) (met : WriteMet s buffer w left) where
   abbrev size : ℕ
   size = length (session_text s)
 
   abbrev Told : Bool → Type 0
-  Told b = write_answer_of w ≡ cond b (answer 0 size) (answer 16 size)
+  Told b = answer_of w ≡ cond b (answer 0 size) (answer 16 size)
 
   abbrev Left : Bool → Type 0
   Left b = left ≡ cond b (session_text s ++ drop size buffer) buffer
 
-  pub text_left : (write_answer_of w).number ≡ 0
-      → (size ≤ length buffer) × (write_answer_of w ≡ answer 0 size) × (left ≡ session_text s ++ drop size buffer)
+  pub text_left : (answer_of w).number ≡ 0
+      → (size ≤ length buffer) × (answer_of w ≡ answer 0 size) × (left ≡ session_text s ++ drop size buffer)
   text_left e = by_test (leb size (length buffer)) refl met.answer met.bytes
     where
       by_test : (b : Bool) → leb size (length buffer) ≡ b → Told b → Left b
-          → (size ≤ length buffer) × (write_answer_of w ≡ answer 0 size) × (left ≡ session_text s ++ drop size buffer)
+          → (size ≤ length buffer) × (answer_of w ≡ answer 0 size) × (left ≡ session_text s ++ drop size buffer)
       by_test true fits told bytes = (leb-true size (length buffer) fits, told, bytes)
       by_test false fits told bytes = absurd (omega (arith, sym (ap (λ a. a.number) told) ∙ e))
 
-  pub buffer_left : ¬ ((write_answer_of w).number ≡ 0)
-      → (length buffer < size) × (write_answer_of w ≡ answer 16 size) × (left ≡ buffer)
+  pub buffer_left : ¬ ((answer_of w).number ≡ 0)
+      → (length buffer < size) × (answer_of w ≡ answer 16 size) × (left ≡ buffer)
   buffer_left f = by_test (leb size (length buffer)) refl met.answer met.bytes
     where
       by_test : (b : Bool) → leb size (length buffer) ≡ b → Told b → Left b
-          → (length buffer < size) × (write_answer_of w ≡ answer 16 size) × (left ≡ buffer)
+          → (length buffer < size) × (answer_of w ≡ answer 16 size) × (left ≡ buffer)
       by_test true fits told bytes = absurd (f (ap (λ a. a.number) told))
       by_test false fits told bytes = (leb-false size (length buffer) fits, told, bytes)

@@ -1,4 +1,5 @@
 -- Each clause of what is demanded of replace, written out once more: without one of them this fails. Assumes nothing.
+use Rattle.calls.specs.code.Answers.{DoneOrRefusal, done_answer_of}
 use Prim.Native.Nat.{ℕ, ◌≤◌, ◌<◌}
 use mathlib.Core.Path.{◌≡◌}
 use mathlib.Core.Bool.{false}
@@ -17,9 +18,8 @@ use Rattle.calls.specs.Book.{Book, empty_book}
 use Rattle.calls.specs.StepCall.{step_numbered, claim_of}
 use Rattle.calls.specs.Runs.{Run, final}
 use Rattle.calls.specs.Calls.{Call, CallSeen, plain_book}
-use Rattle.replacing.specs.declared.ReplaceAnswer.{ReplaceAnswer}
 use Rattle.replacing.specs.Covered.{is_replaced, is_covered}
-use Rattle.replacing.specs.ReplaceCall.{are_bad_lists, replace_answer, replace_answer_of}
+use Rattle.replacing.specs.ReplaceCall.{are_bad_lists, replace_answer}
 use Rattle.replacing.specs.NoneLost.{Some, paths_of}
 use Rattle.session.specs.declared.session.Session.{Session}
 use Rattle.session.specs.View.{view}
@@ -59,15 +59,15 @@ module _ (s₀ s : Session) (cs : List Call) (os : List CallSeen) (is-new : New 
     paths_covered = met.rows_covered
 
     -- a replace call
-    module _ (old new by : List ℕ) (t : ReplaceAnswer) (replaced : Replaced s old new by t) where
-      pub answered : replace_answer_of t ≡ replace_answer held old new by
+    module _ (old new by : List ℕ) (t : DoneOrRefusal) (replaced : Replaced s old new by t) where
+      pub answered : done_answer_of t ≡ replace_answer held old new by
       answered = met.answers old new by t replaced
 
-      pub accepts : ((replace_answer_of t).number ≡ 0) ↔
+      pub accepts : ((done_answer_of t).number ≡ 0) ↔
           ((are_bad_lists old new by ≡ false) × T (is_covered held old new by))
       accepts = met.accepts old new by t replaced
 
-      pub none_lost_by_it : (replace_answer_of t).number ≡ 0
+      pub none_lost_by_it : (done_answer_of t).number ≡ 0
           → Every (λ n. T (held_path held.rows n)) old
           × ((d : Document) → T (well_formed d) → (x : ℕ) → x < length d
           → (y : ℕ) → Every (λ p. T (selects d p x y) → Some (λ q. T (selects d q x y)) (paths new)) (paths old))

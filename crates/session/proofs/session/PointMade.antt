@@ -1,5 +1,6 @@
 -- From the judgement of a name, and the tables that are left, to the calls point and return on the session.
 -- Assumes nothing.
+use Rattle.calls.specs.code.Answers.{DoneOrRefusal, done_answer_of}
 use Prim.Native.Nat.{ℕ, ◌+◌, ◌*◌, ◌≤◌, ◌<◌}
 use mathlib.Core.Path.{◌≡◌, sym, ap, ◌∙◌}
 use mathlib.Core.List.{List}
@@ -8,11 +9,10 @@ use lib.ListN.{length, length-map}
 use lib.Seq.{sets, length-take-le}
 use Rattle.session.specs.declared.session.Session.{Session}
 use Rattle.calls.specs.declared.points.PointCounts.{PointCounts}
-use Rattle.calls.specs.declared.points.PointAnswer.{PointAnswer}
 use Rattle.calls.specs.Book.{max_points}
 use Rattle.calls.specs.PointCall.{point_names, place_of, point_answer, return_answer}
 use Rattle.calls.specs.code.Tables.{row_width, step_width}
-use Rattle.calls.specs.code.Points.{point_answer_of, point_width, counts, counts_names, counts_numbers, point_named}
+use Rattle.calls.specs.code.Points.{point_width, counts, counts_names, counts_numbers, point_named}
 use Rattle.calls.specs.code.Points.{first_point_numbers, cleared}
 use Rattle.calls.specs.Calls.{point, return}
 use Rattle.session.specs.View.{rows_held, steps_held, points_held, points_in, view, with_point, at_point}
@@ -33,13 +33,13 @@ few_places s name place e =
       few_points s.point_count s.points,
     )
 
-module _ (s : Session) (name : ℕ) (t : PointAnswer) where
+module _ (s : Session) (name : ℕ) (t : DoneOrRefusal) where
   -- setting a point
-  module _ (answered : point_answer_of t ≡ point_answer (counts_names (points_in s)) name) where
-    point_judged : point_answer_of t ≡ point_answer (point_names (view s).points) name
+  module _ (answered : done_answer_of t ≡ point_answer (counts_names (points_in s)) name) where
+    point_judged : done_answer_of t ≡ point_answer (point_names (view s).points) name
     point_judged = answered ∙ ap (λ ns. point_answer ns name) (sym (names_viewed s))
 
-    pub point_room : (point_answer_of t).number ≡ 0 → length s.points ≡ point_width * max_points
+    pub point_room : (done_answer_of t).number ≡ 0 → length s.points ≡ point_width * max_points
         → (k : ℕ) → k ≡ points_held s → k < max_points
     point_room e size k is-k =
         let room = (point_accepted (counts_names (points_in s)) name (sym (ap (λ a. a.number) answered) ∙ e)).room in
@@ -52,10 +52,10 @@ module _ (s : Session) (name : ℕ) (t : PointAnswer) where
           points_lent (first_point_numbers s.point_count s.points),
         )
 
-    pub point_made_held : (point_answer_of t).number ≡ 0 → (n m k : ℕ) → n ≡ rows_held s → m ≡ steps_held s
+    pub point_made_held : (done_answer_of t).number ≡ 0 → (n m k : ℕ) → n ≡ rows_held s → m ≡ steps_held s
         → k ≡ points_held s
         → (zs : List ℕ) → zs ≡ sets s.points (point_width * k) (counts_numbers (counts name n m))
-        → Met s (point name) (point_answer_of t)
+        → Met s (point name) (done_answer_of t)
         (record {
           rows = s.rows;
           row_count = s.row_count;
@@ -80,21 +80,21 @@ module _ (s : Session) (name : ℕ) (t : PointAnswer) where
           }) ∙ if_accepted _ _ point_judged (with_point s name) s e;
         }
 
-    pub point_made_refused : ¬ ((point_answer_of t).number ≡ 0) → Met s (point name) (point_answer_of t) s
+    pub point_made_refused : ¬ ((done_answer_of t).number ≡ 0) → Met s (point name) (done_answer_of t) s
     point_made_refused f = record { answer = point_judged; left = if_refused _ _ point_judged (with_point s name) s f }
 
   -- returning to one
-  module _ (answered : point_answer_of t ≡ return_answer (counts_names (points_in s)) name) where
-    return_judged : point_answer_of t ≡ return_answer (point_names (view s).points) name
+  module _ (answered : done_answer_of t ≡ return_answer (counts_names (points_in s)) name) where
+    return_judged : done_answer_of t ≡ return_answer (point_names (view s).points) name
     return_judged = answered ∙ ap (λ ns. return_answer ns name) (sym (names_viewed s))
 
-    pub return_made_held : (point_answer_of t).number ≡ 0 → (place : ℕ) → place
+    pub return_made_held : (done_answer_of t).number ≡ 0 → (place : ℕ) → place
         ≡ place_of (counts_names (points_in s)) name
         → (c : PointCounts) → c ≡ point_named (points_in s) name
         → (n m : ℕ) → n ≡ c.rows → m ≡ c.steps
         → (xs ys zs : List ℕ) → xs ≡ cleared (row_width * n) s.rows → ys ≡ cleared (step_width * m) s.steps
         → zs ≡ cleared (point_width * (place + 1)) s.points
-        → Met s (return name) (point_answer_of t)
+        → Met s (return name) (done_answer_of t)
         (record { rows = xs; row_count = n; steps = ys; step_count = m; points = zs; point_count = place + 1 })
     unfolding at_point
     return_made_held e place is-place c is_c n m is-n is_m xs ys zs is-xs is-ys is-zs =
@@ -115,5 +115,5 @@ module _ (s : Session) (name : ℕ) (t : PointAnswer) where
           }) ∙ if_accepted _ _ return_judged (at_point s name) s e;
         }
 
-    pub return_made_refused : ¬ ((point_answer_of t).number ≡ 0) → Met s (return name) (point_answer_of t) s
+    pub return_made_refused : ¬ ((done_answer_of t).number ≡ 0) → Met s (return name) (done_answer_of t) s
     return_made_refused f = record { answer = return_judged; left = if_refused _ _ return_judged (at_point s name) s f }

@@ -1,4 +1,5 @@
 -- From a term call on a session's table to one on the session. Assumes nothing.
+use Rattle.calls.specs.code.Answers.{NumberOrRefusal, answer_of}
 use Prim.Native.Nat.{ℕ, ◌+◌, ◌*◌, min}
 use mathlib.Core.Path.{◌≡◌, sym, ◌∙◌}
 use mathlib.Core.List.{List}
@@ -6,25 +7,23 @@ use native.Mathlib.Omega.{arith}
 use lib.Seq.{sets}
 use Rattle.terms.specs.Row.{Row, max_rows}
 use Rattle.session.specs.declared.session.Session.{Session}
-use Rattle.calls.specs.declared.TermAnswer.{TermAnswer}
 use Rattle.calls.specs.TermCall.{term_answer}
 use Rattle.calls.specs.code.Tables.{row_width}
 use Rattle.session.specs.View.{rows_held, view, with_row}
 use Rattle.terms.specs.Row.{row_numbers}
-use Rattle.calls.specs.code.Answers.{term_answer_of}
 use Rattle.calls.specs.Calls.{term}
 use Rattle.session.specs.Promises.{Met}
 use Rattle.term_calls.specs.code.Placed.{TermPlaced}
 use Rattle.calls.proofs.Accepted.{if_accepted, if_refused}
 
-module _ (s : Session) (r : Row) (n : ℕ) (count : n ≡ rows_held s) (ys : List ℕ) (t : TermAnswer)
+module _ (s : Session) (r : Row) (n : ℕ) (count : n ≡ rows_held s) (ys : List ℕ) (t : NumberOrRefusal)
     (m : TermPlaced s.rows n r ys t) where
-  judged : term_answer_of t ≡ term_answer (view s).rows r
+  judged : answer_of t ≡ term_answer (view s).rows r
   unfolding view
   judged = let same : min n max_rows ≡ rows_held s = omega arith in m.answer ∙ rw same
 
-  pub term_made_held : (term_answer_of t).number ≡ 0 →
-      Met s (term r) (term_answer_of t) (record {
+  pub term_made_held : (answer_of t).number ≡ 0 →
+      Met s (term r) (answer_of t) (record {
         rows = ys;
         row_count = n + 1;
         steps = s.steps;
@@ -48,8 +47,8 @@ module _ (s : Session) (r : Row) (n : ℕ) (count : n ≡ rows_held s) (ys : Lis
         }) ∙ if_accepted _ _ judged (with_row s r) s e;
       }
 
-  pub term_made_refused : ¬ ((term_answer_of t).number ≡ 0) →
-      Met s (term r) (term_answer_of t) (record {
+  pub term_made_refused : ¬ ((answer_of t).number ≡ 0) →
+      Met s (term r) (answer_of t) (record {
         rows = ys;
         row_count = s.row_count;
         steps = s.steps;

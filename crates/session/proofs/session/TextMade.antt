@@ -6,9 +6,10 @@ use Rattle.grammar.specs.Bytes.{Bytes}
 use Rattle.grammar.specs.Answer.{Reply, reply}
 use Rattle.std.specs.Prelude.{Result, Ok, Err}
 use Rattle.text.specs.declared.TextHeld.{TextHeld}
-use Rattle.text.specs.declared.TextRefusal.{TextRefusal}
-use Rattle.text.specs.Promises.{refusal_number, refusal_value, text_number, text_value, TextRead}
-use Rattle.text.proofs.TextLaws.{refusal_some}
+use Rattle.common.specs.declared.refusal.Refusal.{Refusal}
+use Rattle.common.specs.code.Refusal.{refusal_number, refusal_value}
+use Rattle.text.specs.Promises.{text_number, text_value, TextRead}
+use Rattle.common.proofs.Refusals.{refusal_some}
 use Rattle.calls.specs.Book.{answer}
 use Rattle.calls.specs.TextCall.{text_reply, text_answer}
 use Rattle.calls.specs.Calls.{text}
@@ -18,7 +19,7 @@ use Rattle.session.specs.declared.session.Session.{Session}
 use Rattle.session.specs.View.{rows_held, view, with_rows}
 use Rattle.session.specs.Promises.{Met}
 
-module _ (s : Session) (names t : Bytes) (r : Result TextHeld TextRefusal)
+module _ (s : Session) (names t : Bytes) (r : Result TextHeld Refusal)
     (m : TextRead names t s.rows (rows_held s) r) where
   -- the reading gives the book's reply
   replied : reply (text_number r) (text_value r) m.after ≡ text_reply names t (view s).rows
@@ -59,7 +60,7 @@ module _ (s : Session) (names t : Bytes) (h : TextHeld) (m : TextRead names t s.
             ∙ if_accepted _ _ (judged s names t (Ok h) m) (with_rows s (text_reply names t (view s).rows).rows) s refl;
       }
 
-pub text_made_refused : (s : Session) (names t : Bytes) (e : TextRefusal)
+pub text_made_refused : (s : Session) (names t : Bytes) (e : Refusal)
     → TextRead names t s.rows (rows_held s) (Err e)
     → Met s (text names t) (answer (refusal_number e) (refusal_value e)) s
 text_made_refused s names t e m =

@@ -5,14 +5,11 @@ use Rattle.calls.specs.Promises.{sides_of, row_yielded}
 use Rattle.calls.proofs.Yielded.{sides_taken}
 use Rattle.step_calls.proofs.is_yielded.Goals as goal
 
-pub yields-requires : goal.yields-requires
-yields-requires c = c.requires.1
-
 pub returns : goal.returns
 unfolding row_yielded premises_of sides_of
 returns c =
     let done = c.yields.ensures in (
-      done.0 c.requires.0
+      done.0
           ∙ rw (c.sides_of-second.ensures, c.sides_of-first.ensures, sides_taken),
       done.1,
     )

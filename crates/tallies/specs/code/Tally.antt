@@ -1,5 +1,7 @@
 -- A tally in code, file by file, and what it promises. Assumes nothing.
-use Rattle.std.specs.Prelude.{ℕ, ◌+◌, ◌≤◌, min, ◌≡◌, cond, List, [], ◌∷◌, length, replicate}
+use Rattle.std.specs.Prelude.{ℕ, ◌+◌, ◌≤◌, ◌<◌, min, ◌≡◌, true, false, cond, List, [], ◌∷◌, length, get_or, replicate}
+use Rattle.std.specs.Prelude.{Option, Some, None}
+use denote.Ref.{Bor}
 use Rattle.rules.specs.Yields.{max_rule}
 use Rattle.calls.specs.Book.{Step}
 use Rattle.calls.specs.Uses.{uses_of}
@@ -7,8 +9,9 @@ use Rattle.session.specs.View.{view}
 use Rattle.session.specs.Reading.{reading}
 use Rattle.tallies.specs.declared.Tally.{Tally}
 use Rattle.tallies.specs.declared.TallyLine.{TallyLine}
+use Rattle.tallies.specs.declared.TallyLine.TheVariants.{Rule, Total}
 use Rattle.tallies.specs.NameList.{max_files}
-use Rattle.tallies.specs.Count.{File, is_accepted, uses, total, each_rule, Entry, entry, entries_by, entries, sum}
+use Rattle.tallies.specs.Count.{File, file, is_accepted, uses, total, each_rule, Entry, entry, entries_by, entries, sum}
 
 abbrev pub tally : (uses : List ℕ) (total : ℕ) → Tally
 tally uses total = record { uses = uses; total = total }
@@ -35,6 +38,11 @@ fresh_tally = tally (replicate max_rule 0) 0
 unfoldable pub with_steps : Tally → List Step → Tally
 with_steps t ps = tally (plus_each t.uses (column_of ps)) (plus t.total (length ps))
 
+-- a file's bytes, or that its reading failed
+abbrev pub file_read : Option (Bor (List ℕ)) → File
+file_read (Some bytes) = file false bytes.now
+file_read None = file true []
+
 -- a refused bundle leaves the tally as it was
 unfoldable pub with_file : Tally → File → Tally
 with_file t f = cond (is_accepted f) (with_steps t (view (reading f.bytes).session).steps) t
@@ -49,10 +57,16 @@ abbrev pub entries_of : Tally → List Entry
 entries_of t = entries_by t.uses t.total
 
 abbrev pub entry_of : TallyLine → Entry
-entry_of l = entry l.rule l.count
+entry_of (Rule r n) = entry r n
+entry_of (Total n) = entry 0 n
 
 abbrev pub no_entry : Entry
 no_entry = entry 0 0
+
+-- the line at place k of lines; none past the last
+abbrev pub LineIs : List Entry → (k : ℕ) → Option TallyLine → Type 0
+LineIs es k (Some l) = (k < length es) × (entry_of l ≡ get_or es k no_entry)
+LineIs es k None = length es ≤ k
 
 -- what the calls of a tally come to
 pub record TallyPromise : Type 0 where

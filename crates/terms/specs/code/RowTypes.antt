@@ -1,10 +1,12 @@
 -- The code's rows, fields and results of searches as the definitions have them. Assumes nothing.
 use Rattle.std.specs.Prelude.{ℕ, ◌<◌, ◌≡◌, List, get_or, Option, Some, None}
+use Rattle.common.specs.declared.row_kind.RowKind.{RowKind}
+use Rattle.common.specs.code.Numbers.{row_number}
 use Rattle.terms.specs.declared.Row.{Row as CodeRow}
 use Rattle.terms.specs.declared.Field.{Field as CodeField}
 use Rattle.terms.specs.declared.Field.TheVariants.{Unused, Axis, Test, Name, Path, Qualifier}
 use Rattle.terms.specs.Row.{Row, row}
-use Rattle.terms.specs.Fields.{Field, unused, axis, test, name, path, qualifier, Fields, fields}
+use Rattle.terms.specs.Fields.{Field, unused, axis, test, name, path, qualifier, Fields, fields, max_kind}
 
 abbrev pub row_of : CodeRow → Row
 row_of r = record { kind = r.kind; a = r.a; b = r.b; c = r.c }
@@ -24,6 +26,11 @@ field_of Qualifier = qualifier
 -- what the three fields must be
 abbrev pub fields_in : CodeField → CodeField → CodeField → Fields
 fields_in x y z = fields (field_of x) (field_of y) (field_of z)
+
+-- o is the kind that has the number n; none where no kind has it
+abbrev pub KindIs : Option RowKind → ℕ → Type 0
+KindIs None n = max_kind < n
+KindIs (Some kind) n = row_number kind ≡ n
 
 -- o is the place n, counted from 1; none where n is 0
 abbrev pub PlaceIs : Option ℕ → (n : ℕ) → Type 0

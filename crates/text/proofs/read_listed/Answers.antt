@@ -8,5 +8,5 @@ read_indexed-requires c = record {
   names_len_bound = c.is_indexed.ensures c.if-is_indexed.true;
 }
 
-pub invariant_of-read_in : goal.invariant_of-read_in
-invariant_of-read_in c = record { indexed = unindexed c.args.names.now }
+pub invariant_of-names : goal.invariant_of-names
+invariant_of-names c = record { indexed = unindexed c.args.names.now }

@@ -20,8 +20,9 @@ use Rattle.grammar.specs.code.Reader.{follow, run, outcome, Outcome, bad, at_top
 use Rattle.grammar.specs.code.Reader.{shut, Text}
 use Rattle.grammar.specs.code.ReaderAnswer.{answer}
 use Rattle.readings.specs.declared.Reading.{Reading}
-use Rattle.text.specs.declared.TextRefusal.{TextRefusal}
-use Rattle.text.specs.Promises.{held_rows, refusal_number, refusal_value}
+use Rattle.common.specs.declared.refusal.Refusal.{Refusal}
+use Rattle.common.specs.code.Refusal.{refusal_number, refusal_value}
+use Rattle.text.specs.Promises.{held_rows}
 use Rattle.words.specs.code.Scan.{byte_at, Passed}
 use Rattle.heads.specs.code.Head.{proceed, callable, NoCall, Due}
 use Rattle.readings.specs.code.Build.{Standing, Sized, Made, joined}
@@ -224,7 +225,7 @@ abbrev pub refusal_of : (number value count : ℕ) → TextEnd
 refusal_of n v k = record { number = n; value = v; count = k }
 
 -- that of the reading of a whole text
-abbrev pub end_of : ℕ → Result Reading TextRefusal → TextEnd
+abbrev pub end_of : ℕ → Result Reading Refusal → TextEnd
 end_of count (Ok r) = record { number = 0; value = r.row; count = r.count }
 end_of count (Err e) = refusal_of (refusal_number e) (refusal_value e) count
 

@@ -1,8 +1,11 @@
 -- `axis_of` meets its contract. Assumes nothing.
+use mathlib.Core.Path.{refl, ap, ◌∙◌}
+use Rattle.std.specs.Prelude.{option_map}
+use Rattle.common.specs.code.Numbers.{axis_number}
 use Rattle.grammar.specs.Words.{axes}
-use Rattle.words.specs.code.Names.{pick_from, found}
+use Rattle.words.proofs.Named.{picked_by}
 use Rattle.words.proofs.axis_of.Goals as goal
 
 pub returns : goal.returns
-unfolding axes pick_from found
-returns c = c.find.ensures
+unfolding axes
+returns c = ap (option_map axis_number) c.find.ensures ∙ picked_by axis_number c.args.word.now _ 0 refl

@@ -6,7 +6,7 @@ use Rattle.words.proofs.Named.{Hit, Miss, hit, miss, found_first}
 use Rattle.words.proofs.find.Goals as goal
 
 pub returns : goal.returns
-returns c =
+returns g c =
     found_first c.args.word.now c.args.table.now c.find.result c.map.result
     (first_from_find _ _ _ (Hit c.args.word.now) (Miss c.args.word.now) c.find.ensures.ran
     (YieldsList-from_slice c.args.table.now (search rules))

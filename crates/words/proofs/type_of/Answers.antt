@@ -1,8 +1,11 @@
 -- `type_of` meets its contract. Assumes nothing.
+use mathlib.Core.Path.{refl, ap, ◌∙◌}
+use Rattle.std.specs.Prelude.{option_map}
+use Rattle.common.specs.code.Numbers.{test_number}
 use Rattle.grammar.specs.Words.{types}
-use Rattle.words.specs.code.Names.{pick_from, found}
+use Rattle.words.proofs.Named.{picked_by}
 use Rattle.words.proofs.type_of.Goals as goal
 
 pub returns : goal.returns
-unfolding types pick_from found
-returns c = c.find.ensures
+unfolding types
+returns c = ap (option_map test_number) c.find.ensures ∙ picked_by test_number c.args.word.now _ 2 refl

@@ -1,9 +1,9 @@
 -- What the functions on the index of the lent list promise. Assumes nothing.
-use Rattle.std.specs.Prelude.{ℕ, ◌+◌, ◌*◌, ◌/◌, ◌%◌, ◌<◌, ◌≤◌, ◌≡◌, Bool, true, not, cond, List, [], ◌∷◌, eqb}
+use Rattle.std.specs.Prelude.{ℕ, ◌+◌, ◌*◌, ◌%◌, ◌<◌, ◌≤◌, ◌≡◌, Bool, true, cond, List, [], ◌∷◌, eqb}
 use Rattle.std.specs.Prelude.{length, get_or, drop}
 use Rattle.lines.specs.Line.{newline, lines}
 use Rattle.grammar.specs.Bytes.{Bytes}
-use Rattle.words.specs.code.Names.{LinesPassed}
+use Rattle.words.specs.declared.index.IndexedLine.{IndexedLine}
 
 -- the longest list that is indexed: a place in it is a number of 32 bits
 abbrev pub max_length : ℕ
@@ -30,9 +30,6 @@ unfoldable pub ended : Bytes → Bool
 ended [] = true
 ended (b ∷ t) = eqb b newline
 
-abbrev pub not_newline : ℕ → Bool
-not_newline b = not (eqb b newline)
-
 -- a line is passed
 pub record LineMet (list : Bytes) (at next signature : ℕ) : Type 0 where
   pub on : at < next
@@ -46,16 +43,12 @@ pub record LineAt (list : Bytes) (k at : ℕ) : Type 0 where
   pub fits : at ≤ length list
   pub few : k ≤ at
 
--- the index of the first n lines: two numbers for each, and where the other lines begin
-pub record IndexOf (list : Bytes) (xs : List ℕ) (n : ℕ) : Type 0 where
-  pub places : (k : ℕ) → k ≤ n → LineAt list k (get_or xs (2 * k) 0)
-  pub signatures : (k : ℕ) → k < n
-      → get_or xs (2 * k + 1) 0 ≡ signature_of 0 (line_of (drop (get_or xs (2 * k) 0) list))
+-- line k of a list begins where its entry says, and its bytes have the entry's signature
+pub record LineIndexed (list : Bytes) (k : ℕ) (l : IndexedLine) : Type 0 where
+  pub place : LineAt list k l.start
+  pub signature : l.signature ≡ signature_of 0 (line_of (drop l.start list))
 
-pub record Indexed (list : Bytes) (xs : List ℕ) : Type 0 where
-  pub size : length xs ≡ 2 * (length xs / 2) + 1
-  pub index : IndexOf list xs (length xs / 2)
-
--- no indexed line is the name
-abbrev pub IndexMissed : (list : Bytes) (xs : List ℕ) (name : Bytes) → Type 0
-IndexMissed list xs name = LinesPassed list name (get_or xs (2 * (length xs / 2)) 0) (length xs / 2)
+-- the index of the first lines of a list, and where the others begin
+pub record Indexed (list : Bytes) (ls : List IndexedLine) (others : ℕ) : Type 0 where
+  pub entries : (k : ℕ) (d : IndexedLine) → k < length ls → LineIndexed list k (get_or ls k d)
+  pub rest : LineAt list (length ls) others

@@ -13,8 +13,8 @@ unfoldable pub pick_from : ℕ → List Bytes → Bytes → Maybe ℕ
 pick_from i [] n = None
 pick_from i (m ∷ ms) n = cond (same_bytes n m) (Some i) (pick_from (suc i) ms n)
 
--- what a table of words with numbers has for a word
-unfoldable pub found : Bytes → List (Bor Bytes × ℕ) → Maybe ℕ
+-- what a table of words has for a word
+unfoldable pub found : {T : Type 0} → Bytes → List (Bor Bytes × T) → Maybe T
 found n [] = None
 found n (e ∷ es) = cond (same_bytes n e.0.now) (Some e.1) (found n es)
 

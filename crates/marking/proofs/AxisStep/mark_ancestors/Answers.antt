@@ -1,44 +1,50 @@
 -- `mark_ancestors` meets its contract: the climb goes from each ancestor to the next. Assumes nothing.
 use Rattle.std.proofs.Common.{sym, ◌∙◌, arith}
-use Rattle.marking.proofs.Walks.{ancestors_start, ancestors_less, ancestors_inside}
+use Rattle.marking.proofs.Walks.{ancestors_start, ancestors_less, ancestors_within, ancestors_inside}
 use Rattle.marking.proofs.Walks.{ancestors_marked, ancestors_left, ancestors_end}
 use Rattle.marking.proofs.AxisStep.mark_ancestors.Goals as goal
 
 pub loop-at-init : goal.loop-at-init
-loop-at-init c =
-    let s = c.args.self.now in ancestors_start _ s.prepared.formed _ _ c.requires.0 _ c.requires.1
+loop-at-init g c =
+    let s = c.args.self.now in ancestors_start _ s.document.prepared.formed _ _ c.requires.0 _ c.requires.1
+
+pub passes-requires : goal.passes-requires
+passes-requires g c =
+    let s = c.args.self.now in
+    ancestors_within _ s.document.prepared.formed _ _ c.requires.0 _ c.requires.1 _ _ _ c.loop-at.invariant (omega arith)
+    c.parent_at-at.ensures
 
 pub bounds-out-at : goal.bounds-out-at
-bounds-out-at c =
+bounds-out-at g c =
     let s = c.args.self.now in
-    ancestors_inside _ s.prepared.formed _ _ c.requires.0 _ c.requires.1 _ _ _ c.loop-at.invariant (omega arith)
+    ancestors_inside _ s.document.prepared.formed _ _ c.requires.0 _ c.requires.1 _ _ _ c.loop-at.invariant (omega arith)
     c.parent_at-at.ensures
 
 pub loop-at-smaller-then-passes : goal.loop-at-smaller-then-passes
-loop-at-smaller-then-passes c =
+loop-at-smaller-then-passes g c =
     let s = c.args.self.now in
-    ancestors_less _ s.prepared.formed _ _ c.requires.0 _ c.requires.1 _ _ _ c.loop-at.invariant (omega arith)
+    ancestors_less _ s.document.prepared.formed _ _ c.requires.0 _ c.requires.1 _ _ _ c.loop-at.invariant (omega arith)
     c.parent_at-at.ensures
 
 pub loop-at-preserved-then-passes : goal.loop-at-preserved-then-passes
-loop-at-preserved-then-passes c =
+loop-at-preserved-then-passes g c =
     let s = c.args.self.now in
-    ancestors_marked _ s.prepared.formed _ _ c.requires.0 _ c.requires.1 _ _ _ c.loop-at.invariant (omega arith)
+    ancestors_marked _ s.document.prepared.formed _ _ c.requires.0 _ c.requires.1 _ _ _ c.loop-at.invariant (omega arith)
     c.parent_at-at.ensures (sym c.passes.ensures ∙ c.if-passes.true)
 
 pub loop-at-smaller : goal.loop-at-smaller
-loop-at-smaller c =
+loop-at-smaller g c =
     let s = c.args.self.now in
-    ancestors_less _ s.prepared.formed _ _ c.requires.0 _ c.requires.1 _ _ _ c.loop-at.invariant (omega arith)
+    ancestors_less _ s.document.prepared.formed _ _ c.requires.0 _ c.requires.1 _ _ _ c.loop-at.invariant (omega arith)
     c.parent_at-at.ensures
 
 pub loop-at-preserved : goal.loop-at-preserved
-loop-at-preserved c =
+loop-at-preserved g c =
     let s = c.args.self.now in
-    ancestors_left _ s.prepared.formed _ _ c.requires.0 _ c.requires.1 _ _ _ c.loop-at.invariant (omega arith)
+    ancestors_left _ s.document.prepared.formed _ _ c.requires.0 _ c.requires.1 _ _ _ c.loop-at.invariant (omega arith)
     c.parent_at-at.ensures (sym c.passes.ensures ∙ c.if-passes.false)
 
 pub returns : goal.returns
-returns c =
+returns g c =
     let s = c.args.self.now in
-    ancestors_end _ s.prepared.formed _ _ c.requires.0 _ c.requires.1 _ _ c.loop-at.invariant (omega arith)
+    ancestors_end _ s.document.prepared.formed _ _ c.requires.0 _ c.requires.1 _ _ c.loop-at.invariant (omega arith)

@@ -1,12 +1,12 @@
 -- `mark_ancestors` meets its contract: the climb goes from each ancestor to the next. Assumes nothing.
-use Rattle.xpath.specs.Document.{document_of}
+use Rattle.xpath.specs.code.Checked.{doc}
 use Rattle.xpath.specs.code.Tests.{picks}
 use Rattle.marking.proofs.Walks.{AncestorsFrom}
 use Rattle.marking.proofs.AxisStep.mark_ancestors.Given as goal
 
 abbrev pub invariant-loop-at : goal.invariant-loop-at
-invariant-loop-at l = AncestorsFrom (document_of l.self.d.now) (picks l.self.test (document_of l.self.d.now)) l.x l.at
+invariant-loop-at g l = AncestorsFrom (doc l.self.document) (picks (g.T.NodeSet.has l.self.test) (doc l.self.document)) l.x l.at
     l.initial.out l.out
 
 abbrev pub decreases-loop-at : goal.decreases-loop-at
-decreases-loop-at l = l.at
+decreases-loop-at g l = l.at

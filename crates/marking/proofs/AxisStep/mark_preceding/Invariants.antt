@@ -1,12 +1,12 @@
 -- `mark_preceding` meets its contract. Assumes nothing.
 use Rattle.std.proofs.Common.{◌&&◌, leb, length, get_or}
 use Rattle.common.specs.code.Numbers.{axis_number}
-use Rattle.xpath.specs.Document.{document_of}
+use Rattle.xpath.specs.code.Checked.{doc}
 use Rattle.marking.specs.code.Added.{Added, candidate}
 use Rattle.marking.proofs.Added.{between}
 use Rattle.marking.proofs.AxisStep.mark_preceding.Given as goal
 
 abbrev pub invariant-loop-y : goal.invariant-loop-y
-invariant-loop-y l = Added (length (document_of l.self.d.now)) l.initial.out l.out
-    (between 0 l.y (λ k. leb (get_or l.self.ends.now k 0) l.x
-    && candidate (axis_number l.self.axis) l.self.test (document_of l.self.d.now) k))
+invariant-loop-y g l = Added (length (doc l.self.document)) l.initial.out l.out
+    (between 0 l.y (λ k. leb (get_or l.self.document.ends.now k 0) l.x
+    && candidate (axis_number l.self.axis) (g.T.NodeSet.has l.self.test) (doc l.self.document) k))

@@ -1,6 +1,6 @@
 -- `is_back` meets its contract: a measure, the row that is reversed, and the ways of RowWayBack.antt. Assumes nothing.
 use native.Mathlib.Omega.{arith}
-use mathlib.Core.Path.{◌≡◌, sym, ◌∙◌}
+use mathlib.Core.Path.{◌≡◌}
 use mathlib.Core.Bool.{◌&&◌}
 use Rattle.std.proofs.lemmas.Grind.{common_steps}
 use Rattle.terms.specs.Row.{table_of}
@@ -12,7 +12,7 @@ use Rattle.matching.proofs.way_back.+is_back.Goals.{then-second-i, else-second-i
 pub returns-then-is_noted : goal.returns-then-is_noted
 returns-then-is_noted t c =
     let a = c.args in
-    ways.is_noted (table_of a.rows.now) _ a.i a.j c.requires (sym c.if-is_noted.true ∙ c.is_noted.ensures)
+    ways.is_noted (table_of a.rows.now) _ a.i a.j c.requires (c.is_noted.ensures.0 c.if-is_noted.true)
 
 pub is_back-requires : goal.is_back-requires
 is_back-requires t c = (omega (arith, c.if-second-i.true.0), c.requires)

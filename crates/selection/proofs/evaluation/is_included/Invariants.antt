@@ -7,7 +7,7 @@ use Rattle.common.specs.Bounded.{all_below}
 use Rattle.marking.specs.code.Added.{marked}
 use Rattle.selection.proofs.evaluation.is_included.Given as goal
 
-abbrev pub test : List ℕ → List ℕ → ℕ → Bool
+abbrev pub test : List Bool → List Bool → ℕ → Bool
 test a b y = not (marked a y) || marked b y
 
 abbrev pub invariant-loop-y : goal.invariant-loop-y

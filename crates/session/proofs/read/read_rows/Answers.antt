@@ -1,100 +1,72 @@
 -- `read_rows` meets its contract. The loop's invariant: the reading is what is left to read from `at` on, on the rows
--- held now, and of these their nestings and a filter are kept. Assumes nothing.
-use mathlib.Core.Path.{refl, sym, ap, ◌∙◌}
+-- held now. Assumes nothing.
+use mathlib.Core.Path.{◌≡◌, refl, sym, ap, ◌∙◌}
 use native.Mathlib.Omega.{arith}
-use Rattle.terms.specs.Row.{table_of}
-use Rattle.terms.proofs.RowsKept.{none_kept}
-use Rattle.session.specs.Reading.{refused_at}
+use Prim.Native.Nat.{◌+◌, ◌≤◌}
+use Rattle.terms.specs.Row.{max_rows}
+use Rattle.std.specs.Prelude.{Err}
+use Rattle.std.proofs.lemmas.Result.{err_from_is_err_and}
+use Rattle.calls.proofs.Accepted.{if_accepted, ok_accepted, err_refused}
+use Rattle.session.specs.code.Parts.{wrong_form_at, refused_by}
+use Rattle.session.proofs.LineCalls.{none_by_ok_or, refused_by_map_err}
 use Rattle.session.proofs.LineCalls.{names_there, row_end, row_wrong_there, row_refused_there, row_held_there}
-use Rattle.session.proofs.LineCalls.{row_room}
+use borrow.Author.Rules.{rules}
 use Rattle.session.proofs.read.read_rows.Goals as goal
-
-pub loop-at-init : goal.loop-at-init
-unfolding table_of
-loop-at-init c = (
-  omega arith,
-  omega arith,
-  omega arith,
-  omega arith,
-  refl,
-  none_kept _ _ c.no_nestings-table.ensures c.clear_filter-filter.ensures,
-)
-
-pub overflow_add-result-then-is_step_names-2 : goal.overflow_add-result-then-is_step_names-2
-overflow_add-result-then-is_step_names-2 c =
-    let l = c.loop-at in
-    let bytes = c.args.bytes.now in
-    let names = sym c.is_step_names.ensures ∙ c.if-is_step_names.true in
-    omega (arith, (names_there bytes l.rows l.n l.line l.at names).1)
 
 pub returns-then-is_step_names : goal.returns-then-is_step_names
 returns-then-is_step_names c =
     let l = c.loop-at in
     let bytes = c.args.bytes.now in
-    let names = sym c.is_step_names.ensures ∙ c.if-is_step_names.true in
-    let (reading, inside) = names_there bytes l.rows l.n l.line l.at names in
-    record { reading = sym (l.invariant.4 ∙ reading); bounds = (omega arith, inside) }
+    let names = sym c.if-is_step_names.ensures in
+    let (reading, inside) = names_there bytes l.held.numbers l.held.count l.line l.at names in
+    record { reading = sym (l.invariant.2 ∙ reading); bounds = (omega arith, inside) }
 
-pub returns-in_default : goal.returns-in_default
-returns-in_default c =
+pub returns-in_err-text : goal.returns-in_err-text
+returns-in_err-text c =
     let l = c.loop-at in
-    let bytes = c.args.bytes.now in
-    let other = sym c.is_step_names.ensures ∙ c.if-is_step_names.false in
-    let wrong = row_wrong_there bytes l.rows l.n l.line l.at other c.in_default.ensures in
-    record { reading = sym (l.invariant.4 ∙ wrong); bounds = omega arith }
+    let p = err_from_is_err_and c.from_residual.result c.from_residual.ensures.1 in
+    let (missing, at_line) = none_by_ok_or _ _ _ c.in_err-text.ensures.value in
+    let other = sym c.if-is_step_names.ensures in
+    let wrong = row_wrong_there c.args.bytes.now l.held.numbers l.held.count l.line l.at other
+    (rw missing at c.numbers_line.ensures) in
+    let e : c.from_residual.result ≡ Err (wrong_form_at l.line) = cc (p.1, p.2, at_line, c.wrong_form.ensures) in
+    rw e (record { reading = sym (l.invariant.2 ∙ wrong); bounds = tt })
 
-pub term_kept-requires : goal.term_kept-requires
-term_kept-requires c =
+pub returns-in_err-map_err : goal.returns-in_err-map_err
+returns-in_err-map_err c =
     let l = c.loop-at in
-    (l.invariant.0, l.invariant.1, l.invariant.5)
-
-pub returns-then-number-ne0 : goal.returns-then-number-ne0
-returns-then-number-ne0 c =
-    let l = c.loop-at in
-    let bytes = c.args.bytes.now in
-    let other = sym c.is_step_names.ensures ∙ c.if-is_step_names.false in
-    let met = c.in-Some.ensures in
+    let p = err_from_is_err_and c.from_residual-in_err-map_err.result c.from_residual-in_err-map_err.ensures.1 in
+    let other = sym c.if-is_step_names.ensures in
+    let met = rw c.in_ok-text.ensures.ok_part at c.numbers_line.ensures in
     let placed = rw c.row_of_numbers-row.ensures at c.term_kept.ensures.placed in
-    let number = c.number-number.ensures in
+    let few : l.held.count ≤ max_rows = omega arith in
+    let refuses = sym c.in_err-map_err.ensures.variant in
+    let told = refused_by_map_err c.term_kept.result l.line c.in_err-map_err.field-0.0 _ _
+    c.in_err-map_err.ensures.cases refuses (λ k h. search rules) in
     let refused =
-    row_refused_there bytes l.rows l.n l.line l.at other _ met l.invariant.0 _ _ placed
-    (λ e. c.if-number-ne0.true (number ∙ e)) in
-    record { reading = ap (λ k. refused_at k l.line) number ∙ sym (l.invariant.4 ∙ refused); bounds = omega arith }
-
-pub overflow_add-line : goal.overflow_add-line
-overflow_add-line c =
-    let bounds = c.in-Some.ensures.right in
-    omega (arith, bounds, c.loop-at.invariant.2)
-
-pub loop-at-smaller : goal.loop-at-smaller
-loop-at-smaller c =
-    let bounds = c.in-Some.ensures.right in
-    omega arith
+    row_refused_there c.args.bytes.now l.held.numbers l.held.count l.line l.at other _ met few _ _ placed
+    (err_refused _ c.term_kept.result refuses) in
+    let e : c.from_residual-in_err-map_err.result ≡ Err c.in_err-map_err.field-0.0 = cc (p.1, p.2) in
+    rw e (record { reading = told ∙ sym (l.invariant.2 ∙ refused); bounds = tt })
 
 pub loop-at-preserved : goal.loop-at-preserved
 loop-at-preserved c =
     let l = c.loop-at in
     let bytes = c.args.bytes.now in
-    let other = sym c.is_step_names.ensures ∙ c.if-is_step_names.false in
-    let met = c.in-Some.ensures in
+    let other = sym c.if-is_step_names.ensures in
+    let met = rw c.in_ok-text.ensures.ok_part at c.numbers_line.ensures in
     let placed = rw c.row_of_numbers-row.ensures at c.term_kept.ensures.placed in
-    let held = sym c.number-number.ensures ∙ c.if-number-ne0.false in
+    let few : l.held.count ≤ max_rows = omega arith in
+    let held = ok_accepted _ c.term_kept.result (sym c.in_ok-map_err.ensures.variant) in
     let bounds = met.right in
-    let room =
-    row_room bytes l.rows l.n l.line l.at other _ met l.invariant.0 _ _ placed held l.invariant.1 in
-    let next =
-    row_held_there bytes l.rows l.n l.line l.at other _ met l.invariant.0 _ _ placed held in (
-      omega arith,
-      omega arith,
-      omega arith,
-      omega arith,
-      l.invariant.4 ∙ next,
-      c.term_kept.ensures.kept held,
-    )
+    let next = row_held_there bytes l.held.numbers l.held.count l.line l.at other _ met few _ _ placed held in
+    let count : c.term_kept.new.held.count ≡ l.held.count + 1 =
+    rw c.row_of_numbers-row.ensures at c.term_kept.ensures.count
+    ∙ sym (if_accepted _ _ placed.answer (l.held.count + 1) l.held.count held) in
+    (omega arith, omega arith, l.invariant.2 ∙ next ∙ rw count refl)
 
 pub returns : goal.returns
 returns c =
     let l = c.loop-at in
-    let bytes = c.args.bytes.now in
-    let ended = row_end bytes l.rows l.n l.line l.at c.loop-at-test.false in
-    record { reading = sym (l.invariant.4 ∙ ended); bounds = omega arith }
+    let ended = row_end c.args.bytes.now l.held.numbers l.held.count l.line l.at c.loop-at-test.false in
+    record { reading = ap refused_by c.wrong_form-2.ensures ∙ sym (l.invariant.2 ∙ ended); bounds = tt }

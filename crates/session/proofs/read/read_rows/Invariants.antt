@@ -1,12 +1,9 @@
 -- `read_rows` meets its contract. The loop's invariant: the reading is what is left to read from `at` on, on the rows
--- held now, and of these their nestings and a filter are kept. Assumes nothing.
-use Prim.Native.Nat.{◌*◌, ◌-◌, ◌≤◌}
+-- held now. Assumes nothing.
+use Prim.Native.Nat.{◌-◌, ◌≤◌}
 use mathlib.Core.Path.{◌≡◌}
 use lib.ListN.{length, drop}
-use Rattle.terms.specs.Row.{max_rows}
-use Rattle.terms.specs.code.Kept.{Kept}
 use Rattle.lines.specs.Line.{lines}
-use Rattle.calls.specs.code.Tables.{row_width, first_rows}
 use Rattle.session.specs.View.{fresh_session}
 use Rattle.calls.specs.Promises.{row_step_answer}
 use Rattle.session.specs.Reading.{rows_read}
@@ -14,11 +11,11 @@ use Rattle.session.specs.code.Parts.{holding}
 use Rattle.session.proofs.read.read_rows.Given as goal
 
 abbrev pub invariant-loop-at : goal.invariant-loop-at
-invariant-loop-at l = (l.n ≤ max_rows) × (length l.rows ≡ row_width * max_rows) × (l.line ≤ l.at)
-    × (l.at ≤ length l.bytes)
-    × (rows_read row_step_answer (holding l.initial.rows 0 fresh_session.steps 0) 2 (lines (drop l.start l.bytes))
-    ≡ rows_read row_step_answer (holding l.rows l.n fresh_session.steps 0) l.line (lines (drop l.at l.bytes)))
-    × Kept (first_rows l.n l.rows) l.table l.filter
+invariant-loop-at l = (l.line ≤ l.at) × (l.at ≤ length l.bytes)
+    × (rows_read row_step_answer (holding l.initial.held.numbers 0 fresh_session.steps 0) 2
+    (lines (drop l.start l.bytes))
+    ≡ rows_read row_step_answer (holding l.held.numbers l.held.count fresh_session.steps 0) l.line
+    (lines (drop l.at l.bytes)))
 
 abbrev pub decreases-loop-at : goal.decreases-loop-at
 decreases-loop-at l = length l.bytes - l.at

@@ -19,8 +19,8 @@ returns-then-k-eq-RULES c =
     let size : length t.uses ≡ max_rule = search rules in
     total_line t.uses t.total _ size c.if-k-eq-RULES.true
 
-pub returns-else-k-eq-RULES : goal.returns-else-k-eq-RULES
-returns-else-k-eq-RULES c =
+pub returns : goal.returns
+returns c =
     let t = c.args.self in
     let size : length t.uses ≡ max_rule = search rules in
     no_line t.uses t.total c.args.k size (omega (arith, c.if-k-eq-RULES.false))

@@ -8,7 +8,7 @@ use Rattle.terms.proofs.kept.nesting_kept.Goals as goal
 
 pub slice_bounds-deeper_operand-end : goal.slice_bounds-deeper_operand-end
 slice_bounds-deeper_operand-end c =
-    sym (length-take-le c.row_count.result c.args.table.now (omega (arith, c.requires.1.size)))
+    sym (length-take-le c.row_count.result c.args.nestings.now (omega (arith, c.requires.1.size)))
 
 pub overflow_add-result : goal.overflow_add-result
 overflow_add-result c =

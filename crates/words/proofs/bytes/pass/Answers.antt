@@ -1,20 +1,16 @@
--- `pass` meets its contract. Assumes nothing.
-use mathlib.Core.Path.{◌≡◌, ◌∙◌}
-use mathlib.Core.Bool.{true, false}
-use borrow.Author.Tests.{tests}
+-- `pass` meets its contract: the test holds of each byte so far. Assumes nothing.
+use mathlib.Core.Path.{sym, ◌∙◌}
 use native.Mathlib.Omega.{arith}
-use lib.ListN.{drop, length-drop}
-use Rattle.std.proofs.lemmas.List.{take_all}
-use Rattle.std.proofs.Common.{rules, of_calls}
-use Rattle.std.proofs.lemmas.Iterator.{YieldsList-from_slice, IsFirst-from_position}
-use Rattle.words.proofs.Scanned.{passed_first}
+use Rattle.words.proofs.Scanned.{passed_up_to}
 use Rattle.words.proofs.bytes.pass.Goals as goal
+
+pub returns-then-not-test : goal.returns-then-not-test
+returns-then-not-test g c = λ p gives.
+    passed_up_to p c.args.s.now c.args.at c.loop-i.i (omega arith) (omega arith)
+    (λ k h j. sym (gives _ _ (c.loop-i.invariant k h j)))
+    (λ _. sym (gives _ _ c.test.ensures) ∙ c.if-not-test.true)
 
 pub returns : goal.returns
 returns g c = λ p gives.
-    passed_first p c.args.s.now c.args.at c.position.result c.map_or.result (search rules)
-    (IsFirst-from_position _ _ _ (λ b. p b ≡ false) (λ b. p b ≡ true) c.position.ensures.ran
-    (YieldsList-from_slice (drop c.args.at c.args.s.now)
-    (c.iter.ensures.rest ∙ take_all _ _ (rw length-drop (omega arith))))
-    (λ x q k. search (rules, tests, of_calls, gives)) (λ x q k. search (rules, tests, of_calls, gives)))
-    (search rules)
+    passed_up_to p c.args.s.now c.args.at _ c.requires.at_in_bounds (omega arith)
+    (λ k h j. sym (gives _ _ (c.loop-i.invariant k h (omega (arith, j))))) (λ h. absurd (omega (arith, h)))

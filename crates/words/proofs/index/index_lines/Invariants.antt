@@ -1,13 +1,14 @@
--- `index_lines` meets its contract. Assumes nothing.
+-- `index_lines` meets its contract: the lines so far are indexed, and the next one begins at `at`. Assumes nothing.
 use mathlib.Core.Path.{◌≡◌}
-use Prim.Native.Nat.{◌+◌, ◌*◌, ◌-◌, ◌≤◌}
-use lib.ListN.{length, get_or}
-use Rattle.words.specs.code.Index.{IndexOf}
+use Prim.Native.Nat.{◌-◌, ◌≤◌}
+use lib.ListN.{length}
+use Rattle.words.specs.code.Index.{LineAt}
+use Rattle.words.proofs.Indexed.{Entries}
 use Rattle.words.proofs.index.index_lines.Given as goal
 
 abbrev pub invariant-loop-at : goal.invariant-loop-at
-invariant-loop-at l = IndexOf l.names l.index l.count × (get_or l.index (2 * l.count) 0 ≡ l.at)
-    × (2 * l.count + 1 ≤ length l.index) × (length l.index ≡ length l.initial.index)
+invariant-loop-at l = Entries l.list l.index l.count × LineAt l.list l.count l.at × (l.count ≤ length l.index)
+    × (length l.index ≡ length l.initial.index)
 
 abbrev pub decreases-loop-at : goal.decreases-loop-at
-decreases-loop-at l = length l.names - l.at
+decreases-loop-at l = length l.list - l.at

@@ -8,16 +8,16 @@ pub overflow_add-at : goal.overflow_add-at
 overflow_add-at c =
     omega (
       arith,
-      word_fits c.args.word.now c.args.names.now c.args.at c.requires (sym c.starts_with.ensures
+      word_fits c.args.word.bytes.now c.args.names.now c.args.at c.args.word.is_word (sym c.starts_with.ensures
           ∙ c.if-starts_with.true),
     )
 
 pub returns-then-starts_with : goal.returns-then-starts_with
 returns-then-starts_with c =
-    c.ends_at.ensures ∙ line_ends c.args.word.now c.args.names.now c.args.at c.requires
+    c.ends_at.ensures ∙ line_ends c.args.word.bytes.now c.args.names.now c.args.at c.args.word.is_word
     (sym c.starts_with.ensures ∙ c.if-starts_with.true)
 
 pub returns-else-starts_with : goal.returns-else-starts_with
 returns-else-starts_with c =
-    c.if-starts_with.false ∙ line_other c.args.word.now c.args.names.now c.args.at c.requires
+    c.if-starts_with.false ∙ line_other c.args.word.bytes.now c.args.names.now c.args.at c.args.word.is_word
     (sym c.starts_with.ensures ∙ c.if-starts_with.false)

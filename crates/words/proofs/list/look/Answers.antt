@@ -7,5 +7,5 @@ use Rattle.words.proofs.list.look.Goals as goal
 
 pub loop-k-preserved : goal.loop-k-preserved
 loop-k-preserved c =
-    look_byte c.args.names.now c.args.word.now c.args.at c.loop-k.k _ c.loop-k.ends _ c.loop-k.may _ _
+    look_byte c.args.names.now c.args.word.bytes.now c.args.at c.loop-k.k _ c.loop-k.ends _ c.loop-k.may _ _
     c.loop-k.invariant (omega arith) (search rules) c.may_follow-may.ensures refl refl

@@ -3,4 +3,4 @@ use Rattle.words.proofs.Listed.{LookMet}
 use Rattle.words.proofs.list.look.Given as goal
 
 abbrev pub invariant-loop-k : goal.invariant-loop-k
-invariant-loop-k l = LookMet l.names l.word l.at l.k l.ends l.may
+invariant-loop-k l = LookMet l.names l.word.bytes.now l.at l.k l.ends l.may

@@ -5,13 +5,13 @@ use Rattle.words.proofs.Listed.{word_there, follows}
 use Rattle.words.proofs.list.may_follow.Goals as goal
 
 pub bounds-word-0 : goal.bounds-word-0
-bounds-word-0 c = omega (arith, word_there c.args.word.now c.requires.0)
+bounds-word-0 c = omega (arith, word_there c.args.word.bytes.now c.args.word.is_word)
 
 pub overflow_sub-edged : goal.overflow_sub-edged
-overflow_sub-edged c = omega (arith, word_there c.args.word.now c.requires.0)
+overflow_sub-edged c = omega (arith, word_there c.args.word.bytes.now c.args.word.is_word)
 
 pub bounds-word-size : goal.bounds-word-size
-bounds-word-size c = omega (arith, word_there c.args.word.now c.requires.0)
+bounds-word-size c = omega (arith, word_there c.args.word.bytes.now c.args.word.is_word)
 
 pub returns : goal.returns
-returns c = follows c.args.names.now c.args.word.now c.args.i c.requires.0 c.requires.1 _ _ _ refl refl refl
+returns c = follows c.args.names.now c.args.word.bytes.now c.args.i c.args.word.is_word c.requires _ _ _ refl refl refl

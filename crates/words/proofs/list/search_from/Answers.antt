@@ -7,18 +7,18 @@ use Rattle.words.proofs.list.search_from.Goals as goal
 
 pub returns-then-is_name_line : goal.returns-then-is_name_line
 returns-then-is_name_line c =
-    c.number_after.ensures ∙ ap given (sym (first_hit c.args.names.now c.args.word.now _ _
-    c.requires.1.others (sym c.is_name_line.ensures ∙ c.if-is_name_line.true)))
+    c.number_after.ensures ∙ ap given (sym (first_hit c.args.names.now c.args.word.bytes.now _ _
+    c.requires.others (sym c.is_name_line.ensures ∙ c.if-is_name_line.true)))
 
-pub loop-ends-init : goal.loop-ends-init
-loop-ends-init c = (
-  sought_first c.args.names.now c.args.word.now _ _ c.requires.1
+pub loop-word-init : goal.loop-word-init
+loop-word-init c = (
+  sought_first c.args.names.now c.args.word.bytes.now _ _ c.requires
       (sym c.is_name_line.ensures ∙ c.if-is_name_line.false),
-  c.requires.1.fits,
-  c.requires.1.few,
+  c.requires.fits,
+  c.requires.few,
 )
 
 pub returns-in-Err-walk : goal.returns-in-Err-walk
 returns-in-Err-walk c =
-    ap given (sought_all c.args.names.now c.args.word.now _ _
-    (c.in-Err-walk.ensures.on refl _ c.loop-ends.invariant.0) (omega arith))
+    ap given (sought_all c.args.names.now c.args.word.bytes.now _ _
+    (c.in-Err-walk.ensures.on refl _ c.loop-word.invariant.0) (omega arith))

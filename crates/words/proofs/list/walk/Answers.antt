@@ -7,18 +7,19 @@ use Rattle.words.proofs.list.walk.Goals.{then-names-i-eq-NEWLINE+else-is_name_li
 
 pub returns-then-is_name_line : goal.returns-then-is_name_line
 returns-then-is_name_line c =
-    walk_hit c.args.names.now c.args.word.now c.args.from c.loop-i.i c.loop-i.ends c.loop-i.invariant (omega arith)
-    c.if-names-i-eq-NEWLINE.true (sym c.is_name_line.ensures ∙ c.if-is_name_line.true) c.args.to c.loop-i-test.true
+    walk_hit c.args.names.now c.args.word.bytes.now c.args.from c.loop-i.i c.loop-i.ends c.loop-i.invariant
+    (omega arith) c.if-names-i-eq-NEWLINE.true (sym c.is_name_line.ensures ∙ c.if-is_name_line.true) c.args.to
+    c.loop-i-test.true
 
 pub loop-i-preserved : goal.loop-i-preserved
 loop-i-preserved c =
     elim c.if-names-i-eq-NEWLINE.branch [
       | then-names-i-eq-NEWLINE+else-is_name_line w ↦
-          rw w.ends-is (walk_miss c.args.names.now c.args.word.now c.args.from c.loop-i.i c.loop-i.ends
+          rw w.ends-is (walk_miss c.args.names.now c.args.word.bytes.now c.args.from c.loop-i.i c.loop-i.ends
           c.loop-i.invariant
           (omega arith) w.if-names-i-eq-NEWLINE.true (sym w.is_name_line.ensures ∙ w.if-is_name_line.false))
       | else-names-i-eq-NEWLINE w ↦
-          rw w.ends-is (walk_byte c.args.names.now c.args.word.now c.args.from c.loop-i.i c.loop-i.ends
+          rw w.ends-is (walk_byte c.args.names.now c.args.word.bytes.now c.args.from c.loop-i.i c.loop-i.ends
           c.loop-i.invariant
           (omega arith) w.if-names-i-eq-NEWLINE.false)
     ]

@@ -1,7 +1,10 @@
 -- `later_row_ok` meets its contract: it closes what `is_placed` closes. Assumes nothing.
-use Rattle.std.proofs.Common.{add-one}
-use Rattle.xpath.proofs.Rows.{row_closed}
+use Rattle.std.proofs.Common.{add-one, arith}
+use Rattle.xpath.proofs.Rows.{placed_below, row_closed}
 use Rattle.xpath.proofs.document.later_row_ok.Goals as goal
+
+pub kind_of-requires : goal.kind_of-requires
+kind_of-requires c = omega (arith, placed_below _ _ _ _ _ _ c.is_placed.ensures c.if-is_placed.true)
 
 pub returns-then-kind_and_name_ok-clause-ends_after : goal.returns-then-kind_and_name_ok-clause-ends_after
 returns-then-kind_and_name_ok-clause-ends_after c =

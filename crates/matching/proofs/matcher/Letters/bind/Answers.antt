@@ -1,11 +1,11 @@
--- A letter that there is gets its value; another changes nothing. Assumes nothing.
-use Rattle.matching.proofs.Matching.{bind_way, no_bind}
+-- The letter gets its value. Assumes nothing.
+use Rattle.matching.specs.code.PatternTypes.{letter_number}
+use Rattle.matching.proofs.Matching.{bind_way}
 use Rattle.matching.proofs.matcher.Letters.bind.Goals as goal
-
-pub returns-then-k-ge-LETTER_COUNT : goal.returns-then-k-ge-LETTER_COUNT
-returns-then-k-ge-LETTER_COUNT c = let a = c.args in no_bind a.k a.v a.self.now c.if-k-ge-LETTER_COUNT.true
 
 pub returns : goal.returns
 returns c =
     let a = c.args in
-    bind_way a.k a.v a.self.now c.if-k-ge-LETTER_COUNT.false c.unwrap_or-old.ensures
+    let k = c.place-k.ensures.is in
+    rw k (bind_way (letter_number a.letter) a.v a.self.now (rw k at c.place-k.ensures.small)
+    (rw k at c.unwrap_or-old.ensures))

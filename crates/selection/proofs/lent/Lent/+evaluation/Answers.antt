@@ -3,16 +3,17 @@ use Prim.Native.Nat.{◌+◌}
 use mathlib.Core.Path.{◌≡◌, ◌∙◌, sym, refl, ap}
 use mathlib.Core.Bool.{◌&&◌, not}
 use native.Mathlib.Omega.{arith}
-use borrow.Author.Tests.{eq-eqb, ne_eqb, lt-ltb, le-leb}
+use borrow.Author.Tests.{lt-ltb, le-leb}
 use lib.ListN.{length}
 use Rattle.xpath.specs.Meaning.{selects, holds}
 use Rattle.xpath.specs.Visits.{visits, qualifier_visits}
+use Rattle.xpath.specs.code.Checked.{doc}
 use Rattle.terms.specs.code.RowTypes.{row_of}
 use Rattle.terms.specs.Terms.{path_in, qualifier_in, term_by, as_qualifier}
 use Rattle.marking.specs.code.Added.{marked}
 use Rattle.marking.proofs.Added.{up_start, up_marked, up_left, added_cong}
 use Rattle.marking.proofs.Steps.{added_twice}
-use Rattle.selection.specs.code.Parts.{doc, terms_below}
+use Rattle.selection.specs.code.Parts.{terms_below}
 use Rattle.selection.proofs.Folds.{all_cong}
 use Rattle.selection.proofs.Marks.{none_joined, joined_skipped, joined_next}
 use Rattle.selection.proofs.Limits.{none_visited, skipped, visited_next, stopped_at, both_found, recounted}
@@ -25,7 +26,7 @@ use Rattle.selection.proofs.lent.Lent.+evaluation.Goals as goal
 pub eval_path-returns-in_err-rest : goal.eval_path-returns-in_err-rest
 eval_path-returns-in_err-rest t c =
     let a = c.args in
-    let v = visits_positive (doc a.self.now) a.x (path_in (terms_below a.self.now.rows.now a.top) a.r) in
+    let v = visits_positive (doc a.self.now.document) a.x (path_in (terms_below a.self.now.rows.now a.top) a.r) in
     rw c.from_residual.ensures (omega (arith, v, c.in_err-rest.ensures))
 
 pub eval_path-returns-then-top-r : goal.eval_path-returns-then-top-r
@@ -58,38 +59,38 @@ eval_composition-loop-z-init t c =
     let a = c.args in (
       none_visited _ _ _ _ c.in_ok-used.ensures.made_fits,
       none_joined (marked c.eval_path.new.out)
-          (selects (doc a.self.now) (path_in (terms_below a.self.now.rows.now a.top) a.b)) _ _,
+          (selects (doc a.self.now.document) (path_in (terms_below a.self.now.rows.now a.top) a.b)) _ _,
     )
 
 pub eval_composition-returns-in_err-used-2 : goal.eval_composition-returns-in_err-used-2
 eval_composition-returns-in_err-used-2 t c =
     rw c.from_residual-in_err-used-2.ensures
     (composition_passed _ _ _ _ _ _ c.in_ok-used.ensures _
-    (stopped_at _ _ _ _ c.loop-z.invariant.0 (eq-eqb _ 1 c.if-first-z-eq1.true) (omega arith) c.in_err-used-2.ensures))
+    (stopped_at _ _ _ _ c.loop-z.invariant.0 c.if-first-z.true (omega arith) c.in_err-used-2.ensures))
 
 pub eval_composition-loop-z-preserved : goal.eval_composition-loop-z-preserved
 eval_composition-loop-z-preserved t c =
     let a = c.args in
     let l = c.loop-z in
     let s = marked c.eval_path.new.out in
-    let q = selects (doc a.self.now) (path_in (terms_below a.self.now.rows.now a.top) a.b) in
-    elim c.if-first-z-eq1.branch [
-      | goal.eval_composition-then-first-z-eq1+in_ok-used-2 w ↦
-          let m = eq-eqb _ 1 w.if-first-z-eq1.true in
+    let q = selects (doc a.self.now.document) (path_in (terms_below a.self.now.rows.now a.top) a.b) in
+    elim c.if-first-z.branch [
+      | goal.eval_composition-then-first-z+in_ok-used-2 w ↦
+          let m = w.if-first-z.true in
           let u = w.in_ok-used-2.ensures in
           rw (w.out-is, w.used-is) (
             visited_next _ _ _ _ l.invariant.0 m u,
             joined_next s q _ l.z l.invariant.1 _ m u.result_is,
           )
-      | goal.eval_composition-else-first-z-eq1 w ↦
-          let m = ne_eqb _ 1 w.if-first-z-eq1.false in
+      | goal.eval_composition-else-first-z w ↦
+          let m = w.if-first-z.false in
           rw (w.out-is, w.used-is) (skipped _ _ _ _ l.invariant.0 m, joined_skipped s q _ l.z l.invariant.1 m)
     ]
 
 pub eval_composition-returns : goal.eval_composition-returns
 eval_composition-returns t c =
     let l = c.loop-z in
-    let e : l.z ≡ length (doc c.args.self.now) = omega (arith, c.node_count-z-end.ensures) in
+    let e : l.z ≡ length (doc c.args.self.now.document) = omega (arith, c.node_count-z-end.ensures) in
     composition_found _ _ _ _ _ _ c.in_ok-used.ensures _ _ _ (rw e at l.invariant.0) (rw e at l.invariant.1)
 
 pub eval_filter-loop-z-init : goal.eval_filter-loop-z-init
@@ -99,33 +100,33 @@ pub eval_filter-returns-in_err-q : goal.eval_filter-returns-in_err-q
 eval_filter-returns-in_err-q t c =
     rw c.from_residual-in_err-q.ensures
     (filter_passed _ _ _ _ _ _ c.in_ok-used.ensures _
-    (stopped_at _ _ _ _ c.loop-z.invariant.0 (eq-eqb _ 1 c.if-first-z-eq1.true) (omega arith) c.in_err-q.ensures))
+    (stopped_at _ _ _ _ c.loop-z.invariant.0 c.if-first-z.true (omega arith) c.in_err-q.ensures))
 
 pub eval_filter-loop-z-preserved : goal.eval_filter-loop-z-preserved
 eval_filter-loop-z-preserved t c =
     let a = c.args in
     let l = c.loop-z in
     let f = λ (y : _). marked c.eval_path.new.out y
-    && holds (doc a.self.now) (qualifier_in (terms_below a.self.now.rows.now a.top) a.b) y in
-    elim c.if-first-z-eq1.branch [
-      | goal.eval_filter-then-first-z-eq1+in_ok-q+then-q w ↦
-          let m = eq-eqb _ 1 w.if-first-z-eq1.true in
+    && holds (doc a.self.now.document) (qualifier_in (terms_below a.self.now.rows.now a.top) a.b) y in
+    elim c.if-first-z.branch [
+      | goal.eval_filter-then-first-z+in_ok-q+then-q w ↦
+          let m = w.if-first-z.true in
           let q = w.in_ok-q.ensures in
           rw (w.out-is, w.used-is) (
             visited_next _ _ _ _ l.invariant.0 m q,
             up_marked f 0 l.z (l.z + 1) l.invariant.1 (omega arith) (omega arith) (λ k m p q. absurd (omega arith))
                 (omega arith) (rw m (sym q.result_is ∙ w.if-q.true)),
           )
-      | goal.eval_filter-then-first-z-eq1+in_ok-q+else-q w ↦
-          let m = eq-eqb _ 1 w.if-first-z-eq1.true in
+      | goal.eval_filter-then-first-z+in_ok-q+else-q w ↦
+          let m = w.if-first-z.true in
           let q = w.in_ok-q.ensures in
           rw (w.out-is, w.used-is) (
             visited_next _ _ _ _ l.invariant.0 m q,
             up_left f 0 l.z (l.z + 1) l.invariant.1 (omega arith) (omega arith) (λ k m p q. absurd (omega arith))
                 (rw m (sym q.result_is ∙ w.if-q.false)),
           )
-      | goal.eval_filter-else-first-z-eq1 w ↦
-          let m = ne_eqb _ 1 w.if-first-z-eq1.false in
+      | goal.eval_filter-else-first-z w ↦
+          let m = w.if-first-z.false in
           rw (w.out-is, w.used-is) (
             skipped _ _ _ _ l.invariant.0 m,
             up_left f 0 l.z (l.z + 1) l.invariant.1 (omega arith) (omega arith) (λ k m p q. absurd (omega arith))
@@ -136,14 +137,14 @@ eval_filter-loop-z-preserved t c =
 pub eval_filter-returns : goal.eval_filter-returns
 eval_filter-returns t c =
     let l = c.loop-z in
-    let e : l.z ≡ length (doc c.args.self.now) = omega (arith, c.node_count-z-end.ensures) in
+    let e : l.z ≡ length (doc c.args.self.now.document) = omega (arith, c.node_count-z-end.ensures) in
     filter_found _ _ _ _ _ _ c.in_ok-used.ensures _ _ _ (rw e at l.invariant.0)
     (added_cong _ l.invariant.1 (λ y h. sym (rw (le-leb 0 y (omega arith), lt-ltb y l.z (omega arith)))))
 
 pub eval_qualifier-returns-in_err-rest : goal.eval_qualifier-returns-in_err-rest
 eval_qualifier-returns-in_err-rest t c =
     let a = c.args in
-    let v = qualifier_visits_positive (doc a.self.now) a.x (qualifier_in (terms_below a.self.now.rows.now a.top) a.r) in
+    let v = qualifier_visits_positive (doc a.self.now.document) a.x (qualifier_in (terms_below a.self.now.rows.now a.top) a.r) in
     rw c.from_residual.ensures (omega (arith, v, c.in_err-rest.ensures))
 
 pub eval_qualifier-returns-then-top-r : goal.eval_qualifier-returns-then-top-r
@@ -174,7 +175,7 @@ eval_qualifier_row-returns-in_ok-q-in-8 t c =
 pub eval_qualifier_row-returns-in_err-left-in-9 : goal.eval_qualifier_row-returns-in_err-left-in-9
 eval_qualifier_row-returns-in_err-left-in-9 t c =
     let a = c.args in
-    let v = and_or_visits (doc a.self.now) a.x (terms_below a.self.now.rows.now a.top) (row_of a.row)
+    let v = and_or_visits (doc a.self.now.document) a.x (terms_below a.self.now.rows.now a.top) (row_of a.row)
     (λ n. omega arith) in
     let h = rw c.from-a.ensures at c.in_err-left-in-9.ensures in
     rw c.from_residual-in_err-left-in-9.ensures (omega arith)
@@ -182,7 +183,7 @@ eval_qualifier_row-returns-in_err-left-in-9 t c =
 pub eval_qualifier_row-returns-in_err-right-in-9 : goal.eval_qualifier_row-returns-in_err-right-in-9
 eval_qualifier_row-returns-in_err-right-in-9 t c =
     let a = c.args in
-    let v = and_or_visits (doc a.self.now) a.x (terms_below a.self.now.rows.now a.top) (row_of a.row)
+    let v = and_or_visits (doc a.self.now.document) a.x (terms_below a.self.now.rows.now a.top) (row_of a.row)
     (λ n. omega arith) in
     let w = rw c.from-a.ensures at c.in_ok-left-in-9.ensures in
     let h = rw c.from-b.ensures at c.in_err-right-in-9.ensures in
@@ -193,9 +194,9 @@ eval_qualifier_row-returns-in_ok-right-in-9 t c =
     let a = c.args in
     let ts = terms_below a.self.now.rows.now a.top in
     both_found (rw c.from-a.ensures at c.in_ok-left-in-9.ensures) (rw c.from-b.ensures at c.in_ok-right-in-9.ensures)
-    (and_or_visits (doc a.self.now) a.x ts (row_of a.row) (λ n. omega arith))
+    (and_or_visits (doc a.self.now.document) a.x ts (row_of a.row) (λ n. omega arith))
     (λ u v. c.and_or.ensures
-    ∙ rw (u, v) (and_or_holds (doc a.self.now) a.x ts (row_of a.row) (λ n. omega arith)))
+    ∙ rw (u, v) (and_or_holds (doc a.self.now.document) a.x ts (row_of a.row) (λ n. omega arith)))
 
 pub eval_qualifier_row-returns-in_default : goal.eval_qualifier_row-returns-in_default
 eval_qualifier_row-returns-in_default t c =

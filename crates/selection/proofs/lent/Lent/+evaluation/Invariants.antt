@@ -4,10 +4,11 @@ use mathlib.Core.Bool.{◌&&◌}
 use lib.ListN.{length}
 use Rattle.xpath.specs.Meaning.{selects, holds}
 use Rattle.xpath.specs.Visits.{visits, qualifier_visits}
+use Rattle.xpath.specs.code.Checked.{doc}
 use Rattle.terms.specs.Terms.{path_in, qualifier_in}
 use Rattle.marking.specs.code.Added.{marked, Added}
 use Rattle.marking.proofs.Added.{between}
-use Rattle.selection.specs.code.Parts.{doc, terms_below}
+use Rattle.selection.specs.code.Parts.{terms_below}
 use Rattle.selection.proofs.Marks.{joined_below}
 use Rattle.selection.proofs.Limits.{Visited}
 use Rattle.selection.proofs.lent.Lent.+evaluation.Given as goal
@@ -40,14 +41,14 @@ decreases-eval_inclusion l = 3 * l.top + 1
 -- the nodes of the first operand below z were visited, and what is selected from them is marked
 abbrev pub invariant-eval_composition-loop-z : goal.invariant-eval_composition-loop-z
 invariant-eval_composition-loop-z l =
-    let d = doc l.self in
+    let d = doc l.self.document in
     let q = path_in (terms_below l.self.rows.now l.top) l.b in
     Visited (marked l.first) (visits d q) l.limit l.initial.used l.z l.used
     × Added (length d) l.initial.out l.out (joined_below (marked l.first) (selects d q) l.z)
 
 abbrev pub invariant-eval_filter-loop-z : goal.invariant-eval_filter-loop-z
 invariant-eval_filter-loop-z l =
-    let d = doc l.self in
+    let d = doc l.self.document in
     let f = qualifier_in (terms_below l.self.rows.now l.top) l.b in
     Visited (marked l.first) (qualifier_visits d f) l.limit l.initial.used l.z l.used
     × Added (length d) l.initial.out l.out (between 0 l.z (λ y. marked l.first y && holds d f y))

@@ -1,45 +1,41 @@
 -- `Session::make_calls` meets its contract: what the lines of either table leave to be read. Assumes nothing.
 use mathlib.Core.Path.{sym, ap, ◌∙◌}
 use native.Mathlib.Omega.{arith}
-use lib.ListN.{length}
-use borrow.Author.Tests.{not-true, not-false}
 use Rattle.std.proofs.lemmas.Result.{err_from_is_err_and}
 use Rattle.calls.specs.Book.{answer}
-use Rattle.session.proofs.ReadMade.{no_names, first_line, rows_read_lem, steps_read_lem, fresh_with}
-use Rattle.session.proofs.Views.{fresh_sized}
+use Rattle.session.specs.code.Parts.{refused_by}
+use Rattle.session.proofs.ReadMade.{no_names, first_line, fresh_rows, rows_read_lem, steps_read_lem, fresh_with}
 use Rattle.session.proofs.session.Session.make_calls.Goals as goal
 
 pub returns-then-not-is_row_names : goal.returns-then-not-is_row_names
 returns-then-not-is_row_names c =
-    let no-first-names = sym c.is_row_names.ensures ∙ not-true _ c.if-not-is_row_names.true-raw in
-    record { told = no_names c.args.bytes.now no-first-names; bounds = omega arith }
+    let no-first-names = sym c.if-not-is_row_names.ensures in
+    record {
+      told = ap refused_by c.wrong_form.ensures ∙ no_names c.args.bytes.now no-first-names;
+      bounds = tt;
+    }
 
 pub read_rows-requires : goal.read_rows-requires
 read_rows-requires c =
-    let names = sym c.is_row_names.ensures ∙ not-false _ c.if-not-is_row_names.false-raw in
-    (omega arith, first_line _ names, ap (λ s. length s.rows) c.requires ∙ fresh_sized.rows)
+    let names = sym c.if-not-is_row_names.ensures in
+    (omega arith, first_line _ names, c.new-held.ensures.1)
 
 pub returns-in_err-ended : goal.returns-in_err-ended
 returns-in_err-ended c =
-    let names = sym c.is_row_names.ensures ∙ not-false _ c.if-not-is_row_names.false-raw in
+    let names = sym c.if-not-is_row_names.ensures in
     let p = err_from_is_err_and c.from_residual.result c.from_residual.ensures.1 in
     let m = c.in_err-ended.ensures in
     rw (p.1, p.2)
     (record {
-      told = rows_read_lem c.args.bytes.now names _ _ (ap (λ s. s.rows) c.requires) _ m;
+      told = rows_read_lem c.args.bytes.now names _ _ _ (c.new-held.ensures.0 ∙ sym fresh_rows) _ m;
       bounds = m.bounds;
     })
-
-pub read_steps-requires : goal.read_steps-requires
-read_steps-requires c =
-    let bounds = c.in_ok-ended.ensures.bounds in
-    (bounds.0, bounds.1, ap (λ s. length s.steps) c.requires ∙ fresh_sized.steps)
 
 pub returns-in_err-m : goal.returns-in_err-m
 returns-in_err-m c =
     let bytes = c.args.bytes.now in
-    let names = sym c.is_row_names.ensures ∙ not-false _ c.if-not-is_row_names.false-raw in
-    let rows = rows_read_lem bytes names _ _ (ap (λ s. s.rows) c.requires) _ c.in_ok-ended.ensures in
+    let names = sym c.if-not-is_row_names.ensures in
+    let rows = rows_read_lem bytes names _ _ _ (c.new-held.ensures.0 ∙ sym fresh_rows) _ c.in_ok-ended.ensures in
     let p = err_from_is_err_and c.from_residual-in_err-m.result c.from_residual-in_err-m.ensures.1 in
     let m = c.in_err-m.ensures in
     rw (p.1, p.2)
@@ -51,9 +47,9 @@ returns-in_err-m c =
 pub returns : goal.returns
 returns c =
     let bytes = c.args.bytes.now in
-    let names = sym c.is_row_names.ensures ∙ not-false _ c.if-not-is_row_names.false-raw in
+    let names = sym c.if-not-is_row_names.ensures in
     let fresh = c.requires in
-    let rows = rows_read_lem bytes names _ _ (ap (λ s. s.rows) fresh) _ c.in_ok-ended.ensures in
+    let rows = rows_read_lem bytes names _ _ _ (c.new-held.ensures.0 ∙ sym fresh_rows) _ c.in_ok-ended.ensures in
     let m = c.in_ok-m.ensures in
     record {
       told = ap (λ s. record { answer = answer 0 c.in_ok-m.m; session = s }) (fresh_with c.args.self.now fresh _ _ _ _)

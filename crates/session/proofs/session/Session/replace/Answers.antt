@@ -6,4 +6,4 @@ use Rattle.session.proofs.session.Session.replace.Goals as goal
 
 pub returns : goal.returns
 unfolding view replace_answer first_uncovered is_replaced_at is_replaced
-returns c = rw (← c.held_steps-steps.ensures, ← c.held_rows-rows.ensures) c.replace_on.ensures
+returns c = rw (← c.held.ensures.1, ← c.held.ensures.0) c.replace_on.ensures

@@ -5,4 +5,4 @@ use Rattle.session.proofs.session.Session.step_saying.Goals as goal
 
 pub returns : goal.returns
 unfolding view step_saying is_replaced
-returns c = c.step_saying.ensures
+returns c = rw (← c.held.ensures.1, ← c.held.ensures.0) c.step_saying.ensures

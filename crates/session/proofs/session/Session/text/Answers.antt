@@ -5,11 +5,9 @@ use Rattle.session.proofs.session.Session.text.Goals as goal
 pub returns-in-Ok : goal.returns-in-Ok
 returns-in-Ok c =
     let a = c.args in
-    rw c.from.ensures
-    (text_made_held a.self a.names.now a.selector.now c.in-Ok.held c.in-Ok.ensures)
+    text_made_held a.self a.names.now a.selector.now c.in-Ok.held c.in-Ok.ensures
 
 pub returns-in-Err : goal.returns-in-Err
 returns-in-Err c =
     let a = c.args in
-    rw c.refused_text-answer.ensures
-    (text_made_refused a.self a.names.now a.selector.now c.in-Err.refused c.in-Err.ensures)
+    text_made_refused a.self a.names.now a.selector.now c.in-Err.refused c.in-Err.ensures

@@ -1,11 +1,6 @@
 -- `Session::write` meets its contract: the length told is held against the buffer's. Assumes nothing.
-use Rattle.session.proofs.Written.{write_refused, write_held}
+use Rattle.session.proofs.Written.{write_held}
 use Rattle.session.proofs.session.Session.write.Goals as goal
-
-pub returns-then-room-size : goal.returns-then-room-size
-returns-then-room-size c =
-    let a = c.args in
-    write_refused a.self a.out.now _ _ c.write_lines-size.ensures c.if-room-size.true
 
 pub returns : goal.returns
 returns c =

@@ -1,0 +1,34 @@
+-- `Filed::command` meets its contract, word by word. Assumes nothing.
+use mathlib.Core.Path.{sym, ap}
+use Rattle.filing.specs.Filing.{line_number}
+use Rattle.filing.proofs.CallLaws.{call_done}
+use Rattle.filing.proofs.LineLaws.{other_command}
+use Rattle.filing.proofs.Filed.command.Goals as goal
+
+pub returns-in-Term : goal.returns-in-Term
+returns-in-Term c =
+    rw c.in-Term.is (call_done c.args.self _ (λ n. n) _ _ c.term.ensures _ c.called.ensures)
+
+pub returns-in-Step : goal.returns-in-Step
+returns-in-Step c =
+    rw c.in-Step.is (call_done c.args.self _ (λ n. n) _ _ c.step.ensures _ c.called-in-Step.ensures)
+
+pub returns-in-Point : goal.returns-in-Point
+returns-in-Point c =
+    rw c.in-Point.is (call_done c.args.self _ (λ u. 0) _ _ c.point.ensures _ c.called-in-Point.ensures)
+
+pub returns-in-Return : goal.returns-in-Return
+returns-in-Return c =
+    rw c.in-Return.is (call_done c.args.self _ (λ u. 0) _ _ c.return_to.ensures _ c.called-in-Return.ensures)
+
+pub returns-in-Names : goal.returns-in-Names
+returns-in-Names c = rw c.in-Names.is c.lending.ensures
+
+pub returns-in-Text : goal.returns-in-Text
+returns-in-Text c = rw c.in-Text.is c.text.ensures
+
+pub returns-in_default : goal.returns-in_default
+returns-in_default c =
+    let d = c.in_default in
+    sym (ap (line_number c.args.self.session) (other_command _ d.not-Term d.not-Step d.not-Point d.not-Return
+    d.not-Names d.not-Text _ _))

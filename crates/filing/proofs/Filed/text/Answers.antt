@@ -1,0 +1,20 @@
+-- `Filed::text` meets its contract. Assumes nothing.
+use mathlib.Core.Path.{sym}
+use native.Mathlib.Omega.{arith}
+use lib.Seq.{length-take-le}
+use Rattle.filing.proofs.CallLaws.{text_done}
+use Rattle.filing.proofs.Filed.text.Goals as goal
+
+pub slice_bounds-list-end : goal.slice_bounds-list-end
+slice_bounds-list-end c = let put = c.put_names-size.ensures in omega (arith, put.0, put.2)
+
+pub slice_bounds-text-end : goal.slice_bounds-text-end
+slice_bounds-text-end c =
+    let put = c.put_names-size.ensures in
+    sym (length-take-le c.put_names-size.result _ (omega (arith, put.0, put.2)))
+
+pub returns : goal.returns
+returns c =
+    rw (← c.rest_at.ensures)
+    (text_done c.args.self _ _ _ c.no_bytes-list.ensures c.put_names-size.ensures _ _ _ c.text-made.ensures _
+    c.called.ensures)
