@@ -139,7 +139,8 @@ module _ (d : Document) (es : List ℕ) (r : Prepared d es) where
 -- the loops: the state of each, and its steps
 
 -- children of p, from lo to before hi, of which those before y are marked
-pub record ChildrenBelow (d : Document) (es : List ℕ) (t : ℕ → Bool) (p lo hi y : ℕ) (old new : List Bool) : Type 0 where
+pub record ChildrenBelow (d : Document) (es : List ℕ) (t : ℕ → Bool) (p lo hi y : ℕ) (old new : List Bool)
+    : Type 0 where
   pub from : lo ≤ y
   pub inside : y ≤ get_or es p 0
   pub child : y < hi → is_child d p y ≡ true

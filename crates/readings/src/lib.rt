@@ -144,14 +144,14 @@ fn put_over(rows: &mut [u16], r: Reading, kind: RowKind) -> Reading
     put(rows, r, row, above(r.nesting, 0))
 }
 
-// A row of two operands, of which the right one was read last.
-pub fn join(rows: &mut [u16], kind: RowKind, left: Reading, right: Reading) -> Reading
+// A row of two operands, of which the right one was read last. Its kind is a number as in a row: any may be put.
+pub fn join(rows: &mut [u16], kind: u16, left: Reading, right: Reading) -> Reading
     requires { Sized rows.old right.count }
-    ensures { PutMet (row (row_number kind) left.row right.row 0)
+    ensures { PutMet (row kind left.row right.row 0)
         (capped (suc (max left.nesting right.nesting))) rows.old (stands right) rows.new (stands result) }
 {
     let row = Row {
-        kind: u16::from(kind),
+        kind,
         a: left.row,
         b: right.row,
         c: 0,
@@ -216,7 +216,7 @@ fn every_below(rows: &mut [u16], path: Reading) -> Reading
 {
     let row = step_row(Axis::DescendantOrSelf, NodeTest::Node, 0);
     let step = put(rows, path, row, 1);
-    join(rows, RowKind::Composition, path, step)
+    join(rows, RowKind::Composition.into(), path, step)
 }
 
 // Passes the `/` or `//` that follows a path, and the whitespace after it.
@@ -276,7 +276,7 @@ pub fn some_of(rows: &mut [u16], paths: Reading) -> Reading
     ensures { Grown some_of_put (λ n. suc (suc (max n 1))) rows.old (stands paths) rows.new (stands result) }
 {
     let void = put_leaf(rows, paths, RowKind::Void);
-    let inclusion = join(rows, RowKind::Inclusion, paths, void);
+    let inclusion = join(rows, RowKind::Inclusion.into(), paths, void);
     put_over(rows, inclusion, RowKind::Not)
 }
 
@@ -292,14 +292,20 @@ pub fn negate_if(rows: &mut [u16], opens: Opens, r: Reading) -> Reading
 }
 
 // What follows the `(` of `true ( )` or `false ( )`.
-pub fn constant(s: &[u8], rows: &mut [u16], from: Reading, kind: RowKind) -> Result<Reading, usize>
+pub fn constant(s: &[u8], rows: &mut [u16], from: Reading, kind: u16) -> Result<Reading, usize>
     requires at_in_bounds { from.at ≤ length s.now }
     requires sized { Sized rows.old from.count }
-    ensures { ConstPut s.now (row_number kind) rows.old (stands from) rows.new (ended result) }
+    ensures { ConstPut s.now kind rows.old (stands from) rows.new (ended result) }
 {
     let at = skip(s, from.at);
     let shut = close(s, Reading { at, ..from }, b')')?;
-    Ok(put_leaf(rows, shut, kind))
+    let row = Row {
+        kind,
+        a: 0,
+        b: 0,
+        c: 0,
+    };
+    Ok(put(rows, shut, row, 1))
 }
 
 // An operator name, which begins where r ends. What is refused is the first byte that is not the name's, or the byte

@@ -52,7 +52,8 @@ module _ (rs : List Row) (row : ℕ) (xs : List ℕ) (x limit : ℕ) (buffer : L
   unfolding select_buffer
   select_refused t f e = record { answer = e; bytes = if_refused _ _ e _ _ f }
 
-  pub bad_document : (v : ℕ) → some v ≡ document_refusal xs → SelectMade rs row xs x limit buffer (Err (BadDocument v)) buffer
+  pub bad_document : (v : ℕ) → some v ≡ document_refusal xs
+      → SelectMade rs row xs x limit buffer (Err (BadDocument v)) buffer
   unfolding select_answer Option-elim
   bad_document v e = select_refused (Err (BadDocument v)) (λ z. omega arith) (rw (← e))
 
@@ -65,7 +66,8 @@ module _ (rs : List Row) (row : ℕ) (xs : List ℕ) (x limit : ℕ) (buffer : L
       pub bad_row_lem : held_path rs row ≡ false → SelectMade rs row xs x limit buffer (Err (BadArgument 2)) buffer
       unfolding select_answer Option-elim
       bad_row_lem h =
-          select_refused (Err (BadArgument 2)) (λ z. omega arith) (rw (← taken, lt-leb (length (document_of xs)) x inside, h))
+          select_refused (Err (BadArgument 2)) (λ z. omega arith)
+          (rw (← taken, lt-leb (length (document_of xs)) x inside, h))
 
       module _ (path : held_path rs row ≡ true) where
         size : ltb max_nodes (length (document_of xs)) ≡ false

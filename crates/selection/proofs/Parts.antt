@@ -4,7 +4,6 @@ use mathlib.Core.Path.{◌≡◌, refl, sym, ◌∙◌}
 use mathlib.Core.Bool.{Bool, cond, false, ◌&&◌}
 use mathlib.Core.List.{List}
 use native.Mathlib.Omega.{arith}
-use lib.Dec.{eqb}
 use lib.ListN.{length, get_or, take, replicate}
 use Rattle.common.specs.Bounded.{sum_below}
 use Rattle.xpath.specs.Document.{Document, max_nodes}
@@ -21,8 +20,7 @@ use Rattle.selection.specs.code.Parts.{leaf_path}
 use Rattle.selection.proofs.Folds.{any_cong, sum_cong}
 use Rattle.selection.proofs.Limits.{resumed, Visited}
 use Rattle.selection.proofs.Marks.{clear, joined_below}
-use Rattle.selection.proofs.Rows.{term_not_held, term_held, leaf_path_lem, leaf_qualifier_lem}
-use Rattle.selection.proofs.Rows.{leaf_visits, leaf_qualifier_visits, leaf_qualifier_holds}
+use Rattle.selection.proofs.Rows.{term_not_held, term_held, leaf_path_lem, false_qualifier, leaf_visits}
 
 -- row r of the first `top` rows, from x
 module _ (rs : List Row) (d : Document) (top r x limit : ℕ) where
@@ -77,16 +75,12 @@ module _ (d : Document) (ts : List Term) (r : Row) (x limit : ℕ) where
       rw (leaf_path_lem ts r l m n)
       (record { made_fits = omega arith; made_is = sym (leaf_visits d x r); result_is = g })
 
-  pub leaf_qualifier_found : ¬ (r.kind ≡ 8) → ¬ (r.kind ≡ 9) → ¬ (r.kind ≡ 10) → ¬ (r.kind ≡ 11) →
-      Finished (eqb r.kind 6 ≡ holds d (as_qualifier (term_by ts r)) x)
-      (qualifier_visits d (as_qualifier (term_by ts r)) x) 1 limit 0
-  leaf_qualifier_found l m n o =
-      rw (leaf_qualifier_lem ts r l m n o)
-      (record {
-        made_fits = omega arith;
-        made_is = sym (leaf_qualifier_visits d x r.kind);
-        result_is = leaf_qualifier_holds d x r.kind;
-      })
+  pub false_row_found : ¬ (r.kind ≡ 6) → ¬ (r.kind ≡ 8) → ¬ (r.kind ≡ 9) → ¬ (r.kind ≡ 10) → ¬ (r.kind ≡ 11) →
+      Finished (false ≡ holds d (as_qualifier (term_by ts r)) x) (qualifier_visits d (as_qualifier (term_by ts r)) x) 1
+      limit 0
+  unfolding holds qualifier_visits
+  false_row_found l m n o p =
+      rw (false_qualifier ts r l m n o p) (record { made_fits = omega arith; made_is = refl; result_is = refl })
 
 -- marks that were added to none
 pub fresh_marks : {n : ℕ} {s : ℕ → Bool} (new : List Bool) → Added n (replicate max_nodes false) new s → Marks n new s
@@ -94,45 +88,46 @@ fresh_marks new a y h = a.marks y h ∙ rw (clear.zeros y)
 
 -- the second operand, where `first` marks what the first, p, selects from x after `start` visits
 module _ (d : Document) (p : Path) (x limit start : ℕ) (first : List Bool)
-    (w : Finished (Added (length d) (replicate max_nodes false) first (selects d p x)) (visits d p x) 0 limit start) where
-  same_visits : (v : ℕ → ℕ) → sum_below (length d) (λ z. cond (marked first z) (v z) 0) ≡ sum_below (length d)
-      (λ z. cond (selects d p x z) (v z) 0)
-  same_visits v = sum_cong _ _ (length d) (λ z h. rw (fresh_marks first w.result_is z h))
+    (w : Finished (Added (length d) (replicate max_nodes false) first (selects d p x)) (visits d p x) 0 limit start)
+  where
+    same_visits : (v : ℕ → ℕ) → sum_below (length d) (λ z. cond (marked first z) (v z) 0) ≡ sum_below (length d)
+        (λ z. cond (selects d p x z) (v z) 0)
+    same_visits v = sum_cong _ _ (length d) (λ z h. rw (fresh_marks first w.result_is z h))
 
-  module _ (q : Path) where
-    pub composition_found : {used : ℕ} (old new : List Bool) →
-        Visited (marked first) (visits d q) limit start (length d) used →
-        Added (length d) old new (joined_below (marked first) (selects d q) (length d)) →
-        Finished (Added (length d) old new (selects d (Composition p q) x)) (visits d (Composition p q) x) 1 limit used
-    unfolding selects visits
-    composition_found old new v u =
-        record {
-          made_fits = v.fits;
-          made_is = omega (arith, v.used_is, w.made_is, same_visits (visits d q));
-          result_is =
-              added_cong _ u
-              (λ y h. sym (any_cong _ _ (length d) (λ z j. rw (fresh_marks first w.result_is z j))));
-        }
+    module _ (q : Path) where
+      pub composition_found : {used : ℕ} (old new : List Bool) →
+          Visited (marked first) (visits d q) limit start (length d) used →
+          Added (length d) old new (joined_below (marked first) (selects d q) (length d)) →
+          Finished (Added (length d) old new (selects d (Composition p q) x)) (visits d (Composition p q) x) 1 limit used
+      unfolding selects visits
+      composition_found old new v u =
+          record {
+            made_fits = v.fits;
+            made_is = omega (arith, v.used_is, w.made_is, same_visits (visits d q));
+            result_is =
+                added_cong _ u
+                (λ y h. sym (any_cong _ _ (length d) (λ z j. rw (fresh_marks first w.result_is z j))));
+          }
 
-    pub composition_passed : limit < start + sum_below (length d) (λ z. cond (marked first z) (visits d q z) 0) →
-        1 + limit < visits d (Composition p q) x
-    unfolding visits
-    composition_passed h = omega (arith, w.made_is, same_visits (visits d q))
+      pub composition_passed : limit < start + sum_below (length d) (λ z. cond (marked first z) (visits d q z) 0) →
+          1 + limit < visits d (Composition p q) x
+      unfolding visits
+      composition_passed h = omega (arith, w.made_is, same_visits (visits d q))
 
-  module _ (f : Qualifier) where
-    pub filter_found : {used : ℕ} (old new : List Bool) →
-        Visited (marked first) (qualifier_visits d f) limit start (length d) used →
-        Added (length d) old new (λ y. marked first y && holds d f y) →
-        Finished (Added (length d) old new (selects d (Filter p f) x)) (visits d (Filter p f) x) 1 limit used
-    unfolding selects visits
-    filter_found old new v u =
-        record {
-          made_fits = v.fits;
-          made_is = omega (arith, v.used_is, w.made_is, same_visits (qualifier_visits d f));
-          result_is = added_cong _ u (λ y h. sym (rw (fresh_marks first w.result_is y h)));
-        }
+    module _ (f : Qualifier) where
+      pub filter_found : {used : ℕ} (old new : List Bool) →
+          Visited (marked first) (qualifier_visits d f) limit start (length d) used →
+          Added (length d) old new (λ y. marked first y && holds d f y) →
+          Finished (Added (length d) old new (selects d (Filter p f) x)) (visits d (Filter p f) x) 1 limit used
+      unfolding selects visits
+      filter_found old new v u =
+          record {
+            made_fits = v.fits;
+            made_is = omega (arith, v.used_is, w.made_is, same_visits (qualifier_visits d f));
+            result_is = added_cong _ u (λ y h. sym (rw (fresh_marks first w.result_is y h)));
+          }
 
-    pub filter_passed : limit < start + sum_below (length d) (λ z. cond (marked first z) (qualifier_visits d f z) 0) →
-        1 + limit < visits d (Filter p f) x
-    unfolding visits
-    filter_passed h = omega (arith, w.made_is, same_visits (qualifier_visits d f))
+      pub filter_passed : limit < start + sum_below (length d) (λ z. cond (marked first z) (qualifier_visits d f z) 0) →
+          1 + limit < visits d (Filter p f) x
+      unfolding visits
+      filter_passed h = omega (arith, w.made_is, same_visits (qualifier_visits d f))

@@ -46,10 +46,6 @@ unfolding leaf_path
 void_leaf r n o =
     ⊎_elim (λ e. rw e) (λ h. let l : 2 < r.kind = omega arith in rw get_or-eq_default) (eq_or_ne r.kind 0)
 
--- the qualifier of a row without operands: true, or else false
-abbrev pub leaf_qualifier : ℕ → Qualifier
-leaf_qualifier kind = cond (eqb kind 6) True False
-
 module _ (ts : List Term) (a b c : ℕ) where
   leaf_path_by : {k : ℕ} → Kind k → ¬ (k ≡ 3) → ¬ (k ≡ 4) → ¬ (k ≡ 5) →
       as_path (term_by ts (row k a b c)) ≡ leaf_path (row k a b c)
@@ -67,21 +63,21 @@ module _ (ts : List Term) (a b c : ℕ) where
   leaf_path_by or_kind l m n = refl
   leaf_path_by in_kind l m n = refl
 
-  leaf_qualifier_by : {k : ℕ} → Kind k → ¬ (k ≡ 8) → ¬ (k ≡ 9) → ¬ (k ≡ 10) → ¬ (k ≡ 11) →
-      as_qualifier (term_by ts (row k a b c)) ≡ leaf_qualifier k
+  false_qualifier_by : {k : ℕ} → Kind k → ¬ (k ≡ 6) → ¬ (k ≡ 8) → ¬ (k ≡ 9) → ¬ (k ≡ 10) → ¬ (k ≡ 11) →
+      as_qualifier (term_by ts (row k a b c)) ≡ False
   unfolding term_by as_qualifier
-  leaf_qualifier_by void_kind l m n o = refl
-  leaf_qualifier_by root_kind l m n o = refl
-  leaf_qualifier_by step_kind l m n o = refl
-  leaf_qualifier_by union_kind l m n o = refl
-  leaf_qualifier_by composition_kind l m n o = refl
-  leaf_qualifier_by filter_kind l m n o = refl
-  leaf_qualifier_by true_kind l m n o = refl
-  leaf_qualifier_by false_kind l m n o = refl
-  leaf_qualifier_by not_kind l m n o = absurd (l refl)
-  leaf_qualifier_by and_kind l m n o = absurd (m refl)
-  leaf_qualifier_by or_kind l m n o = absurd (n refl)
-  leaf_qualifier_by in_kind l m n o = absurd (o refl)
+  false_qualifier_by void_kind l m n o p = refl
+  false_qualifier_by root_kind l m n o p = refl
+  false_qualifier_by step_kind l m n o p = refl
+  false_qualifier_by union_kind l m n o p = refl
+  false_qualifier_by composition_kind l m n o p = refl
+  false_qualifier_by filter_kind l m n o p = refl
+  false_qualifier_by true_kind l m n o p = absurd (l refl)
+  false_qualifier_by false_kind l m n o p = refl
+  false_qualifier_by not_kind l m n o p = absurd (m refl)
+  false_qualifier_by and_kind l m n o p = absurd (n refl)
+  false_qualifier_by or_kind l m n o p = absurd (o refl)
+  false_qualifier_by in_kind l m n o p = absurd (p refl)
 
 module _ (ts : List Term) (r : Row) where
   pub leaf_path_lem : ¬ (r.kind ≡ 3) → ¬ (r.kind ≡ 4) → ¬ (r.kind ≡ 5) → as_path (term_by ts r) ≡ leaf_path r
@@ -92,13 +88,14 @@ module _ (ts : List Term) (r : Row) where
       (λ h. rw (past_kinds ts r h, void_leaf r (omega arith) (omega arith)))
       (le_or_lt r.kind max_kind)
 
-  pub leaf_qualifier_lem : ¬ (r.kind ≡ 8) → ¬ (r.kind ≡ 9) → ¬ (r.kind ≡ 10) → ¬ (r.kind ≡ 11) →
-      as_qualifier (term_by ts r) ≡ leaf_qualifier r.kind
+  -- a row of no other kind of qualifiers is read as false
+  pub false_qualifier : ¬ (r.kind ≡ 6) → ¬ (r.kind ≡ 8) → ¬ (r.kind ≡ 9) → ¬ (r.kind ≡ 10) → ¬ (r.kind ≡ 11) →
+      as_qualifier (term_by ts r) ≡ False
   unfolding as_qualifier
-  leaf_qualifier_lem l m n o =
+  false_qualifier l m n o p =
       ⊎_elim
-      (λ h. leaf_qualifier_by ts r.a r.b r.c (kind_of_lem r.kind h) l m n o)
-      (λ h. rw (past_kinds ts r h, ne_eqb r.kind 6 (λ q. absurd (omega arith))))
+      (λ h. false_qualifier_by ts r.a r.b r.c (kind_of_lem r.kind h) l m n o p)
+      (λ h. rw (past_kinds ts r h))
       (le_or_lt r.kind max_kind)
 
 module _ (d : Document) (x : ℕ) where
@@ -130,22 +127,6 @@ module _ (d : Document) (x : ℕ) where
       go (suc zero) = refl
       go (suc (suc zero)) = refl
       go (suc (suc (suc k))) = refl
-
-  pub leaf_qualifier_visits : (k : ℕ) → qualifier_visits d (leaf_qualifier k) x ≡ 1
-  unfolding qualifier_visits
-  leaf_qualifier_visits k = go (eqb k 6)
-    where
-      go : (t : Bool) → qualifier_visits d (cond t True False) x ≡ 1
-      go true = refl
-      go false = refl
-
-  pub leaf_qualifier_holds : (k : ℕ) → eqb k 6 ≡ holds d (leaf_qualifier k) x
-  unfolding holds
-  leaf_qualifier_holds k = go (eqb k 6)
-    where
-      go : (t : Bool) → t ≡ holds d (cond t True False) x
-      go true = refl
-      go false = refl
 
   -- every term takes a visit
   pub visits_positive : (p : Path) → 0 < visits d p x

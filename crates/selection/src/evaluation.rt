@@ -2,6 +2,7 @@
 ghost use Rattle.std.specs.Prelude.{◌≡◌, ◌&&◌, ◌||◌, not, cond, ◌<◌, ◌≤◌, eqb, length};
 ghost use Rattle.common.specs.Bounded.{all_below};
 ghost use Rattle.common.specs.RowKinds.{and_row};
+ghost use Rattle.common.specs.code.Numbers.{row_number};
 ghost use Rattle.xpath.specs.Document.{max_nodes};
 ghost use Rattle.xpath.specs.Term.{Union, Composition, Filter, In};
 ghost use Rattle.xpath.specs.Meaning.{selects};
@@ -12,7 +13,7 @@ ghost use Rattle.marking.specs.code.Added.{marked, Added};
 ghost use Rattle.selection.specs.code.Parts.{terms_below, PathAdded, QualifierFound, leaf_path};
 
 use crate::lent::Lent;
-use common::row_kind;
+use common::row_kind::RowKind;
 use terms::Row;
 use xpath::MAX_NODES;
 
@@ -37,10 +38,10 @@ fn is_included(a: &[bool; MAX_NODES], b: &[bool; MAX_NODES], n: usize) -> bool
 }
 
 // The value of an `and` or an `or`, whichever the kind is.
-fn and_or(kind: u16, left: bool, right: bool) -> bool
-    ensures { result ≡ cond (eqb kind and_row) (left && right) (left || right) }
+fn and_or(kind: RowKind, left: bool, right: bool) -> bool
+    ensures { result ≡ cond (eqb (row_number kind) and_row) (left && right) (left || right) }
 {
-    if kind == row_kind::AND {
+    if kind == RowKind::And {
         left && right
     } else {
         left || right
@@ -51,10 +52,11 @@ impl<'a> Lent<'a> {
     // Marks what a path without operands selects.
     fn mark_leaf(&self, row: Row, x: usize, out: &mut [bool; MAX_NODES])
         requires { x < length (doc self.now.document) }
-        ensures { Added (length (doc self.now.document)) out.old out.new (selects (doc self.now.document) (leaf_path (row_of row)) x) }
+        ensures { Added (length (doc self.now.document)) out.old out.new
+            (selects (doc self.now.document) (leaf_path (row_of row)) x) }
     {
-        match row.kind {
-            row_kind::STEP => marking::mark_step(
+        match row.read_kind() {
+            Some(RowKind::Step) => marking::mark_step(
                 self.document,
                 row.a,
                 row.b,
@@ -62,7 +64,7 @@ impl<'a> Lent<'a> {
                 x,
                 out,
             ),
-            row_kind::ROOT => out[0] = true,
+            Some(RowKind::Root) => out[0] = true,
             _ => {}
         }
     }
@@ -78,8 +80,8 @@ impl<'a> Lent<'a> {
         out: &mut [bool; MAX_NODES],
     ) -> Option<u32>
         requires { x < length (doc self.now.document) }
-        ensures { PathAdded (doc self.now.document) (path_in (terms_below self.now.rows.now top) r) x 0 limit result out.old
-            out.new }
+        ensures { PathAdded (doc self.now.document) (path_in (terms_below self.now.rows.now top) r) x 0 limit result
+            out.old out.new }
     {
         let rest = limit.checked_sub(1)?;
         if top <= r {
@@ -102,15 +104,15 @@ impl<'a> Lent<'a> {
         out: &mut [bool; MAX_NODES],
     ) -> Option<u32>
         requires { x < length (doc self.now.document) }
-        ensures { PathAdded (doc self.now.document) (as_path (term_by (terms_below self.now.rows.now top) (row_of row))) x 1
-            limit result out.old out.new }
+        ensures { PathAdded (doc self.now.document) (as_path (term_by (terms_below self.now.rows.now top) (row_of row)))
+            x 1 limit result out.old out.new }
     {
         let a = usize::from(row.a);
         let b = usize::from(row.b);
-        match row.kind {
-            row_kind::UNION => self.eval_union(top, a, b, x, limit, out),
-            row_kind::COMPOSITION => self.eval_composition(top, a, b, x, limit, out),
-            row_kind::FILTER => self.eval_filter(top, a, b, x, limit, out),
+        match row.read_kind() {
+            Some(RowKind::Union) => self.eval_union(top, a, b, x, limit, out),
+            Some(RowKind::Composition) => self.eval_composition(top, a, b, x, limit, out),
+            Some(RowKind::Filter) => self.eval_filter(top, a, b, x, limit, out),
             _ => {
                 self.mark_leaf(row, x, out);
                 Some(0)
@@ -199,7 +201,8 @@ impl<'a> Lent<'a> {
     #[cycle(evaluation)]
     fn eval_qualifier(&self, top: usize, r: usize, x: usize, limit: u32) -> Option<Judged>
         requires { x < length (doc self.now.document) }
-        ensures { QualifierFound (doc self.now.document) (qualifier_in (terms_below self.now.rows.now top) r) x 0 limit result }
+        ensures { QualifierFound (doc self.now.document) (qualifier_in (terms_below self.now.rows.now top) r) x 0 limit
+            result }
     {
         let rest = limit.checked_sub(1)?;
         if top <= r {
@@ -226,25 +229,29 @@ impl<'a> Lent<'a> {
     {
         let a = usize::from(row.a);
         let b = usize::from(row.b);
-        match row.kind {
-            row_kind::NOT => {
+        match row.read_kind() {
+            Some(RowKind::Not) => {
                 let q = self.eval_qualifier(top, a, x, limit)?;
                 Some(Judged {
                     value: !q.value,
                     ..q
                 })
             }
-            row_kind::AND | row_kind::OR => {
+            Some(kind @ (RowKind::And | RowKind::Or)) => {
                 let left = self.eval_qualifier(top, a, x, limit)?;
                 let right = self.eval_qualifier(top, b, x, limit - left.visits)?;
                 Some(Judged {
-                    value: and_or(row.kind, left.value, right.value),
+                    value: and_or(kind, left.value, right.value),
                     visits: left.visits + right.visits,
                 })
             }
-            row_kind::INCLUSION => self.eval_inclusion(top, a, b, x, limit),
-            kind => Some(Judged {
-                value: kind == row_kind::TRUE,
+            Some(RowKind::Inclusion) => self.eval_inclusion(top, a, b, x, limit),
+            Some(RowKind::True) => Some(Judged {
+                value: true,
+                visits: 0,
+            }),
+            _ => Some(Judged {
+                value: false,
                 visits: 0,
             }),
         }

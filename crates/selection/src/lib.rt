@@ -34,8 +34,8 @@ fn copy_out(m: &[bool], buffer: &mut [u8])
 }
 
 // Writes 1 or 0 for each node of the document into `marks`, as the path in row `row` selects it from x, and answers
-// the visits made. Where it answers an error, `marks` is as it was. It asks for a node of the
-// document, since the caller answers for all other input; no user calls it.
+// the visits made. Where it answers an error, `marks` is as it was. It asks for a node of the document, since
+// the caller answers for all other input; no user calls it.
 pub fn evaluate(
     rows: &[u16],
     row: usize,

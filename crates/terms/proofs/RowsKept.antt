@@ -38,7 +38,8 @@ find_more (q ∷ rs) s r e f = by (same_row q r) e (λ g. find_more rs s r g f)
     by false g next = omega (arith, next (omega arith))
 
 -- of no rows, anything is kept
-pub none_kept : (table : List ℕ) (filter : List Bool) → length table ≡ max_rows → length filter ≡ slot_count → Kept [] table filter
+pub none_kept : (table : List ℕ) (filter : List Bool) → length table ≡ max_rows → length filter ≡ slot_count
+    → Kept [] table filter
 unfolding nestings entries_from find
 none_kept table filter t f =
     record {
@@ -79,8 +80,8 @@ module _ (rs : List Row) (r : Row) where
               find_more rs r q (k.clear q (sym (get_or-set_other filter (slot_of r) (slot_of q) true false f) ∙ z))
               (λ e. f (ap slot_of (sym e)))
 
-  pub more_kept : (table : List ℕ) (filter : List Bool) (d : ℕ) → length rs < max_rows → d ≡ nesting rs r → Kept rs table filter
-      → Kept (rs ++ (r ∷ [])) (set table (length rs) d) (set filter (slot_of r) true)
+  pub more_kept : (table : List ℕ) (filter : List Bool) (d : ℕ) → length rs < max_rows → d ≡ nesting rs r
+      → Kept rs table filter → Kept (rs ++ (r ∷ [])) (set table (length rs) d) (set filter (slot_of r) true)
   more_kept table filter d room e k =
       record {
         nested = nested_more table d room e k.nested;

@@ -1,5 +1,5 @@
-// A table that rows are put into one after the other, with what is kept of them: their nestings, and a filter before the
-// search for an equal row.
+// A table that rows are put into one after the other, with what is kept of them: their nestings, and a filter before
+// the search for an equal row.
 ghost use Rattle.std.specs.Prelude.{◌≡◌, false, ◌+◌, ◌*◌, ◌≤◌, ◌<◌, length, take, replicate};
 ghost use Rattle.std.proofs.lemmas.List.Edits.{sets};
 ghost use Rattle.terms.specs.Row.{row_width, row_numbers, table_of, max_rows, find};
@@ -10,7 +10,7 @@ ghost use Rattle.terms.specs.code.Kept.{slot_count, slot_of, rows_in, Nestings, 
 use crate::{MAX_ROWS, ROW_WIDTH, Row, deeper_operand, find_row, row_count};
 
 // How many slots a filter has.
-const SLOTS: usize = 8192;
+pub const SLOTS: usize = 8192;
 
 // The first `count` rows of the table are put. A slot of the filter that is false says that no row falls in it. Fixed
 // memory: no call can fail for want of it.
@@ -18,8 +18,8 @@ const SLOTS: usize = 8192;
 pub struct KeptRows {
     pub numbers: [u16; ROW_WIDTH * MAX_ROWS],
     pub count: usize,
-    nestings: [u16; MAX_ROWS],
-    filter: [bool; SLOTS],
+    pub nestings: [u16; MAX_ROWS],
+    pub filter: [bool; SLOTS],
     pub ghost few: { count ≤ max_rows },
     pub ghost kept: { Kept (rows_in numbers count) nestings filter },
 }

@@ -14,8 +14,8 @@ ghost use Rattle.terms.specs.code.RowTypes.{row_of, row_in, field_of, fields_in,
 use common::axis::Axis;
 use common::node_test::NodeTest;
 use common::row_kind::RowKind;
-pub use kept::KeptRows;
 use kept::nesting_kept;
+pub use kept::{KeptRows, SLOTS};
 
 // The most rows of a table.
 pub const MAX_ROWS: usize = 1024;

@@ -65,7 +65,7 @@ impl Reader<'_> {
         let at = from.at + 1;
         let inner = self.read_or(rows, Reading { at, ..from }, left - 1)?;
         let shut = readings::close(self.s, inner, b']')?;
-        Ok(readings::join(rows, RowKind::Filter, from, shut))
+        Ok(readings::join(rows, RowKind::Filter.into(), from, shut))
     }
 
     // A step that begins at a place without whitespace: its head and predicates.
@@ -102,14 +102,14 @@ impl Reader<'_> {
             Start::First(lead) => self.read_step(rows, lead, left)?,
             Start::Below(lead) => {
                 let step = self.read_step(rows, lead, left)?;
-                readings::join(rows, RowKind::Composition, lead, step)
+                readings::join(rows, RowKind::Composition.into(), lead, step)
             }
         };
         // By `while`: where the next step begins is known only when this one is read.
         while byte_at(self.s, got.at) == b'/' {
             let before = readings::pass_slash(self.s, rows, got);
             let step = self.read_step(rows, before, left)?;
-            got = readings::join(rows, RowKind::Composition, before, step);
+            got = readings::join(rows, RowKind::Composition.into(), before, step);
         }
         Ok(got)
     }
@@ -127,7 +127,7 @@ impl Reader<'_> {
         while byte_at(self.s, got.at) == b'|' {
             let at = got.at + 1;
             let path = self.read_path(rows, Reading { at, ..got }, left)?;
-            got = readings::join(rows, RowKind::Union, got, path);
+            got = readings::join(rows, RowKind::Union.into(), got, path);
         }
         Ok(got)
     }
@@ -149,11 +149,21 @@ impl Reader<'_> {
             }
             Opens::True => {
                 let at = paren + 1;
-                return readings::constant(self.s, rows, Reading { at, ..from }, RowKind::True);
+                return readings::constant(
+                    self.s,
+                    rows,
+                    Reading { at, ..from },
+                    RowKind::True.into(),
+                );
             }
             Opens::False => {
                 let at = paren + 1;
-                return readings::constant(self.s, rows, Reading { at, ..from }, RowKind::False);
+                return readings::constant(
+                    self.s,
+                    rows,
+                    Reading { at, ..from },
+                    RowKind::False.into(),
+                );
             }
             Opens::Group | Opens::Not => {}
         }
@@ -178,7 +188,7 @@ impl Reader<'_> {
         while byte_at(self.s, got.at) == b'a' {
             let word = readings::pass_word(self.s, got, b"and")?;
             let right = self.read_operand(rows, word, left)?;
-            got = readings::join(rows, RowKind::And, got, right);
+            got = readings::join(rows, RowKind::And.into(), got, right);
         }
         Ok(got)
     }
@@ -194,7 +204,7 @@ impl Reader<'_> {
         while byte_at(self.s, got.at) == b'o' {
             let word = readings::pass_word(self.s, got, b"or")?;
             let right = self.read_and(rows, word, left)?;
-            got = readings::join(rows, RowKind::Or, got, right);
+            got = readings::join(rows, RowKind::Or.into(), got, right);
         }
         Ok(got)
     }

@@ -119,8 +119,8 @@ fn kind_of(d: &[u16], y: usize) -> u16
     whole_node(d, y).kind
 }
 
-// What the climb toward a row gives: whether it met that row, and how many parents it took, which it also has where it
-// didn't meet it.
+// What the climb toward a row gives: whether it met that row, and how many parents it took, which is counted
+// whether it met the row or not.
 #[derive(Clone, Copy, Debug, PartialEq, Eq)]
 struct Climb {
     met: bool,

@@ -60,8 +60,8 @@ pub enum StepTest {
     Name(Named),
 }
 
-// The kind of node that a name or `*` selects on an axis, which is compared by its number: one axis is another than all
-// others.
+// The kind of node that a name or `*` selects on an axis. The axis is compared once, as its number: to read it first
+// is no plainer.
 fn principal_kind(axis: u16) -> NodeKind
     ensures { kind_number result ≡ principal axis }
 {

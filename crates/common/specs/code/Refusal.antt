@@ -2,9 +2,12 @@
 use Rattle.std.specs.Prelude.{ℕ}
 use Rattle.common.specs.declared.refusal.Refusal.{Refusal}
 use Rattle.common.specs.declared.refusal.Refusal.TheVariants as Cases
-use Rattle.common.specs.Refusals.{bad_kind, bad_field, too_deep, no_rule, bad_side, bad_premise, not_yielded, bad_document, bad_argument}
-use Rattle.common.specs.Refusals.{wrong_form, terms_full, already_held, steps_full, short_marks, limit_passed, short_buffer, bad_name, outside_grammar}
-use Rattle.common.specs.Refusals.{unlisted_name, bad_point, points_full, not_next, bad_record, full_or_in_use, bad_lists, not_covered, no_record}
+use Rattle.common.specs.Refusals.{bad_kind, bad_field, too_deep, no_rule, bad_side}
+use Rattle.common.specs.Refusals.{bad_premise, not_yielded, bad_document, bad_argument}
+use Rattle.common.specs.Refusals.{wrong_form, terms_full, already_held, steps_full, short_marks}
+use Rattle.common.specs.Refusals.{limit_passed, short_buffer, bad_name, outside_grammar}
+use Rattle.common.specs.Refusals.{unlisted_name, bad_point, points_full, not_next, bad_record}
+use Rattle.common.specs.Refusals.{full_or_in_use, bad_lists, not_covered, no_record}
 
 abbrev pub refusal_number : Refusal → ℕ
 refusal_number Cases.BadKind = bad_kind

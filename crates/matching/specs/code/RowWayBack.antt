@@ -1,5 +1,6 @@
 -- The way back, judged on row numbers: no term is expanded. Assumes nothing.
-use Rattle.std.specs.Prelude.{ℕ, ◌<◌, ◌≡◌, Bool, true, false, ◌&&◌, List, [], ◌∷◌, eqb, length, get_or, Option, Some, None}
+use Rattle.std.specs.Prelude.{ℕ, ◌<◌, ◌≡◌, Bool, true, false, ◌&&◌, List, [], ◌∷◌, eqb, length, get_or}
+use Rattle.std.specs.Prelude.{Option, Some, None}
 use Rattle.common.specs.Axes.{self}
 use Rattle.common.specs.NodeTests.{node_test}
 use Rattle.common.specs.RowKinds.{void_row, step_row, union_row, composition_row, filter_row, not_row, inclusion_row}

@@ -1,19 +1,18 @@
 -- `constant` meets its contract. Assumes nothing.
 use mathlib.Core.Path.{refl}
 use native.Mathlib.Omega.{arith}
-use Rattle.common.specs.code.Numbers.{row_number}
 use Rattle.readings.specs.code.Build.{stands}
 use Rattle.readings.proofs.Worded.{const_read}
 use Rattle.readings.proofs.constant.Goals as goal
 
-pub put_leaf-requires : goal.put_leaf-requires
-put_leaf-requires c = record {
+pub put-requires : goal.put-requires
+put-requires c = record {
   size = c.requires.sized.size;
   bound = omega (arith, c.requires.sized.bound, c.in_ok-shut.ensures.count refl);
 }
 
 pub returns : goal.returns
 returns c =
-    const_read c.args.s.now (row_number c.args.kind) _ _ (stands c.args.from) (stands c.in_ok-shut.shut) _
+    const_read c.args.s.now c.args.kind _ _ (stands c.args.from) (stands c.in_ok-shut.shut) _
     c.skip-at.result refl
-    c.skip-at.ensures c.in_ok-shut.ensures c.put_leaf.ensures
+    c.skip-at.ensures c.in_ok-shut.ensures c.put.ensures

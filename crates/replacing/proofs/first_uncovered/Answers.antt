@@ -16,5 +16,6 @@ returns c =
     let b = book_held a.held in
     let first : c.position.result ≡ position (is_bad_pair b old new by) (zip old by) =
     position_from_yields_List (is_bad_pair b old new by) c.position.new.self _ c.position.result c.position.ensures.ran
-    (YieldsList-from_zip (YieldsList-from_slice _ (search rules)) (YieldsList-from_slice _ (search rules))) (λ x b q k. search (rules, tests)) in
+    (YieldsList-from_zip (YieldsList-from_slice _ (search rules)) (YieldsList-from_slice _ (search rules)))
+    (λ x b q k. search (rules, tests)) in
     rw first (uncovered_found b old new by c.requires)

@@ -12,7 +12,8 @@ pub record TermPlaced (xs : List ℕ) (n : ℕ) (r : Row) (ys : List ℕ) (t : N
   pub answer : answer_of t ≡ term_answer (first_rows n xs) r
   pub numbers : ys ≡ cond (accepted (term_answer (first_rows n xs) r)) (sets xs (row_width * n) (row_numbers r)) xs
 
--- a term call on n kept rows of the numbers xs: it is as every term call, and where it is accepted there is one row more
+-- a term call on n kept rows of the numbers xs: it is as every term call, and where it is accepted there is one row
+-- more
 pub record TermKept (xs : List ℕ) (n : ℕ) (r : Row) (ys : List ℕ) (m : ℕ) (t : NumberOrRefusal) : Type 0 where
   pub placed : TermPlaced xs n r ys t
   pub count : m ≡ cond (accepted (term_answer (first_rows n xs) r)) (n + 1) n

@@ -35,7 +35,8 @@ returns-in-Descendant g c =
 
 pub returns-in-Ancestor : goal.returns-in-Ancestor
 returns-in-Ancestor g c =
-    rw c.in-Ancestor.is (ancestor_marked _ _ c.args.self.now.document.prepared _ _ c.requires.row c.mark_ancestors.ensures)
+    rw c.in-Ancestor.is
+    (ancestor_marked _ _ c.args.self.now.document.prepared _ _ c.requires.row c.mark_ancestors.ensures)
 
 pub returns-in-DescendantOrSelf : goal.returns-in-DescendantOrSelf
 unfolding may_hold

@@ -11,37 +11,43 @@ loop-at-init g c =
 pub passes-requires : goal.passes-requires
 passes-requires g c =
     let s = c.args.self.now in
-    ancestors_within _ s.document.prepared.formed _ _ c.requires.0 _ c.requires.1 _ _ _ c.loop-at.invariant (omega arith)
+    ancestors_within _ s.document.prepared.formed _ _ c.requires.0 _ c.requires.1 _ _ _ c.loop-at.invariant
+    (omega arith)
     c.parent_at-at.ensures
 
 pub bounds-out-at : goal.bounds-out-at
 bounds-out-at g c =
     let s = c.args.self.now in
-    ancestors_inside _ s.document.prepared.formed _ _ c.requires.0 _ c.requires.1 _ _ _ c.loop-at.invariant (omega arith)
+    ancestors_inside _ s.document.prepared.formed _ _ c.requires.0 _ c.requires.1 _ _ _ c.loop-at.invariant
+    (omega arith)
     c.parent_at-at.ensures
 
 pub loop-at-smaller-then-passes : goal.loop-at-smaller-then-passes
 loop-at-smaller-then-passes g c =
     let s = c.args.self.now in
-    ancestors_less _ s.document.prepared.formed _ _ c.requires.0 _ c.requires.1 _ _ _ c.loop-at.invariant (omega arith)
+    ancestors_less _ s.document.prepared.formed _ _ c.requires.0 _ c.requires.1 _ _ _ c.loop-at.invariant
+    (omega arith)
     c.parent_at-at.ensures
 
 pub loop-at-preserved-then-passes : goal.loop-at-preserved-then-passes
 loop-at-preserved-then-passes g c =
     let s = c.args.self.now in
-    ancestors_marked _ s.document.prepared.formed _ _ c.requires.0 _ c.requires.1 _ _ _ c.loop-at.invariant (omega arith)
+    ancestors_marked _ s.document.prepared.formed _ _ c.requires.0 _ c.requires.1 _ _ _ c.loop-at.invariant
+    (omega arith)
     c.parent_at-at.ensures (sym c.passes.ensures ∙ c.if-passes.true)
 
 pub loop-at-smaller : goal.loop-at-smaller
 loop-at-smaller g c =
     let s = c.args.self.now in
-    ancestors_less _ s.document.prepared.formed _ _ c.requires.0 _ c.requires.1 _ _ _ c.loop-at.invariant (omega arith)
+    ancestors_less _ s.document.prepared.formed _ _ c.requires.0 _ c.requires.1 _ _ _ c.loop-at.invariant
+    (omega arith)
     c.parent_at-at.ensures
 
 pub loop-at-preserved : goal.loop-at-preserved
 loop-at-preserved g c =
     let s = c.args.self.now in
-    ancestors_left _ s.document.prepared.formed _ _ c.requires.0 _ c.requires.1 _ _ _ c.loop-at.invariant (omega arith)
+    ancestors_left _ s.document.prepared.formed _ _ c.requires.0 _ c.requires.1 _ _ _ c.loop-at.invariant
+    (omega arith)
     c.parent_at-at.ensures (sym c.passes.ensures ∙ c.if-passes.false)
 
 pub returns : goal.returns

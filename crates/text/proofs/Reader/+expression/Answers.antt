@@ -70,7 +70,7 @@ read_and-loop-got-preserved t c =
     let word = stands c.in_ok-word.word in
     let passed = and_word s y word refl there c.in_ok-word.ensures in
     and_more s names left _ from _ y refl word passed _ (stands c.in_ok-right.right) _ (stands c.join-got.result) refl
-    c.in_ok-right.ensures c.join-got.ensures c.loop-got.invariant
+    c.in_ok-right.ensures (rw c.into.ensures at c.join-got.ensures) c.loop-got.invariant
 
 pub read_or-loop-got-init : goal.read_or-loop-got-init
 read_or-loop-got-init t c =
@@ -118,7 +118,7 @@ read_or-loop-got-preserved t c =
     let word = stands c.in_ok-word.word in
     let passed = or_word s y word refl there c.in_ok-word.ensures in
     or_more s names left _ from _ y refl word passed _ (stands c.in_ok-right.right) _ (stands c.join-got.result) refl
-    c.in_ok-right.ensures c.join-got.ensures c.loop-got.invariant
+    c.in_ok-right.ensures (rw c.into.ensures at c.join-got.ensures) c.loop-got.invariant
 
 pub read_or-returns : goal.read_or-returns
 read_or-returns t c =
@@ -157,7 +157,8 @@ read_operand-returns-in-True t c =
     let left = c.args.left in
     let from = stands c.args.from in
     unary_true s names left _ from c.skip.result c.skip.ensures c.operand_at-operand.result.paren
-    (rw c.in-True.is at c.operand_at-operand.ensures) refl _ (ended c.constant.result) c.constant.ensures
+    (rw c.in-True.is at c.operand_at-operand.ensures) refl _ (ended c.constant.result)
+    (rw c.into.ensures at c.constant.ensures)
 
 pub read_operand-returns-in-False : goal.read_operand-returns-in-False
 read_operand-returns-in-False t c =
@@ -167,7 +168,7 @@ read_operand-returns-in-False t c =
     let from = stands c.args.from in
     unary_false s names left _ from c.skip.result c.skip.ensures c.operand_at-operand.result.paren
     (rw c.in-False.is at c.operand_at-operand.ensures) refl _
-    (ended c.constant-in-False.result) c.constant-in-False.ensures
+    (ended c.constant-in-False.result) (rw c.into-in-False.ensures at c.constant-in-False.ensures)
 
 pub read_operand-returns-then-left-eq0 : goal.read_operand-returns-then-left-eq0
 read_operand-returns-then-left-eq0 t c =
@@ -309,7 +310,7 @@ read_path-loop-rows-init t c =
           let step = stands w.in_ok-step-in-Below.step in
           let got = stands w.join-got.result in
           rw (w.rows-is, w.got-is) (b.first refl _ step _ got w.in_ok-step-in-Below.ensures
-          (first_joins lead step _ _ got true refl w.join-got.ensures))
+          (first_joins lead step _ _ got true refl (rw w.into.ensures at w.join-got.ensures)))
     ]
 
 pub read_path-returns-in_err-step : goal.read_path-returns-in_err-step
@@ -347,7 +348,7 @@ read_path-loop-rows-preserved t c =
     let there = sym c.byte_at.ensures ∙ c.loop-rows-test.true in
     path_more s names left _ from _ y _ (stands c.pass_slash-before.result) _ (stands c.in_ok-step.step) _
     (stands c.join-got-in-loop-rows.result) refl there c.pass_slash-before.ensures c.in_ok-step.ensures
-    c.join-got-in-loop-rows.ensures c.loop-rows.invariant
+    (rw c.into-in-loop-rows.ensures at c.join-got-in-loop-rows.ensures) c.loop-rows.invariant
 
 pub read_path-returns : goal.read_path-returns
 read_path-returns t c =
@@ -401,7 +402,7 @@ read_predicate-returns t c =
     predicate_joined s names left _ from c.requires.ready c.requires.at_value room _ (stands c.in_ok-shut.shut) _
     (stands c.join.result)
     (enclosed s names (left - 1) 93 _ (moved_to from (from.at + 1)) _ (stands c.in_ok-inner.inner) _
-    c.in_ok-inner.ensures refl c.in_ok-shut.ensures) c.join.ensures
+    c.in_ok-inner.ensures refl c.in_ok-shut.ensures) (rw c.into.ensures at c.join.ensures)
 
 pub read_step-returns-in_err-head : goal.read_step-returns-in_err-head
 read_step-returns-in_err-head t c =
@@ -492,7 +493,7 @@ read_union-loop-at-preserved t c =
     let y = stands c.loop-at.got in
     let there = sym c.byte_at.ensures ∙ c.loop-at-test.true in
     union_more s names left _ from _ y _ (stands c.in_ok-path.path) _ (stands c.join-got.result) refl there
-    c.in_ok-path.ensures c.join-got.ensures c.loop-at.invariant
+    c.in_ok-path.ensures (rw c.into.ensures at c.join-got.ensures) c.loop-at.invariant
 
 pub read_union-returns : goal.read_union-returns
 read_union-returns t c =

@@ -18,7 +18,7 @@ use Rattle.selection.proofs.Folds.{all_cong}
 use Rattle.selection.proofs.Marks.{none_joined, joined_skipped, joined_next}
 use Rattle.selection.proofs.Limits.{none_visited, skipped, visited_next, stopped_at, both_found, recounted}
 use Rattle.selection.proofs.Parts.{void_found, false_found, path_found, path_passed, qualifier_found, qualifier_passed}
-use Rattle.selection.proofs.Parts.{leaf_found, leaf_qualifier_found, fresh_marks}
+use Rattle.selection.proofs.Parts.{leaf_found, false_row_found, fresh_marks}
 use Rattle.selection.proofs.Parts.{composition_found, composition_passed, filter_found, filter_passed}
 use Rattle.selection.proofs.Rows.{visits_positive, qualifier_visits_positive, and_or_visits, and_or_holds}
 use Rattle.selection.proofs.lent.Lent.+evaluation.Goals as goal
@@ -46,8 +46,13 @@ eval_path-returns t c =
 pub eval_path_row-returns-in_default : goal.eval_path_row-returns-in_default
 eval_path_row-returns-in_default t c =
     let a = c.args in
-    leaf_found _ (terms_below a.self.now.rows.now a.top) (row_of a.row) _ _ (λ e. omega arith) (λ e. omega arith)
-    (λ e. omega arith) _ _ c.mark_leaf.ensures
+    let found = leaf_found _ (terms_below a.self.now.rows.now a.top) (row_of a.row) _ _ in
+    elim c.in_default.branch [
+      | goal.eval_path_row-in_default-via-in-Some+in_default w ↦
+          found (λ e. grind arith) (λ e. grind arith) (λ e. grind arith) _ _ c.mark_leaf.ensures
+      | goal.eval_path_row-in_default-via-in_default w ↦
+          found (λ e. grind arith) (λ e. grind arith) (λ e. grind arith) _ _ c.mark_leaf.ensures
+    ]
 
 pub eval_union-returns : goal.eval_union-returns
 unfolding selects visits
@@ -144,7 +149,8 @@ eval_filter-returns t c =
 pub eval_qualifier-returns-in_err-rest : goal.eval_qualifier-returns-in_err-rest
 eval_qualifier-returns-in_err-rest t c =
     let a = c.args in
-    let v = qualifier_visits_positive (doc a.self.now.document) a.x (qualifier_in (terms_below a.self.now.rows.now a.top) a.r) in
+    let v = qualifier_visits_positive (doc a.self.now.document) a.x
+    (qualifier_in (terms_below a.self.now.rows.now a.top) a.r) in
     rw c.from_residual.ensures (omega (arith, v, c.in_err-rest.ensures))
 
 pub eval_qualifier-returns-then-top-r : goal.eval_qualifier-returns-then-top-r
@@ -161,48 +167,63 @@ eval_qualifier-returns t c =
     qualifier_found _ _ _ _ _ _ c.if-top-r.false (row_of c.row_at-row.result) c.row_at-row.ensures _
     c.in_ok-rest.ensures _ c.in_ok-q.ensures
 
-pub eval_qualifier_row-returns-in_err-q-in-8 : goal.eval_qualifier_row-returns-in_err-q-in-8
+pub eval_qualifier_row-returns-in_err-q-in-Some-Not : goal.eval_qualifier_row-returns-in_err-q-in-Some-Not
 unfolding term_by as_qualifier qualifier_visits
-eval_qualifier_row-returns-in_err-q-in-8 t c =
-    let h = rw c.from-a.ensures at c.in_err-q-in-8.ensures in
-    rw (c.from_residual.ensures, c.in-8.is) (omega arith)
+eval_qualifier_row-returns-in_err-q-in-Some-Not t c =
+    let h = rw c.from-a.ensures at c.in_err-q-in-Some-Not.ensures in
+    rw (c.from_residual.ensures, ← c.in-Some-Not.ensures, c.in-Some-Not.field-0-is) (omega arith)
 
-pub eval_qualifier_row-returns-in_ok-q-in-8 : goal.eval_qualifier_row-returns-in_ok-q-in-8
+pub eval_qualifier_row-returns-in_ok-q-in-Some-Not : goal.eval_qualifier_row-returns-in_ok-q-in-Some-Not
 unfolding term_by as_qualifier holds qualifier_visits
-eval_qualifier_row-returns-in_ok-q-in-8 t c =
-    rw c.in-8.is (recounted (rw c.from-a.ensures at c.in_ok-q-in-8.ensures) (omega arith) (λ e. ap not e))
+eval_qualifier_row-returns-in_ok-q-in-Some-Not t c =
+    rw (← c.in-Some-Not.ensures, c.in-Some-Not.field-0-is)
+    (recounted (rw c.from-a.ensures at c.in_ok-q-in-Some-Not.ensures) (omega arith) (λ e. ap not e))
 
-pub eval_qualifier_row-returns-in_err-left-in-9 : goal.eval_qualifier_row-returns-in_err-left-in-9
-eval_qualifier_row-returns-in_err-left-in-9 t c =
+pub eval_qualifier_row-returns-in_err-left-in-Some-And : goal.eval_qualifier_row-returns-in_err-left-in-Some-And
+eval_qualifier_row-returns-in_err-left-in-Some-And t c =
     let a = c.args in
     let v = and_or_visits (doc a.self.now.document) a.x (terms_below a.self.now.rows.now a.top) (row_of a.row)
-    (λ n. omega arith) in
-    let h = rw c.from-a.ensures at c.in_err-left-in-9.ensures in
-    rw c.from_residual-in_err-left-in-9.ensures (omega arith)
+    (λ n. grind arith) in
+    let h = rw c.from-a.ensures at c.in_err-left-in-Some-And.ensures in
+    rw c.from_residual-in_err-left-in-Some-And.ensures (omega arith)
 
-pub eval_qualifier_row-returns-in_err-right-in-9 : goal.eval_qualifier_row-returns-in_err-right-in-9
-eval_qualifier_row-returns-in_err-right-in-9 t c =
+pub eval_qualifier_row-returns-in_err-right-in-Some-And : goal.eval_qualifier_row-returns-in_err-right-in-Some-And
+eval_qualifier_row-returns-in_err-right-in-Some-And t c =
     let a = c.args in
     let v = and_or_visits (doc a.self.now.document) a.x (terms_below a.self.now.rows.now a.top) (row_of a.row)
-    (λ n. omega arith) in
-    let w = rw c.from-a.ensures at c.in_ok-left-in-9.ensures in
-    let h = rw c.from-b.ensures at c.in_err-right-in-9.ensures in
-    rw c.from_residual-in_err-right-in-9.ensures (omega (arith, w.made_is, w.made_fits))
+    (λ n. grind arith) in
+    let w = rw c.from-a.ensures at c.in_ok-left-in-Some-And.ensures in
+    let h = rw c.from-b.ensures at c.in_err-right-in-Some-And.ensures in
+    rw c.from_residual-in_err-right-in-Some-And.ensures (omega (arith, w.made_is, w.made_fits))
 
-pub eval_qualifier_row-returns-in_ok-right-in-9 : goal.eval_qualifier_row-returns-in_ok-right-in-9
-eval_qualifier_row-returns-in_ok-right-in-9 t c =
+pub eval_qualifier_row-returns-in_ok-right-in-Some-And : goal.eval_qualifier_row-returns-in_ok-right-in-Some-And
+eval_qualifier_row-returns-in_ok-right-in-Some-And t c =
     let a = c.args in
     let ts = terms_below a.self.now.rows.now a.top in
-    both_found (rw c.from-a.ensures at c.in_ok-left-in-9.ensures) (rw c.from-b.ensures at c.in_ok-right-in-9.ensures)
-    (and_or_visits (doc a.self.now.document) a.x ts (row_of a.row) (λ n. omega arith))
+    both_found (rw c.from-a.ensures at c.in_ok-left-in-Some-And.ensures)
+    (rw c.from-b.ensures at c.in_ok-right-in-Some-And.ensures)
+    (and_or_visits (doc a.self.now.document) a.x ts (row_of a.row) (λ n. grind arith))
     (λ u v. c.and_or.ensures
-    ∙ rw (u, v) (and_or_holds (doc a.self.now.document) a.x ts (row_of a.row) (λ n. omega arith)))
+    ∙ rw (c.in-Some-And.ensures, u, v)
+    (and_or_holds (doc a.self.now.document) a.x ts (row_of a.row) (λ n. grind arith)))
+
+pub eval_qualifier_row-returns-in-Some-True : goal.eval_qualifier_row-returns-in-Some-True
+unfolding term_by as_qualifier holds qualifier_visits
+eval_qualifier_row-returns-in-Some-True t c =
+    rw (← c.in-Some-True.ensures, c.in-Some-True.field-0-is)
+    (record { made_fits = omega arith; made_is = refl; result_is = refl })
 
 pub eval_qualifier_row-returns-in_default : goal.eval_qualifier_row-returns-in_default
 eval_qualifier_row-returns-in_default t c =
     let a = c.args in
-    leaf_qualifier_found _ (terms_below a.self.now.rows.now a.top) (row_of a.row) _ _
-    (λ e. grind arith) (λ e. grind arith) (λ e. grind arith) (λ e. grind arith)
+    false_row_found _ (terms_below a.self.now.rows.now a.top) (row_of a.row) _ _
+    (λ e. grind arith) (λ e. grind arith) (λ e. grind arith) (λ e. grind arith) (λ e. grind arith)
+
+pub eval_qualifier_row-returns-in_default-2 : goal.eval_qualifier_row-returns-in_default-2
+eval_qualifier_row-returns-in_default-2 t c =
+    let a = c.args in
+    false_row_found _ (terms_below a.self.now.rows.now a.top) (row_of a.row) _ _
+    (λ e. grind arith) (λ e. grind arith) (λ e. grind arith) (λ e. grind arith) (λ e. grind arith)
 
 pub eval_inclusion-returns : goal.eval_inclusion-returns
 unfolding holds qualifier_visits

@@ -5,13 +5,19 @@ use Rattle.selection.specs.code.Parts.{leaf_path}
 use Rattle.selection.proofs.Rows.{root_added, step_added, void_added}
 use Rattle.selection.proofs.lent.Lent.mark_leaf.Goals as goal
 
-pub returns-in-2 : goal.returns-in-2
+pub returns-in-Some-Step : goal.returns-in-Some-Step
 unfolding leaf_path
-returns-in-2 c = rw c.in-2.is (step_added _ _ _ _ _ (rw c.from.ensures at c.mark_step.ensures))
+returns-in-Some-Step c =
+    rw (← c.in-Some-Step.ensures, c.in-Some-Step.field-0-is)
+    (step_added _ _ _ _ _ (rw c.from.ensures at c.mark_step.ensures))
 
-pub returns-in-1 : goal.returns-in-1
+pub returns-in-Some-Root : goal.returns-in-Some-Root
 unfolding leaf_path
-returns-in-1 c = rw c.in-1.is (root_added _ _ _ (omega arith) (omega arith))
+returns-in-Some-Root c =
+    rw (← c.in-Some-Root.ensures, c.in-Some-Root.field-0-is) (root_added _ _ _ (omega arith) (omega arith))
 
-pub returns-in_default : goal.returns-in_default
-returns-in_default c = void_added _ _ _ (row_of c.args.row) (λ e. omega arith) (λ e. omega arith)
+pub returns : goal.returns
+returns c = void_added _ _ _ (row_of c.args.row) (λ e. grind arith) (λ e. grind arith)
+
+pub returns-2 : goal.returns-2
+returns-2 c = void_added _ _ _ (row_of c.args.row) (λ e. grind arith) (λ e. grind arith)
