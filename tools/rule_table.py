@@ -568,8 +568,8 @@ pub const AXIS_PAIRS: [(u16, u16); %d] = [
 // What a field that a kind of row doesn't use has, and the name of a test that has none.
 const NONE: Pattern = Pattern::Number(0);
 
-%s%s// The forms of each rule, by its number; there is no rule 0. In parts: the check of one static with all of them stops
-// at its limit of steps.
+%s%s// The forms of each rule, by its number; there is no rule 0. In three parts: the check of a function that gives one
+// static with all of them stops at its limit of 50,000,000 steps, and a static can't refer to others.
 %s"""
 
 

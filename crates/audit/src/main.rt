@@ -2,8 +2,8 @@
 // the last step, or zeros, under a heading.
 #![tactic(auto)]
 
-const STANDARD_INPUT: i32 = 0;
+use std::os::fd::AsRawFd;
 
-fn main() {
-    reports::print_report(STANDARD_INPUT);
+fn main(rt: HostRuntime) {
+    reports::print_report(rt.stdin().as_raw_fd());
 }

@@ -8,10 +8,11 @@ ghost use Rattle.auditing.specs.Audit.{report};
 use calls::Answer;
 use common::Refusal;
 use session::{LineRefusal, Session};
+use std::fmt;
 
 // What the program audit prints, as numbers: the answer's, the refused line or 0, the steps held, the rows of the last
-// step or zeros. No Result: all five are printed, whatever the answer, and its reader would put them together again.
-#[derive(Clone, Copy)]
+// step or zeros. No Result: `report`, the definition that is believed, has all five whatever the answer.
+#[derive(Clone, Copy, Debug, PartialEq, Eq)]
 pub struct Report {
     pub answer: u16,
     pub line: usize,
@@ -20,14 +21,22 @@ pub struct Report {
     pub right: u16,
 }
 
+// As it is printed.
+impl fmt::Display for Report {
+    fn fmt<W: fmt::Write>(&self, f: &mut fmt::Formatter<W>) -> fmt::Result {
+        write!(
+            f,
+            "{} {} {} {} {}",
+            self.answer, self.line, self.steps, self.left, self.right
+        )
+    }
+}
+
 // The refused line; 0 where none is.
 fn refused_line(answer: Result<u16, LineRefusal>) -> usize
     ensures { result ≡ cond (is_ok answer) 0 (read_answer_of answer).value }
 {
-    match answer {
-        Ok(_) => 0,
-        Err(refused) => refused.line,
-    }
+    answer.err().map_or(0, |refused| refused.line)
 }
 
 // What the program audit prints of a bundle.

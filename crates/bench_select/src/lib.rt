@@ -10,7 +10,7 @@ ghost use Rattle.ordering.specs.OrderCall.{order_answer, bundle_order_answer};
 ghost use Rattle.calls.specs.TextCall.{text_reply};
 ghost use Rattle.bundles.specs.code.TextPut.{held_text, TextWritten};
 
-use calls::Answer;
+use calls::{Answer, Held};
 
 // The number of the answer; the marks are written as `Session::select` writes them.
 #[unsafe(no_mangle)]
@@ -43,7 +43,7 @@ pub extern "C" fn bench_write<'a>(
     ensures { TextWritten out.old 0 (held_text n rows.now m steps.now) result
         out.new }
 {
-    bundles::write_tables(out, 0, rows, n, steps, m)
+    bundles::write_tables(out, 0, calls::Held::first(rows, n, steps, m))
 }
 
 // The value of the answer for row i of the left rows and row j of the right ones, compared as `Session::order` compares
@@ -68,20 +68,23 @@ pub extern "C" fn bench_bundle_order<'a>(
         (book (table_of left.now) (steps_of left_steps.now))
         (book (table_of right.now) (steps_of right_steps.now))).value }
 {
-    let answer = ordering::bundle_order_on(left, left_steps, right, right_steps);
+    let left = Held {
+        rows: left,
+        steps: left_steps,
+    };
+    let right = Held {
+        rows: right,
+        steps: right_steps,
+    };
+    let answer = ordering::bundle_order_on(left, right);
     answer.value() as u32
 }
-
-// The numbers of a session's table.
-const TABLE_SIZE: usize = terms::ROW_WIDTH * terms::MAX_ROWS;
 
 // The number of the answer to a selector as text, with a lent list of names, where no row is held.
 #[unsafe(no_mangle)]
 pub extern "C" fn bench_text(names: &[u8], selector: &[u8]) -> u16
     ensures { result ≡ (text_reply names.now selector.now []).number }
 {
-    match text::read_text(selector, names, [0u16; TABLE_SIZE], 0) {
-        Ok(_) => 0,
-        Err(refused) => refused.number(),
-    }
+    let read = text::read_text(selector, names, [0u16; terms::TABLE_NUMBERS], 0);
+    read.map(|held| held.row).number()
 }

@@ -9,7 +9,7 @@ use Rattle.std.proofs.Math.Nat.{mod-eq_of_lt, mod-lt, mod_self, suc-mod}
 use Rattle.std.proofs.lemmas.Grind.{common_steps}
 use Rattle.bundles.proofs.Decimals.{digits_few}
 use lib.ListN.{length, get_or, set, take, drop, length-append, drop_of_length-le}
-use Rattle.std.proofs.Common.{sum_by}
+use Rattle.std.proofs.Common.{sum_by, take-append-drop}
 use lib.Seq.{sets, length-sets, drop-cons, drop-drop}
 use borrow.Rule.Slice.PartMut.{put_mid}
 use Rattle.std.proofs.lemmas.List.Edits.{sets-eq}
@@ -46,6 +46,18 @@ put_part xs us at k h e = record {
   bytes = sym (rw (sets-eq us xs at h, drop-drop, ← e)
       (append_assoc (take at xs) us (drop (at + length us) xs)));
 }
+
+-- a text put so that it ends at `end`, by what stands before and behind it
+pub put_before : (xs us : List ℕ) (at end start : ℕ) (ys : List ℕ) {vs : List ℕ} → vs ≡ us → end ≡ at + length us
+    → at + length us ≤ length xs → start + length vs ≡ end → take start ys ≡ take start xs
+    → drop start ys ≡ vs ++ drop end xs → Put xs at us end ys
+put_before xs us at end start ys {vs} text e h s front rest =
+    let there : start ≡ at = omega (arith, ap length text) in
+    record {
+      position = e;
+      bytes = sym (take-append-drop start ys)
+          ∙ rw (front, rest, text, there, e) (sym (append_assoc (take at xs) us _) ∙ sym (sets-eq us xs at h));
+    }
 
 pub put_keeps : {xs ys us : List ℕ} {at n : ℕ} → Put xs at us n ys → length ys ≡ length xs
 put_keeps {xs} {us = us} {at = at} p = ap length p.bytes ∙ length-sets xs at us

@@ -7,6 +7,7 @@ use mathlib.Core.List.{List, [], ◌∷◌, ◌++◌, map, append_assoc}
 use mathlib.Core.Option
 use mathlib.Core.Option.{Option, none, some, Option-elim, some-injective, none-ne-some}
 use native.Mathlib.Omega.{arith}
+use Rattle.std.proofs.lemmas.Bool.{and_parts}
 use lib.Dec.{leb, eqb}
 use lib.ListN.{length, get_or}
 use borrow.Author.Tests.{eqb-true, eqb-false, leb-true, not-true}
@@ -26,10 +27,6 @@ use Rattle.calls.specs.Book.{step_numbers}
 use Rattle.bundles.specs.Bundle.{row_text, step_text, rows_text, steps_text}
 use Rattle.bundles.proofs.Decimals.{decimal_written}
 
-both : (a b : Bool) → (a && b) ≡ true → (a ≡ true) × (b ≡ true)
-both true b e = (refl, e)
-both false b e = absurd (false≢true e)
-
 -- the value of digits, as the library has it
 own : IsNumeralModel (λ ds. are_digits ds ≡ true) (append_digits 0)
 unfolding are_digits is_digit append_digits
@@ -42,8 +39,8 @@ unfolding is_decimal are_digits
 decimal_form [] e = absurd (false≢true e)
 decimal_form (x ∷ []) e = (rw e, omega arith, λ z. refl)
 decimal_form (x ∷ y ∷ xs) e =
-    let (start, others) = both (is_digit x && not (eqb x digit0)) (are_digits (y ∷ xs)) e in
-    let (d, z) = both (is_digit x) (not (eqb x digit0)) start in
+    let (start, others) = and_parts (is_digit x && not (eqb x digit0)) (are_digits (y ∷ xs)) e in
+    let (d, z) = and_parts (is_digit x) (not (eqb x digit0)) start in
     (rw (d, others), omega arith, λ zero. absurd (eqb-false x digit0 (not-true _ z) zero))
 
 spelled_decimal : (w : List ℕ) → is_decimal w ≡ true → append_digits 0 w < 2 ^ 64 → decimal (append_digits 0 w) ≡ w

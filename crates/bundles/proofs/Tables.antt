@@ -1,8 +1,9 @@
 -- The text of a table's numbers is that of its rows, or of its steps. Assumes nothing.
 use Prim.Native.Nat.{ℕ, zero, suc, ◌+◌, ◌*◌, ◌≤◌, min}
-use mathlib.Core.Path.{◌≡◌, refl, sym, ap, ◌∙◌}
+use mathlib.Core.Path.{◌≡◌, refl, sym, ap, ap₂, ◌∙◌}
 use mathlib.Core.List.{List, [], ◌∷◌, ◌++◌, append_assoc}
 use native.Mathlib.Omega.{arith}
+use Rattle.std.proofs.lemmas.List.{take_all}
 use lib.ListN.{length, length-append, length-take}
 use Rattle.terms.specs.Row.{table_of, max_rows}
 use Rattle.lines.specs.Ascii.{ascii}
@@ -12,6 +13,7 @@ use Rattle.calls.specs.Book.{max_steps}
 use Rattle.calls.specs.code.Tables.{row_width, step_width, steps_of, first_row_numbers, first_step_numbers}
 use Rattle.bundles.specs.Bundle.{row_names, step_names, rows_text, steps_text, bundle_text}
 use Rattle.bundles.specs.code.TextPut.{behind, left_next, numbers_text, lines_text, numbers_length, tables_text}
+use Rattle.bundles.specs.code.TextPut.{held_text}
 use Rattle.bundles.proofs.Putting.{numbers_length_lem}
 
 -- the numbers to the end of a line, and then others
@@ -73,3 +75,13 @@ few_row_numbers n xs e = omega (arith, ap length e, length-take (row_width * min
 pub few_step_numbers : (n : ℕ) (xs : List ℕ) {ys : List ℕ} → ys ≡ first_step_numbers n xs
     → length ys ≤ step_width * max_steps
 few_step_numbers n xs e = omega (arith, ap length e, length-take (step_width * min n max_steps) xs)
+
+-- the first rows and steps, as many as a book may hold, of some first ones are these
+pub first_again : (n m : ℕ) (xs ys : List ℕ) {us vs : List ℕ} → us ≡ first_row_numbers n xs
+    → vs ≡ first_step_numbers m ys
+    → held_text max_rows us max_steps vs ≡ held_text n xs m ys
+first_again n m xs ys {us} {vs} e f =
+    let rows = few_row_numbers n xs e in
+    let steps = few_step_numbers m ys f in
+    ap₂ tables_text (take_all (row_width * min max_rows max_rows) us (omega arith) ∙ e)
+    (take_all (step_width * min max_steps max_steps) vs (omega arith) ∙ f)

@@ -1,11 +1,11 @@
 -- Where the machine below moves as a book does, so does a machine above it. Assumes nothing.
 use mathlib.Core.Path.{◌≡◌, refl, sym, ap, subst, ◌∙◌}
-use mathlib.Core.Bool.{Bool, true, false, cond, ◌&&◌, false≢true}
-use borrow.Author.Tests.{eqb-true, eq-eqb, ne_eqb}
+use mathlib.Core.Bool.{Bool, true, false, cond, ◌&&◌}
+use borrow.Author.Tests.{eqb-true}
 use Rattle.calls.specs.Book.{Answer, accepted}
-use Rattle.calls.specs.Runs.{Machine, Made, Reached, first, after}
+use Rattle.calls.specs.Runs.{Machine, Reached, first, after}
 use Rattle.calls.specs.Above.{Both, both, Above, passed, own, Layer, above, along}
-use Rattle.calls.proofs.Accepted.{if_accepted, if_refused}
+use Rattle.calls.proofs.Accepted.{if_accepted}
 use Rattle.calls.proofs.Runs.{Simulates, reached_law}
 
 -- an accepted call that was passed on was accepted below

@@ -1,12 +1,13 @@
 -- What the answers of point and return tell. Assumes nothing.
 use Prim.Native.Nat.{ℕ, ◌≤◌, ◌<◌}
-use mathlib.Core.Path.{◌≡◌, sym}
-use mathlib.Core.Bool.{Bool, true, false, ◌||◌, false≢true}
+use mathlib.Core.Path.{◌≡◌}
+use mathlib.Core.Bool.{◌||◌}
 use mathlib.Core.List.{List}
 use native.Mathlib.Omega.{arith}
 use lib.Dec.{leb, ltb, eqb}
 use lib.ListN.{length}
 use borrow.Author.Tests.{lt-leb, leb-false, ltb-false}
+use Rattle.std.proofs.lemmas.Bool.{or_parts}
 use Rattle.calls.specs.Book.{max_points, answer}
 use Rattle.common.specs.Refusals as refusals
 use Rattle.calls.specs.PointCall.{place_of, point_answer, return_answer}
@@ -23,10 +24,6 @@ pub record PointAccepted (names : List ℕ) (n : ℕ) : Type 0 where
   pub new : length names ≤ place_of names n
   pub room : length names < max_points
 
-or_failed : (a b : Bool) → (a || b) ≡ false → b ≡ false
-or_failed true b e = absurd (false≢true (sym e))
-or_failed false b e = e
-
 pub point_accepted : (names : List ℕ) (n : ℕ) → (point_answer names n).number ≡ 0 → PointAccepted names n
 unfolding point_answer
 point_accepted names n e =
@@ -35,7 +32,7 @@ point_accepted names n e =
     let u = test_failed (leb max_points (length names)) (answer refusals.points_full 0) (answer 0 0) (omega arith)
     t.1 in
     record {
-      new = ltb-false _ _ (or_failed (eqb n 0) (ltb (place_of names n) (length names)) t.0);
+      new = ltb-false _ _ (or_parts (eqb n 0) (ltb (place_of names n) (length names)) t.0).1;
       room = leb-false _ _ u.0;
     }
 

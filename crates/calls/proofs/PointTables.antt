@@ -1,41 +1,39 @@
 -- The points of a list of numbers, the place of a name, and numbers that are cleared. Assumes nothing.
-use Prim.Native.Nat.{ℕ, zero, suc, ◌+◌, ◌*◌, ◌/◌, ◌≤◌, min}
+use Prim.Native.Nat.{ℕ, ◌+◌, ◌*◌, ◌/◌, ◌≤◌, min}
 use mathlib.Core.Path.{◌≡◌, refl, ap}
 use mathlib.Core.Bool.{Bool, true, false, cond}
 use mathlib.Core.List.{List, [], ◌∷◌}
 use native.Mathlib.Omega.{arith}
-use lib.Dec.{eqb}
-use lib.ListN.{length, get_or, length-take, length-map}
+use lib.Dec.{eqb, leb}
+use lib.ListN.{length, get_or, take, drop, length-take, length-map}
 use Rattle.std.proofs.Common.{map, add_comm, position}
 use Rattle.terms.proofs.Find.{placed}
 use Rattle.std.specs.List.{position_or_len}
+use Rattle.std.proofs.lemmas.Bool.{le-leb}
 use Rattle.std.specs.Simd.{first_chunks}
+use Rattle.common.proofs.Chunks.{by_width, count_by_width}
 use Rattle.std.proofs.lemmas.List.Recursion.{is_position_or_len}
 use Rattle.calls.specs.Book.{max_points}
 use Rattle.calls.specs.declared.points.PointCounts.{PointCounts}
 use Rattle.calls.specs.PointCall.{place_of}
-use Rattle.calls.specs.code.Points.{counts, counts_in, counts_of, counts_names, point_width, first_point_numbers}
+use Rattle.calls.specs.code.Points.{counts_in, counts_of, counts_names, point_width, first_point_numbers}
 use Rattle.calls.specs.code.Points.{first_points, FoundIs}
 
-pub points_lent : (xs : List ℕ) → length (counts_of xs) ≡ length xs / 3
+-- a list has a first point where it has three numbers
+one_point : (xs : List ℕ)
+    → counts_of xs ≡ cond (leb 3 (length xs)) (counts_in (take 3 xs) ∷ counts_of (drop 3 xs)) []
 unfolding counts_of
-points_lent [] = refl
-points_lent (n ∷ []) = refl
-points_lent (n ∷ r ∷ []) = refl
-points_lent (n ∷ r ∷ p ∷ xs) = let h = points_lent xs in omega arith
+one_point [] = refl
+one_point (n ∷ []) = refl
+one_point (n ∷ r ∷ []) = refl
+one_point (n ∷ r ∷ p ∷ xs) = rw (le-leb 3 (length (n ∷ r ∷ p ∷ xs)) (omega arith))
+
+pub points_lent : (xs : List ℕ) → length (counts_of xs) ≡ length xs / 3
+points_lent xs = count_by_width 3 counts_in counts_of one_point (length xs / 3) xs (omega arith) (omega arith)
 
 -- the points are the numbers three by three
 pub points_by_three : (n : ℕ) (xs : List ℕ) → n ≡ length xs / 3 → map counts_in (first_chunks 3 n xs) ≡ counts_of xs
-unfolding counts_of
-points_by_three zero [] e = refl
-points_by_three (suc n) [] e = absurd (omega arith)
-points_by_three zero (k ∷ []) e = refl
-points_by_three (suc n) (k ∷ []) e = absurd (omega arith)
-points_by_three zero (k ∷ r ∷ []) e = refl
-points_by_three (suc n) (k ∷ r ∷ []) e = absurd (omega arith)
-points_by_three zero (k ∷ r ∷ p ∷ xs) e = absurd (omega arith)
-points_by_three (suc n) (k ∷ r ∷ p ∷ xs) e =
-    ap (λ (cs : List PointCounts). counts k r p ∷ cs) (points_by_three n xs (omega arith))
+points_by_three n xs e = by_width 3 counts_in counts_of one_point n xs (omega arith) (omega arith)
 
 -- the place of a name is that of the first point of that name
 pub place_counted : (ps : List (List ℕ)) (name : ℕ)

@@ -1,12 +1,14 @@
 -- What refusals 5 and 6 leave: rows that are held and of one sort, and premises that are held steps. Assumes nothing.
 use Prim.Native.Nat.{ℕ, zero, suc, ◌-◌, ◌≤◌, ◌<◌}
 use mathlib.Core.Path.{◌≡◌, refl}
-use mathlib.Core.Bool.{Bool, true, false, not, cond, ◌&&◌, ◌||◌}
+use mathlib.Core.Bool.{Bool, true, false, not, cond, ◌||◌}
 use mathlib.Core.List.{List, [], ◌∷◌, map}
 use native.Mathlib.Omega.{arith}
 use lib.Dec.{leb}
 use lib.ListN.{length, get_or, take}
 use borrow.Author.Tests.{eqb-true, leb-true, leb-false, le-leb, not-false}
+use Rattle.std.proofs.lemmas.Bool.{and_parts}
+use Rattle.common.proofs.Tests.{or_not_parts}
 use Rattle.terms.specs.Row.{Row}
 use Rattle.common.specs.Lists.{Every}
 use Rattle.rules.specs.Yields.{premise_count}
@@ -24,36 +26,28 @@ no_place : (b : Bool) (n m : ℕ) → cond b (suc n) m ≤ 0 → (b ≡ false) �
 no_place true n m h = absurd (omega arith)
 no_place false n m h = (refl, h)
 
-neither : (a b : Bool) → (a || not b) ≡ false → (a ≡ false) × (b ≡ true)
-neither true b e = let z : ◌≡◌ {A = ℕ} 0 1 = cc in absurd (omega arith)
-neither false b e = (refl, not-false b e)
-
 pub sides_held : (rs : List Row) (p : Step) → bad_side_of rs p ≤ 0 → SidesHeld rs p
 unfolding bad_side_of
 sides_held rs p h =
     let l = no_place (leb (length rs) p.left) 0 _ h in
     let r = no_place (leb (length rs) p.right || not (same_sort rs p.left p.right)) 1 _ l.1 in
-    let n = neither (leb (length rs) p.right) (same_sort rs p.left p.right) r.0 in
+    let n = or_not_parts (leb (length rs) p.right) (same_sort rs p.left p.right) r.0 in
     record { left = leb-false _ _ l.0; right = leb-false _ _ n.0; one_sort_lem = n.1 }
 
 -- q is one of the steps
 abbrev pub HeldIn : List Step → Step → Type 0
 HeldIn ps q = (i : ℕ) × (i < length ps) × (q ≡ get_or ps i no_step)
 
-and_both : (a b : Bool) → (a && b) ≡ true → (a ≡ true) × (b ≡ true)
-and_both true b e = (refl, e)
-and_both false b e = let z : ◌≡◌ {A = ℕ} 0 1 = cc in absurd (omega arith)
-
 needed_held : (ps : List Step) (i : ℕ) → premise_ok true (length ps) i ≡ true → HeldIn ps (step_numbered ps i)
 unfolding premise_ok
 needed_held ps i e =
-    let r = and_both (leb 1 i) (leb i (length ps)) e in
+    let r = and_parts (leb 1 i) (leb i (length ps)) e in
     let h : i - 1 < length ps = omega (arith, leb-true 1 i r.0, leb-true i (length ps) r.1) in
     (i - 1, h, refl)
 
 fits : (needed : Bool) (held i : ℕ) → premise_ok needed held i ≡ true → i ≤ held
 unfolding premise_ok
-fits true held i e = leb-true i held (and_both (leb 1 i) (leb i held) e).1
+fits true held i e = leb-true i held (and_parts (leb 1 i) (leb i held) e).1
 fits false held i e = omega (arith, eqb-true i 0 e)
 
 -- the premises that a rule with k premises takes

@@ -1,7 +1,7 @@
 -- Calls made one after the other, on something that moves as a book does. Assumes nothing.
 use mathlib.Core.Path.{◌≡◌, refl, sym, ap, ap₂, subst, ◌∙◌}
 use mathlib.Core.Bool.{Bool, true, false, cond}
-use mathlib.Core.List.{List, [], ◌∷◌, ◌++◌}
+use mathlib.Core.List.{List, [], ◌∷◌}
 use borrow.Author.Tests.{eqb-true}
 use Rattle.calls.specs.Book.{Answer, accepted}
 use Rattle.calls.specs.Runs.{Machine, next, Made, Seen, seen, Run, done, then, shown, final, Reached, first}
@@ -14,14 +14,6 @@ module _ {S C B : Type 0} {view : S → B} {Called Kept : S → C → Answer →
   pub run_map : {s u : S} {cs : List C} {os : List (Seen B)} → Run view Called s cs os u → Run view Kept s cs os u
   run_map done = done
   run_map (then m run) = then (one _ _ _ _ m) (run_map run)
-
--- calls made one after the other, and then others
-module _ {S C B : Type 0} {view : S → B} {Called : S → C → Answer → S → Type 0} where
-  pub run_append : {s t u : S} {cs ds : List C} {os qs : List (Seen B)} → Run view Called s cs os t
-      → Run view Called t ds qs u
-      → Run view Called s (cs ++ ds) (os ++ qs) u
-  run_append done later = later
-  run_append (then m run) later = then m (run_append run later)
 
 -- every list of calls can be made where every call can
 module _ {S C B : Type 0} (view : S → B) (Called : S → C → Answer → S → Type 0)

@@ -2,21 +2,18 @@
 use Prim.Native.Nat.{ℕ, ◌≤◌}
 use mathlib.Core.Path.{◌≡◌, sym, ap, ◌∙◌}
 use mathlib.Core.Bool.{Bool, true, false, not, cond}
-use mathlib.Core.List.{List}
 use mathlib.Core.Option.{Option, none, some, Option-elim}
 use native.Mathlib.Omega.{arith}
 use lib.Dec.{leb, ltb}
 use lib.ListN.{length}
 use borrow.Author.Tests.{le-ltb}
 use Rattle.xpath.specs.Document.{document_of, document_refusal}
-use Rattle.xpath.specs.Term.{AxisStep}
 use Rattle.xpath.specs.Visits.{visits}
 use Rattle.xpath.proofs.Chain.{chain_visits}
 use Rattle.xpath.proofs.OneName.{lent_documents, step_same_elsewhere}
-use Rattle.terms.specs.Row.{Row, row_at}
 use Rattle.terms.specs.Fields.{held_path}
-use Rattle.terms.specs.Terms.{as_path, term_by, path_at}
-use Rattle.terms.proofs.Terms.{term_at_lem}
+use Rattle.terms.specs.Terms.{path_at}
+use Rattle.terms.proofs.Terms.{step_path}
 use Rattle.calls.specs.Book.{answer}
 use Rattle.common.specs.Refusals as refusals
 use Rattle.calls.specs.SelectCall.{select_answer}
@@ -49,12 +46,6 @@ limit_suffices rs row xs x limit buffer left t m k c h e =
     let short = ltb (length buffer) (length d) in
     not_15 (document_refusal xs) (leb (length d) x) (not (held_path rs row)) short (ltb limit v) v (le-ltb limit v few)
     (sym (ap (λ a. a.number) m.answer) ∙ e)
-
--- the path of a row of kind 2
-step_path : (rs : List Row) (row : ℕ) → (row_at rs row).kind ≡ 2
-    → path_at rs row ≡ AxisStep (row_at rs row).a (row_at rs row).b (row_at rs row).c
-unfolding as_path term_by
-step_path rs row e = ap as_path (term_at_lem rs row) ∙ rw e
 
 pub marks_same_elsewhere : MarksSameElsewhere
 marks_same_elsewhere rs row x e m xs xs' s limit limit' buffer buffer' left left' t t' made a made' a' y l n =

@@ -1,19 +1,16 @@
 -- What holds of a step that a step call takes. Assumes nothing.
 use Prim.Native.Nat.{◌≤◌, ◌<◌}
-use mathlib.Core.Path.{◌≡◌, refl, sym}
-use mathlib.Core.Bool.{Bool, true, false, not, ◌||◌, false≢true}
+use mathlib.Core.Path.{◌≡◌}
+use mathlib.Core.Bool.{Bool, true, not, ◌||◌}
 use native.Mathlib.Omega.{arith}
 use lib.Dec.{leb, ltb, eqb}
 use lib.ListN.{length}
 use borrow.Author.Tests.{ltb-false, leb-false, eqb-false, not-false}
+use Rattle.std.proofs.lemmas.Bool.{or_parts}
 use Rattle.rules.specs.Yields.{max_rule}
 use Rattle.calls.specs.Book.{Step, max_steps, Book}
 use Rattle.calls.specs.StepCall.{bad_side_of, bad_premise_of, step_answer_by}
 use Rattle.calls.proofs.Accepted.{test_failed}
-
-pub neither : (a b : Bool) → (a || b) ≡ false → (a ≡ false) × (b ≡ false)
-neither true b e = absurd (false≢true (sym e))
-neither false b e = (refl, e)
 
 -- where the answer is 0, no refusal applies
 pub record StepAccepted (y : Bool) (b : Book) (p : Step) : Type 0 where
@@ -31,7 +28,7 @@ step_accepted y b p e =
     let t₃ = test_failed (ltb 0 (bad_premise_of (length b.steps) p)) _ _ (omega arith) t₂.1 in
     let t₄ = test_failed (not y) _ _ (omega arith) t₃.1 in
     let t₅ = test_failed (leb max_steps (length b.steps)) _ _ (omega arith) t₄.1 in
-    let (not_zero, not-above) = neither (eqb p.rule 0) (ltb max_rule p.rule) t₁.0 in
+    let (not_zero, not-above) = or_parts (eqb p.rule 0) (ltb max_rule p.rule) t₁.0 in
     let some_rule : ¬ (p.rule ≡ 0) = eqb-false p.rule 0 not_zero in
     record {
       rule = (omega (arith, some_rule), ltb-false max_rule p.rule not-above);

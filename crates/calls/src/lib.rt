@@ -1,5 +1,7 @@
 // What the calls on lent rows, steps and points have in common: their answers, steps and points, and the first rows and
 // steps of a table. Each call is judged in a crate of its own.
+// Rows, steps and points are lent as numbers, and not as slices of structs: of any numbers, as C lends them, a call
+// answers, and an incomplete last row or step is none.
 #![tactic(auto)]
 
 mod answer;
@@ -13,7 +15,7 @@ ghost use Rattle.calls.specs.code.Tables.{first_row_numbers, first_step_numbers}
 pub use answer::{Answer, LineRefusal, Value};
 pub use held::Held;
 pub use points::{MAX_POINTS, POINT_WIDTH, PointCounts};
-pub use step::{MAX_STEPS, STEP_WIDTH, Step, sides_of, step_count, whole_steps};
+pub use step::{MAX_STEPS, STEP_WIDTH, Step, sides_of, step_count, step_numbered, whole_steps};
 
 // The first numbers, as many as `count` says, or all.
 pub fn front(numbers: &[u16], count: usize) -> &[u16]

@@ -4,7 +4,7 @@ ghost use Rattle.matching.specs.code.MatchTypes.{sides_in};
 ghost use Rattle.calls.specs.Book.{step_numbers};
 ghost use Rattle.calls.specs.StepCall.{step_numbered};
 ghost use Rattle.calls.specs.code.Answers.{step_of};
-ghost use Rattle.calls.specs.code.Tables.{step_in, steps_of};
+ghost use Rattle.calls.specs.code.Tables.{step_in, steps_of, StepIs};
 ghost use Rattle.calls.specs.Promises.{sides_of};
 
 use matching::Sides;
@@ -50,14 +50,24 @@ impl From<Step> for [u16; STEP_WIDTH] {
 pub fn step_count(steps: &[u16]) -> usize
     ensures { result ≡ length (steps_of steps.now) }
 {
-    steps.len() / STEP_WIDTH
+    whole_steps(steps).len()
 }
 
-// The steps, each as its numbers.
+// The steps, each as its numbers. `as_chunks` is what rows, steps and points share.
 pub fn whole_steps(steps: &[u16]) -> &[[u16; STEP_WIDTH]]
     ensures { map step_in result.now ≡ steps_of steps.now }
 {
     steps.as_chunks().0
+}
+
+// Step i, counted from 1.
+pub fn step_numbered(steps: &[u16], i: u16) -> Option<Step>
+    ensures { StepIs result (steps_of steps.now) i }
+{
+    let place = usize::from(i).checked_sub(1)?;
+    whole_steps(steps)
+        .get(place)
+        .map(|&numbers| Step::from(numbers))
 }
 
 // The rows of step i, counted from 1, and of 0 those of step 1; zeros where there is no such step: a rule doesn't look

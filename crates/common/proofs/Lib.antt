@@ -1,5 +1,9 @@
 pub mod Reflect
+pub mod Tests
+pub mod Lent
 pub mod Search
 pub mod Entries
 pub mod Refusals
+pub mod Results
 pub mod Records
+pub mod Chunks

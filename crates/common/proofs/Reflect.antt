@@ -3,11 +3,14 @@
 use Prim.Native.Nat.{ℕ, zero, suc, ◌≤◌, ◌<◌}
 use mathlib.Core.Path.{◌≡◌, refl, subst}
 use mathlib.Core.Bool.{Bool, true, false, not, ◌&&◌, ◌||◌}
+pub use mathlib.Core.Bool.{and-true, and-false, or-false}
+pub use Rattle.std.proofs.lemmas.Bool.{cases_eq as eq_or_ne}
+use Rattle.std.proofs.lemmas.Bool.{cases_lt}
 use mathlib.Core.Logic.{◌↔◌, ◌⊎◌, inl, inr, ⊎_elim}
 use native.Mathlib.Nat.{not-suc-le-zero, eq-or-lt_of_le, le_of_suc-le-suc}
 use native.Mathlib.Omega.{arith}
 use lib.Dec.{T, T_not, not_T, leb, eqb, leb→le, le→leb}
-use mir.Facts.{and_yes, yes_and, or_yes, eqb_yes, yes_eqb, leb_no}
+use mir.Facts.{and_yes, yes_and, or_yes, eqb_yes, yes_eqb}
 use Rattle.common.specs.Bounded.{any_below, all_below}
 
 pub yes_or : (a b : Bool) → T a ⊎ T b → T (a || b)
@@ -39,18 +42,6 @@ tests_equal true false e = absurd (e.0 tt)
 tests_equal false true e = absurd (e.1 tt)
 tests_equal false false e = refl
 
-pub and-true : (b : Bool) → (b && true) ≡ b
-and-true true = refl
-and-true false = refl
-
-pub and-false : (b : Bool) → (b && false) ≡ false
-and-false true = refl
-and-false false = refl
-
-pub or-false : (b : Bool) → (b || false) ≡ b
-or-false true = refl
-or-false false = refl
-
 pub true_iff : (b : Bool) → T b ↔ (b ≡ true)
 true_iff true = (λ t. refl, λ e. tt)
 true_iff false = (λ t. absurd t, λ e. subst (λ (b : Bool). T (not b)) e tt)
@@ -60,11 +51,8 @@ pub T-dec : (b : Bool) → T b ⊎ ¬ (T b)
 T-dec true = inl tt
 T-dec false = inr (λ t. t)
 
-pub eq_or_ne : (m n : ℕ) → (m ≡ n) ⊎ ¬ (m ≡ n)
-eq_or_ne m n = ⊎_elim (λ t. inl (eqb_yes t)) (λ f. inr (λ e. f (yes_eqb e))) (T-dec (eqb m n))
-
 pub le_or_lt : (m n : ℕ) → (m ≤ n) ⊎ (n < m)
-le_or_lt m n = ⊎_elim (λ t. inl (leb→le m n t)) (λ f. inr (leb_no (not_T (leb m n) f))) (T-dec (leb m n))
+le_or_lt m n = ⊎_elim (λ l. inr l) (λ l. inl l) (cases_lt n m)
 
 -- a number below n + 1 is n, or is below n
 pub below_suc : {k n : ℕ} → k < suc n → (k ≡ n) ⊎ (k < n)

@@ -51,28 +51,29 @@ impl TryFrom<u16> for Axis {
     }
 }
 
-// The numbers by name: the patterns of `try_from`, and what a number that is lent is compared with once, where a
-// conversion before it would be no plainer.
-pub const SELF: u16 = 0;
+// The enum's numbers by name: the patterns of `try_from`; the axes of the rule table and of the pairs of axes, which
+// are compared with those of rows; and what a number that is lent is compared with once, where a conversion before it
+// would be no plainer.
+pub const SELF: u16 = Axis::Itself as u16;
 
-pub const CHILD: u16 = 1;
+pub const CHILD: u16 = Axis::Child as u16;
 
-pub const PARENT: u16 = 2;
+pub const PARENT: u16 = Axis::Parent as u16;
 
-pub const DESCENDANT: u16 = 3;
+pub const DESCENDANT: u16 = Axis::Descendant as u16;
 
-pub const ANCESTOR: u16 = 4;
+pub const ANCESTOR: u16 = Axis::Ancestor as u16;
 
-pub const DESCENDANT_OR_SELF: u16 = 5;
+pub const DESCENDANT_OR_SELF: u16 = Axis::DescendantOrSelf as u16;
 
-pub const ANCESTOR_OR_SELF: u16 = 6;
+pub const ANCESTOR_OR_SELF: u16 = Axis::AncestorOrSelf as u16;
 
-pub const FOLLOWING_SIBLING: u16 = 7;
+pub const FOLLOWING_SIBLING: u16 = Axis::FollowingSibling as u16;
 
-pub const PRECEDING_SIBLING: u16 = 8;
+pub const PRECEDING_SIBLING: u16 = Axis::PrecedingSibling as u16;
 
-pub const FOLLOWING: u16 = 9;
+pub const FOLLOWING: u16 = Axis::Following as u16;
 
-pub const PRECEDING: u16 = 10;
+pub const PRECEDING: u16 = Axis::Preceding as u16;
 
-pub const ATTRIBUTE: u16 = 11;
+pub const ATTRIBUTE: u16 = Axis::Attribute as u16;

@@ -16,7 +16,7 @@ pub use refusal::Refusal;
 pub const MAX_BYTES: usize = 65536;
 
 // The largest number that a line may have and the largest name: the largest of 16 bits.
-pub const MAX_NUMBER: usize = 65535;
+pub const MAX_NUMBER: usize = u16::MAX as usize;
 
 // Record n, counted from 0, of lent numbers of which each W are a record, becomes `values`.
 pub fn put_record<const W: usize>(numbers: &mut [u16], n: usize, values: [u16; W])

@@ -39,16 +39,16 @@ impl TryFrom<u16> for NodeKind {
     }
 }
 
-// The numbers by name: the patterns of `try_from`, and what a number that is lent is compared with once, where a
+// The enum's numbers by name: the patterns of `try_from`, and what a number that is lent is compared with once, where a
 // conversion before it would be no plainer.
-pub const ROOT: u16 = 0;
+pub const ROOT: u16 = NodeKind::Root as u16;
 
-pub const ELEMENT: u16 = 1;
+pub const ELEMENT: u16 = NodeKind::Element as u16;
 
-pub const TEXT: u16 = 2;
+pub const TEXT: u16 = NodeKind::Text as u16;
 
-pub const COMMENT: u16 = 3;
+pub const COMMENT: u16 = NodeKind::Comment as u16;
 
-pub const INSTRUCTION: u16 = 4;
+pub const INSTRUCTION: u16 = NodeKind::Instruction as u16;
 
-pub const ATTRIBUTE: u16 = 5;
+pub const ATTRIBUTE: u16 = NodeKind::Attribute as u16;

@@ -42,18 +42,18 @@ impl TryFrom<u16> for NodeTest {
     }
 }
 
-// The numbers by name: the patterns of `try_from`, and what a number that is lent is compared with once, where a
-// conversion before it would be no plainer.
-pub const NAME: u16 = 0;
+// The enum's numbers by name: the patterns of `try_from`; the tests of the rule table, which are compared with those of
+// rows; and what a number that is lent is compared with once, where a conversion before it would be no plainer.
+pub const NAME: u16 = NodeTest::Name as u16;
 
-pub const STAR: u16 = 1;
+pub const STAR: u16 = NodeTest::Star as u16;
 
-pub const NODE: u16 = 2;
+pub const NODE: u16 = NodeTest::Node as u16;
 
-pub const TEXT: u16 = 3;
+pub const TEXT: u16 = NodeTest::Text as u16;
 
-pub const COMMENT: u16 = 4;
+pub const COMMENT: u16 = NodeTest::Comment as u16;
 
-pub const INSTRUCTION: u16 = 5;
+pub const INSTRUCTION: u16 = NodeTest::Instruction as u16;
 
-pub const TARGET: u16 = 6;
+pub const TARGET: u16 = NodeTest::Target as u16;

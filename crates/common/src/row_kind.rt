@@ -69,28 +69,28 @@ impl TryFrom<u16> for RowKind {
     }
 }
 
-// The numbers by name: the patterns of `try_from`, and what a number that is lent is compared with once, where a
+// The enum's numbers by name: the patterns of `try_from`, and what a number that is lent is compared with once, where a
 // conversion before it would be no plainer.
-pub const VOID: u16 = 0;
+pub const VOID: u16 = RowKind::Void as u16;
 
-pub const ROOT: u16 = 1;
+pub const ROOT: u16 = RowKind::Root as u16;
 
-pub const STEP: u16 = 2;
+pub const STEP: u16 = RowKind::Step as u16;
 
-pub const UNION: u16 = 3;
+pub const UNION: u16 = RowKind::Union as u16;
 
-pub const COMPOSITION: u16 = 4;
+pub const COMPOSITION: u16 = RowKind::Composition as u16;
 
-pub const FILTER: u16 = 5;
+pub const FILTER: u16 = RowKind::Filter as u16;
 
-pub const TRUE: u16 = 6;
+pub const TRUE: u16 = RowKind::True as u16;
 
-pub const FALSE: u16 = 7;
+pub const FALSE: u16 = RowKind::False as u16;
 
-pub const NOT: u16 = 8;
+pub const NOT: u16 = RowKind::Not as u16;
 
-pub const AND: u16 = 9;
+pub const AND: u16 = RowKind::And as u16;
 
-pub const OR: u16 = 10;
+pub const OR: u16 = RowKind::Or as u16;
 
-pub const INCLUSION: u16 = 11;
+pub const INCLUSION: u16 = RowKind::Inclusion as u16;

@@ -6,14 +6,13 @@ use mathlib.Core.List.{List}
 use native.Mathlib.Omega.{arith}
 use lib.ListN.{length}
 use borrow.Author.Tests.{eq-eqb, ne_eqb}
-use Rattle.std.specs.Prelude.{Some, None, Result, Ok, Err, is_ok, MatchResult, IsErrAnd}
-use Rattle.std.proofs.Common.{rules}
+use Rattle.std.specs.Prelude.{Option, Some, None, Ok, Err, is_ok, ok_or}
 use Rattle.common.proofs.Refusals.{refusal_some}
-use Rattle.common.specs.Refusals.{not_covered}
 use Rattle.common.specs.declared.refusal.Refusal.{Refusal}
+use Rattle.common.specs.declared.refusal.Refusal.TheVariants.{NotCovered}
 use Rattle.terms.specs.code.RowTypes.{PlaceIs}
 use Rattle.grammar.specs.Bytes.{Bytes}
-use Rattle.calls.specs.Book.{Book, Answer, answer, accepted}
+use Rattle.calls.specs.Book.{Book, Answer, accepted}
 use Rattle.calls.specs.Calls.{Call, text}
 use Rattle.calls.specs.Promises.{SelectMade}
 use Rattle.calls.specs.SelectCall.{select_answer, select_buffer}
@@ -29,20 +28,9 @@ use Rattle.session.specs.Reading.{reading}
 use Rattle.session.specs.ReadCall.{read_answer_of, ReadMet}
 use Rattle.exports.specs.ClaimCall.{claimed, the_claim, the_bundle, old_selector, new_selector}
 use Rattle.exports.specs.ClaimCall.{said_answer, new_claimed, old_claimed, claim_answer}
+use Rattle.exports.specs.code.ClaimTypes.{claimed_of}
+use Rattle.exports.specs.declared.claim.ClaimRefusal.TheVariants.{Claim}
 use Rattle.exports.specs.TextSelect.{read_answer, read_rows, text_select_answer, text_select_buffer, TextSelectMade}
-
--- a result whose error is mapped by f, and what it gives
-module _ {A E D : Type 0} (f : E → D) where
-  abbrev Mapped : Result A E → Result A D → Type 0
-  Mapped r q = MatchResult r (λ y. q ≡ Ok y) (λ e. IsErrAnd q (λ d. d ≡ f e))
-
-  pub mapped_ok : (r : Result A E) (x : A) → Mapped r (Ok x) → r ≡ Ok x
-  mapped_ok (Ok y) x h = search (rules, h)
-  mapped_ok (Err e) x h = absurd h
-
-  pub mapped_err : (r : Result A E) (d : D) → Mapped r (Err d) → (e : E) × (r ≡ Err e) × (d ≡ f e)
-  mapped_err (Ok y) d h = search (rules, h)
-  mapped_err (Err e) d h = (e, refl, h)
 
 -- a call c on s that is answered so and leaves u
 module _ (s : Session) (c : Call) (r : NumberOrRefusal) (u : Session) (m : Met s c (answer_of r) u) where
@@ -103,15 +91,12 @@ module _ (bundle : Bytes) (t : ReadResult) (m : ReadMet bundle t) (names old new
       let taken : accepted (reading bundle).answer ≡ true = sym m.variant ∙ ap is_ok q in
       ap (λ (z : Session). old_claimed z names old new) m.session ∙ rw taken
 
--- the step that says so, and none
-module _ (b : Book) (old new : ℕ) where
-  pub step_said : (i : ℕ) → PlaceIs (Some i) (step_saying b old new) → answer 0 i ≡ said_answer b old new
-  unfolding said_answer
-  step_said i is = rw (is.0, ne_eqb i 0 (λ e. omega (arith, is.1)))
-
-  pub none_said : PlaceIs None (step_saying b old new) → answer not_covered 1 ≡ said_answer b old new
-  unfolding said_answer
-  none_said is = rw (eq-eqb (step_saying b old new) 0 is)
+-- the step that says so, or none
+pub step_told : (b : Book) (old new : ℕ) (o : Option ℕ) → PlaceIs o (step_saying b old new)
+    → claimed_of (ok_or o (Claim (NotCovered 1))) ≡ claimed the_claim (said_answer b old new)
+unfolding said_answer
+step_told b old new (Some i) is = rw (is.0, ne_eqb i 0 (λ e. omega (arith, is.1)))
+step_told b old new None is = rw (eq-eqb (step_saying b old new) 0 is)
 
 -- a select after the text call on a fresh session
 module _ (names t : Bytes) (xs : List ℕ) (x limit : ℕ) (buffer : List ℕ) (s : Session) (fresh : s ≡ fresh_session)

@@ -3,9 +3,8 @@
 use Prim.Native.Nat.{ℕ}
 use mathlib.Core.Path.{◌≡◌, refl}
 use mathlib.Core.List.{List, []}
-use denote.Ref.{Bor}
-use denote.MutBor.{MutBor}
 use lib.ListN.{length}
+use Rattle.common.proofs.Lent.{lent, lent_to_write}
 use Rattle.grammar.specs.Bytes.{Bytes}
 use Rattle.calls.specs.Book.{Answer, answer}
 use Rattle.session.specs.Reading.{reading}
@@ -67,12 +66,6 @@ pub file_tied : (script buffer left : Bytes) (a : Answer) → Files script buffe
 file_tied script buffer left a (file_called κs args r x m) = m
 
 -- and no more: every input has an answer
-abbrev lent : {A : Type 0} → A → Bor A
-lent x = record { ref_ptr = (0, 0); now = x }
-
-abbrev lent_to_write : {A : Type 0} → A → MutBor A
-lent_to_write x = record { ref_ptr = (0, 0); ghost_name = 0; now = x }
-
 pub reads_exist : (bytes : Bytes) → (n : ℕ) × Reads bytes n
 reads_exist bytes =
     ((reading bytes).answer.number, read_called ([], tt) (lent bytes, tt) _ (lent bytes, tt) refl)

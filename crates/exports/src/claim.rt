@@ -4,6 +4,7 @@ ghost use Rattle.calls.specs.Book.{answer};
 ghost use Rattle.exports.specs.ClaimCall.{claimed, claim_answer};
 ghost use Rattle.exports.specs.code.ClaimTypes.{part_of, claim_refusal_answer, claimed_of};
 
+use crate::tell::tell;
 use calls::Answer;
 use common::Refusal;
 use session::{LineRefusal, Session};
@@ -63,10 +64,8 @@ fn claim_in(bundle: &[u8], names: &[u8], old: &[u8], new: &[u8]) -> Result<usize
     let left = first.answer.map_err(ClaimRefusal::OldSelector)?;
     let second = first.session.text(names, new);
     let right = second.answer.map_err(ClaimRefusal::NewSelector)?;
-    match second.session.step_saying(left, right) {
-        Some(step) => Ok(usize::from(step)),
-        None => Err(ClaimRefusal::Claim(Refusal::NotCovered(1))),
-    }
+    let step = second.session.step_saying(left, right);
+    step.ok_or(ClaimRefusal::Claim(Refusal::NotCovered(1)))
 }
 
 // The number of the answer, its value, and what it is about.
@@ -82,7 +81,6 @@ pub fn spinebriar_claim(
         ≡ claim_answer bundle.now names.now old.now new.now }
 {
     let answer = claim_in(bundle, names, old, new);
-    *value = answer.value();
     *part = answer.err().map_or(0, ClaimRefusal::part);
-    answer.number()
+    tell(answer, value)
 }

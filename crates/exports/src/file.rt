@@ -2,7 +2,7 @@
 ghost use Rattle.calls.specs.Book.{answer};
 ghost use Rattle.filing.specs.Filing.{FileMet};
 
-use calls::Answer;
+use crate::tell::tell;
 
 // The number of the answer and its value: the bundle's length, which is written to the buffer's start, or the refused
 // line, or the length needed.
@@ -10,7 +10,5 @@ pub fn spinebriar_file(calls: &[u8], out: &mut [u8], value: &mut usize) -> u16
     ensures { FileMet calls.now out.old (answer result value.new)
         out.new }
 {
-    let answer = filing::file(calls, out);
-    *value = answer.value();
-    answer.number()
+    tell(filing::file(calls, out), value)
 }

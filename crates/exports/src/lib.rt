@@ -6,6 +6,7 @@ mod claim;
 mod file;
 mod read;
 mod select;
+mod tell;
 
 pub use claim::spinebriar_claim;
 pub use file::spinebriar_file;

@@ -3,6 +3,7 @@ ghost use Rattle.std.specs.Prelude.{◌≡◌};
 ghost use Rattle.calls.specs.Book.{answer};
 ghost use Rattle.session.specs.Reading.{reading};
 
+use crate::tell::tell;
 use calls::Answer;
 use session::Session;
 
@@ -17,7 +18,5 @@ pub fn spinebriar_read(bytes: &[u8]) -> u16
 pub fn spinebriar_read_line(bytes: &[u8], value: &mut usize) -> u16
     ensures { answer result value.new ≡ (reading bytes.now).answer }
 {
-    let answer = Session::read(bytes).answer;
-    *value = answer.value();
-    answer.number()
+    tell(Session::read(bytes).answer, value)
 }

@@ -3,11 +3,12 @@ ghost use Rattle.calls.specs.Book.{answer};
 ghost use Rattle.calls.specs.code.Answers.{answer_of};
 ghost use Rattle.exports.specs.TextSelect.{TextSelectMade};
 
-use calls::Answer;
+use crate::tell::tell;
 use common::Refusal;
 use session::Session;
 
-// Marks the nodes that the selector selects, as `Session::select` does.
+// Marks the nodes that the selector selects, as `Session::select` does. As many parameters as the host's call has, but
+// for the value.
 fn select_text(
     names: &[u8],
     selector: &[u8],
@@ -39,6 +40,5 @@ pub fn spinebriar_select(
         marks.old (answer result value.new) marks.new }
 {
     let answer = select_text(names, selector, document, context, limit, marks);
-    *value = answer.value();
-    answer.number()
+    tell(answer, value)
 }

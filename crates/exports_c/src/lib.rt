@@ -1,4 +1,5 @@
-// The archive for a host in C: each call is that of crate exports, with its name and its clauses.
+// The archive for a host in C: each call is that of crate exports, with its name and its clauses. They stand twice,
+// since no crate can depend on a static library, and theorems speaks of the calls.
 #![tactic(auto)]
 
 ghost use Rattle.std.specs.Prelude.{◌≡◌};

@@ -14,6 +14,7 @@ use Rattle.common.specs.declared.refusal.Refusal.{Refusal}
 use Rattle.common.specs.declared.refusal.Refusal.TheVariants as refusals
 use Rattle.common.specs.code.Refusal.{refusal_number}
 use Rattle.common.proofs.Refusals.{refusal_some}
+use Rattle.lines.specs.Line.{lines}
 use Rattle.grammar.specs.Bytes.{Bytes}
 use Rattle.calls.specs.Calls.{Call, text}
 use Rattle.calls.specs.code.Answers.{NumberOrRefusal, answer_with, answer_of, refusal_answer, line_answer}
@@ -24,9 +25,8 @@ use Rattle.session.specs.Promises.{Met}
 use Rattle.session.specs.WriteCall.{WriteMet}
 use Rattle.script.specs.Rest.{newline_for_space, names_of}
 use Rattle.filing.specs.declared.Filed.{Filed}
-use Rattle.filing.specs.Filing.{makes, lending, filed, file_answer, file_buffer, FileMet}
-use Rattle.filing.specs.code.FilingMade.{rest_at, names_at, lent_by, call_left, ActionDone, LinesMet}
-use Rattle.filing.proofs.LinesLaws.{filed_from}
+use Rattle.filing.specs.Filing.{makes, lending, lines_filed, filed, file_answer, file_buffer, FileMet}
+use Rattle.filing.specs.code.FilingMade.{lent_by, call_left, ActionDone, LinesMet}
 
 -- a call that met its promise
 pub call_done : (f : Filed) (c : Call) {A : Type 0} (value : A → ℕ) (r : Result A Refusal) (u : Session)
@@ -54,27 +54,24 @@ text_done f size list left room put t r u m =
     call_done f _ (λ n. n) r u (subst (λ ys. Met f.session (text ys t) (answer_of r) u) (put.1 ∙ all) m)
 
 -- the names of a line that are not too many, and too many
-module _ (script : Bytes) (f : Filed) (at : ℕ) (bytes : Bor Bytes) (is : bytes.now ≡ rest_at script at) where
-  size_is : length (names_at script at) ≡ length bytes.now
+module _ (f : Filed) (rest : Bor Bytes) where
+  size_is : length (names_of rest.now) ≡ length rest.now
   unfolding names_of
-  size_is = length-map (rest_at script at) newline_for_space ∙ sym (ap length is)
+  size_is = length-map rest.now newline_for_space
 
-  pub lent : (few : length bytes.now ≤ max_bytes) → ActionDone f (lending (names_at script at))
-      (Ok (record { session = f.session; names = record { bytes = bytes; few = few } }))
+  pub lent : (few : length rest.now ≤ max_bytes) → ActionDone f (lending (names_of rest.now))
+      (Ok (record { session = f.session; names = record { bytes = rest; few = few } }))
   unfolding lending
   lent few =
-      rw (le-leb (length (names_at script at)) max_bytes (omega (arith, size_is))) (record {
-        number = refl;
-        session = refl;
-        list = ap names_of is;
-      })
+      rw (le-leb (length (names_of rest.now)) max_bytes (omega (arith, size_is)))
+      (record { number = refl; session = refl; list = refl })
 
-  pub not_lent : max_bytes < length bytes.now → ActionDone f (lending (names_at script at)) (Err refusals.WrongForm)
+  pub not_lent : max_bytes < length rest.now → ActionDone f (lending (names_of rest.now)) (Err refusals.WrongForm)
   unfolding lending
-  not_lent h = rw (lt-leb (length (names_at script at)) max_bytes (omega (arith, size_is))) refl
+  not_lent h = rw (lt-leb (length (names_of rest.now)) max_bytes (omega (arith, size_is))) refl
 
 pub filed_from_start : (script : Bytes) (f : Filed) → (f.session ≡ fresh_session) × (f.names.bytes.now ≡ [])
-    → filed script ≡ filed_from f.session script (lent_by f) 1 0
+    → filed script ≡ lines_filed f.session (lent_by f) 1 (lines script)
 unfolding filed names_of
 filed_from_start script f start = rw (start.0, start.1)
 

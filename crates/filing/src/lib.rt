@@ -3,15 +3,17 @@
 
 mod lent_names;
 
-ghost use Rattle.std.specs.Prelude.{◌≡◌, ◌<◌, [], length};
+ghost use Rattle.std.specs.Prelude.{◌≡◌, [], length};
 ghost use Rattle.std.proofs.Math.Option.{some};
 ghost use Rattle.common.specs.Limits.{max_bytes};
+ghost use Rattle.lines.specs.Line.{lines};
 ghost use Rattle.calls.specs.Calls.{Call};
 ghost use Rattle.calls.specs.code.Answers.{answer_with};
 ghost use Rattle.session.specs.View.{fresh_session};
+ghost use Rattle.script.specs.Rest.{names_of};
 ghost use Rattle.filing.specs.Filing.{lending, makes, FileMet};
-ghost use Rattle.filing.specs.code.FilingMade.{rest_at, names_at, lent_by, call_left, command_action};
-ghost use Rattle.filing.specs.code.FilingMade.{ActionDone, LineMet, LinesMet, file_refusal_answer};
+ghost use Rattle.filing.specs.code.FilingMade.{lent_by, call_left, command_action, first_action};
+ghost use Rattle.filing.specs.code.FilingMade.{ActionDone, LinesMet, file_refusal_answer};
 ghost use Rattle.filing.specs.declared.FileRefusal.TheVariants as FILE;
 
 use crate::lent_names::LentNames;
@@ -69,13 +71,7 @@ struct Filed<'a> {
     names: LentNames<'a>,
 }
 
-// What a line leaves, and where the next one starts.
-#[derive(Clone, Copy)]
-struct LineMade<'a> {
-    left: Filed<'a>,
-    next: usize,
-}
-
+// Room for a list of names. Fixed memory without a heap, and no ArrayVec: the line at script's `put_names`.
 fn no_bytes() -> [u8; common::MAX_BYTES]
     ensures { length result ≡ max_bytes }
 {
@@ -96,70 +92,57 @@ impl<'a> Filed<'a> {
     fn called<T: Copy>(self, made: Answered<Result<T, Refusal>>) -> Result<Filed<'a>, Refusal>
         ensures { result ≡ call_left self.entry made.session made.answer }
     {
-        match made.answer {
-            Ok(_) => Ok(Filed {
-                session: made.session,
-                ..self
-            }),
-            Err(refusal) => Err(refusal),
-        }
-    }
-
-    // The line at `at` lends its names, where they are not too many.
-    fn lending(self, script: &'a [u8], at: usize) -> Result<Filed<'a>, Refusal>
-        ensures { ActionDone self.entry (lending (names_at script.now at)) result }
-    {
-        let bytes = script::rest_at(script, at);
-        if common::MAX_BYTES < bytes.len() {
-            return Err(Refusal::WrongForm);
-        }
+        made.answer?;
         Ok(Filed {
-            names: LentNames { bytes },
+            session: made.session,
             ..self
         })
     }
 
-    // The text of the line at `at`, with the names that are lent.
-    fn text(self, script: &[u8], at: usize) -> Result<Filed<'a>, Refusal>
-        ensures { ActionDone self.entry (some (makes (Call.text (lent_by self.entry) (rest_at script.now at)))) result }
+    // The names that the rest of a line lends, where they are not too many.
+    fn lending(self, rest: &'a [u8]) -> Result<Filed<'a>, Refusal>
+        ensures { ActionDone self.entry (lending (names_of rest.now)) result }
+    {
+        if common::MAX_BYTES < rest.len() {
+            return Err(Refusal::WrongForm);
+        }
+        Ok(Filed {
+            names: LentNames { bytes: rest },
+            ..self
+        })
+    }
+
+    // The text that the rest of a line is, with the names that are lent.
+    fn text(self, rest: &[u8]) -> Result<Filed<'a>, Refusal>
+        ensures { ActionDone self.entry (some (makes (Call.text (lent_by self.entry) rest.now))) result }
     {
         let mut list = no_bytes();
         let size = script::put_names(self.names.bytes, &mut list);
-        let made = self
-            .session
-            .text(&list[..size], script::rest_at(script, at));
-        self.called(made)
+        self.called(self.session.text(&list[..size], rest))
     }
 
-    // What the command of the line at `at` does.
-    fn command(self, script: &'a [u8], at: usize, command: Command) -> Result<Filed<'a>, Refusal>
-        ensures { ActionDone self.entry (command_action command (lent_by self.entry) (rest_at script.now at)) result }
+    // What a command does, with the rest of its line.
+    fn command(self, command: Command, rest: &'a [u8]) -> Result<Filed<'a>, Refusal>
+        ensures { ActionDone self.entry (command_action command (lent_by self.entry) rest.now) result }
     {
         let s = self.session;
         match command {
-            Command::Term(kind, a, b, c) => self.called(s.term(kind, a, b, c)),
-            Command::Step(rule, left, right, first, second) => {
-                self.called(s.step(rule, left, right, first, second))
-            }
+            Command::Term(row) => self.called(s.term(row)),
+            Command::Step(step) => self.called(s.step(step)),
             Command::Point(name) => self.called(s.point(name)),
             Command::Return(name) => self.called(s.return_to(name)),
-            Command::Names => self.lending(script, at),
-            Command::Text => self.text(script, at),
+            Command::Names => self.lending(rest),
+            Command::Text => self.text(rest),
             _ => Err(Refusal::WrongForm),
         }
     }
 
-    // What the line at `at` does, and where the next one starts.
-    fn line(self, script: &'a [u8], at: usize) -> Result<LineMade<'a>, Refusal>
-        requires { at < length script.now }
-        ensures { LineMet self.entry script.now at result }
+    // What a line does.
+    fn line(self, line: &'a [u8]) -> Result<Filed<'a>, Refusal>
+        ensures { ActionDone self.entry (first_action (lent_by self.entry) (lines line.now)) result }
     {
-        let Some(read) = script::call_at(script, at) else {
-            return Err(Refusal::WrongForm);
-        };
-        let next = read.next;
-        let left = self.command(script, at, read.command)?;
-        Ok(LineMade { left, next })
+        let read = script::call_at(line, 0).ok_or(Refusal::WrongForm)?;
+        self.command(read.command, script::rest_at(line, 0))
     }
 }
 
@@ -168,16 +151,12 @@ fn make_lines(script: &[u8]) -> Result<Session, LineRefusal>
     ensures { LinesMet script.now result }
 {
     let mut left = Filed::new();
-    let mut at = 0;
-    let mut line: usize = 0;
-    // By place: where the next line starts is known only when this one is read.
-    while at < script.len() {
-        line += 1;
-        let made = left
-            .line(script, at)
-            .map_err(|refusal| LineRefusal { refusal, line })?;
-        left = made.left;
-        at = made.next;
+    for (i, line) in script.split_inclusive(|b| *b == lines::NEWLINE).enumerate() {
+        let number = i + 1;
+        left = left.line(line).map_err(|refusal| LineRefusal {
+            refusal,
+            line: number,
+        })?;
     }
     Ok(left.session)
 }

@@ -19,19 +19,8 @@ use Rattle.grammar.specs.Grammar.{Rel, one, slash, slashes}
 use Rattle.grammar.specs.Denotes.{axis_of, test_of, constant_of, step_of, rel_of, rel_after, path_of, union_of}
 use Rattle.grammar.specs.Denotes.{unary_of}
 use Rattle.grammar.specs.Denotes.{and_of, or_of, every_below}
+use Rattle.common.proofs.Tests.{any_cong}
 use Rattle.grammar.specs.Abbreviations.{unabbreviated, any_node, before, Expansions, Meanings, Expanded, Meant}
-
--- the same test below a bound
-any_same : (n : ℕ) (f g : ℕ → Bool) → ((z : ℕ) → f z ≡ g z) → any_below n f ≡ any_below n g
-unfolding any_below
-any_same zero f g h = refl
-any_same (suc n) f g h = ap₂ (λ (a b : Bool). a || b) (any_same n f g h) (h n)
-
--- no test passes
-none_passes : (n : ℕ) (f : ℕ → Bool) → ((z : ℕ) → z < n → f z ≡ false) → any_below n f ≡ false
-unfolding any_below
-none_passes zero f h = refl
-none_passes (suc n) f h = rw (none_passes n f (λ z l. h z (omega arith)), h n (omega arith)) refl
 
 -- of a test that only 0 can pass
 only_zero : (n m : ℕ) (f : ℕ → Bool) → 0 < n → 0 < m → any_below n (λ z. ltb z m && eqb z 0 && f z) ≡ f 0
@@ -84,11 +73,10 @@ module _ (num : Bytes → ℕ) where
     unfolding rel_after rel_of selects
     from_root (one s) y = only_zero (length d) (length d) (λ z. selects d (step_of num s) z y) some-node some-node
     from_root (slash r w s) y =
-        any_same (length d) _ _ (λ z. ap (λ (b : Bool). b && selects d (step_of num s) z y) (from_root r z))
+        any_cong _ _ (length d) (λ z _. ap (λ (b : Bool). b && selects d (step_of num s) z y) (from_root r z))
     from_root (slashes r w s) y =
-        any_same (length d) _ _
-        (λ z. ap (λ (b : Bool). b && selects d (step_of num s) z y)
-        (any_same (length d) _ _ (λ v. ap (λ (b : Bool). b && selects d every_below v z) (from_root r v))))
+        any_cong _ _ (length d) (λ z _. ap (λ (b : Bool). b && selects d (step_of num s) z y)
+        (any_cong _ _ (length d) (λ v _. ap (λ (b : Bool). b && selects d every_below v z) (from_root r v))))
 
     constant_means : (b : Bool) → holds d (constant_of b) x ≡ b
     unfolding constant_of holds

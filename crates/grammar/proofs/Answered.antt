@@ -1,11 +1,11 @@
 -- The answer of the book is the one that the grammar gives, and there is no other. Assumes nothing.
-use Prim.Native.Nat.{ℕ, ◌-◌, ◌<◌, ◌≤◌}
+use Prim.Native.Nat.{ℕ, ◌-◌}
 use mathlib.Core.Path.{◌≡◌, refl, ap}
 use mathlib.Core.Bool.{Bool, true, false}
 use mathlib.Core.List.{List}
 use mathlib.Core.Option.{Option, none, some}
-use native.Mathlib.Omega.{arith}
-use lib.Dec.{leb, leb→le, le→leb, nleb→lt}
+use Rattle.std.proofs.lemmas.Bool.{le-leb, leb-false, lt-leb}
+use lib.Dec.{leb, leb→le}
 use lib.ListN.{length}
 use Rattle.terms.specs.Row.{Row}
 use Rattle.grammar.specs.Bytes.{Bytes}
@@ -15,18 +15,8 @@ use Rattle.grammar.specs.Denotes.{unlisted, union_names, union_of, put_path, nes
 use Rattle.grammar.specs.Answer.{Reply, reply, Answers, outside, unnumbered, deep, full, held}
 use Rattle.grammar.specs.code.Reader.{Outcome, good, bad, run, initial}
 use Rattle.grammar.specs.code.ReaderAnswer.{answer, read_answer, names_answer, term_answer}
-use Rattle.grammar.proofs.Basics.{so, is_true}
+use Rattle.grammar.proofs.Basics.{so}
 use Rattle.grammar.proofs.Place.{sound_run, complete_run, bad_outside, one_place}
-
-over : (m n : ℕ) → n < m → leb m n ≡ false
-over m n h = go (leb m n) refl
-  where
-    go : (b : Bool) → leb m n ≡ b → leb m n ≡ false
-    go true e = absurd (omega (arith, leb→le m n (so (leb m n) e), h))
-    go false e = e
-
-under : (m n : ℕ) → m ≤ n → leb m n ≡ true
-under m n h = is_true (leb m n) (le→leb m n h)
 
 -- no other answer
 pub only : (list t : Bytes) (rs : List Row) (n v : ℕ) (r : List Row) → Answers list t rs n v r → reply n v r
@@ -39,27 +29,24 @@ only list t rs n v r (outside {k = k} h) = go (run t initial) refl
     go (good y) e = absurd (h.outside y.tree (sound_run t y e))
 only list t rs n v r (unnumbered {u = u} s e) = rw (complete_run t u s, e) refl
 only list t rs n v r (deep {u = u} s e h) =
-    rw (complete_run t u s, e, over (nest_path (union_of (number_of list) u)) 32 h) refl
+    rw (complete_run t u s, e, lt-leb (nest_path (union_of (number_of list) u)) 32 h) refl
 only list t rs n v r (full {u = u} s e h i) =
     rw (
       complete_run t u s,
       e,
-      under (nest_path (union_of (number_of list) u)) 32 h,
-      over (length (put_path (union_of (number_of list) u) rs).rows) 1024 i,
+      le-leb (nest_path (union_of (number_of list) u)) 32 h,
+      lt-leb (length (put_path (union_of (number_of list) u) rs).rows) 1024 i,
     ) refl
 only list t rs n v r (held u s e h i) =
     rw (
       complete_run t u s,
       e,
-      under (nest_path (union_of (number_of list) u)) 32 h,
-      under (length (put_path (union_of (number_of list) u) rs).rows) 1024 i,
+      le-leb (nest_path (union_of (number_of list) u)) 32 h,
+      le-leb (length (put_path (union_of (number_of list) u) rs).rows) 1024 i,
     ) refl
 
 abbrev pub Is : Bytes → Bytes → List Row → Reply → Type 0
 Is list t rs a = Answers list t rs a.number a.value a.rows
-
-nleb : (m n : ℕ) → leb m n ≡ false → n < m
-nleb m n e = nleb→lt m n (rw e tt)
 
 limited : (list t : Bytes) (rs : List Row) (u : Union) → Spells t u → unlisted (number_of list) (union_names u 0) ≡ none
     → (b c : Bool)
@@ -67,8 +54,8 @@ limited : (list t : Bytes) (rs : List Row) (u : Union) → Spells t u → unlist
     → leb (length (put_path (union_of (number_of list) u) rs).rows) 1024 ≡ c
     → Is list t rs (term_answer (union_of (number_of list) u) rs)
 unfolding term_answer
-limited list t rs u s e false c h i = rw h (deep s e (nleb _ 32 h))
-limited list t rs u s e true false h i = rw (h, i) (full s e (leb→le _ 32 (so _ h)) (nleb _ 1024 i))
+limited list t rs u s e false c h i = rw h (deep s e (leb-false _ 32 h))
+limited list t rs u s e true false h i = rw (h, i) (full s e (leb→le _ 32 (so _ h)) (leb-false _ 1024 i))
 limited list t rs u s e true true h i = rw (h, i) (held u s e (leb→le _ 32 (so _ h)) (leb→le _ 1024 (so _ i)))
 
 named : (list t : Bytes) (rs : List Row) (u : Union) → Spells t u → (k : Option ℕ)

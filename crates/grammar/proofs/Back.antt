@@ -4,7 +4,8 @@ use mathlib.Core.Path.{◌≡◌, refl, sym, ap, ◌∙◌, subst}
 use mathlib.Core.Bool.{Bool, true, false, ◌&&◌}
 use mathlib.Core.List.{[], ◌∷◌, ◌++◌, append_assoc, append-nil}
 use mathlib.Core.Option.{none, some}
-use lib.Dec.{eqb, ltb, ltb→lt}
+use Rattle.std.proofs.lemmas.Bool.{and_from, and_parts, eqb-true, false≢true, ltb-true}
+use lib.Dec.{eqb, ltb}
 use Rattle.lines.specs.Ascii.{ascii}
 use Rattle.lines.specs.Line.{same_bytes}
 use Rattle.grammar.specs.Bytes.{Bytes, is_space, is_start, is_name, is_quote, every, is_word, nonempty}
@@ -30,7 +31,7 @@ use Rattle.grammar.specs.code.Reader.{path_byte, group_byte, lead_byte, call_byt
 use Rattle.grammar.specs.code.Reader.{after_byte}
 use Rattle.grammar.specs.code.Reader.{keyword_byte}
 use Rattle.lines.proofs.SameBytes.{same_bytes_lem}
-use Rattle.grammar.proofs.Basics.{so, never, and_out, and_in, branch, eq_byte}
+use Rattle.grammar.proofs.Basics.{branch}
 
 unfoldable pub told_prefix : Prefix → Bytes
 told_prefix bare = []
@@ -180,17 +181,17 @@ abbrev pub Read : Bytes → Next → Type 0
 Read t none = Unit {0}
 Read t (some st) = (told st ≡ t) × FineState st
 
-snoc : (p : ℕ → Bool) (w : Bytes) (b : ℕ) → every p w ≡ true → p b ≡ true → every p (w ++ (b ∷ [])) ≡ true
+pub snoc : (p : ℕ → Bool) (w : Bytes) (b : ℕ) → every p w ≡ true → p b ≡ true → every p (w ++ (b ∷ [])) ≡ true
 unfolding every
 snoc p [] b h e = rw e
 snoc p (c ∷ w) b h e = let u =
-    and_out (p c) (every p w) h in and_in (p c) (every p (w ++ (b ∷ []))) u.0 (snoc p w b u.1 e)
+    and_parts (p c) (every p w) h in and_from (p c) (every p (w ++ (b ∷ []))) u.0 (snoc p w b u.1 e)
 
 word_snoc : (w : Bytes) (b : ℕ) → is_word w ≡ true → is_name b ≡ true → is_word (w ++ (b ∷ [])) ≡ true
 unfolding is_word
-word_snoc [] b h e = absurd (never h)
+word_snoc [] b h e = absurd (false≢true h)
 word_snoc (c ∷ w) b h e = let u =
-    and_out (is_start c) (every is_name w) h in and_in (is_start c) (every is_name (w ++ (b ∷ []))) u.0
+    and_parts (is_start c) (every is_name w) h in and_from (is_start c) (every is_name (w ++ (b ∷ []))) u.0
     (snoc is_name w b u.1 e)
 
 full : (w : Bytes) (b : ℕ) → nonempty (w ++ (b ∷ [])) ≡ true
@@ -200,7 +201,7 @@ full (c ∷ w) b = refl
 
 more_apart : (t s : Bytes) → apart t ≡ true → apart (t ++ s) ≡ true
 unfolding apart
-more_apart [] s h = absurd (never h)
+more_apart [] s h = absurd (false≢true h)
 more_apart (b ∷ t) s h = h
 
 more_left : (l : Left) (t s : Bytes) → ClearLeft l t → ClearLeft l (t ++ s)
@@ -344,15 +345,15 @@ gap_may k w b h = (λ _. h, λ _. h)
 gap_name : (k : Last) (w : Bytes) (b : ℕ) → is_name b ≡ false → Gap k w b
 unfolding is_name is_start
 gap_name k w b h = (
-  λ e. absurd (never (sym (rw (eq_byte b 97 e) at h))),
-  λ e. absurd (never (sym (rw (eq_byte b 111 e) at h))),
+  λ e. absurd (false≢true (sym (rw (eqb-true b 97 e) at h))),
+  λ e. absurd (false≢true (sym (rw (eqb-true b 111 e) at h))),
 )
 
 gap_start : (k : Last) (w : Bytes) (b : ℕ) → is_start b ≡ false → Gap k w b
 unfolding is_start
 gap_start k w b h = (
-  λ e. absurd (never (sym (rw (eq_byte b 97 e) at h))),
-  λ e. absurd (never (sym (rw (eq_byte b 111 e) at h))),
+  λ e. absurd (false≢true (sym (rw (eqb-true b 97 e) at h))),
+  λ e. absurd (false≢true (sym (rw (eqb-true b 111 e) at h))),
 )
 
 spell_filter : (s : LocationStep) (w : Bytes) (e : Or) (v : Bytes) → spell_step (filter s w e v)
@@ -397,7 +398,7 @@ shut_read (bracket c g l s v) e w b t h f he hw =
     branch (Read t) (eqb b 93) _ _
     (λ i. (
       rw spell_filter (sym (list_filter (told_ctx c) (told_alt g) (told_lead l) (spell_step s) v (spell_or e) w)
-          ∙ (rw (eq_byte b 93 i) at h)),
+          ∙ (rw (eqb-true b 93 i) at h)),
       (
         (f.0, f.1, f.2),
         rw spell_filter (more_clr c g l (spell_step s) _ f.3),
@@ -411,14 +412,14 @@ shut_read (negate x p v u) e w b t h f he hw =
     branch (Read t) (eqb b 41) _ _
     (λ i. (
       rw spell_negation (sym (list_negation (told_open x) (told_pend p) v u (spell_or e) w)
-          ∙ (rw (eq_byte b 41 i) at h)),
+          ∙ (rw (eqb-true b 41 i) at h)),
       (f.0, f.1, rw spell_negation (clear_negation p v _ f.2), (f.3, f.4, f.5, he, hw), refl, refl),
     ))
     (λ _. tt)
 shut_read (grouped x p v) e w b t h f he hw =
     branch (Read t) (eqb b 41) _ _
     (λ i. (
-      rw spell_group (sym (list_group (told_open x) (told_pend p) v (spell_or e) w) ∙ (rw (eq_byte b 41 i) at h)),
+      rw spell_group (sym (list_group (told_open x) (told_pend p) v (spell_or e) w) ∙ (rw (eqb-true b 41 i) at h)),
       (f.0, f.1, rw spell_group (clear_group p v _ f.2), (f.3, f.4, he, hw), refl, refl),
     ))
     (λ _. tt)
@@ -429,8 +430,8 @@ unary_read : (x : Open) (p : Pend) (u : Unary) (w : Bytes) (b : ℕ) (t : Bytes)
     → Gap (last_unary u) w b → Read t (unary_byte x p u w b)
 unfolding unary_byte told told_word
 unary_read x p u w b t h fx fp fc fu fw g =
-    branch (Read t) (eqb b 97) _ _ (λ i. (rw (eq_byte b 97 i) at h, (fx, fp, fc, fu, fw, g.0 i)))
-    (λ _. branch (Read t) (eqb b 111) _ _ (λ i. (rw (eq_byte b 111 i) at h, (fx, fp, fc, fu, fw, g.1 i)))
+    branch (Read t) (eqb b 97) _ _ (λ i. (rw (eqb-true b 97 i) at h, (fx, fp, fc, fu, fw, g.0 i)))
+    (λ _. branch (Read t) (eqb b 111) _ _ (λ i. (rw (eqb-true b 111 i) at h, (fx, fp, fc, fu, fw, g.1 i)))
     (λ _. shut_read x (or_to p u) w b t (rw (or_told p u, append_assoc) h) fx (or_fine p u (room_of x) fp fu fc) fw))
 
 union_read : (c : Ctx) (u : Union) (w : Bytes) (b : ℕ) (t : Bytes) → told_ctx c ++ (spell_union u ++ (w ++ (b ∷ [])))
@@ -468,7 +469,7 @@ path_read c g p w b t h fc fg fl fp fw k =
     branch (Read t) (eqb b 124) _ _
     (λ i. (
       bar_list (told_ctx c) (told_alt g) (spell_path p) w (told_alt (more (join_alt g p) w)) t (bar_told g p w)
-          (rw (eq_byte b 124 i) at h),
+          (rw (eqb-true b 124 i) at h),
       ((fc, (f, fw), tt), bar_clear c g p w fl, refl),
     ))
     (λ _. union_read c (join_alt g p) w b t (rw (alt_told, append_assoc) h) fc l f fw (rw alt_last k))
@@ -476,9 +477,6 @@ path_read c g p w b t h fc fg fl fp fw k =
 enter_read : (t : Bytes) (x : Open) → told_open x ≡ t → FineOpen x → Read t (some (enter x))
 unfolding told before told_ctx told_alt told_pend told_left told_lead told_prefix every
 enter_read t x h f = (simp append-nil h, (((f, tt), tt, tt), tt, refl))
-
-room_of_lem : (d : ℕ) → ltb 0 d ≡ true → 0 < d
-room_of_lem d h = ltb→lt 0 d (so (ltb 0 d) h)
 
 operand_list : (x p w t : Bytes) → ((x ++ p) ++ []) ++ w ≡ t → x ++ (p ++ w) ≡ t
 operand_list x p w t h = simp (append_assoc, append-nil) at h
@@ -490,15 +488,15 @@ group_read top g w b t h fc fl fw = tt
 group_read (inside x p) (more u v) w b t h fc fl fw = tt
 group_read (inside x p) first w b t h fc fl fw =
     branch (Read t) (eqb b 40 && ltb 0 (room_of x)) _ _
-    (λ i. let u = and_out (eqb b 40) (ltb 0 (room_of x)) i in
+    (λ i. let u = and_parts (eqb b 40) (ltb 0 (room_of x)) i in
     enter_read t (grouped x p w)
-    (rw (eq_byte b 40 u.0) at (operand_list (told_open x) (told_pend p) (w ++ (b ∷ [])) t h))
-    (fc.0, fc.1, rw (eq_byte b 40 u.0) at fl, fw, room_of_lem (room_of x) u.1))
+    (rw (eqb-true b 40 u.0) at (operand_list (told_open x) (told_pend p) (w ++ (b ∷ [])) t h))
+    (fc.0, fc.1, rw (eqb-true b 40 u.0) at fl, fw, ltb-true 0 (room_of x) u.1))
     (λ _. tt)
 
 less_apart : (t s : Bytes) → nonempty t ≡ true → apart (t ++ s) ≡ true → apart t ≡ true
 unfolding apart nonempty
-less_apart [] s h i = absurd (never h)
+less_apart [] s h i = absurd (false≢true h)
 less_apart (b ∷ t) s h i = i
 
 less_left : (l : Left) (t s : Bytes) → nonempty t ≡ true → ClearLeft l (t ++ s) → ClearLeft l t
@@ -526,7 +524,7 @@ lead_read : (c : Ctx) (g : Alt) (l : Lead) (w : Bytes) (b : ℕ) (t : Bytes) →
     → FineAt c g l → Clr c g l (w ++ (b ∷ [])) → Spaces w → is_start b ≡ false → Read t (lead_byte c g l w b)
 unfolding lead_byte told
 lead_read c g (start bare) w b t h fa fl fw e =
-    branch (Read t) (eqb b 47) _ _ (λ i. (rw (eq_byte b 47 i) at h, (fa, rw (eq_byte b 47 i) at fl, fw)))
+    branch (Read t) (eqb b 47) _ _ (λ i. (rw (eqb-true b 47 i) at h, (fa, rw (eqb-true b 47 i) at fl, fw)))
     (λ _. group_read c g w b t h fa.0 fl fw)
 lead_read c g (start (at_root v)) w b t h fa fl fw e = root_read c g v w b t h fa fl fw e
 lead_read c g (start (at_any v)) w b t h fa fl fw e = tt
@@ -541,15 +539,15 @@ need_read c g l w b t h fa fl fw =
     (λ n. branch (Read t) (is_space b) _ _ (λ i. (h, (fa, fl, snoc is_space w b fw i)))
     (λ _. branch (Read t) (eqb b 42) _ _
     (λ i. (
-      rw (append-nil (w ++ (42 ∷ []))) (rw (eq_byte b 42 i) at h),
-      (fa, rw (eq_byte b 42 i) at fl, (tt, fw), refl, refl),
+      rw (append-nil (w ++ (42 ∷ []))) (rw (eqb-true b 42 i) at h),
+      (fa, rw (eqb-true b 42 i) at fl, (tt, fw), refl, refl),
     ))
     (λ _. branch (Read t) (eqb b 64) _ _
     (λ i. (
-      rw (append-nil (w ++ (64 ∷ []))) (rw (eq_byte b 64 i) at h),
-      (fa, rw (append-nil (w ++ (64 ∷ []))) (rw (eq_byte b 64 i) at fl), fw, refl),
+      rw (append-nil (w ++ (64 ∷ []))) (rw (eqb-true b 64 i) at h),
+      (fa, rw (append-nil (w ++ (64 ∷ []))) (rw (eqb-true b 64 i) at fl), fw, refl),
     ))
-    (λ _. branch (Read t) (eqb b 46) _ _ (λ i. (rw (eq_byte b 46 i) at h, (fa, rw (eq_byte b 46 i) at fl, fw)))
+    (λ _. branch (Read t) (eqb b 46) _ _ (λ i. (rw (eqb-true b 46 i) at h, (fa, rw (eqb-true b 46 i) at fl, fw)))
     (λ _. lead_read c g l w b t h fa fl fw n)))))
 
 -- a slash after a path's steps
@@ -590,7 +588,7 @@ call_read (inside x p) first (start bare) implied w n v t h fa fl fw fv =
     branch (Read t) (same_bytes n not_word) _ _
     (λ i. branch (Read t) (ltb 0 (room_of x)) _ _
     (λ j. enter_read t (negate x p w v) (rw (same_bytes_lem n not_word i) at k)
-    (fa.0.0, fa.0.1, rw (same_bytes_lem n not_word i) at fl, fw, fv, room_of_lem (room_of x) j)) (λ _. tt))
+    (fa.0.0, fa.0.1, rw (same_bytes_lem n not_word i) at fl, fw, fv, ltb-true 0 (room_of x) j)) (λ _. tt))
     (λ _. branch (Read t) (same_bytes n true_word) _ _
     (λ i. (
       rw (same_bytes_lem n true_word i) at k,
@@ -666,7 +664,7 @@ after_read c g l s w b t h fa fl fs fw k =
     (λ i. (
       slash_list (told_ctx c) (told_alt g) (told_prefix (prefix_of l)) (spell_rel (join l s)) (told_lead l)
           (spell_step s)
-          (w ++ (47 ∷ [])) (join_told l s) ∙ (rw (eq_byte b 47 i) at h),
+          (w ++ (47 ∷ [])) (join_told l s) ∙ (rw (eqb-true b 47 i) at h),
       (
         (fa.0, fa.1, lead_prefix_fine l (room c) fa.2),
         slash_clear c g l s fl,
@@ -676,12 +674,12 @@ after_read c g l s w b t h fa fl fs fw k =
     ))
     (λ _. branch (Read t) (eqb b 91) _ _
     (λ i. branch (Read t) (takes_predicate s && ltb 0 (room c)) _ _
-    (λ j. let u = and_out (takes_predicate s) (ltb 0 (room c)) j in
+    (λ j. let u = and_parts (takes_predicate s) (ltb 0 (room c)) j in
     enter_read t (bracket c g l s w)
-    (rw (eq_byte b 91 i) at (flat_list (told_ctx c) (told_alt g) (told_lead l) (spell_step s) (w ++ (b ∷ [])) t h))
-    (fa.0, fa.1, fa.2, fl, fs, u.0, fw, room_of_lem (room c) u.1)) (λ _. tt))
-    (λ _. branch (Read t) (eqb b 40) _ _ (λ i. paren_read c g l s w t (rw (eq_byte b 40 i) at h) fa fl fs fw)
-    (λ _. branch (Read t) (eqb b 58) _ _ (λ i. colon_read c g l s w t (rw (eq_byte b 58 i) at h) fa fl fs fw)
+    (rw (eqb-true b 91 i) at (flat_list (told_ctx c) (told_alt g) (told_lead l) (spell_step s) (w ++ (b ∷ [])) t h))
+    (fa.0, fa.1, fa.2, fl, fs, u.0, fw, ltb-true 0 (room c) u.1)) (λ _. tt))
+    (λ _. branch (Read t) (eqb b 40) _ _ (λ i. paren_read c g l s w t (rw (eqb-true b 40 i) at h) fa fl fs fw)
+    (λ _. branch (Read t) (eqb b 58) _ _ (λ i. colon_read c g l s w t (rw (eqb-true b 58 i) at h) fa fl fs fw)
     (λ _. path_read c g (path_to l s) w b t
     (path_list (told_ctx c) (told_alt g) (told_lead l) (spell_step s) (spell_path (path_to l s)) (w ++ (b ∷ [])) t
     (path_told l s) h) fa.0 fa.1
@@ -705,9 +703,9 @@ word_read : (x : Open) (p : Pend) (u : Unary) (w : Bytes) (k : Keyword) (b : ℕ
     → FineState (keyword x p u w k) → Read t (keyword_byte x p u w k b)
 unfolding keyword_byte told before told_word told_alt told_lead told_prefix told_ctx told_pend told_left room apart
     every
-word_read x p u w k_a b t h f = branch (Read t) (eqb b 110) _ _ (λ i. (rw (eq_byte b 110 i) at h, f)) (λ _. tt)
-word_read x p u w k_an b t h f = branch (Read t) (eqb b 100) _ _ (λ i. (rw (eq_byte b 100 i) at h, f)) (λ _. tt)
-word_read x p u w k_o b t h f = branch (Read t) (eqb b 114) _ _ (λ i. (rw (eq_byte b 114 i) at h, f)) (λ _. tt)
+word_read x p u w k_a b t h f = branch (Read t) (eqb b 110) _ _ (λ i. (rw (eqb-true b 110 i) at h, f)) (λ _. tt)
+word_read x p u w k_an b t h f = branch (Read t) (eqb b 100) _ _ (λ i. (rw (eqb-true b 100 i) at h, f)) (λ _. tt)
+word_read x p u w k_o b t h f = branch (Read t) (eqb b 114) _ _ (λ i. (rw (eqb-true b 114 i) at h, f)) (λ _. tt)
 word_read x p u w k_and b t h f =
     branch (Read t) (is_name b) _ _ (λ _. tt)
     (λ i. need_read (inside x (both (left_of p) (and_to p u) w)) first begin [] b t
@@ -784,7 +782,7 @@ step_read (need c g l w) b f =
 step_read (root1 c g w) b f =
     branch (Read _) (eqb b 47) _ _
     (λ i. (
-      rw (eq_byte b 47 i) (simp (append_assoc, append-nil)),
+      rw (eqb-true b 47 i) (simp (append_assoc, append-nil)),
       ((f.0.0, f.0.1, f.2), any_clear c (told_alt g) w f.1, refl),
     ))
     (λ _. need_read c g (start (at_root w)) [] b _ (simp (append_assoc, append-nil))
@@ -792,7 +790,7 @@ step_read (root1 c g w) b f =
 step_read (slash1 c g x r w) b f =
     branch (Read _) (eqb b 47) _ _
     (λ i. (
-      rw (eq_byte b 47 i) (simp (append_assoc, append-nil)),
+      rw (eqb-true b 47 i) (simp (append_assoc, append-nil)),
       (
         (f.0.0, f.0.1, (f.0.2, f.2, f.3)),
         steps_clear c (told_alt g) (told_prefix x) (spell_rel r) (w ++ (47 ∷ 47 ∷ [])) [] f.1,
@@ -805,7 +803,7 @@ step_read (slash1 c g x r w) b f =
     (steps_clear c (told_alt g) (told_prefix x) (spell_rel r) (w ++ (47 ∷ [])) (b ∷ []) f.1) refl)
 step_read (dot1 c g l w) b f =
     branch (Read _) (eqb b 46) _ _
-    (λ i. (rw (eq_byte b 46 i) (simp (append_assoc, append-nil)), (f.0, clr_dots c g l w f.1, f.2, refl, refl)))
+    (λ i. (rw (eqb-true b 46 i) (simp (append_assoc, append-nil)), (f.0, clr_dots c g l w f.1, f.2, refl, refl)))
     (λ _. after_read c g l (dot w) [] b _ (simp append_assoc) f.0 f.1 f.2 refl
     (gap_may other [] b refl))
 step_read (name c g l a w n) b f =
@@ -819,7 +817,7 @@ step_read (name c g l a w n) b f =
 step_read (colon c g l w n v) b f =
     branch (Read _) (eqb b 58) _ _
     (λ i. (
-      rw (eq_byte b 58 i) (simp (append_assoc, append-nil)),
+      rw (eqb-true b 58 i) (simp (append_assoc, append-nil)),
       (f.0, colon_clear c g l w n v f.1, (f.2, f.3, f.4), refl),
     )) (λ _. tt)
 step_read (testing c g l a w) b f =
@@ -835,7 +833,7 @@ step_read (testing c g l a w) b f =
     ))
     (λ _. branch (Read _) (eqb b 42) _ _
     (λ i. (
-      rw (eq_byte b 42 i) (simp (append_assoc, append-nil)),
+      rw (eqb-true b 42 i) (simp (append_assoc, append-nil)),
       (f.0, clr_test c g l (spell_axis a) w (42 ∷ []) f.1, (f.2, f.3), refl, refl),
     )) (λ _. tt)))
 step_read (type_open c g l a w n v u) b f =
@@ -846,11 +844,11 @@ step_read (type_open c g l a w n v u) b f =
     ))
     (λ _. branch (Read _) (eqb b 41) _ _
     (λ i. (
-      rw (eq_byte b 41 i) (simp (append_assoc, append-nil)),
+      rw (eqb-true b 41 i) (simp (append_assoc, append-nil)),
       (f.0, clr_name c g l (spell_axis a) w n _ f.1, (f.2, (f.3, f.4, f.5, f.6)), refl, refl),
     ))
     (λ _. branch (Read _) (is_quote b && same_bytes n instruction_word) _ _
-    (λ i. let z = and_out (is_quote b) (same_bytes n instruction_word) i in (
+    (λ i. let z = and_parts (is_quote b) (same_bytes n instruction_word) i in (
       rw (← same_bytes_lem n instruction_word z.1) (simp append_assoc),
       (f.0, rw (same_bytes_lem n instruction_word z.1) at f.1, f.2, f.3, f.5, f.6, z.0),
     )) (λ _. tt)))
@@ -868,7 +866,7 @@ step_read (quoted c g l a w v u q m) b f =
     ))
     (λ _. branch (Read _) (eqb b q) _ _
     (λ i. (
-      rw (eq_byte b q i) (simp append_assoc),
+      rw (eqb-true b q i) (simp append_assoc),
       (f.0, f.1, f.2, f.3, f.4, f.5, f.6, f.7, refl),
     )) (λ _. tt))
 step_read (unquoted c g l a w v u q m y) b f =
@@ -879,7 +877,7 @@ step_read (unquoted c g l a w v u q m y) b f =
     ))
     (λ _. branch (Read _) (eqb b 41) _ _
     (λ i. (
-      rw (eq_byte b 41 i) (simp (append_assoc, append-nil)),
+      rw (eqb-true b 41 i) (simp (append_assoc, append-nil)),
       (
         f.0,
         clr_name c g l (spell_axis a) w instruction_word _ f.1,
@@ -898,7 +896,7 @@ step_read (const_open x p k w v u) b f =
     ))
     (λ _. branch (Read _) (eqb b 41) _ _
     (λ i. (
-      rw (eq_byte b 41 i) (simp (append_assoc, append-nil)),
+      rw (eqb-true b 41 i) (simp (append_assoc, append-nil)),
       (f.0, f.1, constant_clear p w (spell_bool k) _ f.2, (f.3, f.4, f.5), refl, refl),
     )) (λ _. tt))
 step_read (closed x p u w) b f =

@@ -1,12 +1,13 @@
 -- Tests as facts, and walks of the reader over parts of a text. Assumes nothing.
 use Prim.Native.Nat.{ℕ}
 use mathlib.Core.Path.{◌≡◌, refl, ◌∙◌}
-use mathlib.Core.Bool.{Bool, true, false, cond, ◌&&◌, ◌||◌}
+use mathlib.Core.Bool.{Bool, true, false, cond, ◌||◌}
 use mathlib.Core.List.{[], ◌∷◌, ◌++◌, append_assoc, append-nil}
 use mathlib.Core.Option.{none, some}
-use mathlib.Core.Logic.{◌⊎◌, inl, inr, ⊎_elim}
+use mathlib.Core.Logic.{⊎_elim}
 use native.Mathlib.Omega.{arith}
-use lib.Dec.{T, eqb, eqb→eq}
+use Rattle.std.proofs.lemmas.Bool.{and_parts, eqb-true, or_cases}
+use lib.Dec.{T, eqb}
 use Rattle.grammar.specs.Bytes.{Bytes, is_space, is_start, is_name, every}
 use Rattle.grammar.specs.code.Reader.{State, Next, step, walk, follow}
 
@@ -17,38 +18,21 @@ pub is_true : (b : Bool) → T b → b ≡ true
 is_true true t = refl
 is_true false t = absurd t
 
-pub never : false ≡ true → ⊥
-never e = so false e
-
-pub and_out : (a b : Bool) → (a && b) ≡ true → (a ≡ true) × (b ≡ true)
-and_out true b t = (refl, t)
-and_out false b t = absurd (never t)
-
-pub and_in : (a b : Bool) → a ≡ true → b ≡ true → (a && b) ≡ true
-and_in a b s t = rw (s, t)
-
-pub or_out : (a b : Bool) → (a || b) ≡ true → (a ≡ true) ⊎ (b ≡ true)
-or_out true b t = inl refl
-or_out false b t = inr t
-
 -- a test decides
 pub branch : {A : Type 0} (P : A → Type 0) (c : Bool) (x y : A) → (c ≡ true → P x) → (c ≡ false → P y)
     → P (cond c x y)
 branch P true x y f g = f refl
 branch P false x y f g = g refl
 
-pub eq_byte : (b c : ℕ) → eqb b c ≡ true → b ≡ c
-eq_byte b c e = eqb→eq b c (so (eqb b c) e)
-
 -- whitespace is no byte of a name
 pub space_cases : (P : ℕ → Type 0) (b : ℕ) → is_space b ≡ true → P 32 → P 9 → P 10 → P 13 → P b
 unfolding is_space
 space_cases P b t p q r s =
-    ⊎_elim (λ h. rw (eq_byte b 32 h) p)
-    (λ h. ⊎_elim (λ h. rw (eq_byte b 9 h) q)
-    (λ h. ⊎_elim (λ h. rw (eq_byte b 10 h) r) (λ h. rw (eq_byte b 13 h) s)
-    (or_out (eqb b 10) (eqb b 13) h)) (or_out (eqb b 9) (eqb b 10 || eqb b 13) h))
-    (or_out (eqb b 32) (eqb b 9 || (eqb b 10 || eqb b 13)) t)
+    ⊎_elim (λ h. rw (eqb-true b 32 h) p)
+    (λ h. ⊎_elim (λ h. rw (eqb-true b 9 h) q)
+    (λ h. ⊎_elim (λ h. rw (eqb-true b 10 h) r) (λ h. rw (eqb-true b 13 h) s)
+    (or_cases (eqb b 10) (eqb b 13) h)) (or_cases (eqb b 9) (eqb b 10 || eqb b 13) h))
+    (or_cases (eqb b 32) (eqb b 9 || (eqb b 10 || eqb b 13)) t)
 
 pub space_name : (b : ℕ) → is_space b ≡ true → is_name b ≡ false
 unfolding is_name is_start
@@ -91,6 +75,6 @@ module _ (p : ℕ → Bool) (f : Bytes → State)
   unfolding every
   collect [] w t e = rw append-nil refl
   collect (c ∷ v) w t e =
-      let u = and_out (p c) (every p v) e in
+      let u = and_parts (p c) (every p v) e in
       walk_byte (f w) (f (w ++ (c ∷ []))) _ c (v ++ t) (h w c u.0)
       (collect v (w ++ (c ∷ [])) t u.1 ∙ rw append_assoc refl)

@@ -6,6 +6,7 @@ use mathlib.Core.Bool.{Bool, true, false, cond}
 use mathlib.Core.List.{List, [], ◌∷◌, ◌++◌}
 use mathlib.Core.Option.{Option, none, some}
 use native.Mathlib.Omega.{arith}
+use Rattle.std.proofs.lemmas.Bool.{false≢true}
 use lib.Dec.{eqb}
 use lib.ListN.{length}
 use borrow.Author.Tests.{le-leb}
@@ -26,7 +27,6 @@ use Rattle.grammar.specs.Denotes.{axis_of, test_of, constant_of, step_of, rel_of
 use Rattle.grammar.specs.Denotes.{unary_of}
 use Rattle.grammar.specs.Denotes.{and_of, or_of, Named, test_names, step_names, rel_names, path_names, union_names}
 use Rattle.grammar.specs.Denotes.{unary_names, and_names, or_names, unlisted}
-use Rattle.grammar.proofs.Basics.{never}
 use Rattle.grammar.proofs.Stands.{well_formed_lem, StepFits, PathFits, QualifierFits}
 
 -- a word that is found stands in the list
@@ -34,12 +34,12 @@ found_first : (k : ℕ) (b : Bool) (o : Option ℕ) → (is_some o ≡ true → 
     → is_some (cond b (some 0) (next o)) ≡ true → or_zero (cond b (some 0) (next o)) < suc k
 unfolding is_some or_zero next
 found_first k true o h e = omega arith
-found_first k false none h e = absurd (never e)
+found_first k false none h e = absurd (false≢true e)
 found_first k false (some i) h e = omega (arith, h refl)
 
 find_below : (n : Bytes) (ms : List Bytes) → is_some (find n ms) ≡ true → or_zero (find n ms) < length ms
 unfolding find is_some
-find_below n [] e = absurd (never e)
+find_below n [] e = absurd (false≢true e)
 find_below n (m ∷ ms) e = found_first (length ms) (same_bytes n m) (find n ms) (find_below n ms) e
 
 axis_below_lem : (n : Bytes) → is_some (find n axes) ≡ true → or_zero (find n axes) ≤ max_axis
@@ -90,7 +90,7 @@ axis_fits (axis w n v) h = axis_below_lem n h.1
 
 some_none : (i : ℕ) → some i ≡ none → ⊥
 unfolding is_some
-some_none i e = never (sym (ap is_some e))
+some_none i e = false≢true (sym (ap is_some e))
 
 -- names that are all listed, in two lists one after the other
 module _ (num : Bytes → ℕ) where

@@ -5,7 +5,8 @@ use mathlib.Core.Bool.{Bool, true, false, not, ◌&&◌, ◌||◌}
 use mathlib.Core.List.{List, [], ◌∷◌, ◌++◌, append_assoc, append-nil}
 use mathlib.Core.Option.{Option, none, some}
 use mathlib.Core.Logic.{◌⊎◌, inl, inr, ⊎_elim}
-use lib.Dec.{eqb, ltb, lt→ltb}
+use Rattle.std.proofs.lemmas.Bool.{and_from, and_parts, eqb-true, false≢true, lt-ltb, not-true, or_cases, or_right}
+use lib.Dec.{eqb, ltb}
 use Rattle.lines.specs.Ascii.{ascii}
 use Rattle.lines.specs.Line.{same_bytes}
 use Rattle.grammar.specs.Bytes.{Bytes, is_space, is_start, is_name, is_quote, every, is_word, nonempty}
@@ -31,7 +32,7 @@ use Rattle.grammar.specs.code.Reader.{path_byte, group_byte, lead_byte, call_byt
 use Rattle.grammar.specs.code.Reader.{after_byte}
 use Rattle.grammar.specs.code.Reader.{keyword_byte}
 use Rattle.lines.proofs.SameBytes.{same_bytes_lem}
-use Rattle.grammar.proofs.Basics.{never, is_true, and_out, and_in, or_out, eq_byte, space_cases}
+use Rattle.grammar.proofs.Basics.{space_cases}
 use Rattle.grammar.proofs.Basics.{space_name, space_start, start_name, walk_byte, walk_next, walk_join}
 use Rattle.grammar.proofs.Basics.{collect}
 
@@ -119,7 +120,7 @@ quoted_bytes c g l a w v u q n m t h = collect is_name (quoted c g l a w v u q) 
 pub quote_cases : (P : ℕ → Type 0) (q : ℕ) → is_quote q ≡ true → P 39 → P 34 → P q
 unfolding is_quote
 quote_cases P q h x y =
-    ⊎_elim (λ e. rw (eq_byte q 39 e) x) (λ e. rw (eq_byte q 34 e) y) (or_out (eqb q 39) (eqb q 34) h)
+    ⊎_elim (λ e. rw (eqb-true q 39 e) x) (λ e. rw (eqb-true q 34 e) y) (or_cases (eqb q 39) (eqb q 34) h)
 
 pub quote_name : (q : ℕ) → is_quote q ≡ true → is_name q ≡ false
 unfolding is_name is_start
@@ -144,9 +145,9 @@ name_bytes c g l a w n v t h = collect is_name (name c g l a w) (λ u b e. rw e)
 need_name : (c : Ctx) (g : Alt) (l : Lead) (w n t : Bytes) → Spaces w → is_word n ≡ true
     → walk (w ++ (n ++ t)) (need c g l []) ≡ walk t (name c g l implied w n)
 unfolding is_word step need_byte
-need_name c g l w [] t h i = absurd (never i)
+need_name c g l w [] t h i = absurd (false≢true i)
 need_name c g l w (b ∷ n) t h i =
-    let u = and_out (is_start b) (every is_name n) i in
+    let u = and_parts (is_start b) (every is_name n) i in
     need_spaces c g l w (b ∷ (n ++ t)) h
     ∙ walk_byte (need c g l w) (name c g l implied w (b ∷ [])) _ b (n ++ t) (rw u.0)
     (name_bytes c g l implied w (b ∷ []) n t u.1)
@@ -154,9 +155,9 @@ need_name c g l w (b ∷ n) t h i =
 testing_name : (c : Ctx) (g : Alt) (l : Lead) (a : Axis) (w n t : Bytes) → Spaces w → is_word n ≡ true
     → walk (w ++ (n ++ t)) (testing c g l a []) ≡ walk t (name c g l a w n)
 unfolding is_word step
-testing_name c g l a w [] t h i = absurd (never i)
+testing_name c g l a w [] t h i = absurd (false≢true i)
 testing_name c g l a w (b ∷ n) t h i =
-    let u = and_out (is_start b) (every is_name n) i in
+    let u = and_parts (is_start b) (every is_name n) i in
     testing_spaces c g l a w (b ∷ (n ++ t)) h
     ∙ walk_byte (testing c g l a w) (name c g l a w (b ∷ [])) _ b (n ++ t) (rw u.0)
     (name_bytes c g l a w (b ∷ []) n t u.1)
@@ -175,7 +176,7 @@ pub space_dot : (b : ℕ) → is_space b ≡ true → eqb b 46 ≡ false
 space_dot b t = space_cases (λ c. eqb c 46 ≡ false) b t refl refl refl refl
 
 free : (c : Bool) → (not c || false) ≡ true → c ≡ false
-free true h = absurd (never h)
+free true h = absurd (false≢true h)
 free false h = refl
 
 step_then : (c : Ctx) (g : Alt) (l : Lead) (s : LocationStep) (w : Bytes) (b : ℕ) (t : Bytes) (y : Next) → Spaces w
@@ -194,13 +195,13 @@ step_then c g l (filter s v e u) w b t y h i j = after_spaces c g l (filter s v 
 step_then c g l (dot v) [] b t y h i j =
     walk_next (dot1 c g l v) (after_byte c g l (dot v) [] b) y b t (rw (free (eqb b 46) i)) j
 step_then c g l (dot v) (d ∷ w) b t y h i j =
-    let u = and_out (is_space d) (every is_space w) h in
+    let u = and_parts (is_space d) (every is_space w) h in
     walk_byte (dot1 c g l v) (after c g l (dot v) (d ∷ [])) y d (w ++ (b ∷ t)) (rw (space_dot d u.0, u.0))
     (after_spaces c g l (dot v) (d ∷ []) w (b ∷ t) u.1 ∙ walk_next _ _ _ b t refl j)
 step_then c g l (test a (called v n)) [] b t y h i j =
     walk_next (name c g l a v n) (after_byte c g l (test a (called v n)) [] b) y b t (rw (free (is_name b) i)) j
 step_then c g l (test a (called v n)) (d ∷ w) b t y h i j =
-    let u = and_out (is_space d) (every is_space w) h in
+    let u = and_parts (is_space d) (every is_space w) h in
     walk_byte (name c g l a v n) (after c g l (test a (called v n)) (d ∷ [])) y d (w ++ (b ∷ t))
     (rw (space_name d u.0, u.0))
     (after_spaces c g l (test a (called v n)) (d ∷ []) w (b ∷ t) u.1 ∙ walk_next _ _ _ b t refl j)
@@ -231,10 +232,6 @@ lead_join x (slashes r w s) = refl
 -- the byte b does not lengthen the last token
 abbrev Fits : Last → Bytes → ℕ → Type 0
 Fits k w b = (is_name b ≡ false) ⊎ (may_follow k w ≡ true)
-
-or_right : (c d : Bool) → d ≡ true → (c || d) ≡ true
-or_right true d h = refl
-or_right false d h = h
 
 fits_step : (s : LocationStep) (w : Bytes) (b : ℕ) → Fits (last_step s) w b → eqb b 46 ≡ false
     → (not (touches s b) || nonempty w) ≡ true
@@ -271,7 +268,7 @@ name_start : (b : ℕ) → is_name b ≡ false → is_start b ≡ false
 name_start b h = go (is_start b) refl
   where
     go : (c : Bool) → is_start b ≡ c → is_start b ≡ false
-    go true e = absurd (never (sym h ∙ start_name b e))
+    go true e = absurd (false≢true (sym h ∙ start_name b e))
     go false e = e
 
 pub space_slash : (b : ℕ) → is_space b ≡ true → eqb b 47 ≡ false
@@ -288,7 +285,7 @@ unfolding step need_byte lead_byte every
 root_then c g v [] b t y m h f j =
     walk_next (root1 c g v) _ y b t (rw (m.slash, name_start b f, m.space, m.star, m.at, m.dot) refl) j
 root_then c g v (d ∷ w) b t y m h f j =
-    let u = and_out (is_space d) (every is_space w) h in
+    let u = and_parts (is_space d) (every is_space w) h in
     walk_byte (root1 c g v) (need c g (start (at_root v)) (d ∷ [])) y d (w ++ (b ∷ t))
     (rw (space_slash d u.0, space_start d u.0, u.0) refl)
     (root_spaces c g v (d ∷ []) w (b ∷ t) u.1
@@ -308,7 +305,7 @@ path_then : (c : Ctx) (g : Alt) (p : Path) (w : Bytes) (b : ℕ) (t : Bytes) (y 
     → follow (path_byte c g p w b) none (λ x. walk t x) ≡ y → walk (w ++ (b ∷ t)) (end_path c g p) ≡ y
 unfolding end_path with_prefix last_path may_follow
 path_then c g (relative r) w b t y m h f j = steps_then c g bare r w b t y m h f j
-path_then c g (root v) w b t y m h f j = root_then c g v w b t y m h (⊎_elim (λ i. i) (λ i. absurd (never i)) f) j
+path_then c g (root v) w b t y m h f j = root_then c g v w b t y m h (⊎_elim (λ i. i) (λ i. absurd (false≢true i)) f) j
 path_then c g (rooted v r) w b t y m h f j = steps_then c g (at_root v) r w b t y m h f j
 path_then c g (anywhere v r) w b t y m h f j = steps_then c g (at_any v) r w b t y m h f j
 
@@ -361,21 +358,17 @@ unary_then x p (constant k v z q) w b t y m n h f j = closed_spaces x p (constan
     ∙ walk_next _ _ _ b t (rw m.space) j
 
 -- the operator names
-not_out : (c : Bool) → not c ≡ true → c ≡ false
-not_out true h = absurd (never h)
-not_out false h = refl
-
 kw_and : (x : Open) (p : Pend) (u : Unary) (w t : Bytes) → apart t ≡ true → walk t (keyword x p u w k_and)
     ≡ walk t (need (inside x (both (left_of p) (and_to p u) w)) first begin [])
 unfolding apart step keyword_byte walk
-kw_and x p u w [] h = absurd (never h)
-kw_and x p u w (b ∷ t) h = rw (not_out (is_name b) h)
+kw_and x p u w [] h = absurd (false≢true h)
+kw_and x p u w (b ∷ t) h = rw (not-true (is_name b) h)
 
 kw_or : (x : Open) (p : Pend) (u : Unary) (w t : Bytes) → apart t ≡ true → walk t (keyword x p u w k_or)
     ≡ walk t (need (inside x (plain (either (or_to p u) w))) first begin [])
 unfolding apart step keyword_byte walk
-kw_or x p u w [] h = absurd (never h)
-kw_or x p u w (b ∷ t) h = rw (not_out (is_name b) h)
+kw_or x p u w [] h = absurd (false≢true h)
+kw_or x p u w (b ∷ t) h = rw (not-true (is_name b) h)
 
 abbrev Clear : Last → Bytes → Bytes → Type 0
 Clear k w t = (may_follow k w ≡ true) × (apart t ≡ true)
@@ -480,9 +473,6 @@ closes41 = record {
   o = refl;
 }
 
-has_room : (d : ℕ) → 0 < d → ltb 0 d ≡ true
-has_room d h = is_true (ltb 0 d) (lt→ltb 0 d h)
-
 -- words of the lists are names
 unfoldable all_words : List Bytes → Bool
 all_words [] = true
@@ -495,11 +485,11 @@ some_next (some i) h = refl
 
 found_word : (n : Bytes) (ms : List Bytes) → all_words ms ≡ true → is_some (find n ms) ≡ true → is_word n ≡ true
 unfolding all_words find is_some
-found_word n [] h e = absurd (never e)
-found_word n (m ∷ ms) h e = go (same_bytes n m) refl (found_word n ms (and_out (is_word m) (all_words ms) h).1)
+found_word n [] h e = absurd (false≢true e)
+found_word n (m ∷ ms) h e = go (same_bytes n m) refl (found_word n ms (and_parts (is_word m) (all_words ms) h).1)
   where
     go : (c : Bool) → same_bytes n m ≡ c → (is_some (find n ms) ≡ true → is_word n ≡ true) → is_word n ≡ true
-    go true i k = rw (same_bytes_lem n m i) (and_out (is_word m) (all_words ms) h).0
+    go true i k = rw (same_bytes_lem n m i) (and_parts (is_word m) (all_words ms) h).0
     go false i k = k (some_next (find n ms) (rw i at e))
 
 axis_word : (n : Bytes) → is_axis n ≡ true → is_word n ≡ true
@@ -524,9 +514,9 @@ module _ (c : Ctx) (g : Alt) (l : Lead) where
       → walk (m ++ (q ∷ (y ++ (41 ∷ [])))) (quote c g l a w v u q)
       ≡ some (after c g l (test a (target w v u q m y)) [])
   unfolding is_word step is_space walk follow
-  quoted_target a w v u q [] y h i k = absurd (never i)
+  quoted_target a w v u q [] y h i k = absurd (false≢true i)
   quoted_target a w v u q (b ∷ m) y h i k =
-      let z = and_out (is_start b) (every is_name m) i in
+      let z = and_parts (is_start b) (every is_name m) i in
       walk_byte (quote c g l a w v u q) (quoted c g l a w v u q (b ∷ [])) _ b (m ++ (q ∷ (y ++ (41 ∷ []))))
       (rw z.0)
       (quoted_bytes c g l a w v u q (b ∷ []) m (q ∷ (y ++ (41 ∷ []))) z.1
@@ -589,26 +579,26 @@ leads (b ∷ t) = not (eqb b 47)
 
 leads_more : (s t : Bytes) → leads s ≡ true → leads (s ++ t) ≡ true
 unfolding leads
-leads_more [] t h = absurd (never h)
+leads_more [] t h = absurd (false≢true h)
 leads_more (b ∷ s) t h = h
 
 leads_spaces : (w t : Bytes) → Spaces w → leads t ≡ true → leads (w ++ t) ≡ true
 unfolding leads every
 leads_spaces [] t h i = i
-leads_spaces (b ∷ w) t h i = rw (space_slash b (and_out (is_space b) (every is_space w) h).0) refl
+leads_spaces (b ∷ w) t h i = rw (space_slash b (and_parts (is_space b) (every is_space w) h).0) refl
 
 start_slash : (b : ℕ) → is_start b ≡ true → eqb b 47 ≡ false
 unfolding is_start
 start_slash b h = go (eqb b 47) refl
   where
     go : (c : Bool) → eqb b 47 ≡ c → eqb b 47 ≡ false
-    go true e = absurd (never (rw (eq_byte b 47 e) at h))
+    go true e = absurd (false≢true (rw (eqb-true b 47 e) at h))
     go false e = e
 
 leads_word : (n : Bytes) → is_word n ≡ true → leads n ≡ true
 unfolding leads is_word
-leads_word [] h = absurd (never h)
-leads_word (b ∷ n) h = rw (start_slash b (and_out (is_start b) (every is_name n) h).0) refl
+leads_word [] h = absurd (false≢true h)
+leads_word (b ∷ n) h = rw (start_slash b (and_parts (is_start b) (every is_name n) h).0) refl
 
 instruction_leads : (t : Bytes) → leads (instruction_word ++ t) ≡ true
 unfolding leads instruction_word
@@ -645,14 +635,14 @@ rel_leads (slashes r w s) d h = leads_more (spell_rel r) _ (rel_leads r d h.0)
 slash_need : (c : Ctx) (g : Alt) (x : Prefix) (r : Rel) (w t : Bytes) → leads t ≡ true → walk t (slash1 c g x r w)
     ≡ walk t (need c g (after1 x r w) [])
 unfolding leads walk step
-slash_need c g x r w [] h = absurd (never h)
-slash_need c g x r w (b ∷ t) h = rw (not_out (eqb b 47) h)
+slash_need c g x r w [] h = absurd (false≢true h)
+slash_need c g x r w (b ∷ t) h = rw (not-true (eqb b 47) h)
 
 root_need : (c : Ctx) (g : Alt) (w t : Bytes) → leads t ≡ true → walk t (root1 c g w)
     ≡ walk t (need c g (start (at_root w)) [])
 unfolding leads walk step
-root_need c g w [] h = absurd (never h)
-root_need c g w (b ∷ t) h = rw (not_out (eqb b 47) h)
+root_need c g w [] h = absurd (false≢true h)
+root_need c g w (b ∷ t) h = rw (not-true (eqb b 47) h)
 
 -- a slash after a path's steps
 rel_slash : (c : Ctx) (g : Alt) (x : Prefix) (r : Rel) (w t : Bytes) (y : Next) → Spaces w → walk t (slash1 c g x r w)
@@ -661,7 +651,7 @@ unfolding after_byte is_space is_name is_start follow
 rel_slash c g x r w t y h j = rel_then c g x r w 47 t y h (inl refl) refl (rw (lead_prefix, lead_join) j)
 
 may_take : (s : LocationStep) (d : ℕ) → takes_predicate s ≡ true → 0 < d → (takes_predicate s && ltb 0 d) ≡ true
-may_take s d h i = and_in (takes_predicate s) (ltb 0 d) h (has_room d i)
+may_take s d h i = and_from (takes_predicate s) (ltb 0 d) h (lt-ltb 0 d i)
 
 fits_bracket : (s : LocationStep) (w : Bytes) → (not (touches s 91) || nonempty w) ≡ true
 unfolding is_name is_start
@@ -719,14 +709,14 @@ mutual
   read_unary (paths u) x p h = read_union u (inside x p) h
   read_unary (group w e v) x p h =
       need_spaces (inside x p) first begin w (40 ∷ (spell_or e ++ (v ++ (41 ∷ [])))) h.0
-      ∙ rw (has_room (room_of x) h.1)
+      ∙ rw (lt-ltb 0 (room_of x) h.1)
       (walk_join (spell_or e) _ (enter (grouped x p w)) (end_or (grouped x p w) e) _ (read_or e (grouped x p w) h.2)
       (or_shut (grouped x p w) v 41 [] _ closes41 h.3 e refl))
   read_unary (negation w v e u) x p h =
       need_spaces (inside x p) first begin w (110 ∷ 111 ∷ 116 ∷ (v ++ (40 ∷ (spell_or e ++ (u ++ (41 ∷ [])))))) h.0
       ∙ step_then (inside x p) first begin (test implied (called w not_word)) v 40 (spell_or e ++ (u ++ (41 ∷ []))) _
       h.1 refl
-      (rw (has_room (room_of x) h.2)
+      (rw (lt-ltb 0 (room_of x) h.2)
       (walk_join (spell_or e) _ (enter (negate x p w v)) (end_or (negate x p w v) e) _
       (read_or e (negate x p w v) h.3)
       (or_shut (negate x p w v) u 41 [] _ closes41 h.4 e refl)))

@@ -6,6 +6,7 @@ use mathlib.Core.Bool.{true}
 use mathlib.Core.List.{[], ◌∷◌, ◌++◌, append_assoc, append-nil}
 use mathlib.Core.Option.{Option, none, some}
 use native.Mathlib.Omega.{arith}
+use Rattle.std.proofs.lemmas.Bool.{and_parts}
 use Rattle.grammar.specs.Bytes.{Bytes, is_space, is_start, is_name, is_quote, every}
 use Rattle.grammar.specs.Grammar.{Axis, implied, axis, any, called, kind, target, LocationStep}
 use Rattle.grammar.specs.Grammar.{dot, dots, test, filter, Rel, one, slash, slashes, Path, relative, root}
@@ -26,7 +27,7 @@ use Rattle.grammar.specs.code.Reader.{keyword_byte, finish, at_top, lead_end, Te
 use Rattle.grammar.specs.code.Reader.{bad, initial}
 use lib.ListN.{length, take, drop, take-append-drop, length-append}
 use lib.Seq.{take_at, take-take}
-use Rattle.grammar.proofs.Basics.{and_out, space_name, space_start, walk_byte, walk_join}
+use Rattle.grammar.proofs.Basics.{space_name, space_start, walk_byte, walk_join}
 use Rattle.grammar.proofs.Forward.{end_step, end_rel, end_path, end_union}
 use Rattle.grammar.proofs.Forward.{read_union, after_spaces, root_spaces, space_dot}
 use Rattle.grammar.proofs.Forward.{space_slash, quote_name, quote_self}
@@ -279,7 +280,7 @@ end_step_lem g l (filter s v e u) w h =
     }
 end_step_lem g l (dot v) [] h = record { last = dot1 top g l v; walks = refl; ends = refl }
 end_step_lem g l (dot v) (c ∷ w) h =
-    let u = and_out (is_space c) (every is_space w) h in
+    let u = and_parts (is_space c) (every is_space w) h in
     record {
       last = after top g l (dot v) (c ∷ w);
       walks = walk_byte (dot1 top g l v) (after top g l (dot v) (c ∷ [])) _ c w (rw (space_dot c u.0, u.0))
@@ -288,7 +289,7 @@ end_step_lem g l (dot v) (c ∷ w) h =
     }
 end_step_lem g l (test a (called v n)) [] h = record { last = name top g l a v n; walks = refl; ends = refl }
 end_step_lem g l (test a (called v n)) (c ∷ w) h =
-    let u = and_out (is_space c) (every is_space w) h in
+    let u = and_parts (is_space c) (every is_space w) h in
     record {
       last = after top g l (test a (called v n)) (c ∷ w);
       walks = walk_byte (name top g l a v n) (after top g l (test a (called v n)) (c ∷ [])) _ c w
@@ -301,7 +302,7 @@ end_root : (g : Alt) (v w : Bytes) → Spaces w → Ended w (root1 top g v) (tex
 unfolding walk finish at_top lead_end every step need_byte
 end_root g v [] h = record { last = root1 top g v; walks = refl; ends = refl }
 end_root g v (c ∷ w) h =
-    let u = and_out (is_space c) (every is_space w) h in
+    let u = and_parts (is_space c) (every is_space w) h in
     record {
       last = need top g (start (at_root v)) (c ∷ w);
       walks = walk_byte (root1 top g v) (need top g (start (at_root v)) (c ∷ [])) _ c w

@@ -5,6 +5,7 @@ use mathlib.Core.Bool.{Bool, true, false, cond, ◌&&◌, ◌||◌}
 use mathlib.Core.List.{List, [], ◌∷◌, ◌++◌, append_assoc}
 use mathlib.Core.Option.{Option, none, some}
 use native.Mathlib.Omega.{arith}
+use Rattle.std.proofs.lemmas.Bool.{and_from, and_parts, false≢true, ne_eqb}
 use lib.Dec.{eqb, eqb_refl}
 use lib.ListN.{length, get_or, drop, length-drop, length-append}
 use lib.Seq.{drop-cons}
@@ -30,7 +31,7 @@ use Rattle.grammar.specs.code.Reader.{after, dot1, Ctx, top, inside, Alt, first,
 use Rattle.grammar.specs.code.Reader.{at_any, after1, after2, step, follow, finish, run, bad}
 use Rattle.grammar.specs.code.Reader.{need_byte, after_byte, paren_byte_next, colon_byte_next, call_byte}
 use Rattle.lines.proofs.SameBytes.{same_bytes_lem}
-use Rattle.grammar.proofs.Basics.{never, is_true, and_out, and_in, start_name, space_name}
+use Rattle.grammar.proofs.Basics.{is_true, space_name}
 use Rattle.grammar.proofs.Forward.{quote_cases}
 use Rattle.heads.specs.declared.Head.{Head}
 use Rattle.heads.specs.declared.StepName.{StepName}
@@ -44,8 +45,8 @@ use Rattle.heads.specs.code.Head.{part, plain_head, named_head, is_implied}
 use Rattle.heads.specs.code.Head.{opens_call, NoCall, Begins, Stuck, TestMet}
 use Rattle.heads.specs.code.Head.{TypeMet, TargetMet, HeadMet, DotMet, CallAt}
 use Rattle.heads.specs.code.Head.{OperandMet, opened_by, proceed}
+use Rattle.words.proofs.Named.{word_names}
 use Rattle.words.proofs.Scanned.{there, head_drop}
-pub use Rattle.words.proofs.Listed.{differs}
 use Rattle.heads.proofs.Ran.{on_here, on_pass, on_stop, after_over, testing_over, type_over}
 use Rattle.heads.proofs.Ran.{unquoted_over, quoted_over, word_of, name_there, word_split, word_length}
 use Rattle.heads.proofs.Ran.{word_part, word_is, word_runs}
@@ -62,16 +63,20 @@ passed_length p s at to q =
     ∙ length-append q.bytes (drop to s) ∙ rw length-drop refl in
     omega (arith, z, q.from, q.fits)
 
+-- what is passed is as long as its places say
+pub passed_to : (p : ℕ → Bool) (s : Bytes) (at to : ℕ) (q : Passed p s at to) → at + length q.bytes ≡ to
+passed_to p s at to q = omega (arith, passed_length p s at to q, q.from)
+
 pub on_fail : (s : Bytes) (at : ℕ) (st : State) → at < length s → step st (byte_at s at) ≡ none → run (drop at s) st
     ≡ bad (length s - at)
 unfolding proceed follow
 on_fail s at st h e = on_here s at st h ∙ rw e refl
 
-no : {A : Type 0} → ◌≡◌ {A = Bool} false true → A
-no e = absurd (never e)
+pub no : {A : Type 0} → ◌≡◌ {A = Bool} false true → A
+no e = absurd (false≢true e)
 
-yes_no : {A : Type 0} → ◌≡◌ {A = Bool} true false → A
-yes_no e = absurd (never (sym e))
+pub yes_no : {A : Type 0} → ◌≡◌ {A = Bool} true false → A
+yes_no e = absurd (false≢true (sym e))
 
 -- `.` and `..`
 dot_ends : (t : Bytes) (c : Ctx) (g : Alt) (l : Lead) (w : Bytes) → eqb (get_or t 0 0) 46 ≡ false
@@ -122,7 +127,7 @@ module _ (s : Bytes) (at : ℕ) (b : byte_at s at ≡ 46) where
           tree = λ w. dot w;
           spaces = q.bytes;
           runs = λ c g l w. dot_first c g l w
-              ∙ dot_ends (drop (at + 1) s) c g l w (rw (head_drop s (at + 1)) (differs (byte_at s (at + 1)) 46 e))
+              ∙ dot_ends (drop (at + 1) s) c g l w (rw (head_drop s (at + 1)) (ne_eqb (byte_at s (at + 1)) 46 e))
               ∙ after_over s (at + 1) to q c g l (dot w);
           term = λ w. refl;
           names = λ w i h. refl;
@@ -145,7 +150,7 @@ module _ (i : ℕ) (a : CodeAxis) (t : NodeTest) (p : ℕ) where
       apart q = cc
   named_some (suc n) k e =
       let q : k ≡ suc n = cc in
-      let z : eqb (suc n) 0 ≡ false = differs (suc n) 0 (λ x. omega (arith, x)) in
+      let z : eqb (suc n) 0 ≡ false = ne_eqb (suc n) 0 (λ x. omega (arith, x)) in
       rw (q, z) refl
 
   pub named_none : (n : ℕ) → None ≡ given n
@@ -194,7 +199,7 @@ module _ (s list : Bytes) (at : ℕ) (ax : CodeAxis) (k : is_quote (byte_at s at
           read = tt;
           failed = λ c g l a w v u. target_word c g l a w v u
               ∙ on_stop s end (quoted c g l a w v u (byte_at s at) (word_of s (at + 1) end h q)) q.fits
-              (rw (q.stops, differs (byte_at s end) (byte_at s at) e) refl) refl;
+              (rw (q.stops, ne_eqb (byte_at s end) (byte_at s at) e) refl) refl;
         }
 
     module _ (e : byte_at s end ≡ byte_at s at) (close : ℕ) (z : Passed is_space s (end + 1) close) where
@@ -221,7 +226,7 @@ module _ (s list : Bytes) (at : ℕ) (ax : CodeAxis) (k : is_quote (byte_at s at
             read = tt;
             failed = λ c g l a w v u. target_inner c g l a w v u
                 ∙ on_stop s close (unquoted c g l a w v u (byte_at s at) (word_of s (at + 1) end h q) z.bytes)
-                z.fits (rw (z.stops, differs (byte_at s close) 41 f) refl) refl;
+                z.fits (rw (z.stops, ne_eqb (byte_at s close) 41 f) refl) refl;
           }
 
       pub target_read : (to : ℕ) → byte_at s close ≡ 41 → Passed is_space s (close + 1) to
@@ -360,7 +365,7 @@ one_name k p q e = go (eqb k 0)
 number_by : (k p : ℕ) → name_number (name_by k p) ≡ k
 number_by zero p = refl
 number_by (suc k) p =
-    let e : eqb (suc k) 0 ≡ false = differs (suc k) 0 (λ x. omega (arith, x)) in rw e refl
+    let e : eqb (suc k) 0 ≡ false = ne_eqb (suc k) 0 (λ x. omega (arith, x)) in rw e refl
 
 -- after a node type and `(`
 module _ (s list : Bytes) (at : ℕ) (ax : CodeAxis) (t : NodeTest) (inner : ℕ) (q : Passed is_space s at inner) where
@@ -414,7 +419,7 @@ module _ (s list : Bytes) (at : ℕ) (ax : CodeAxis) (t : NodeTest) (inner : ℕ
         read = tt;
         failed = λ n v i j c g l a w. type_over s at inner q c g l a w n v
             ∙ on_stop s inner (type_open c g l a w n v q.bytes) q.fits
-            (rw (q.stops, differs (byte_at s inner) 41 b, f n i j) refl) refl;
+            (rw (q.stops, ne_eqb (byte_at s inner) 41 b, f n i j) refl) refl;
       }
 
   and_no : (x : Bool) → (x && false) ≡ false
@@ -447,7 +452,7 @@ module _ (s list : Bytes) (at : ℕ) (ax : CodeAxis) (t : NodeTest) (inner : ℕ
           (rw (
             q.stops,
             not_close,
-            and_in (is_quote (byte_at s inner)) (same_bytes n instruction_word) k
+            and_from (is_quote (byte_at s inner)) (same_bytes n instruction_word) k
                 (is_instruction n i (sym (ap test_number f) ∙ j)),
           )
           refl)
@@ -734,7 +739,7 @@ module _ (s list : Bytes) (at : ℕ) (ax : CodeAxis) where
         between = record { from = omega arith; fits = i };
         axis = tt;
         read = tt;
-        failed = λ st c g l a w n z. let u = z h (differs (byte_at s at) 42 b) in on_stop s at st i u.0 u.1;
+        failed = λ st c g l a w n z. let u = z h (ne_eqb (byte_at s at) 42 b) in on_stop s at st i u.0 u.1;
       }
 
   pub test_name : (Q : Type 0) (o : Result Head ℕ) → is_start (byte_at s at) ≡ true → TestMet s list at ax Q o
@@ -881,7 +886,7 @@ module _ (s list : Bytes) (at end to : ℕ) (m : NameAt s at end to) (b : byte_a
           read = tt;
           failed = λ c g l w d. axis_runs c g l w
               ∙ on_stop s (to + 1) (colon c g l w (named_word s list at end to m) m.spaces.bytes)
-              (omega (arith, colon_there)) (rw (differs (byte_at s (to + 1)) 58 h) refl) refl;
+              (omega (arith, colon_there)) (rw (ne_eqb (byte_at s (to + 1)) 58 h) refl) refl;
         }
 
     pub axis_two : (ax : CodeAxis) (from : ℕ) (Q : Type 0) (o : Result Head ℕ)
@@ -940,8 +945,8 @@ module _ (s list : Bytes) (at : ℕ) (sp : is_space (byte_at s at) ≡ false) (b
         between = m.between;
         read = tt;
         failed = λ c g l w u. m.failed (need c g l w) c g l implied w (need_begins c g l w (byte_at s at))
-            (λ i j. let n = u.lead (rw (i, j, differs (byte_at s at) 64 d, differs (byte_at s at) 46 b) refl) in
-            (rw (i, sp, j, differs (byte_at s at) 64 d, differs (byte_at s at) 46 b) n.0, n.1));
+            (λ i j. let n = u.lead (rw (i, j, ne_eqb (byte_at s at) 64 d, ne_eqb (byte_at s at) 46 b) refl) in
+            (rw (i, sp, j, ne_eqb (byte_at s at) 64 d, ne_eqb (byte_at s at) 46 b) n.0, n.1));
       }
 
 pub head_dot : (s list : Bytes) (at : ℕ) (h : Head) → DotMet s at h → HeadMet s list at (Ok h)
@@ -955,29 +960,24 @@ module _ (p : ℕ → Bool) where
   unfolding every
   same_split [] r [] q h i j k e = (refl, e)
   same_split [] r (b ∷ y) q h i j k e =
-      yes_no (sym (and_out (p b) (every p y) i).0 ∙ ap (λ (t : Bytes). p (get_or t 0 0)) (sym e) ∙ j)
+      yes_no (sym (and_parts (p b) (every p y) i).0 ∙ ap (λ (t : Bytes). p (get_or t 0 0)) (sym e) ∙ j)
   same_split (a ∷ x) r [] q h i j k e =
-      yes_no (sym (and_out (p a) (every p x) h).0 ∙ ap (λ (t : Bytes). p (get_or t 0 0)) e ∙ k)
+      yes_no (sym (and_parts (p a) (every p x) h).0 ∙ ap (λ (t : Bytes). p (get_or t 0 0)) e ∙ k)
   same_split (a ∷ x) r (b ∷ y) q h i j k e =
       let f : a ≡ b = ap (λ (t : Bytes). get_or t 0 0) e in
       let g : x ++ r ≡ y ++ q = ap (λ (t : Bytes). drop 1 t) e in
-      let z = same_split x r y q (and_out (p a) (every p x) h).1 (and_out (p b) (every p y) i).1 j k g in
+      let z = same_split x r y q (and_parts (p a) (every p x) h).1 (and_parts (p b) (every p y) i).1 j k g in
       ((λ u. f u ∷ z.0 u), z.1)
-
-words_of : (n : Bytes) → is_word n ≡ true → every is_name n ≡ true
-unfolding is_word every
-words_of [] h = no h
-words_of (b ∷ n) h = let u = and_out (is_start b) (every is_name n) h in rw (start_name b u.0, u.1) refl
 
 word_first : (n t : Bytes) → is_word n ≡ true → is_start (get_or (n ++ t) 0 0) ≡ true
 unfolding is_word
 word_first [] t h = no h
-word_first (b ∷ n) t h = (and_out (is_start b) (every is_name n) h).0
+word_first (b ∷ n) t h = (and_parts (is_start b) (every is_name n) h).0
 
 after_spaces_name : (v t : Bytes) → Spaces v → is_name (get_or (v ++ (40 ∷ t)) 0 0) ≡ false
 unfolding every is_name is_start
 after_spaces_name [] t h = refl
-after_spaces_name (b ∷ v) t h = space_name b (and_out (is_space b) (every is_space v) h).0
+after_spaces_name (b ∷ v) t h = space_name b (and_parts (is_space b) (every is_space v) h).0
 
 -- opened_by: the first word of the table that it is
 pub opened : (a b c : Bool) → unwrap_or (cond a (Some Opening.Not) (cond b (Some Opening.True)
@@ -1003,15 +1003,15 @@ module _ (s : Bytes) (at end paren : ℕ) (m : NameAt s at end paren) where
 
   no_open : byte_at s at ≡ 40 → ⊥
   unfolding is_start
-  no_open e = never (rw e at m.begins)
+  no_open e = false≢true (rw e at m.begins)
 
   -- a word that stands there, whitespace, and `(`
   same_call : (n v t : Bytes) → is_word n ≡ true → Spaces v → drop at s ≡ n ++ (v ++ (40 ∷ t)) → (n ≡ operand_word)
       × (byte_at s paren ≡ 40)
   unfolding is_space
   same_call n v t i j e =
-      let z = same_split is_name n (v ++ (40 ∷ t)) operand_word (drop end s) (words_of n i)
-      (words_of operand_word (word_is s at end m.begins m.names)) (after_spaces_name v t j)
+      let z = same_split is_name n (v ++ (40 ∷ t)) operand_word (drop end s) (word_names n i)
+      (word_names operand_word (word_is s at end m.begins m.names)) (after_spaces_name v t j)
       (rw (head_drop s end) m.names.stops) (sym e ∙ word_split s at end m.begins m.names) in
       let y = same_split is_space v (40 ∷ t) m.spaces.bytes (drop paren s) j m.spaces.all refl
       (rw (head_drop s paren) m.spaces.stops) (z.1 ∙ m.spaces.split) in

@@ -7,6 +7,7 @@ use mathlib.Core.Option.{none, some}
 use native.Mathlib.Omega.{arith}
 use native.Mathlib.Decide.{dec_lt}
 use native.Mathlib.Numerals.{add-one}
+use Rattle.std.proofs.lemmas.Bool.{and_parts}
 use lib.ListN.{length, get_or, drop, length-drop, length-append, drop_of_length-le}
 use lib.Seq.{drop-cons, take_at}
 use Rattle.grammar.specs.Bytes.{Bytes, is_space, is_start, is_name, every, is_word}
@@ -14,7 +15,7 @@ use Rattle.grammar.specs.Grammar.{Axis, called, LocationStep, test}
 use Rattle.grammar.specs.code.Reader.{State, need, name, testing, type_open, quoted, unquoted, after}
 use Rattle.grammar.specs.code.Reader.{closed, Ctx, Open, Pend, Alt, Lead, step, follow}
 use Rattle.grammar.specs.code.Reader.{finish, run, outcome, bad, need_byte, after_byte}
-use Rattle.grammar.proofs.Basics.{and_out, space_start}
+use Rattle.grammar.proofs.Basics.{space_start}
 use Rattle.words.specs.code.Scan.{byte_at, Passed}
 use Rattle.heads.specs.code.Head.{part, proceed}
 use Rattle.words.proofs.Scanned.{there, head_drop}
@@ -50,7 +51,7 @@ module _ (p : ℕ → Bool) (f : Bytes → State)
   unfolding every run follow
   run_collect [] w t e = rw append-nil refl
   run_collect (c ∷ v) w t e =
-      let u = and_out (p c) (every p v) e in
+      let u = and_parts (p c) (every p v) e in
       rw (h w c u.0) (run_collect v (w ++ (c ∷ [])) t u.1 ∙ rw append_assoc refl)
 
   pub over : (s : Bytes) (at to : ℕ) (q : Passed p s at to) (w : Bytes) → run (drop at s) (f w)

@@ -64,12 +64,21 @@ pub enum Opens {
     False,
 }
 
-// How it begins, and the place of its `(`; where it has none, where it begins. One place for all kinds: a group and a
-// negation are read on alike.
+// How it begins, and the place of its `(`; of paths, where they begin. The place is no part of each kind: the kinds
+// alone stand in the table of words below, and tell which row is put for an expression.
 #[derive(Clone, Copy)]
 pub struct Operand {
     pub opens: Opens,
     pub paren: usize,
+}
+
+// A name in the text, and the first place after it that has no whitespace. That the text has it there, `NameAt`, is no
+// ghost field: the text would have to be a field too, and each method ask that it is its selector's.
+#[derive(Clone, Copy)]
+struct NameRead {
+    start: usize,
+    end: usize,
+    after: usize,
 }
 
 // A head without a name; `at` is the place after it and its whitespace.
@@ -85,39 +94,25 @@ fn plain_head(at: usize, axis: Axis, test: NodeTest, filters: bool) -> Head
     }
 }
 
-// A head with the name that stands from `from` up to `to`.
-fn named_head(
-    s: &[u8],
-    names: Names<'_>,
-    from: usize,
-    to: usize,
-    at: usize,
-    axis: Axis,
-    test: NodeTest,
-) -> Head
-    requires from_le_to { (from ≤ to) × (to ≤ length s.now) }
-    requires to_value { is_word (part s.now from to) ≡ true }
-    ensures { result ≡ named_head at axis test (number_of names.entry.list.now (part s.now from to)) from }
-{
-    let bytes = &s[from..to];
-    let name = match words::list::number_of(names, Word { bytes }) {
-        Some(number) => StepName::Listed(number),
-        None => StepName::Unlisted(from),
-    };
-    Head {
-        at,
-        axis,
-        test,
-        name,
-        filters: true,
-    }
-}
-
 #[tactic(auto, unfolding(grammar::specs::Bytes::is_quote))]
 fn is_quote(b: u8) -> bool
     ensures { result ≡ is_quote b }
 {
     matches!(b, b'\'' | b'"')
+}
+
+// The name that begins at `at`.
+fn name_from(s: &[u8], at: usize) -> NameRead
+    requires { is_start (byte_at s.now at) ≡ true }
+    ensures { (result.start ≡ at) × NameAt s.now result.start result.end result.after }
+{
+    let end = name_end(s, at + 1);
+    let after = skip(s, end);
+    NameRead {
+        start: at,
+        end,
+        after,
+    }
 }
 
 // `.` or `..` at `at`.
@@ -132,132 +127,144 @@ fn dot_head(s: &[u8], at: usize) -> Head
     plain_head(skip(s, next), Axis::Itself, NodeTest::Node, false)
 }
 
-// What follows the quote at `at` of an instruction's target.
-fn target_head(s: &[u8], names: Names<'_>, at: usize, axis: Axis) -> Result<Head, usize>
-    requires at_value { is_quote (byte_at s.now at) ≡ true }
-    ensures { TargetMet s.now names.entry.list.now at axis result }
-{
-    let quote = byte_at(s, at);
-    let from = at + 1;
-    if !is_start(byte_at(s, from)) {
-        return Err(from);
-    }
-    let end = name_end(s, from + 1);
-    if byte_at(s, end) != quote {
-        return Err(end);
-    }
-    let close = skip(s, end + 1);
-    if byte_at(s, close) != b')' {
-        return Err(close);
-    }
-    let at = skip(s, close + 1);
-    Ok(named_head(s, names, from, end, at, axis, NodeTest::Target))
+// A selector as text, and the list of its names.
+#[derive(Clone, Copy)]
+pub struct Selector<'a> {
+    pub s: &'a [u8],
+    pub names: Names<'a>,
 }
 
-// What follows a node type and its `(`, from `at` on.
-fn type_head(
-    s: &[u8],
-    names: Names<'_>,
-    at: usize,
-    axis: Axis,
-    test: NodeTest,
-) -> Result<Head, usize>
-    requires at_in_bounds { at ≤ length s.now }
-    ensures { TypeMet s.now names.entry.list.now at axis test result }
-{
-    let inner = skip(s, at);
-    let b = byte_at(s, inner);
-    if b == b')' {
-        return Ok(plain_head(skip(s, inner + 1), axis, test, true));
+impl Selector<'_> {
+    // A head with the name that stands from `from` up to `to`.
+    fn named_head(self, from: usize, to: usize, at: usize, axis: Axis, test: NodeTest) -> Head
+        requires from_le_to { (from ≤ to) × (to ≤ length self.s.now) }
+        requires to_value { is_word (part self.s.now from to) ≡ true }
+        ensures { result
+            ≡ named_head at axis test (number_of self.entry.names.list.now (part self.entry.s.now from to)) from }
+    {
+        let bytes = &self.s[from..to];
+        let name = match words::list::number_of(self.names, Word { bytes }) {
+            Some(number) => StepName::Listed(number),
+            None => StepName::Unlisted(from),
+        };
+        Head {
+            at,
+            axis,
+            test,
+            name,
+            filters: true,
+        }
     }
-    if test != NodeTest::Instruction {
-        return Err(inner);
-    }
-    if !is_quote(b) {
-        return Err(inner);
-    }
-    target_head(s, names, inner, axis)
-}
 
-// A node test that begins with the name from `at` up to `end`; `to` is the place after its whitespace.
-fn name_test(
-    s: &[u8],
-    names: Names<'_>,
-    at: usize,
-    end: usize,
-    to: usize,
-    axis: Axis,
-) -> Result<Head, usize>
-    requires name_at { NameAt s.now at end to }
-    ensures { TestMet s.now names.entry.list.now at axis
-        (byte_at s.now to ≡ colon_byte → ⊥) result }
-{
-    if byte_at(s, to) != b'(' {
-        return Ok(named_head(s, names, at, end, to, axis, NodeTest::Name));
+    // What follows the quote at `at` of an instruction's target.
+    fn target_head(self, at: usize, axis: Axis) -> Result<Head, usize>
+        requires at_value { is_quote (byte_at self.s.now at) ≡ true }
+        ensures { TargetMet self.entry.s.now self.entry.names.list.now at axis result }
+    {
+        let s = self.s;
+        let quote = byte_at(s, at);
+        let from = at + 1;
+        if !is_start(byte_at(s, from)) {
+            return Err(from);
+        }
+        let end = name_end(s, from + 1);
+        if byte_at(s, end) != quote {
+            return Err(end);
+        }
+        let close = skip(s, end + 1);
+        if byte_at(s, close) != b')' {
+            return Err(close);
+        }
+        let at = skip(s, close + 1);
+        Ok(self.named_head(from, end, at, axis, NodeTest::Target))
     }
-    match words::type_of(&s[at..end]) {
-        Some(test) => type_head(s, names, to + 1, axis, test),
-        None => Ok(named_head(s, names, at, end, to, axis, NodeTest::Name)),
-    }
-}
 
-// A node test at `at`, where no whitespace is.
-fn test_head(s: &[u8], names: Names<'_>, at: usize, axis: Axis) -> Result<Head, usize>
-    requires at_in_bounds { at ≤ length s.now }
-    ensures { TestMet s.now names.entry.list.now at axis (is_start
-        (byte_at s.now at) ≡ false) result }
-{
-    let b = byte_at(s, at);
-    if b == b'*' {
-        return Ok(plain_head(skip(s, at + 1), axis, NodeTest::Star, true));
+    // What follows a node type and its `(`, from `at` on.
+    fn type_head(self, at: usize, axis: Axis, test: NodeTest) -> Result<Head, usize>
+        requires at_in_bounds { at ≤ length self.s.now }
+        ensures { TypeMet self.entry.s.now self.entry.names.list.now at axis test result }
+    {
+        let inner = skip(self.s, at);
+        let b = byte_at(self.s, inner);
+        if b == b')' {
+            return Ok(plain_head(skip(self.s, inner + 1), axis, test, true));
+        }
+        if test != NodeTest::Instruction {
+            return Err(inner);
+        }
+        if !is_quote(b) {
+            return Err(inner);
+        }
+        self.target_head(inner, axis)
     }
-    if !is_start(b) {
-        return Err(at);
-    }
-    let end = name_end(s, at + 1);
-    let to = skip(s, end);
-    name_test(s, names, at, end, to, axis)
-}
 
-// A head whose axis name stands from `at` up to `end`, with a `:` at `colon`.
-fn axis_head(s: &[u8], names: Names<'_>, at: usize, end: usize, colon: usize) -> Result<Head, usize>
-    requires name_at { NameAt s.now at end colon }
-    requires colon_value { byte_at s.now colon ≡ colon_byte }
-    ensures { HeadMet s.now names.entry.list.now at result }
-{
-    let axis = match words::axis_of(&s[at..end]) {
-        Some(axis) => axis,
-        None => return Err(colon),
-    };
-    let second = colon + 1;
-    if byte_at(s, second) != b':' {
-        return Err(second);
+    // A node test that begins with a name.
+    fn name_test(self, name: NameRead, axis: Axis) -> Result<Head, usize>
+        requires name_at { NameAt self.s.now name.start name.end name.after }
+        ensures { TestMet self.entry.s.now self.entry.names.list.now name.start axis
+            (byte_at self.entry.s.now name.after ≡ colon_byte → ⊥) result }
+    {
+        let NameRead { start, end, after } = name;
+        if byte_at(self.s, after) == b'('
+            && let Some(test) = words::type_of(&self.s[start..end])
+        {
+            return self.type_head(after + 1, axis, test);
+        }
+        Ok(self.named_head(start, end, after, axis, NodeTest::Name))
     }
-    test_head(s, names, skip(s, second + 1), axis)
-}
 
-// The head that begins at `at`, where no whitespace is.
-pub fn read_head(s: &[u8], names: Names<'_>, at: usize) -> Result<Head, usize>
-    requires at_in_bounds { at ≤ length s.now }
-    requires at_value { is_space (byte_at s.now at) ≡ false }
-    ensures { HeadMet s.now names.entry.list.now at result }
-{
-    let b = byte_at(s, at);
-    if b == b'.' {
-        return Ok(dot_head(s, at));
+    // A node test at `at`, where no whitespace is.
+    fn test_head(self, at: usize, axis: Axis) -> Result<Head, usize>
+        requires at_in_bounds { at ≤ length self.s.now }
+        ensures { TestMet self.entry.s.now self.entry.names.list.now at axis
+            (is_start (byte_at self.entry.s.now at) ≡ false) result }
+    {
+        let b = byte_at(self.s, at);
+        if b == b'*' {
+            return Ok(plain_head(skip(self.s, at + 1), axis, NodeTest::Star, true));
+        }
+        if !is_start(b) {
+            return Err(at);
+        }
+        self.name_test(name_from(self.s, at), axis)
     }
-    if b == b'@' {
-        return test_head(s, names, skip(s, at + 1), Axis::Attribute);
+
+    // A head with an axis name, after which a `:` stands.
+    fn axis_head(self, name: NameRead) -> Result<Head, usize>
+        requires name_at { NameAt self.s.now name.start name.end name.after }
+        requires colon_value { byte_at self.s.now name.after ≡ colon_byte }
+        ensures { HeadMet self.entry.s.now self.entry.names.list.now name.start result }
+    {
+        let axis = words::axis_of(&self.s[name.start..name.end]).ok_or(name.after)?;
+        let second = name.after + 1;
+        if byte_at(self.s, second) != b':' {
+            return Err(second);
+        }
+        self.test_head(skip(self.s, second + 1), axis)
     }
-    if !is_start(b) {
-        return test_head(s, names, at, Axis::Child);
+
+    // The head that begins at `at`, where no whitespace is.
+    pub fn read_head(self, at: usize) -> Result<Head, usize>
+        requires at_in_bounds { at ≤ length self.s.now }
+        requires at_value { is_space (byte_at self.s.now at) ≡ false }
+        ensures { HeadMet self.entry.s.now self.entry.names.list.now at result }
+    {
+        let b = byte_at(self.s, at);
+        if b == b'.' {
+            return Ok(dot_head(self.s, at));
+        }
+        if b == b'@' {
+            return self.test_head(skip(self.s, at + 1), Axis::Attribute);
+        }
+        if !is_start(b) {
+            return self.test_head(at, Axis::Child);
+        }
+        let name = name_from(self.s, at);
+        if byte_at(self.s, name.after) == b':' {
+            return self.axis_head(name);
+        }
+        self.name_test(name, Axis::Child)
     }
-    let end = name_end(s, at + 1);
-    let to = skip(s, end);
-    if byte_at(s, to) == b':' {
-        return axis_head(s, names, at, end, to);
-    }
-    name_test(s, names, at, end, to, Axis::Child)
 }
 
 // The byte begins a step.
@@ -301,13 +308,12 @@ pub fn operand_at(s: &[u8], at: usize) -> Operand
     if !is_start(b) {
         return paths;
     }
-    let end = name_end(s, at + 1);
-    let paren = skip(s, end);
-    if byte_at(s, paren) != b'(' {
+    let name = name_from(s, at);
+    if byte_at(s, name.after) != b'(' {
         return paths;
     }
     Operand {
-        opens: opened_by(&s[at..end]),
-        paren,
+        opens: opened_by(&s[name.start..name.end]),
+        paren: name.after,
     }
 }

@@ -1,18 +1,14 @@
 -- A line of numbers is read number by number. Assumes nothing.
-use Prim.Native.Nat.{ℕ, zero, suc, ◌+◌, ◌≤◌, ◌<◌}
-use mathlib.Core.Path.{◌≡◌, refl, sym, ap, subst, ◌∙◌}
+use Prim.Native.Nat.{ℕ, zero, suc, ◌<◌}
+use mathlib.Core.Path.{◌≡◌, refl, sym, ap, subst}
 use mathlib.Core.List.{List, [], ◌∷◌, ◌++◌}
 use mathlib.Core.Logic.{inl, inr}
 use mathlib.Core.Option.{Option, none, some, Option-elim}
 use native.Mathlib.Omega.{arith}
-use lib.ListN.{length, take, drop, set, replicate, length-set}
-use borrow.Author.Tests.{le-leb}
-use Rattle.lines.specs.declared.NumbersLine.{NumbersLine}
+use lib.ListN.{length, drop, replicate}
 use Rattle.lines.specs.Line.{newline, space, Line, lines}
 use Rattle.lines.specs.Number.{max_number, number_up_to, numbers_up_to, line_numbers}
-use Rattle.lines.specs.code.NumbersRead.{number_cut, NumberMet, first_parts, first_numbers, max_count, no_counted}
-use Rattle.lines.specs.code.NumbersRead.{counted_numbers, LineMet}
-use Rattle.lines.proofs.Filled.{put_behind, rest_stays}
+use Rattle.lines.specs.code.NumbersRead.{number_cut, NumberMet, first_parts, first_numbers}
 use Rattle.lines.proofs.Cutting.{lines_at}
 use Rattle.lines.proofs.Parts.{prepended, Reads, first_none, no_newline_in, next_behind, number_before_space}
 use Rattle.lines.proofs.Parts.{number_before_newline, PartsMet, GoesOn, starts_there, number_more, last_number}
@@ -127,37 +123,6 @@ module _ (count : ℕ) (xs : List ℕ) (at from left : ℕ) (ns : List ℕ) (on 
   pub none_last : k ≡ 0 → none ≡ number_cut max_number newline (drop from xs)
       → none ≡ first_numbers count (lines (drop at xs))
   none_last e f = no_last_within _ _ _ _ _ _ _ on_one (rw e) f
-
--- between the line and its parts
-module _ (count : ℕ) (xs : List ℕ) (at : ℕ) (few : count ≤ max_count) where
-  pub parts_met : (r : NumbersLine) → LineMet count xs at r →
-      PartsMet (line_numbers count) xs at (take count r.numbers) r.next
-  parts_met r m = record { numbers = m.numbers ∙ rw (le-leb count max_count few); rest = m.rest; right = m.right }
-
-  pub no_parts_met : none ≡ counted_numbers count (drop at xs) → none ≡ first_numbers count (lines (drop at xs))
-  no_parts_met e = e ∙ rw (le-leb count max_count few)
-
-  pub not_counted : none ≡ first_numbers count (lines (drop at xs)) → none ≡ counted_numbers count (drop at xs)
-  not_counted e = rw (le-leb count max_count few) e
-
-  -- the last number is put behind the others
-  pub line_met : (numbers : List ℕ) (i v next : ℕ) → length numbers ≡ max_count → i + 1 ≡ count
-      → drop i numbers ≡ drop i no_counted → PartsMet (line_numbers count) xs at (take i numbers ++ v ∷ []) next
-      → LineMet count xs at (record { numbers = set numbers i v; next = next })
-  line_met numbers i v next size f zeros m =
-      let put : take count (set numbers i v) ≡ take i numbers ++ v ∷ [] =
-      ap (λ k. take k (set numbers i v)) (sym f) ∙ put_behind numbers i v (omega arith) in
-      record {
-        numbers = not_counted_some (ap some put ∙ m.numbers);
-        size = length-set numbers i v ∙ size;
-        zeros = subst (λ k. drop k (set numbers i v) ≡ drop k no_counted) f (rest_stays numbers i v no_counted zeros);
-        rest = m.rest;
-        right = m.right;
-      }
-    where
-      not_counted_some : {ns : List ℕ} → some ns ≡ first_numbers count (lines (drop at xs))
-          → some ns ≡ counted_numbers count (drop at xs)
-      not_counted_some e = rw (le-leb count max_count few) e
 
 -- a line has at least one part
 pub no_numbers_met : (ls : List Line) → none ≡ first_numbers 0 ls

@@ -1,6 +1,6 @@
 -- The parts of the first line are read one by one: a space ends a part before others, the newline the last.
 -- Assumes nothing.
-use Prim.Native.Nat.{ℕ, ◌≤◌, ◌<◌}
+use Prim.Native.Nat.{ℕ, ◌≤◌}
 use mathlib.Core.Path.{◌≡◌, refl, sym, ap, subst, ◌∙◌}
 use mathlib.Core.Bool.{Bool, true, false, cond, not, ◌&&◌, false≢true}
 use mathlib.Core.List.{List, [], ◌∷◌, ◌++◌, append_assoc}
@@ -8,12 +8,14 @@ use mathlib.Core.Logic.{◌⊎◌, inl, inr}
 use mathlib.Core.Option.{Option, none, some, Option-elim, some-injective, none-ne-some}
 use mathlib.Core.Option.{some-ne-none}
 use native.Mathlib.Omega.{arith}
+use Rattle.std.proofs.lemmas.Bool.{and_parts}
 use lib.Dec.{leb, eqb}
-use lib.ListN.{length, drop}
+use lib.ListN.{drop}
 use borrow.Author.Tests.{ne_eqb}
 use Rattle.lines.specs.Line.{newline, space, Line, lines, parts}
 use Rattle.lines.specs.Number.{digit0, is_digit, are_digits, is_decimal, append_digits, number_up_to}
 use Rattle.lines.specs.code.NumbersRead.{number_before, number_cut, NumberMet, first_parts}
+pub use Rattle.lines.specs.code.NumbersRead.{PartsMet}
 use Rattle.lines.proofs.Cutting.{Free, free_append, free_left, cut_at, Cutting, whole, in_two, cutting}
 use Rattle.lines.proofs.Cutting.{parts_whole, parts_at, lines_at, no_whole_line, no_next_line}
 
@@ -111,23 +113,19 @@ first_mapped f z mapped read h (l ∷ ls) = by_end l.ended
     by_end true = h (parts l.bytes)
     by_end false = sym z
 
-both_true : (a b : Bool) → (a && b) ≡ true → (a ≡ true) × (b ≡ true)
-both_true true b e = (refl, e)
-both_true false b e = absurd (false≢true e)
-
 decimal_digits : (w : List ℕ) → is_decimal w ≡ true → are_digits w ≡ true
 unfolding is_decimal are_digits
 decimal_digits [] e = refl
 decimal_digits (x ∷ []) e = rw e
 decimal_digits (x ∷ y ∷ w) e =
-    let (start, rest) = both_true (is_digit x && not (eqb x digit0)) (are_digits (y ∷ w)) e in
-    rw (both_true (is_digit x) (not (eqb x digit0)) start).0 rest
+    let (start, rest) = and_parts (is_digit x && not (eqb x digit0)) (are_digits (y ∷ w)) e in
+    rw (and_parts (is_digit x) (not (eqb x digit0)) start).0 rest
 
 digits_free : (e : ℕ) → is_digit e ≡ false → (w : List ℕ) → are_digits w ≡ true → Free e w
 unfolding are_digits
 digits_free e n [] d = tt
 digits_free e n (x ∷ w) d =
-    let b = both_true (is_digit x) (are_digits w) d in
+    let b = and_parts (is_digit x) (are_digits w) d in
     (ne_eqb x e (λ s. false≢true (sym n ∙ sym (ap is_digit s) ∙ b.0)), digits_free e n w b.1)
 
 -- a number has neither a space nor a newline in it
@@ -253,14 +251,6 @@ appended_one : (ns : List ℕ) (v : ℕ) (o : Option (List ℕ)) → appended ns
 unfolding Option-elim
 appended_one ns v none = refl
 appended_one ns v (some ms) = ap some (sym (append_assoc ns (v ∷ []) ms))
-
--- the line that starts at `at`, read by its parts: it has what `read` takes, these are its numbers, and there the next
--- line starts
-pub record PartsMet (read : List (List ℕ) → Option (List ℕ)) (xs : List ℕ) (at : ℕ) (ns : List ℕ) (next : ℕ) : Type 0
-  where
-    pub numbers : some ns ≡ first_parts read (lines (drop at xs))
-    pub rest : lines (drop next xs) ≡ drop 1 (lines (drop at xs))
-    pub right : (at < next) × (next ≤ length xs)
 
 -- the line at `at` starts with the numbers ns, and goes on at `from` with what `those` takes
 pub record GoesOn (read those : List (List ℕ) → Option (List ℕ)) (xs : List ℕ) (at from : ℕ) (ns : List ℕ) : Type 0

@@ -1,14 +1,15 @@
 -- A number is read digit by digit. Assumes nothing.
 use Prim.Native.Nat.{ℕ, suc, ◌+◌, ◌-◌, ◌*◌, ◌≤◌, ◌<◌}
-use mathlib.Core.Path.{◌≡◌, refl, sym, ◌∙◌}
-use mathlib.Core.Bool.{Bool, true, false, cond, not, ◌&&◌, false≢true}
+use mathlib.Core.Path.{◌≡◌, refl, sym, ap, ◌∙◌}
+use mathlib.Core.Bool.{Bool, true, false, cond, not, ◌&&◌, false≢true, and-false}
 use mathlib.Core.List.{List, [], ◌∷◌}
 use mathlib.Core.Option.{Option, none, some, Option-elim, some-injective, some-ne-none}
 use native.Mathlib.Omega.{arith}
+use Rattle.std.proofs.lemmas.Bool.{and_parts}
 use native.Mathlib.Numerals.{add-one}
 use lib.Dec.{leb, ltb, eqb}
-use lib.ListN.{length, get_or, drop, drop_of_length-le}
-use lib.Seq.{drop-cons}
+use lib.ListN.{length, get_or, drop, length-drop, drop_of_length-le}
+use lib.Seq.{drop-cons, drop-drop}
 use borrow.Author.Tests.{eqb-true, eqb-false, ne_eqb, eq-eqb, le-leb, lt-leb, leb-true, leb-false, lt-ltb, le-ltb}
 use borrow.Author.Tests.{ltb-true}
 use Rattle.lines.specs.Number.{digit0, digit9, is_digit, are_digits, is_decimal, append_digit, append_digits}
@@ -45,11 +46,9 @@ follow_positive (x ∷ w) n h = rw (lt-ltb 0 n h)
 -- no digit makes a number smaller
 none_above : (most n : ℕ) (w r : List ℕ) (b : Bool) → most < n → none ≡ cond (b && leb (append_digits n w) most)
     (some (number_before (append_digits n w) r)) none
-none_above most n w r b h = let grow = digits_grow w n in rw (lt-leb (append_digits n w) most (omega arith)) (none_if b)
-  where
-    none_if : (b : Bool) → none ≡ cond (b && false) (some (number_before (append_digits n w) r)) none
-    none_if true = refl
-    none_if false = refl
+none_above most n w r b h =
+    let grow = digits_grow w n in
+    rw (lt-leb (append_digits n w) most (omega arith), and-false b)
 
 -- one digit more, where it is taken and where it is not
 module _ (most n x : ℕ) (c : Cut) where
@@ -68,9 +67,10 @@ module _ (most n x : ℕ) (c : Cut) where
       (are_digits c.bytes) (leb-false (append_digit n x) most u))
 
 three_true : (a d f : Bool) → (a && d && f) ≡ true → (a ≡ true) × (d ≡ true) × (f ≡ true)
-three_true true true f e = (refl, refl, e)
-three_true true false f e = absurd (false≢true e)
-three_true false d f e = absurd (false≢true e)
+three_true a d f e =
+    let (two, last) = and_parts (a && d) f e in
+    let (first, next) = and_parts a d two in
+    (first, next, last)
 
 -- the text after n, byte by byte
 scan_more : (most end n x : ℕ) (xs : List ℕ)
@@ -121,12 +121,9 @@ scan_cut most end (x ∷ xs) n h = by_end (eqb x end) (scan_more most end n x xs
 
 pub digit_range : (x : ℕ) → is_digit x ≡ true → (digit0 ≤ x) × (x ≤ digit9)
 unfolding is_digit
-digit_range x e = by_tests (leb digit0 x) (leb x digit9) refl refl e
-  where
-    by_tests : (a b : Bool) → leb digit0 x ≡ a → leb x digit9 ≡ b → (a && b) ≡ true → (digit0 ≤ x) × (x ≤ digit9)
-    by_tests true true s t e = (leb-true _ _ s, leb-true _ _ t)
-    by_tests true false s t e = absurd (false≢true e)
-    by_tests false b s t e = absurd (false≢true e)
+digit_range x e =
+    let (low, high) = and_parts (leb digit0 x) (leb x digit9) e in
+    (leb-true _ _ low, leb-true _ _ high)
 
 -- a first digit that is not 0 writes a number that is not 0
 not_zero : (x : ℕ) → digit0 ≤ x → not (eqb x digit0) ≡ ltb 0 (x - digit0)
@@ -228,46 +225,51 @@ module _ (most n x : ℕ) where
 
   pub behind_no_digit : is_digit x ≡ false → none ≡ one_more most n x
   unfolding one_more
-  behind_no_digit d = rw d (none_if (ltb 0 n))
-    where
-      none_if : (b : Bool) → none ≡ cond (b && false && leb (append_digit n x) most) (some (append_digit n x)) none
-      none_if true = refl
-      none_if false = refl
+  behind_no_digit d = rw (d, and-false (ltb 0 n))
 
   pub behind_digit : ¬ (n ≡ 0) → is_digit x ≡ true → up_to most (append_digit n x) ≡ one_more most n x
   unfolding one_more up_to
   behind_digit h d = rw (lt-ltb 0 n (omega arith), d)
 
-pub nothing_there : (most end : ℕ) (xs : List ℕ) (at : ℕ) → length xs ≤ at → number_cut most end (drop at xs) ≡ none
+pub nothing_there : (most end : ℕ) (xs : List ℕ) → length xs ≡ 0 → none ≡ number_cut most end xs
 unfolding number_cut cut Option-elim
-nothing_there most end xs at h = rw (drop_of_length-le xs {i = at} h)
+nothing_there most end [] h = refl
+nothing_there most end (x ∷ xs) h = absurd (omega arith)
 
-module _ (most end : ℕ) (xs : List ℕ) (at : ℕ) (inside : at < length xs) where
-  pub no_digit_there : none ≡ first_digit most end (get_or xs at 0) → number_cut most end (drop at xs) ≡ none
+module _ (most end x : ℕ) (xs ys : List ℕ) (is : ys ≡ x ∷ xs) where
+  pub no_digit_there : none ≡ first_digit most end x → none ≡ number_cut most end ys
   unfolding Option-elim
-  no_digit_there d = rw (drop-cons xs at 0 inside, scan_first most end (get_or xs at 0) (drop (suc at) xs), ← d)
+  no_digit_there d = rw (is, scan_first most end x xs, ← d)
 
-  pub digit_there : (n : ℕ) → some n ≡ first_digit most end (get_or xs at 0) → number_cut most end (drop at xs)
-      ≡ scan most end n (drop (at + 1) xs)
+  pub digit_there : (n : ℕ) → some n ≡ first_digit most end x → number_cut most end ys ≡ scan most end n xs
   unfolding Option-elim
-  digit_there n d = rw (add-one, drop-cons xs at 0 inside, scan_first most end (get_or xs at 0) (drop (suc at) xs), ← d)
+  digit_there n d = rw (is, scan_first most end x xs, ← d)
 
--- after some digits, at i
-module _ (most end : ℕ) (xs : List ℕ) (at i n : ℕ) (inside : i < length xs) (so_far : number_cut most end (drop at xs)
-    ≡ scan most end n (drop i xs)) where
-  pub end_there : get_or xs i 0 ≡ end → number_cut most end (drop at xs) ≡ some (number_before n (drop (i + 1) xs))
+-- after some digits, at i of the bytes xs behind the first
+module _ (most end : ℕ) (whole : Option NumberCut) (xs : List ℕ) (i n : ℕ) (inside : i < length xs)
+    (so_far : whole ≡ scan most end n (drop i xs)) where
+  pub end_there : get_or xs i 0 ≡ end → whole ≡ some (number_before n (drop (i + 1) xs))
   unfolding scan
   end_there e = so_far ∙ rw (add-one, drop-cons xs i 0 inside, eq-eqb (get_or xs i 0) end e)
 
-  pub stops_there : ¬ (get_or xs i 0 ≡ end) → none ≡ one_more most n (get_or xs i 0) →
-      number_cut most end (drop at xs) ≡ none
+  pub stops_there : ¬ (get_or xs i 0 ≡ end) → none ≡ one_more most n (get_or xs i 0) → whole ≡ none
   unfolding scan Option-elim
   stops_there f e = so_far ∙ rw (drop-cons xs i 0 inside, ne_eqb (get_or xs i 0) end f, ← e)
 
   pub goes_on_there : ¬ (get_or xs i 0 ≡ end) → (m : ℕ) → some m ≡ one_more most n (get_or xs i 0)
-      → number_cut most end (drop at xs) ≡ scan most end m (drop (i + 1) xs)
+      → whole ≡ scan most end m (drop (i + 1) xs)
   unfolding scan Option-elim
   goes_on_there f m e = so_far ∙ rw (add-one, drop-cons xs i 0 inside, ne_eqb (get_or xs i 0) end f, ← e)
+
+-- the bytes xs behind the one at `at` of a text
+module _ (text xs : List ℕ) (at x : ℕ) (is : drop at text ≡ x ∷ xs) where
+  pub length_there : at + length xs + 1 ≡ length text
+  length_there = omega (arith, ap length is, length-drop at text)
+
+  pub rest_there : (i : ℕ) → drop (i + 1) xs ≡ drop (at + i + 2) text
+  rest_there i =
+      let k : at + suc (i + 1) ≡ at + i + 2 = omega arith in
+      ap (drop (suc (i + 1))) (sym is) ∙ drop-drop (suc (i + 1)) at text ∙ ap (λ j. drop j text) k
 
 -- what a test on the bound lets pass
 fits_if : (most m n : ℕ) (b : Bool) → (b ≡ true → n ≤ most) → some m ≡ cond b (some n) none → m ≤ most

@@ -1,7 +1,7 @@
 -- A line that is known: the text starts with it and a newline. Assumes nothing.
 use Prim.Native.Nat.{ℕ, suc, ◌+◌, ◌≤◌, ◌<◌}
 use mathlib.Core.Path.{◌≡◌, refl, sym, ap, ◌∙◌}
-use mathlib.Core.Bool.{Bool, true, false, cond, ◌&&◌, false≢true, and-true, and_assoc}
+use mathlib.Core.Bool.{Bool, true, false, cond, ◌&&◌, false≢true, and-false, and-true, and_assoc}
 use mathlib.Core.List.{List, [], ◌∷◌, ◌++◌, append_assoc}
 use native.Mathlib.Omega.{arith}
 use lib.Dec.{eqb}
@@ -11,7 +11,8 @@ use denote.Ref.{Bor}
 use Rattle.std.specs.Prelude.{Option as Optional, Some, None, unwrap_or, option_map}
 use Rattle.std.specs.Option.{option_eq}
 use Rattle.std.specs.Cmp.Lexicographic.{pointwise}
-use borrow.Author.Tests.{eqb-true, eq-eqb, ne_eqb}
+use borrow.Author.Tests.{eqb-true, ne_eqb}
+use Rattle.common.proofs.Tests.{eqb_turned}
 use Rattle.lines.specs.Line.{newline, Line, line, in_first_line, lines, same_bytes, is_line, first_is}
 use Rattle.lines.specs.code.NumbersRead.{starts_with}
 use Rattle.lines.proofs.Cutting.{Free, lines_at}
@@ -20,11 +21,7 @@ use Rattle.lines.proofs.Cutting.{Free, lines_at}
 first_after : (x y : ℕ) (ys : List ℕ) (ls : List Line) → first_is (y ∷ ys) (in_first_line x ls)
     ≡ (eqb x y && first_is ys ls)
 unfolding first_is is_line in_first_line same_bytes
-first_after x y ys [] = by_test (eqb x y)
-  where
-    by_test : (b : Bool) → false ≡ (b && false)
-    by_test true = refl
-    by_test false = refl
+first_after x y ys [] = sym (and-false (eqb x y))
 first_after x y ys (l ∷ ls) = by_tests l.ended (eqb x y)
   where
     by_tests : (a b : Bool) → (a && (b && same_bytes l.bytes ys)) ≡ (b && (a && same_bytes l.bytes ys))
@@ -36,11 +33,7 @@ first_after x y ys (l ∷ ls) = by_tests l.ended (eqb x y)
 not_empty_line : (x : ℕ) (ls : List Line) → first_is [] (in_first_line x ls) ≡ false
 unfolding first_is is_line in_first_line same_bytes
 not_empty_line x [] = refl
-not_empty_line x (l ∷ ls) = by_test l.ended
-  where
-    by_test : (b : Bool) → (b && false) ≡ false
-    by_test true = refl
-    by_test false = refl
+not_empty_line x (l ∷ ls) = and-false l.ended
 
 pub starts_with_line : (ys : List ℕ) → Free newline ys → (xs : List ℕ) → starts_with (ys ++ newline ∷ []) xs
     ≡ first_is ys
@@ -89,19 +82,12 @@ starts ys xs at e =
       inside = λ h. omega (arith, length-drop at xs, lengths);
     }
 
-eqb_swapped : (x y : ℕ) → eqb x y ≡ eqb y x
-eqb_swapped x y = by_test (eqb y x) refl
-  where
-    by_test : (b : Bool) → eqb y x ≡ b → eqb x y ≡ b
-    by_test true e = eq-eqb x y (sym (eqb-true y x e))
-    by_test false e = ne_eqb x y (λ s. false≢true (sym e ∙ eq-eqb y x (sym s)))
-
 -- the library's test, which compares as many bytes
 pub same_start : (ys xs : List ℕ) → pointwise eqb ys (take (length ys) xs) ≡ starts_with ys xs
 unfolding starts_with
 same_start [] xs = refl
 same_start (y ∷ ys) [] = refl
-same_start (y ∷ ys) (x ∷ xs) = rw (eqb_swapped y x, same_start ys xs)
+same_start (y ∷ ys) (x ∷ xs) = rw (eqb_turned y x, same_start ys xs)
 
 -- bytes and one more; past its end a text has none
 pub starts_byte : (e : ℕ) (ys xs : List ℕ) → starts_with (ys ++ e ∷ []) xs

@@ -1,6 +1,8 @@
 // Numbers and lines of numbers in a text: base ten, no leading zeros, at most 65535 in a line of numbers, one space
 // between two numbers, a newline after every line. Every function takes every input. A text is read from a position on,
-// and no line is searched for its end first.
+// and no line is searched for its end first. Text and position are two parameters, and a position is what a reader
+// gives back: callers hold it against the text's length, and go on in the text at it; the slice that is left would have
+// to be measured for that.
 #![tactic(auto)]
 
 ghost use Rattle.std.specs.Prelude.{◌≡◌, true, [], ◌∷◌, ◌++◌, ◌+◌, ◌-◌, ◌==◌, drop, position, MatchOption};
@@ -8,7 +10,7 @@ ghost use Rattle.std.proofs.Math.Option.{none};
 ghost use Rattle.lines.specs.Line.{newline, lines};
 ghost use Rattle.lines.specs.Number.{digit0, is_digit};
 ghost use Rattle.lines.specs.code.NumbersRead.{up_to, first_digit, one_more, written_number, number_cut, NumberMet};
-ghost use Rattle.lines.specs.code.NumbersRead.{counted_numbers, LineMet, starts_with, first_length};
+ghost use Rattle.lines.specs.code.NumbersRead.{first_numbers, LineMet, starts_with, first_length};
 
 pub const NEWLINE: u8 = b'\n';
 
@@ -16,10 +18,8 @@ pub const SPACE: u8 = b' ';
 
 pub const DIGIT_0: u8 = b'0';
 
+// That of common, in the type of a bound.
 pub const MAX_NUMBER: u32 = common::MAX_NUMBER as u32;
-
-// The most numbers of a line that is read.
-pub const MAX_COUNT: usize = 5;
 
 // A number, and the position after the byte that ends it.
 #[derive(Clone, Copy)]
@@ -28,10 +28,10 @@ pub struct Number {
     pub next: usize,
 }
 
-// A line of numbers, zeros after them, and the position of the next line.
+// The numbers of a line, and the position of the next line.
 #[derive(Clone, Copy)]
-pub struct NumbersLine {
-    pub numbers: [u16; MAX_COUNT],
+pub struct NumbersLine<const N: usize> {
+    pub numbers: [u16; N],
     pub next: usize,
 }
 
@@ -50,6 +50,7 @@ fn digit(b: u8) -> u64
     u64::from(b - DIGIT_0)
 }
 
+// No `try_from` with `filter`: what is at most `most` fits into 32 bits, and that would be tested once more.
 fn up_to(most: u32, value: u64) -> Option<u32>
     ensures { written_number result ≡ up_to most value }
 {
@@ -84,39 +85,38 @@ pub fn number_at(bytes: &[u8], at: usize, end: u8, most: u32) -> Option<Number>
     ensures { MatchOption result (none ≡ number_cut most end (drop at bytes.now))
         (λ n. NumberMet most end bytes.now at n.value n.next) }
 {
-    let first = *bytes.get(at)?;
-    let mut value = first_digit(most, end, first)?;
-    // By place, which is what a number tells of the byte after its end.
-    for i in at + 1..bytes.len() {
-        let b = bytes[i];
-        if b == end {
-            return Some(Number { value, next: i + 1 });
+    let (first, others) = rest(bytes, at).split_first()?;
+    let mut value = first_digit(most, end, *first)?;
+    for (i, b) in others.iter().enumerate() {
+        if *b == end {
+            return Some(Number {
+                value,
+                next: at + i + 2,
+            });
         }
-        value = one_more(most, value, b)?;
+        value = one_more(most, value, *b)?;
     }
     None
 }
 
-// The line at `at`, if it has `count` numbers: at least one, at most `MAX_COUNT`.
-pub fn numbers_line(bytes: &[u8], at: usize, count: usize) -> Option<NumbersLine>
-    ensures { MatchOption result (none ≡ counted_numbers count (drop at bytes.now)) (LineMet count bytes.now at) }
+// The line at `at`, if it has N numbers. No line has none.
+pub fn numbers_line<const N: usize>(bytes: &[u8], at: usize) -> Option<NumbersLine<N>>
+    ensures { MatchOption result (none ≡ first_numbers N (lines (drop at bytes.now)))
+        (λ line. LineMet N bytes.now at line.numbers line.next) }
 {
-    if count == 0 || MAX_COUNT < count {
-        return None;
-    }
-    let mut numbers = [0; MAX_COUNT];
+    let mut numbers = [0; N];
+    let (last, others) = numbers.split_last_mut()?;
     let mut from = at;
-    // By count: where the next number begins is known only when this one is read.
-    for i in 0..count - 1 {
+    for n in others {
         let number = number_at(bytes, from, SPACE, MAX_NUMBER)?;
-        numbers[i] = number.value as u16;
+        *n = number.value as u16;
         from = number.next;
     }
-    let last = number_at(bytes, from, NEWLINE, MAX_NUMBER)?;
-    numbers[count - 1] = last.value as u16;
+    let number = number_at(bytes, from, NEWLINE, MAX_NUMBER)?;
+    *last = number.value as u16;
     Some(NumbersLine {
         numbers,
-        next: last.next,
+        next: number.next,
     })
 }
 

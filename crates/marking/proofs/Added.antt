@@ -1,55 +1,61 @@
 -- Laws of the loops that add marks. Assumes nothing.
 use Prim.Native.Nat.{ℕ, ◌≤◌, ◌<◌}
 use mathlib.Core.Path.{◌≡◌, refl, sym, ap, ◌∙◌}
-use mathlib.Core.Bool.{Bool, true, false, ◌&&◌, ◌||◌, and-false, or-false}
+use mathlib.Core.Bool.{Bool, true, false, cond, ◌&&◌, ◌||◌, and-false, or-false, or-true}
 use mathlib.Core.List.{List}
 use mathlib.Core.Logic.{◌⊎◌, ◌≢◌, inl, inr, ⊎_elim}
 use native.Mathlib.Omega.{arith}
 use lib.Dec.{ltb, leb, eqb}
 use lib.ListN.{length, get_or, set, length-set}
 use lib.Seq.{get_or-set_same, get_or-set_other}
-use borrow.Author.Tests.{lt-ltb, le-ltb, le-leb, lt-leb, eq-eqb, ne_eqb}
+use borrow.Author.Tests.{lt-ltb, le-ltb, le-leb, lt-leb}
 use Rattle.common.proofs.Reflect.{eq_or_ne, le_or_lt}
 use Rattle.marking.specs.code.Added.{Added}
 
-or_true : (b : Bool) → (b || true) ≡ true
-or_true true = refl
-or_true false = refl
+module _ {M : Type 0} {n : ℕ} {mark : M} {old new : List M} {s : ℕ → Bool} where
+  pub added_cong : (t : ℕ → Bool) → Added n mark old new s → ((y : ℕ) → y < n → t y ≡ s y) → Added n mark old new t
+  added_cong t u e = record { size = u.size; marks = λ z y h. u.marks z y h ∙ rw (e y h) }
 
-module _ {n : ℕ} {old new : List Bool} {s : ℕ → Bool} where
-  pub added_cong : (t : ℕ → Bool) → Added n old new s → ((y : ℕ) → y < n → t y ≡ s y) → Added n old new t
-  added_cong t u e = record { size = u.size; marks = λ y h. u.marks y h ∙ rw (e y h) }
-
-  pub added_set : (t : ℕ → Bool) (k : ℕ) → Added n old new s → k < length new → t k ≡ true →
+  pub added_set : (t : ℕ → Bool) (k : ℕ) → Added n mark old new s → k < length new → t k ≡ true →
       ((y : ℕ) → y < n → y ≢ k → t y ≡ s y) →
-      Added n old (set new k true) t
+      Added n mark old (set new k mark) t
   added_set t k u l e f =
       record {
-        size = length-set new k true ∙ u.size;
-        marks = λ y h. ⊎_elim
-            (λ q. let v : get_or (set new k true) y false ≡ true =
-            ap (λ (z : ℕ). get_or (set new k true) z false) q ∙ get_or-set_same new k true false l in
+        size = length-set new k mark ∙ u.size;
+        marks = λ z y h. ⊎_elim
+            (λ q. let v : get_or (set new k mark) y z ≡ mark =
+            ap (λ (i : ℕ). get_or (set new k mark) i z) q ∙ get_or-set_same new k mark z l in
             let w : t y ≡ true = ap t q ∙ e in
-            rw (v, w, or_true))
-            (λ ne. rw (get_or-set_other new k y true false ne, f y h ne) (u.marks y h))
+            rw (v, w))
+            (λ ne. rw (get_or-set_other new k y mark z ne, f y h ne) (u.marks z y h))
             (eq_or_ne y k);
       }
 
-pub nothing_added : {n : ℕ} {old : List Bool} (s : ℕ → Bool) → ((y : ℕ) → y < n → s y ≡ false) → Added n old old s
-nothing_added s e = record { size = refl; marks = λ y h. sym (rw (e y h, or-false)) }
+pub nothing_added : {M : Type 0} {n : ℕ} {mark : M} {old : List M} (s : ℕ → Bool) →
+    ((y : ℕ) → y < n → s y ≡ false) → Added n mark old old s
+nothing_added s e = record { size = refl; marks = λ z y h. rw (e y h) }
+
+-- marks that are numbers, where 1 is the mark: those that are 1 are those that were, and those of the set
+pub ones_added : {n : ℕ} {old new : List ℕ} {s : ℕ → Bool} → Added n 1 old new s →
+    (y : ℕ) → y < n → eqb (get_or new y 0) 1 ≡ (eqb (get_or old y 0) 1 || s y)
+ones_added {old = old} {s = s} u y h = rw (u.marks 0 y h) (by_case (s y) (get_or old y 0))
+  where
+    by_case : (b : Bool) (v : ℕ) → eqb (cond b 1 v) 1 ≡ (eqb v 1 || b)
+    by_case true v = sym (or-true (eqb v 1))
+    by_case false v = sym (or-false (eqb v 1))
 
 -- the nodes of f from lo on and before hi
 abbrev pub between : ℕ → ℕ → (ℕ → Bool) → ℕ → Bool
 between lo hi f y = (leb lo y && ltb y hi) && f y
 
 -- a loop that goes up from lo
-module _ {n : ℕ} {old : List Bool} (f : ℕ → Bool) (lo : ℕ) where
-  pub up_start : Added n old old (between lo lo f)
+module _ {M : Type 0} {n : ℕ} {mark : M} {old : List M} (f : ℕ → Bool) (lo : ℕ) where
+  pub up_start : Added n mark old old (between lo lo f)
   up_start =
       nothing_added (between lo lo f)
       (λ y h. ⊎_elim (λ l. rw (le-ltb y lo l, and-false)) (λ l. rw (lt-leb lo y l)) (le_or_lt lo y))
 
-  module _ {new : List Bool} (k e : ℕ) (u : Added n old new (between lo k f)) (h : lo ≤ k) (l : k < e)
+  module _ {new : List M} (k e : ℕ) (u : Added n mark old new (between lo k f)) (h : lo ≤ k) (l : k < e)
       (g : (y : ℕ) → y < n → k < y → y < e → f y ≡ false) where
     same_elsewhere : (y : ℕ) → y < n → y ≢ k → between lo e f y ≡ between lo k f y
     same_elsewhere y m ne = go (le_or_lt k y) (le_or_lt e y)
@@ -61,11 +67,11 @@ module _ {n : ℕ} {old : List Bool} (f : ℕ → Bool) (lo : ℕ) where
         go (inr p) (inr q) = rw (lt-ltb y e q, lt-ltb y k p)
 
     -- node k is passed, and is in f
-    pub up_marked : k < length new → f k ≡ true → Added n old (set new k true) (between lo e f)
+    pub up_marked : k < length new → f k ≡ true → Added n mark old (set new k mark) (between lo e f)
     up_marked m t = added_set (between lo e f) k u m (rw (le-leb lo k h, lt-ltb k e l, t)) same_elsewhere
 
     -- node k is passed, and is not in f
-    pub up_left : f k ≡ false → Added n old new (between lo e f)
+    pub up_left : f k ≡ false → Added n mark old new (between lo e f)
     up_left t =
         added_cong (between lo e f) u
         (λ y m. ⊎_elim (λ q. let z : f y ≡ false = ap f q ∙ t in rw (z, and-false, and-false))
@@ -76,7 +82,8 @@ abbrev pub from_on : ℕ → (ℕ → Bool) → ℕ → Bool
 from_on at f y = leb at y && f y
 
 -- a loop that goes down: the next node of f below k is e, or isn't in f
-module _ {n : ℕ} {old new : List Bool} (f : ℕ → Bool) (k e : ℕ) (u : Added n old new (from_on k f)) (l : e < k)
+module _ {M : Type 0} {n : ℕ} {mark : M} {old new : List M} (f : ℕ → Bool) (k e : ℕ)
+    (u : Added n mark old new (from_on k f)) (l : e < k)
     (g : (y : ℕ) → y < n → e < y → y < k → f y ≡ false) where
   same_above : (y : ℕ) → y < n → y ≢ e → from_on e f y ≡ from_on k f y
   same_above y m ne = go (le_or_lt k y) (le_or_lt e y)
@@ -87,21 +94,21 @@ module _ {n : ℕ} {old new : List Bool} (f : ℕ → Bool) (k e : ℕ) (u : Add
       go (inr p) (inl q) = let z : f y ≡ false = g y m (omega (arith, ne)) p in rw (z, and-false, and-false)
       go (inr p) (inr q) = rw (lt-leb e y q, lt-leb k y p)
 
-  pub down_marked : e < length new → f e ≡ true → Added n old (set new e true) (from_on e f)
+  pub down_marked : e < length new → f e ≡ true → Added n mark old (set new e mark) (from_on e f)
   down_marked m t = added_set (from_on e f) e u m (rw (le-leb e e (omega arith), t)) same_above
 
-  pub down_left : f e ≡ false → Added n old new (from_on e f)
+  pub down_left : f e ≡ false → Added n mark old new (from_on e f)
   down_left t =
       added_cong (from_on e f) u (λ y m. ⊎_elim (λ q. let z : f y ≡ false = ap f q ∙ t in rw (z, and-false, and-false))
       (λ ne. same_above y m ne) (eq_or_ne y e))
 
 -- a loop that goes down starts where there is nothing of f, and ends at 0
-pub down_start : {n : ℕ} {old : List Bool} (f : ℕ → Bool) (k : ℕ) → ((y : ℕ) → y < n → k ≤ y → f y ≡ false) →
-    Added n old old (from_on k f)
+pub down_start : {M : Type 0} {n : ℕ} {mark : M} {old : List M} (f : ℕ → Bool) (k : ℕ) →
+    ((y : ℕ) → y < n → k ≤ y → f y ≡ false) → Added n mark old old (from_on k f)
 down_start f k g =
     nothing_added (from_on k f)
     (λ y m. ⊎_elim (λ p. let z : f y ≡ false = g y m p in rw (z, and-false)) (λ p. rw (lt-leb k y p)) (le_or_lt k y))
 
-pub down_end : {n : ℕ} {old new : List Bool} (f : ℕ → Bool) (k : ℕ) → k ≤ 0 → Added n old new (from_on k f) →
-    Added n old new f
+pub down_end : {M : Type 0} {n : ℕ} {mark : M} {old new : List M} (f : ℕ → Bool) (k : ℕ) → k ≤ 0 →
+    Added n mark old new (from_on k f) → Added n mark old new f
 down_end f k h u = added_cong f u (λ y m. rw (le-leb k y (omega arith)))

@@ -1,4 +1,4 @@
--- Tests for one axis, by its number. Assumes nothing.
+-- The test for the attribute axis, by its number. Assumes nothing.
 use Rattle.std.proofs.Common.{◌≡◌, eqb, refl}
 use denote.Enum.Bare.{sameb}
 use Rattle.common.specs.contracts.axis.Axis.{the_type}
@@ -6,7 +6,7 @@ use Rattle.common.specs.declared.axis.Axis.{Axis}
 use Rattle.common.specs.declared.axis.Axis.TheVariants.{Itself, Child, Parent, Descendant, Ancestor, DescendantOrSelf}
 use Rattle.common.specs.declared.axis.Axis.TheVariants.{AncestorOrSelf, FollowingSibling, PrecedingSibling, Following}
 use Rattle.common.specs.declared.axis.Axis.TheVariants.{Preceding, Attribute}
-use Rattle.common.specs.Axes.{attribute, following_sibling}
+use Rattle.common.specs.Axes.{attribute}
 use Rattle.common.specs.code.Numbers.{axis_number}
 
 -- axis by axis
@@ -23,17 +23,3 @@ is_attribute_axis PrecedingSibling = refl
 is_attribute_axis Following = refl
 is_attribute_axis Preceding = refl
 is_attribute_axis Attribute = refl
-
-pub is_following_sibling_axis : (a : Axis) → sameb the_type a FollowingSibling ≡ eqb (axis_number a) following_sibling
-is_following_sibling_axis Itself = refl
-is_following_sibling_axis Child = refl
-is_following_sibling_axis Parent = refl
-is_following_sibling_axis Descendant = refl
-is_following_sibling_axis Ancestor = refl
-is_following_sibling_axis DescendantOrSelf = refl
-is_following_sibling_axis AncestorOrSelf = refl
-is_following_sibling_axis FollowingSibling = refl
-is_following_sibling_axis PrecedingSibling = refl
-is_following_sibling_axis Following = refl
-is_following_sibling_axis Preceding = refl
-is_following_sibling_axis Attribute = refl

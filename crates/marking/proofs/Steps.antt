@@ -1,7 +1,7 @@
 -- Each axis by the walk that marks it, on a well-formed document. Assumes nothing.
 use Prim.Native.Nat.{ℕ, suc, ◌+◌, ◌≤◌, ◌<◌}
 use mathlib.Core.Path.{◌≡◌, refl, sym, ◌∙◌}
-use mathlib.Core.Bool.{Bool, true, false, not, ◌&&◌, ◌||◌}
+use mathlib.Core.Bool.{Bool, true, false, cond, not, ◌&&◌, ◌||◌, and_assoc, and-or_distrib_right}
 use mathlib.Core.List.{List}
 use mathlib.Core.Logic.{◌↔◌, inl, inr, ⊎_elim}
 use native.Mathlib.Omega.{arith}
@@ -19,34 +19,23 @@ use Rattle.xpath.proofs.Tree.{Child, Ancestor, parent_is, ancestor_cases, child_
 use Rattle.xpath.proofs.Tree.{parent_smaller}
 use Rattle.xpath.proofs.Facts.{NoAttribute, OnAxis, on_axis_iff}
 use Rattle.xpath.proofs.Axes.{past_last_axis}
-use Rattle.marking.specs.code.Added.{marked, Added, may_hold, ChildrenFrom}
+use Rattle.marking.specs.code.Added.{Added, may_hold, ChildrenFrom}
 use Rattle.marking.proofs.Added.{between, added_cong, nothing_added}
 use Rattle.marking.proofs.Walks.{at_end, below_end, past_end, next_within, next_is_child}
 
-or_assoc : (a b c : Bool) → ((a || b) || c) ≡ (a || (b || c))
-or_assoc true b c = refl
-or_assoc false b c = refl
-
-or_and : (a b c : Bool) → ((a || b) && c) ≡ ((a && c) || (b && c))
-or_and true true true = refl
-or_and true true false = refl
-or_and true false true = refl
-or_and true false false = refl
-or_and false true c = refl
-or_and false false c = refl
-
 -- one walk after the other
-pub added_twice : {n : ℕ} {old mid new : List Bool} (s t u : ℕ → Bool) → Added n old mid s → Added n mid new t →
-    ((y : ℕ) → y < n → u y ≡ (s y || t y)) → Added n old new u
-added_twice {old = old} s t u a b e =
+pub added_twice : {M : Type 0} {n : ℕ} {mark : M} {old mid new : List M} (s t u : ℕ → Bool) → Added n mark old mid s →
+    Added n mark mid new t → ((y : ℕ) → y < n → u y ≡ (s y || t y)) → Added n mark old new u
+added_twice {M = M} {mark = mark} {old = old} s t u a b e =
     record {
       size = b.size ∙ a.size;
-      marks = λ y h. b.marks y h ∙ rw (a.marks y h, e y h) (or_assoc (marked old y) (s y) (t y));
+      marks = λ z y h. b.marks z y h ∙ rw (a.marks z y h, e y h) (twice (s y) (t y) (get_or old y z));
     }
-
-and_assoc : (a b c : Bool) → ((a && b) && c) ≡ (a && (b && c))
-and_assoc true b c = refl
-and_assoc false b c = refl
+  where
+    twice : (b c : Bool) (v : M) → cond c mark (cond b mark v) ≡ cond (b || c) mark v
+    twice true true v = refl
+    twice true false v = refl
+    twice false c v = refl
 
 -- what is may_hold of an axis but 11 is no attribute, and of axis 11 an attribute
 may_hold_iff : (a : ℕ) (d : Document) (y : ℕ) → ¬ (a ≡ 11) → T (may_hold a d y) ↔ NoAttribute d y
@@ -69,9 +58,9 @@ module _ (d : Document) (es : List ℕ) (r : Prepared d es) (t : ℕ → Bool) (
   kept_of a y = may_hold a d y && t y
 
   -- the nodes of the axis are those between lo and hi that pass f
-  by_tests : {old new : List Bool} (a lo hi : ℕ) (f : ℕ → Bool) →
+  by_tests : {M : Type 0} {mark : M} {old new : List M} (a lo hi : ℕ) (f : ℕ → Bool) →
       ((y : ℕ) → y < length d → (((lo ≤ y) × (y < hi)) × T (f y)) ↔ OnAxis a d x y) →
-      Added (length d) old new (between lo hi (λ y. f y && t y)) → Added (length d) old new (stepped a)
+      Added (length d) mark old new (between lo hi (λ y. f y && t y)) → Added (length d) mark old new (stepped a)
   by_tests a lo hi f e u =
       added_cong (stepped a) u (λ y l.
       let i = and_via (leb lo y) (ltb y hi) (le_iff lo y) (le_iff (suc y) hi) in
@@ -82,9 +71,10 @@ module _ (d : Document) (es : List ℕ) (r : Prepared d es) (t : ℕ → Bool) (
       rw b (and_assoc (leb lo y && ltb y hi) (f y) (t y)))
 
   -- the same of those that pass f and are may_hold
-  by_candidates : {old new : List Bool} (a lo hi : ℕ) (f : ℕ → Bool) →
+  by_candidates : {M : Type 0} {mark : M} {old new : List M} (a lo hi : ℕ) (f : ℕ → Bool) →
       ((y : ℕ) → y < length d → (((lo ≤ y) × (y < hi)) × T (f y) × T (may_hold a d y)) ↔ OnAxis a d x y) →
-      Added (length d) old new (between lo hi (λ y. f y && kept_of a y)) → Added (length d) old new (stepped a)
+      Added (length d) mark old new (between lo hi (λ y. f y && kept_of a y)) →
+      Added (length d) mark old new (stepped a)
   by_candidates a lo hi f e u =
       by_tests a lo hi (λ y. f y && may_hold a d y)
       (λ y l. let i = and_iff (f y) (may_hold a d y) in
@@ -96,13 +86,13 @@ module _ (d : Document) (es : List ℕ) (r : Prepared d es) (t : ℕ → Bool) (
   descendant_before z y m l a = ⊎_elim (λ h. absurd (past_end d es r z y h l m a)) (λ h. h) (le_or_lt (end z) y)
 
   -- the node itself
-  pub self_marked : {old new : List Bool} → Added (length d) old new (λ y. eqb x y && t y) →
-      Added (length d) old new (stepped 0)
+  pub self_marked : {M : Type 0} {mark : M} {old new : List M} → Added (length d) mark old new (λ y. eqb x y && t y) →
+      Added (length d) mark old new (stepped 0)
   unfolding on_axis
   self_marked u = u
 
-  pub descendant_marked : {old new : List Bool} (lo : ℕ) → lo ≡ x + 1 →
-      Added (length d) old new (between lo (end x) (kept_of 3)) → Added (length d) old new (stepped 3)
+  pub descendant_marked : {M : Type 0} {mark : M} {old new : List M} (lo : ℕ) → lo ≡ x + 1 →
+      Added (length d) mark old new (between lo (end x) (kept_of 3)) → Added (length d) mark old new (stepped 3)
   unfolding OnAxis
   descendant_marked lo q =
       by_tests 3 lo (end x) (may_hold 3 d) (λ y l. let v = may_hold_iff 3 d y (λ e. omega arith) in (
@@ -110,16 +100,16 @@ module _ (d : Document) (es : List ℕ) (r : Prepared d es) (t : ℕ → Bool) (
         λ (a, n). let s = ancestor_smaller d r.formed l a in ((omega arith, descendant_before x y k l a), v.1 n),
       ))
 
-  pub descendant_or_self_marked : {old mid new : List Bool} (lo : ℕ) → lo ≡ x + 1 →
-      Added (length d) old mid (λ y. eqb x y && t y) →
-      Added (length d) mid new (between lo (end x) (kept_of 3)) → Added (length d) old new (stepped 5)
+  pub descendant_or_self_marked : {M : Type 0} {mark : M} {old mid new : List M} (lo : ℕ) → lo ≡ x + 1 →
+      Added (length d) mark old mid (λ y. eqb x y && t y) →
+      Added (length d) mark mid new (between lo (end x) (kept_of 3)) → Added (length d) mark old new (stepped 5)
   unfolding on_axis
   descendant_or_self_marked lo q a b =
       added_twice (stepped 0) (stepped 3) (stepped 5) (self_marked a) (descendant_marked lo q b)
-      (λ y l. or_and (eqb x y) (is_ancestor d x y && not (is_attribute d y)) (t y))
+      (λ y l. and-or_distrib_right (eqb x y) (is_ancestor d x y && not (is_attribute d y)) (t y))
 
-  pub following_marked : {old new : List Bool} (n : ℕ) → n ≡ length d →
-      Added (length d) old new (between (end x) n (kept_of 9)) → Added (length d) old new (stepped 9)
+  pub following_marked : {M : Type 0} {mark : M} {old new : List M} (n : ℕ) → n ≡ length d →
+      Added (length d) mark old new (between (end x) n (kept_of 9)) → Added (length d) mark old new (stepped 9)
   unfolding OnAxis
   following_marked n q =
       let s = (at_end d es r x k).after in
@@ -134,9 +124,9 @@ module _ (d : Document) (es : List ℕ) (r : Prepared d es) (t : ℕ → Bool) (
         ),
       ))
 
-  pub preceding_marked : {old new : List Bool} →
-      Added (length d) old new (between 0 x (λ y. leb (end y) x && kept_of 10 y)) →
-      Added (length d) old new (stepped 10)
+  pub preceding_marked : {M : Type 0} {mark : M} {old new : List M} →
+      Added (length d) mark old new (between 0 x (λ y. leb (end y) x && kept_of 10 y)) →
+      Added (length d) mark old new (stepped 10)
   unfolding OnAxis
   preceding_marked =
       by_candidates 10 0 x (λ y. leb (end y) x) (λ y l. let v = may_hold_iff 10 d y (λ e. omega arith) in (
@@ -150,10 +140,11 @@ module _ (d : Document) (es : List ℕ) (r : Prepared d es) (t : ℕ → Bool) (
       ))
 
   -- the rows under x, by what is may_hold of them
-  under_marked : {old new : List Bool} (a lo : ℕ) (A : ℕ → Type 0) → lo ≡ x + 1 → ((y : ℕ) → T (may_hold a d y) ↔ A y) →
+  under_marked : {M : Type 0} {mark : M} {old new : List M} (a lo : ℕ) (A : ℕ → Type 0) → lo ≡ x + 1 →
+      ((y : ℕ) → T (may_hold a d y) ↔ A y) →
       ((y : ℕ) → (Child d x y × A y) ↔ OnAxis a d x y) →
-      Added (length d) old new (between lo (end x) (λ y. is_child d x y && kept_of a y)) →
-      Added (length d) old new (stepped a)
+      Added (length d) mark old new (between lo (end x) (λ y. is_child d x y && kept_of a y)) →
+      Added (length d) mark old new (stepped a)
   under_marked a lo A q v e =
       by_candidates a lo (end x) (is_child d x) (λ y l. (
         λ (h, m, n). (e y).0 (child_yes d x y m, (v y).0 n),
@@ -165,16 +156,16 @@ module _ (d : Document) (es : List ℕ) (r : Prepared d es) (t : ℕ → Bool) (
             ),
       ))
 
-  pub child_marked : {old new : List Bool} (lo : ℕ) → lo ≡ x + 1 →
-      Added (length d) old new (between lo (end x) (λ y. is_child d x y && kept_of 1 y)) →
-      Added (length d) old new (stepped 1)
+  pub child_marked : {M : Type 0} {mark : M} {old new : List M} (lo : ℕ) → lo ≡ x + 1 →
+      Added (length d) mark old new (between lo (end x) (λ y. is_child d x y && kept_of 1 y)) →
+      Added (length d) mark old new (stepped 1)
   unfolding OnAxis
   child_marked lo q = under_marked 1 lo (NoAttribute d) q (λ y. may_hold_iff 1 d y (λ e. omega arith))
       (λ y. (λ c. c, λ c. c))
 
-  pub attribute_marked : {old new : List Bool} (lo : ℕ) → lo ≡ x + 1 →
-      Added (length d) old new (between lo (end x) (λ y. is_child d x y && kept_of 11 y)) →
-      Added (length d) old new (stepped 11)
+  pub attribute_marked : {M : Type 0} {mark : M} {old new : List M} (lo : ℕ) → lo ≡ x + 1 →
+      Added (length d) mark old new (between lo (end x) (λ y. is_child d x y && kept_of 11 y)) →
+      Added (length d) mark old new (stepped 11)
   unfolding OnAxis
   attribute_marked lo q = under_marked 11 lo (λ y. kind_at d y ≡ 5) q (λ y. kept_attribute d y) (λ y. (λ c. c, λ c. c))
 
@@ -189,15 +180,16 @@ module _ (d : Document) (es : List ℕ) (r : Prepared d es) (t : ℕ → Bool) (
         ⊎_elim (λ f. omega arith) (λ c. let z = ancestor_smaller d r.formed {y = parent_at d y} (omega arith) c in
         omega arith) (ancestor_cases a)
 
-    pub parent_marked : {old new : List Bool} → Added (length d) old new (λ y. eqb p y && t y) →
-        Added (length d) old new (stepped 2)
+    pub parent_marked : {M : Type 0} {mark : M} {old new : List M} →
+        Added (length d) mark old new (λ y. eqb p y && t y) →
+        Added (length d) mark old new (stepped 2)
     unfolding on_axis is_child
     parent_marked u = added_cong (stepped 2) u (λ y l. rw (ne_eqb x 0 (λ e. omega arith), q))
 
     module _ (o : NoAttribute d x) where
-      pub following_sibling_marked : {old new : List Bool} →
-          Added (length d) old new (between (end x) (end p) (λ y. is_child d p y && kept_of 7 y)) →
-          Added (length d) old new (stepped 7)
+      pub following_sibling_marked : {M : Type 0} {mark : M} {old new : List M} →
+          Added (length d) mark old new (between (end x) (end p) (λ y. is_child d p y && kept_of 7 y)) →
+          Added (length d) mark old new (stepped 7)
       unfolding OnAxis
       following_sibling_marked =
           let b = before in
@@ -215,9 +207,9 @@ module _ (d : Document) (es : List ℕ) (r : Prepared d es) (t : ℕ → Bool) (
             ),
           ))
 
-      pub preceding_sibling_marked : {old new : List Bool} (lo : ℕ) → lo ≡ p + 1 →
-          Added (length d) old new (between lo x (λ y. is_child d p y && kept_of 8 y)) →
-          Added (length d) old new (stepped 8)
+      pub preceding_sibling_marked : {M : Type 0} {mark : M} {old new : List M} (lo : ℕ) → lo ≡ p + 1 →
+          Added (length d) mark old new (between lo x (λ y. is_child d p y && kept_of 8 y)) →
+          Added (length d) mark old new (stepped 8)
       unfolding OnAxis
       preceding_sibling_marked lo e =
           by_candidates 8 lo x (is_child d p) (λ y l. let v = may_hold_iff 8 d y (λ e. omega arith) in (
@@ -228,20 +220,22 @@ module _ (d : Document) (es : List ℕ) (r : Prepared d es) (t : ℕ → Bool) (
           ))
 
   -- the axes that climb
-  pub ancestor_marked : {old new : List Bool} → Added (length d) old new (λ y. is_ancestor d y x && t y) →
-      Added (length d) old new (stepped 4)
+  pub ancestor_marked : {M : Type 0} {mark : M} {old new : List M} →
+      Added (length d) mark old new (λ y. is_ancestor d y x && t y) →
+      Added (length d) mark old new (stepped 4)
   unfolding on_axis
   ancestor_marked u = u
 
-  pub ancestor_or_self_marked : {old mid new : List Bool} → Added (length d) old mid (λ y. eqb x y && t y) →
-      Added (length d) mid new (λ y. is_ancestor d y x && t y) → Added (length d) old new (stepped 6)
+  pub ancestor_or_self_marked : {M : Type 0} {mark : M} {old mid new : List M} →
+      Added (length d) mark old mid (λ y. eqb x y && t y) →
+      Added (length d) mark mid new (λ y. is_ancestor d y x && t y) → Added (length d) mark old new (stepped 6)
   unfolding on_axis
   ancestor_or_self_marked a b =
       added_twice (stepped 0) (λ y. is_ancestor d y x && t y) (stepped 6) (self_marked a) b
-      (λ y l. or_and (eqb x y) (is_ancestor d y x) (t y))
+      (λ y l. and-or_distrib_right (eqb x y) (is_ancestor d y x) (t y))
 
   -- the root has no parent; it has no sibling, nor has an attribute
-  pub root_parent : {old : List Bool} → x ≡ 0 → Added (length d) old old (stepped 2)
+  pub root_parent : {M : Type 0} {mark : M} {old : List M} → x ≡ 0 → Added (length d) mark old old (stepped 2)
   unfolding on_axis is_child
   root_parent e = nothing_added (stepped 2) (λ y l. rw e)
 
@@ -256,13 +250,13 @@ module _ (d : Document) (es : List ℕ) (r : Prepared d es) (t : ℕ → Bool) (
         λ s. absurd s,
       )
 
-  pub no_following_sibling : {old : List Bool} → (eqb x 0 || is_attribute d x) ≡ true →
-      Added (length d) old old (stepped 7)
+  pub no_following_sibling : {M : Type 0} {mark : M} {old : List M} → (eqb x 0 || is_attribute d x) ≡ true →
+      Added (length d) mark old old (stepped 7)
   unfolding on_axis
   no_following_sibling e = nothing_added (stepped 7) (λ y l. rw (no_siblings e y))
 
-  pub no_preceding_sibling : {old : List Bool} → (eqb x 0 || is_attribute d x) ≡ true →
-      Added (length d) old old (stepped 8)
+  pub no_preceding_sibling : {M : Type 0} {mark : M} {old : List M} → (eqb x 0 || is_attribute d x) ≡ true →
+      Added (length d) mark old old (stepped 8)
   unfolding on_axis
   no_preceding_sibling e = nothing_added (stepped 8) (λ y l. rw (no_siblings e y))
 
@@ -274,7 +268,7 @@ module _ (d : Document) (es : List ℕ) (r : Prepared d es) (t : ℕ → Bool) (
         λ q. f ((or_iff (eqb x 0) (is_attribute d x)).1 (inr ((eq_iff (kind_at d x) 5).1 q))),
       )
 
-  pub no_axis : {old : List Bool} (a : ℕ) → 12 ≤ a → Added (length d) old old (stepped a)
+  pub no_axis : {M : Type 0} {mark : M} {old : List M} (a : ℕ) → 12 ≤ a → Added (length d) mark old old (stepped a)
   no_axis a h = nothing_added (stepped a) (λ y l. rw (← past_last_axis a d x y h))
 
 module _ (d : Document) (es : List ℕ) (r : Prepared d es) where

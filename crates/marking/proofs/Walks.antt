@@ -53,9 +53,6 @@ module _ (d : Document) (w : T (well_formed d)) where
         ⊎_elim (λ e. omega arith) (λ c. let z = ancestor_smaller d w {y = parent_at d at} (omega arith) c in
         omega arith) (ancestor_cases b))
 
-  pub climb_start : (x k : ℕ) → x < length d → x ≤ k → is_ancestor d k x ≡ false
-  climb_start x k l h = no_later_ancestor d w k x l h
-
 module _ (d : Document) (es : List ℕ) (r : Prepared d es) where
   abbrev end : ℕ → ℕ
   end x = get_or es x 0
@@ -139,25 +136,25 @@ module _ (d : Document) (es : List ℕ) (r : Prepared d es) where
 -- the loops: the state of each, and its steps
 
 -- children of p, from lo to before hi, of which those before y are marked
-pub record ChildrenBelow (d : Document) (es : List ℕ) (t : ℕ → Bool) (p lo hi y : ℕ) (old new : List Bool)
-    : Type 0 where
+pub record ChildrenBelow {M : Type 0} (d : Document) (es : List ℕ) (t : ℕ → Bool) (p lo hi y : ℕ) (mark : M)
+    (old new : List M) : Type 0 where
   pub from : lo ≤ y
   pub inside : y ≤ get_or es p 0
   pub child : y < hi → is_child d p y ≡ true
   pub past : (k : ℕ) → k < length d → hi ≤ k → k < y → is_child d p k ≡ false
-  pub added : Added (length d) old new (between lo y (λ k. is_child d p k && t k))
+  pub added : Added (length d) mark old new (between lo y (λ k. is_child d p k && t k))
 
 -- what is known at the child y, whose subtree ends at e, before it is marked or left
-pub record AtChild (d : Document) (es : List ℕ) (t : ℕ → Bool) (p lo hi y e : ℕ) (old new : List Bool) : Type 0 where
+pub record AtChild {M : Type 0} (d : Document) (es : List ℕ) (t : ℕ → Bool) (p lo hi y e : ℕ) (mark : M)
+    (old new : List M) : Type 0 where
   pub in_marks : y < length new
-  pub in_ends : y < length es
   pub less : y < e
-  pub marked : t y ≡ true → ChildrenBelow d es t p lo hi e old (set new y true)
-  pub left : t y ≡ false → ChildrenBelow d es t p lo hi e old new
+  pub marked : t y ≡ true → ChildrenBelow d es t p lo hi e mark old (set new y mark)
+  pub left : t y ≡ false → ChildrenBelow d es t p lo hi e mark old new
 
-module _ (d : Document) (es : List ℕ) (r : Prepared d es) (t : ℕ → Bool) (p lo hi : ℕ) (c : ChildrenFrom d es p lo hi)
-    (old : List Bool) where
-  pub children_start : ChildrenBelow d es t p lo hi lo old old
+module _ {M : Type 0} (d : Document) (es : List ℕ) (r : Prepared d es) (t : ℕ → Bool) (p lo hi : ℕ)
+    (c : ChildrenFrom d es p lo hi) (mark : M) (old : List M) where
+  pub children_start : ChildrenBelow d es t p lo hi lo mark old old
   children_start =
       record {
         from = omega arith;
@@ -167,7 +164,8 @@ module _ (d : Document) (es : List ℕ) (r : Prepared d es) (t : ℕ → Bool) (
         added = up_start (λ k. is_child d p k && t k) lo;
       }
 
-  module _ (y e : ℕ) (new : List Bool) (u : ChildrenBelow d es t p lo hi y old new) (h : y < hi) (q : e ≡ get_or es y 0)
+  module _ (y e : ℕ) (new : List M) (u : ChildrenBelow d es t p lo hi y mark old new) (h : y < hi)
+      (q : e ≡ get_or es y 0)
       (few : length d ≤ length old) where
     in_document : y < length d
     in_document = let a = c.inside in let b = (r.ends.row p c.parent).within in omega arith
@@ -181,8 +179,8 @@ module _ (d : Document) (es : List ℕ) (r : Prepared d es) (t : ℕ → Bool) (
     in_marks : y < length new
     in_marks = let a = in_document in omega (arith, u.added.size)
 
-    next : (new' : List Bool) → Added (length d) old new' (between lo e (λ k. is_child d p k && t k)) →
-        ChildrenBelow d es t p lo hi e old new'
+    next : (new' : List M) → Added (length d) mark old new' (between lo e (λ k. is_child d p k && t k)) →
+        ChildrenBelow d es t p lo hi e mark old new'
     next new' v =
         let a = less in
         let b = c.inside in
@@ -194,14 +192,13 @@ module _ (d : Document) (es : List ℕ) (r : Prepared d es) (t : ℕ → Bool) (
           added = v;
         }
 
-    pub at_child : AtChild d es t p lo hi y e old new
+    pub at_child : AtChild d es t p lo hi y e mark old new
     at_child =
         record {
           in_marks = in_marks;
-          in_ends = let a = in_document in omega (arith, r.ends.room);
           less = less;
           marked =
-              λ z. next (set new y true)
+              λ z. next (set new y mark)
               (up_marked (λ k. is_child d p k && t k) lo y e u.added u.from less
               (λ k m a b. rw (gap k m a b)) in_marks
               (rw (u.child h, z)));
@@ -212,20 +209,26 @@ module _ (d : Document) (es : List ℕ) (r : Prepared d es) (t : ℕ → Bool) (
         }
 
 -- ancestors of x, of which those from `at` on are marked
-pub record AncestorsFrom (d : Document) (t : ℕ → Bool) (x at : ℕ) (old new : List Bool) : Type 0 where
+pub record AncestorsFrom {M : Type 0} (d : Document) (t : ℕ → Bool) (x at : ℕ) (mark : M) (old new : List M)
+    : Type 0 where
   pub current : AncestorOrSelf d at x
-  pub added : Added (length d) old new (from_on at (λ k. is_ancestor d k x && t k))
+  pub added : Added (length d) mark old new (from_on at (λ k. is_ancestor d k x && t k))
 
-module _ (d : Document) (w : T (well_formed d)) (t : ℕ → Bool) (x : ℕ) (l : x < length d) (old : List Bool)
-    (few : length d ≤ length old) where
-  pub ancestors_start : AncestorsFrom d t x x old old
+module _ {M : Type 0} (d : Document) (w : T (well_formed d)) (t : ℕ → Bool) (x : ℕ) (l : x < length d)
+    (mark : M) (old : List M) (few : length d ≤ length old) where
+  pub ancestors_start : AncestorsFrom d t x x mark old old
   ancestors_start =
       record {
         current = inl refl;
-        added = down_start (λ k. is_ancestor d k x && t k) x (λ y m h. rw (climb_start d w x y l h));
+        added = down_start (λ k. is_ancestor d k x && t k) x (λ y m h. rw (no_later_ancestor d w y x l h));
       }
 
-  module _ (at p : ℕ) (new : List Bool) (u : AncestorsFrom d t x at old new) (h : 0 < at) (q : p ≡ parent_at d at) where
+  pub ancestors_at : (at : ℕ) (new : List M) → AncestorsFrom d t x at mark old new → at < length d
+  ancestors_at at new u =
+      ⊎_elim (λ e. omega arith) (λ a. let g = ancestor_smaller d w l a in omega arith) u.current
+
+  module _ (at p : ℕ) (new : List M) (u : AncestorsFrom d t x at mark old new) (h : 0 < at)
+      (q : p ≡ parent_at d at) where
     pub ancestors_less : p < at
     ancestors_less = let a = climb_less d w x at l u.current h in omega arith
 
@@ -242,7 +245,7 @@ module _ (d : Document) (w : T (well_formed d)) (t : ℕ → Bool) (x : ℕ) (l 
     is_one : is_ancestor d p x ≡ true
     is_one = rw q (climb_is d w x at l u.current h)
 
-    pub ancestors_marked : t p ≡ true → AncestorsFrom d t x p old (set new p true)
+    pub ancestors_marked : t p ≡ true → AncestorsFrom d t x p mark old (set new p mark)
     ancestors_marked z =
         record {
           current = rw q (climb_current d w x at l u.current h);
@@ -250,13 +253,13 @@ module _ (d : Document) (w : T (well_formed d)) (t : ℕ → Bool) (x : ℕ) (l 
               (rw (is_one, z));
         }
 
-    pub ancestors_left : t p ≡ false → AncestorsFrom d t x p old new
+    pub ancestors_left : t p ≡ false → AncestorsFrom d t x p mark old new
     ancestors_left z =
         record {
           current = rw q (climb_current d w x at l u.current h);
           added = down_left (λ k. is_ancestor d k x && t k) at p u.added ancestors_less skips (rw (z, and-false));
         }
 
-  pub ancestors_end : (at : ℕ) (new : List Bool) → AncestorsFrom d t x at old new → at ≤ 0 →
-      Added (length d) old new (λ k. is_ancestor d k x && t k)
+  pub ancestors_end : (at : ℕ) (new : List M) → AncestorsFrom d t x at mark old new → at ≤ 0 →
+      Added (length d) mark old new (λ k. is_ancestor d k x && t k)
   ancestors_end at new u h = down_end (λ k. is_ancestor d k x && t k) at h u.added

@@ -1,7 +1,7 @@
 -- The forms of the rules, and the search among those of one. Assumes nothing.
 use Prim.Native.Nat.{ℕ, zero, suc, ◌+◌, ◌-◌, ◌<◌, ◌≤◌}
 use mathlib.Core.Path.{◌≡◌, refl, sym, ◌∙◌, ap, ap₂}
-use mathlib.Core.Bool.{Bool, true, false, ◌&&◌, ◌||◌, cond, false≢true}
+use mathlib.Core.Bool.{Bool, true, false, ◌&&◌, ◌||◌, cond, false≢true, or-false}
 use mathlib.Core.List.{List, [], ◌∷◌, map, head-eq_of_cons-eq, tail-eq_of_cons-eq, cons-ne-nil}
 use mathlib.Core.Logic.{⊎_elim}
 use native.Mathlib.Omega.{arith}
@@ -14,7 +14,7 @@ use denote.Bor.{Bor}
 use Rattle.std.specs.Prelude.{Option, None, Some, is_some, slice_get, MatchOption}
 use Rattle.std.specs.Option.{unwrap_or, option_copied}
 use Rattle.std.specs.List.{list_any, list_all}
-use Rattle.common.proofs.Reflect.{le_or_lt, or-false}
+use Rattle.common.proofs.Reflect.{le_or_lt}
 use Rattle.common.specs.Lists.{all_of, any_of}
 use Rattle.terms.specs.Row.{Row}
 use Rattle.rules.specs.Form.{Form, Rule}

@@ -1,7 +1,7 @@
 -- The ways through the matcher's functions, over the results of their calls. Assumes nothing.
 use Prim.Native.Nat.{ℕ, ◌<◌, ◌≤◌}
 use mathlib.Core.Path.{◌≡◌, refl, sym, ◌∙◌, ap, subst}
-use mathlib.Core.Bool.{Bool, true, false, not, cond, ◌&&◌, ◌||◌, false≢true}
+use mathlib.Core.Bool.{Bool, true, false, not, cond, ◌||◌, false≢true, and-false}
 use mathlib.Core.List.{List, [], ◌∷◌, map}
 use native.Mathlib.Omega.{arith}
 use lib.Dec.{eqb}
@@ -12,7 +12,7 @@ use Rattle.std.specs.Option.{unwrap_or}
 use Rattle.std.proofs.lemmas.List.{map-set}
 use Rattle.std.proofs.lemmas.Bool.{false_from_ne_true}
 use Rattle.terms.specs.Row.{Row, row_at}
-use Rattle.common.proofs.Reflect.{and-false}
+use Rattle.std.proofs.lemmas.Bool.{and_parts}
 use Rattle.matching.specs.declared.matcher.Letters.{Letters}
 use Rattle.matching.specs.declared.pattern.Claim.{Claim}
 use Rattle.rules.specs.Instance.{meets}
@@ -63,13 +63,9 @@ checked l b = record {
 pub record Keeps (f : Match → Match) : Type 0 where
   before : (m : Match) → (f m).fits ≡ true → m.fits ≡ true
 
-and_left : (a b : Bool) → (a && b) ≡ true → a ≡ true
-and_left true b h = refl
-and_left false b h = h
-
 checked_before : (b : Bool) (m : Match) → (check b m).fits ≡ true → m.fits ≡ true
 unfolding check
-checked_before b m h = and_left m.fits b h
+checked_before b m h = (and_parts m.fits b h).0
 
 row_before : (b : Bool) (m₁ m : Match) → (m₁.fits ≡ true → m.fits ≡ true) → (cond b m₁ (check false m)).fits ≡ true
     → m.fits ≡ true
@@ -81,7 +77,7 @@ module _ (rs : List Row) where
   unfolding match bind
   match_keeps (number n) v = record { before = checked_before (eqb v n) }
   match_keeps (letter k) v =
-      record { before = λ m h. checked_before (suits rs k v) m (and_left (check (suits rs k v) m).fits _ h) }
+      record { before = λ m h. checked_before (suits rs k v) m (and_parts (check (suits rs k v) m).fits _ h).0 }
   match_keeps (row_pattern kind x y z) v =
       let r : Row = row_at rs v in
       let f = match_keeps x r.a in
@@ -132,15 +128,15 @@ module _ (rs : List Row) where
     other_letter_way e = rw (← p, e) (record { answer = refl; letters = λ t. absurd (false≢true t) })
 
   -- a row: its kind, and then its fields, one after the other
-  module _ (kind v : ℕ) (x y z : Pattern) (m : Match) {b : Bool} (s : b ≡ is_row rs kind v) where
-    pub row_way : b ≡ true → {i : ℕ} {r : Row} → i ≡ v → r ≡ row_at rs i
+  module _ (kind v : ℕ) (x y z : Pattern) (m : Match) where
+    pub row_way : {r : Row} → (is_row rs kind v ≡ true) × (r ≡ row_at rs v)
         → match rs z r.c (match rs y r.b (match rs x r.a m)) ≡ match rs (row_pattern kind x y z) v m
     unfolding match
-    row_way f e g = rw (← s, f, ← e, ← g)
+    row_way e = rw (e.0, ← e.1)
 
-    pub other_row_way : b ≡ false → check false m ≡ match rs (row_pattern kind x y z) v m
+    pub other_row_way : is_row rs kind v ≡ false → check false m ≡ match rs (row_pattern kind x y z) v m
     unfolding match
-    other_row_way f = rw (← s, f)
+    other_row_way f = rw f
 
 -- a form's premises, as many as there are
 module _ (rs : List Row) (s₁ s₂ : Sides) (l : Letters) where

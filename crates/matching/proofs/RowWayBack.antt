@@ -1,7 +1,7 @@
 -- One level of the way back on row numbers, and the ways through the code that finds it. Assumes nothing.
 use Prim.Native.Nat.{ℕ, zero, suc, ◌<◌, ◌≤◌}
 use mathlib.Core.Path.{◌≡◌, refl, sym, ◌∙◌, ap, subst, subst₂}
-use mathlib.Core.Bool.{Bool, true, false, ◌&&◌, false≢true}
+use mathlib.Core.Bool.{Bool, true, false, ◌&&◌, false≢true, and-false}
 use mathlib.Core.List.{List, [], ◌∷◌}
 use mathlib.Core.Logic.{⊎_elim}
 use Rattle.std.proofs.Common.{Option, Some, None}
@@ -10,7 +10,7 @@ use lib.Dec.{eqb, ltb}
 use lib.ListN.{length, get_or, set, take, replicate, length-take, get_or-eq_default}
 use lib.Seq.{get_or-take}
 use borrow.Author.Tests.{lt-ltb, le-ltb}
-use Rattle.common.proofs.Reflect.{le_or_lt, and-false}
+use Rattle.common.proofs.Reflect.{le_or_lt}
 use Rattle.terms.specs.Row.{Row, no_row, row_at}
 use Rattle.terms.proofs.Entries.{entries_take, entry_at_lem, entry_past}
 use Rattle.terms.proofs.Noted.{note_there, nothing_noted, noted_more}

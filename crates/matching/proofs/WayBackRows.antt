@@ -19,7 +19,7 @@ use Rattle.terms.specs.Terms.{qualifier_at}
 use Rattle.terms.specs.AcceptedRows.{Built}
 use Rattle.terms.proofs.ByKind.{Kind, void_kind, root_kind, step_kind, union_kind, composition_kind, filter_kind}
 use Rattle.terms.proofs.ByKind.{true_kind, false_kind, not_kind, and_kind, or_kind, in_kind, kind_of_lem, kind_of}
-use Rattle.terms.proofs.Terms.{path_term, qualifier_term}
+use Rattle.terms.proofs.Terms.{path_term, qualifier_term, step_path}
 use Rattle.terms.proofs.Built.{FieldLaw, built_row, built_term, built_kind}
 use Rattle.rules.specs.Order.{is_pair}
 use Rattle.rules.specs.WayBack.{opposites, lookup, opposite, step_back, filter_back, joined, way_back}
@@ -59,10 +59,6 @@ module _ {rs : List Row} (built : Built rs) where
     root_at : (row_at rs i).kind ≡ 1 → path_at rs i ≡ Root
     unfolding term_by as_path term_at
     root_at e = ap as_path (term_of_kind 1 e)
-
-    step_at : (row_at rs i).kind ≡ 2 → path_at rs i ≡ AxisStep (row_at rs i).a (row_at rs i).b (row_at rs i).c
-    unfolding term_by as_path term_at
-    step_at e = ap as_path (term_of_kind 2 e)
 
     union_at : (row_at rs i).kind ≡ 3 → path_at rs i ≡ Union (path_at rs (row_at rs i).a) (path_at rs (row_at rs i).b)
     unfolding term_by as_path term_at
@@ -104,10 +100,10 @@ module _ {rs : List Row} (built : Built rs) where
   is_step_iff i h a t c = (
     λ s.
         let r = simp facts at s in
-        step_at i h.0 r.0.0.0 ∙ rw (r.0.0.1, r.0.1, r.1) refl,
+        step_path rs i r.0.0.0 ∙ rw (r.0.0.1, r.0.1, r.1) refl,
     λ e.
         let k : (row_at rs i).kind ≡ 2 = path_kind i h e in
-        let q = sym (step_at i h.0 k) ∙ e in
+        let q = sym (step_path rs i k) ∙ e in
         simp facts (((k, (cc)), (cc)), (cc)),
   )
 
@@ -208,7 +204,7 @@ module _ {rs : List Row} (built : Built rs) where
         let x : Row = row_at rs i in
         let y : Row = row_at rs j in
         let z : Row = row_at rs y.b in
-        let e : way_back (path_at rs i) ≡ _ = ap way_back (step_at i row-i.0 k) in (
+        let e : way_back (path_at rs i) ≡ _ = ap way_back (step_path rs i k) in (
           λ t.
               let (c, r) = and_yes (eqb y.kind 4) _ t in
               let (s, r₁) = and_yes (is_step rs y.a 0 x.b x.c) _ r in
@@ -228,7 +224,7 @@ module _ {rs : List Row} (built : Built rs) where
               let first : path_at rs y.a ≡ AxisStep 0 x.b x.c = sym (cc) in
               let second : path_at rs y.b ≡ AxisStep axis 2 0 = sym (cc) in
               let n : z.kind ≡ 2 = path_kind y.b b second in
-              let fields = sym (step_at y.b b.0 n) ∙ second in
+              let fields = sym (step_path rs y.b n) ∙ second in
               let m : axis ≡ z.a = sym (cc) in
               yes_and (eqb y.kind 4) _ (yes_eqb c)
               (yes_and (is_step rs y.a 0 x.b x.c) _ ((is_step_iff y.a a 0 x.b x.c).1 first)

@@ -24,7 +24,8 @@ use way_back::is_with_back;
 // The last rule.
 pub const MAX_RULE: u16 = WAY_BACK_RULE;
 
-// Notes of rows' ways back, before any is found.
+// Notes of rows' ways back, before any is found. No struct of notes and their fact: that is of the rows too, which
+// calls lend with their steps, and a call that keeps no notes lends an empty slice.
 pub fn no_notes() -> [Option<u16>; MAX_ROWS]
     ensures { (rs : List Row) → Noted rs result }
 {
@@ -40,7 +41,8 @@ pub fn premise_count(rule: u16) -> usize
 }
 
 // Whether the rule, by the rule table or by the way back, yields the step from premises with the rows given. The rows
-// of a premise that the rule doesn't have don't matter. What is found of ways back is noted.
+// of a premise that the rule doesn't have don't matter. What is found of ways back is noted. The premises stand apart:
+// `fit_premises` alone looks at them, and would take an array of both apart to fit each to its claim.
 pub fn yields(
     rows: &[u16],
     rule: u16,

@@ -7,16 +7,16 @@ ghost use Rattle.rules.specs.Yields.{forms_of};
 ghost use Rattle.matching.specs.code.Pattern.{form_pattern};
 ghost use Rattle.matching.specs.code.PatternTypes.{letter_number, condition_of, pattern_of, claim_of, form_of};
 ghost use Rattle.matching.specs.code.PatternTypes.{forms_in, rule_table};
-ghost use Rattle.matching.specs.code.RowYields.{bind, suits, is_row, match, match_claim, match_claims};
+ghost use Rattle.matching.specs.code.RowYields.{bind, suits, match, match_claim, match_claims};
 ghost use Rattle.matching.specs.code.RowYields.{empty_match, numbers_in, yields_by};
-ghost use Rattle.matching.specs.code.MatchTypes.{sides_in, values_in, matched, Matches};
+ghost use Rattle.matching.specs.code.MatchTypes.{sides_in, values_in, matched, Matches, KindRowIs};
 
 use crate::order::{axis_below, test_below};
 use crate::pattern::{Claim, Condition, Form, LETTER_COUNT, Letter, Pattern, RowPattern};
 use crate::tables::{RULES_TO_24, RULES_TO_41, RULES_TO_58};
 use common::row_kind::RowKind;
 use common::{axis, node_test};
-use terms::{is_held_path, is_held_qualifier, row_at, row_count};
+use terms::{Row, get_row, is_held_path, is_held_qualifier};
 
 // The rows that a step is about.
 #[derive(Clone, Copy, PartialEq, Eq, Debug)]
@@ -25,13 +25,15 @@ pub struct Sides {
     pub right: u16,
 }
 
-// What each letter stands for, where it stands for something yet.
+// What each letter stands for, where it stands for something yet. The rows stand beside it: `fit` and its like change
+// the letters, and with the rows in one struct each would have to promise that the rows stay as they are.
 #[derive(Clone, Copy)]
 struct Letters {
     values: [Option<u16>; LETTER_COUNT],
 }
 
-// The first part of the rule table.
+// The first part of the rule table. Of one static with all rules the check of its function stops at 50,000,000 steps,
+// and a static of the parts is refused, since it would refer to others: so there are three, with a function for each.
 fn rules_to_24() -> &'static [&'static [Form]]
     ensures { map forms_in result.now ≡ take 25 rule_table }
 {
@@ -56,10 +58,7 @@ fn rules_to_58() -> &'static [&'static [Form]]
 fn entry_at(part: &'static [&'static [Form]], i: usize) -> &'static [Form]
     ensures { forms_in result ≡ get_or (map forms_in part.now) i [] }
 {
-    match part.get(i) {
-        Some(forms) => forms,
-        None => &[],
-    }
+    part.get(i).copied().unwrap_or(&[])
 }
 
 // The forms of a rule, none where the table has no such rule.
@@ -88,13 +87,12 @@ fn suits_letter(rows: &[u16], letter: Letter, v: u16) -> bool
     }
 }
 
-// Whether v is the number of a held row of this kind.
+// The held row of number v, where it is of this kind.
 #[tactic(auto, unfolding(crate::specs::code::RowYields::is_row))]
-fn is_row(rows: &[u16], kind: RowKind, v: u16) -> bool
-    ensures { result ≡ is_row (table_of rows.now) (row_number kind) v }
+fn row_of_kind(rows: &[u16], kind: RowKind, v: u16) -> Option<Row>
+    ensures { KindRowIs result (table_of rows.now) (row_number kind) v }
 {
-    let i = usize::from(v);
-    i < row_count(rows) && row_at(rows, i).kind == u16::from(kind)
+    get_row(rows, usize::from(v)).filter(|row| row.kind == u16::from(kind))
 }
 
 impl Letters {
@@ -125,6 +123,8 @@ impl Letters {
         old == v
     }
 
+    // By numbers, as letters have them: 3 to 10 is a range of numbers, and of the others each is compared with one
+    // number or two, where a conversion before it would be no plainer.
     fn meet(&self, condition: Condition) -> bool
         ensures { result ≡ meets (numbers_in (values_in self.now)) (condition_of condition) }
     {
@@ -156,10 +156,9 @@ impl Letters {
             Pattern::Letter(letter) => suits_letter(rows, letter, v) && self.bind(letter, v),
             Pattern::Row(row) => {
                 let RowPattern(kind, a, b, c) = *row;
-                if !is_row(rows, kind, v) {
+                let Some(held) = row_of_kind(rows, kind, v) else {
                     return false;
-                }
-                let held = row_at(rows, usize::from(v));
+                };
                 self.fit(rows, a, held.a) && self.fit(rows, b, held.b) && self.fit(rows, c, held.c)
             }
         }
@@ -173,7 +172,8 @@ impl Letters {
         self.fit(rows, claim.0, s.left) && self.fit(rows, claim.1, s.right)
     }
 
-    // The rows of the premises, of as many as the form has, against the form's.
+    // The rows of the premises, of as many as the form has, against the form's. They come apart: in an array they would
+    // be taken apart here.
     fn fit_premises(
         &mut self,
         rows: &[u16],

@@ -3,7 +3,7 @@ ghost use Rattle.std.specs.Prelude.{◌≡◌};
 ghost use Rattle.rules.specs.Order.{is_pair, axis_below, test_below};
 
 use crate::tables::AXIS_PAIRS;
-use common::node_test;
+use common::node_test::NodeTest;
 
 // Whether (a, b) is one of the pairs. Numbers of axes, as lent rows and letters have them: two conversions before each
 // search are no plainer.
@@ -26,8 +26,10 @@ pub fn axis_below(a: u16, b: u16) -> bool
 pub fn test_below(t: u16, c: u16, u: u16, e: u16) -> bool
     ensures { result ≡ test_below t c u e }
 {
-    let same = t == u && c == e;
-    let named = t == node_test::NAME && u == node_test::STAR;
-    let targeted = t == node_test::TARGET && u == node_test::INSTRUCTION;
-    same || named || targeted || u == node_test::NODE
+    match (NodeTest::try_from(t), NodeTest::try_from(u)) {
+        (_, Ok(NodeTest::Node)) => true,
+        (Ok(NodeTest::Name), Ok(NodeTest::Star)) => true,
+        (Ok(NodeTest::Target), Ok(NodeTest::Instruction)) => true,
+        _ => t == u && c == e,
+    }
 }

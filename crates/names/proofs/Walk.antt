@@ -6,17 +6,14 @@ use mathlib.Core.List.{List, [], ◌∷◌}
 use native.Mathlib.Nat.{add-zero}
 use native.Mathlib.Omega.{arith}
 use lib.Dec.{eqb}
-use lib.ListN.{length, get_or, take, drop, length-drop, drop_of_length-le, get_or-map}
+use lib.ListN.{length, get_or, take, drop, length-drop, get_or-map}
 use lib.Seq.{drop-drop, get_or-drop}
 use Rattle.lines.specs.Line.{newline, Line, line, in_first_line, lines}
 use Rattle.names.specs.Names.{NameMet}
 use Rattle.lines.specs.code.NumbersRead.{first_length}
+use Rattle.lines.proofs.Cutting.{no_lines}
 use Rattle.lines.proofs.FirstLine.{one_more}
 use Rattle.names.specs.code.LineStarts.{NextMet, StartMet}
-
-no_lines : (xs : List ℕ) (i : ℕ) → length xs ≤ i → lines (drop i xs) ≡ []
-unfolding lines
-no_lines xs i h = ap lines (drop_of_length-le xs {i = i} h)
 
 -- the first line's bytes are the first of the text, as many as it has
 more_bytes : (x : ℕ) (xs : List ℕ) (b : Bool) (ls : List Line)

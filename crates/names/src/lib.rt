@@ -43,7 +43,8 @@ pub fn count(list: &[u8]) -> usize
     list.split_inclusive(|b| *b == lines::NEWLINE).count()
 }
 
-// Name k of the list, counted from 0; an empty one, which no file has, where there is none.
+// Name k of the list, counted from 0; an empty one, which no file has, where there is none. By place: `split` and `nth`
+// give a name's bytes, and not where they stand, which is promised too.
 pub fn name_at(list: &[u8], k: usize) -> Name
     ensures { NameMet list.now k result.start result.end }
 {

@@ -1,7 +1,7 @@
 -- The ways through the code that compares two rows. Assumes nothing.
 use Prim.Native.Nat.{ℕ}
 use mathlib.Core.Path.{◌≡◌, refl, sym, ap, ap₂, subst, ◌∙◌}
-use mathlib.Core.Bool.{true, false, false≢true}
+use mathlib.Core.Bool.{Bool, true, false, false≢true}
 use mathlib.Core.List.{List}
 use native.Mathlib.Omega.{arith}
 use lib.ListN.{get_or, set, take, replicate}
@@ -35,6 +35,24 @@ passed o u Less e f = absurd (false≢true (sym f))
 passed o u Equal e f = rw (← e)
 passed o u Greater e f = absurd (false≢true (sym f))
 
+-- an order by three comparisons, one after the other
+pub record Three (o u v w : Order) : Type 0 where
+  pub is : o ≡ (u and_then v and_then w)
+
+module _ {o u v w : Order} (three : Three o u v w) (r₁ : Ordering) (first : order_of r₁ ≡ u) where
+  pub first_decides : is_ne r₁ ≡ true → order_of r₁ ≡ o
+  first_decides n = decided u _ r₁ first n ∙ sym three.is
+
+  module _ (first-equal : is_ne r₁ ≡ false) (r₂ : Ordering) (second : order_of r₂ ≡ v) where
+    after_first : o ≡ (v and_then w)
+    after_first = three.is ∙ passed u _ r₁ first first-equal
+
+    pub second_decides : is_ne r₂ ≡ true → order_of r₂ ≡ o
+    second_decides n = decided v _ r₂ second n ∙ sym after_first
+
+    pub third_decides : is_ne r₂ ≡ false → (r₃ : Ordering) → order_of r₃ ≡ w → order_of r₃ ≡ o
+    third_decides second-equal r₃ third = third ∙ sym (after_first ∙ passed v w r₂ second second-equal)
+
 equal_of : (r : Ordering) → is_ne r ≡ false → order_of r ≡ equal
 equal_of Less f = absurd (false≢true (sym f))
 equal_of Equal f = refl
@@ -45,9 +63,11 @@ equal_where Less e = absurd (false≢true e)
 equal_where Equal e = refl
 equal_where Greater e = absurd (false≢true e)
 
-pub numbers_compared : (n m : ℕ) → order_of (nat_cmp n m) ≡ number_order n m
+-- two numbers that are compared, which are n and m
+pub numbers_compared : (k l : ℕ) {n m : ℕ} {o : Ordering} → o ≡ nat_cmp k l → k ≡ n → l ≡ m
+    → order_of o ≡ number_order n m
 unfolding number_order
-numbers_compared n m = grind (arith, common_steps)
+numbers_compared k l e f g = grind (arith, common_steps)
 
 -- an answer's value is that of equal
 pub found_equal : (o : Order) {r : ℕ} → r ≡ order_value o → r ≡ 1 → o ≡ equal
@@ -77,13 +97,21 @@ module _ (rs ss : List Row) where
       noted_more (λ i j. term_at rs i ≡ term_at ss j) xs i j s
       (terms_ordered.equal_same (term_at rs i) (term_at ss j) e)
 
-  -- rows i and j, as the code has them
-  module _ (i j : ℕ) {x y : Row} (left : x ≡ row_at rs i) (right : y ≡ row_at ss j) where
-    abbrev kind : ℕ
-    kind = term_kind x.kind
+  -- a pair that is found equal
+  pub pair_noted : (i j : ℕ) (r : Ordering) → order_of r ≡ term_order (term_at rs i) (term_at ss j) → is_eq r ≡ true
+      → (xs ys : List (Option ℕ)) → Noted rs ss xs → ys ≡ set xs i (Some j) → Noted rs ss ys
+  pair_noted i j r e q xs ys noted stored =
+      subst (Noted rs ss) (sym stored) (equal_noted xs i j noted (sym e ∙ equal_where r q))
 
+  -- rows i and j, read as the code reads them, and their kinds
+  module _ (i j : ℕ) {x y : Row} {n m : ℕ} (left : x ≡ row_at rs n) (n-is : n ≡ i) (right : y ≡ row_at ss m)
+      (m-is : m ≡ j) {k l : ℕ} (kind : k ≡ term_kind x.kind) (other : l ≡ term_kind y.kind) {r₀ : Ordering}
+      (compared : r₀ ≡ nat_cmp k l) {unequal : Bool} (told : unequal ≡ is_ne r₀) where
     abbrev kinds : Order
-    kinds = number_order kind (term_kind y.kind)
+    kinds = number_order (term_kind x.kind) (term_kind y.kind)
+
+    kinds-are : order_of r₀ ≡ kinds
+    kinds-are = numbers_compared k l compared kind other
 
     abbrev order : Order
     order = term_order (term_at rs i) (term_at ss j)
@@ -95,61 +123,26 @@ module _ (rs ss : List Row) where
     both_rows : order ≡ row_order (row_by (terms (take i rs)) x) (row_by (terms (take j ss)) y)
     unfolding term_order
     both_rows =
-        ap₂ row_order (row_at_lem rs i ∙ ap (row_by (terms (take i rs))) (sym left))
-        (row_at_lem ss j ∙ ap (row_by (terms (take j ss))) (sym right))
+        ap₂ row_order (row_at_lem rs i ∙ ap (row_by (terms (take i rs))) (sym (left ∙ ap (row_at rs) n-is)))
+        (row_at_lem ss j ∙ ap (row_by (terms (take j ss))) (sym (right ∙ ap (row_at ss) m-is)))
 
-    module _ (r₀ : Ordering) (kinds-is : order_of r₀ ≡ kinds) where
-      pub kinds_differ : is_ne r₀ ≡ true → order_of r₀ ≡ order
-      unfolding row_order
-      kinds_differ n = decided kinds _ r₀ kinds-is n ∙ sym both_rows
+    pub kinds_differ : unequal ≡ true → order_of r₀ ≡ order
+    unfolding row_order
+    kinds_differ e = decided kinds _ r₀ kinds-are (sym told ∙ e) ∙ sym both_rows
 
-      -- of one kind, whose fields are these
-      module _ (same : is_ne r₀ ≡ false) (fs : Fields) (fields-are : fs ≡ fields_of kind) where
-        abbrev firsts : Order
-        firsts = fields fs.a x.a y.a
+    abbrev by : Fields → Order
+    by fs = fields fs.a x.a y.a and_then fields fs.b x.b y.b and_then fields fs.c x.c y.c
 
-        abbrev seconds : Order
-        seconds = fields fs.b x.b y.b
-
-        abbrev thirds : Order
-        thirds = fields fs.c x.c y.c
-
-        by_kind : order
-            ≡ (fields (fields_of kind).a x.a y.a and_then fields (fields_of kind).b x.b y.b
-            and_then fields (fields_of kind).c x.c y.c)
-        unfolding row_order
-        by_kind =
-            let alike : kinds ≡ equal = sym kinds-is ∙ equal_of r₀ same in
-            let one_kind : kind ≡ term_kind y.kind = numbers_ordered.equal_same kind (term_kind y.kind) alike in
-            both_rows ∙ rw (← one_kind, numbers_ordered.same kind)
-
-        by_fields : order ≡ (firsts and_then seconds and_then thirds)
-        by_fields =
-            by_kind
-            ∙ ap (λ (fs : Fields). fields fs.a x.a y.a and_then fields fs.b x.b y.b and_then fields fs.c x.c y.c)
-            (sym fields-are)
-
-        module _ (r₁ : Ordering) (first : order_of r₁ ≡ firsts) where
-          pub firsts_differ : is_ne r₁ ≡ true → order_of r₁ ≡ order
-          firsts_differ n = decided firsts _ r₁ first n ∙ sym by_fields
-
-          module _ (first-equal : is_ne r₁ ≡ false) (r₂ : Ordering) (second : order_of r₂ ≡ seconds) where
-            after_first : order ≡ (seconds and_then thirds)
-            after_first = by_fields ∙ passed firsts _ r₁ first first-equal
-
-            pub seconds_differ : is_ne r₂ ≡ true → order_of r₂ ≡ order
-            seconds_differ n = decided seconds _ r₂ second n ∙ sym after_first
-
-            module _ (second-equal : is_ne r₂ ≡ false) (r₃ : Ordering) (third : order_of r₃ ≡ thirds) where
-              pub thirds_decide : order_of r₃ ≡ order
-              thirds_decide = third ∙ sym (after_first ∙ passed seconds thirds r₂ second second-equal)
-
-              -- a pair that is found equal
-              pub all_equal : is_eq r₃ ≡ true → (xs ys : List (Option ℕ)) → Noted rs ss xs → ys ≡ set xs i (Some j)
-                  → Noted rs ss ys
-              all_equal third-equal xs ys noted stored =
-                  subst (Noted rs ss) (sym stored)
-                  (equal_noted xs i j noted (sym thirds_decide ∙ equal_where r₃ third-equal))
+    -- of one kind, whose fields are these
+    pub by_fields : unequal ≡ false → {fs : Fields} → fs ≡ fields_of k
+        → Three order (fields fs.a x.a y.a) (fields fs.b x.b y.b) (fields fs.c x.c y.c)
+    unfolding row_order
+    by_fields e are =
+        let alike : kinds ≡ equal = sym kinds-are ∙ equal_of r₀ (sym told ∙ e) in
+        let same : term_kind x.kind ≡ term_kind y.kind = numbers_ordered.equal_same _ _ alike in
+        let by_kind : order ≡ by (fields_of (term_kind x.kind)) =
+        both_rows ∙ rw (← same, numbers_ordered.same (term_kind x.kind)) in
+        record { is = by_kind ∙ ap by (sym (are ∙ ap fields_of kind)) }
 
 -- an order's number is that of the order that it stands for
 pub number_of_order : (r : Ordering) → order_number r ≡ order_value (order_of r)

@@ -5,7 +5,7 @@ use mathlib.Core.Bool.{Bool, true, false, cond, ◌&&◌, false≢true}
 use mathlib.Core.List.{List}
 use mathlib.Core.Logic.{⊎_elim, inl, inr, ◌⊎◌}
 use native.Mathlib.Omega.{arith}
-use lib.ListN.{get_or, take, length-take, get_or-eq_default}
+use lib.ListN.{get_or, take, length-take}
 use borrow.Author.Tests.{lt-ltb, le-leb, lt-leb}
 use lib.Dec.{leb}
 use Rattle.std.specs.Prelude.{Option, None, Some}
@@ -15,6 +15,7 @@ use Rattle.common.specs.declared.row_kind.RowKind.TheVariants as Kinds
 use Rattle.common.specs.code.Numbers.{row_number}
 use Rattle.terms.specs.code.RowTypes.{KindIs}
 use Rattle.common.specs.RowKinds.{void_row, false_row}
+use Rattle.std.proofs.lemmas.Bool.{and_cases}
 use Rattle.common.proofs.Reflect.{facts, le_or_lt, true_iff}
 use Rattle.xpath.specs.Term.{Void, Root, AxisStep, Union, Composition, Filter, True, False, Not, And, Or, In}
 use Rattle.xpath.specs.Term as term
@@ -23,7 +24,7 @@ use Rattle.terms.specs.Fields.{Field, fields_of, max_kind, is_path, is_qualifier
 use Rattle.terms.specs.Fields as field
 use Rattle.terms.specs.Terms.{Term, as_path, as_qualifier, no_term, path_in, qualifier_in, term_by, terms}
 use Rattle.terms.specs.Terms.{term_at}
-use Rattle.terms.proofs.ByKind.{Kind, void_kind, root_kind, step_kind, union_kind, composition_kind}
+use Rattle.terms.proofs.ByKind.{Kind, void_kind, root_kind, step_kind, union_kind, composition_kind, past_kinds}
 use Rattle.terms.proofs.ByKind.{filter_kind, true_kind, false_kind, not_kind, and_kind, or_kind, in_kind, kind_of_lem}
 use Rattle.terms.proofs.Terms.{term_at_lem, term_take, term_past, path_term, qualifier_term}
 use Rattle.ordering.specs.Order.{number_order}
@@ -34,10 +35,6 @@ use Rattle.ordering.specs.code.FieldsCompared.{term_kind, field_as, is_operand, 
 use Rattle.ordering.proofs.Orders.{numbers_ordered}
 use Rattle.ordering.specs.OrderLaws.{reverse}
 use Rattle.ordering.proofs.TermOrder.{row_reversed}
-
--- a row that was read at the number n, which is i
-pub row_there : (rs : List Row) {r : Row} {n i : ℕ} → r ≡ row_at rs n → n ≡ i → r ≡ row_at rs i
-row_there rs e f = e ∙ ap (row_at rs) f
 
 -- a kind that is read
 kind_small : (k : RowKind) → leb (row_number k) max_kind ≡ true
@@ -65,11 +62,6 @@ row_by ts r =
     let fs = fields_of (term_kind r.kind) in
     term_row (term_kind r.kind) (field_as ts fs.a r.a) (field_as ts fs.b r.b) (field_as ts fs.c r.c)
 
--- a row of a kind above 11 is read as the void path
-no_term_lem : (ts : List Term) (r : Row) → max_kind < r.kind → term_by ts r ≡ no_term
-unfolding term_by
-no_term_lem ts r h = rw get_or-eq_default
-
 module _ (ts : List Term) (x y z : ℕ) where
   by_kind : {k : ℕ} → Kind k → row_of_term (term_by ts (row k x y z)) ≡ row_by ts (row k x y z)
   unfolding row_of_term path_row term_by fields_of term_kind field_as
@@ -90,14 +82,14 @@ module _ (ts : List Term) (x y z : ℕ) where
   unfolding row_of_term path_row fields_of field_as
   void_by k e = rw e
 
-  past_kinds : (k : ℕ) → max_kind < k → row_of_term (term_by ts (row k x y z)) ≡ row_by ts (row k x y z)
+  past_kind : (k : ℕ) → max_kind < k → row_of_term (term_by ts (row k x y z)) ≡ row_by ts (row k x y z)
   unfolding term_kind
-  past_kinds k h = ap row_of_term (no_term_lem ts (row k x y z) h) ∙ void_by k (rw (lt-leb k max_kind h))
+  past_kind k h = ap row_of_term (past_kinds ts (row k x y z) h) ∙ void_by k (rw (lt-leb k max_kind h))
 
 row_of_term_lem : (ts : List Term) (r : Row) → row_of_term (term_by ts r) ≡ row_by ts r
 row_of_term_lem ts r =
     ⊎_elim (λ h. by_kind ts r.a r.b r.c (kind_of_lem r.kind h))
-    (past_kinds ts r.a r.b r.c r.kind) (le_or_lt r.kind max_kind)
+    (past_kind ts r.a r.b r.c r.kind) (le_or_lt r.kind max_kind)
 
 pub row_at_lem : (rs : List Row) (i : ℕ) → row_of_term (term_at rs i) ≡ row_by (terms (take i rs)) (row_at rs i)
 row_at_lem rs i = ap row_of_term (term_at_lem rs i) ∙ row_of_term_lem (terms (take i rs)) (row_at rs i)
@@ -160,7 +152,7 @@ module _ (rs : List Row) (i x : ℕ) where
   not_before h = term_past (take i rs) x (omega (arith, length-take i rs))
 
   past_term : max_kind < (row_at rs x).kind → term_at rs x ≡ no_term
-  past_term h = term_at_lem rs x ∙ no_term_lem (terms (take x rs)) (row_at rs x) h
+  past_term h = term_at_lem rs x ∙ past_kinds (terms (take x rs)) (row_at rs x) h
 
   no_path : is_operand rs i field.path x ≡ false → path_in ts x ≡ Void
   unfolding is_operand is_path as_path
@@ -257,11 +249,6 @@ module _ (rs : List Row) (i x : ℕ) where
       by true e = operand_kind field.qualifier e
       by false e = ap (λ f. field_kind (operand (qualifier_row f))) (no_qualifier e)
 
--- one test of two fails
-one_fails : (a b : Bool) → (a && b) ≡ false → (a ≡ false) ⊎ (b ≡ false)
-one_fails true b e = inr e
-one_fails false b e = inl refl
-
 -- the field x of row i of rs and the field y of row j of ss, at one place
 module _ (rs : List Row) (i x : ℕ) (ss : List Row) (j y : ℕ) where
   -- two operands are compared as terms
@@ -281,9 +268,9 @@ module _ (rs : List Row) (i x : ℕ) (ss : List Row) (j y : ℕ) where
   not_both field.name e = refl
   not_both field.path e =
       sym (by_void _ _ (⊎_elim (λ f. inl (no_path rs i x f)) (λ f. inr (no_path ss j y f))
-      (one_fails (is_operand rs i field.path x) (is_operand ss j field.path y) e))
+      (and_cases (is_operand rs i field.path x) (is_operand ss j field.path y) e))
       ∙ ap₂ number_order (path_kind rs i x) (path_kind ss j y))
   not_both field.qualifier e =
       sym (by_false _ _ (⊎_elim (λ f. inl (no_qualifier rs i x f)) (λ f. inr (no_qualifier ss j y f))
-      (one_fails (is_operand rs i field.qualifier x) (is_operand ss j field.qualifier y) e))
+      (and_cases (is_operand rs i field.qualifier x) (is_operand ss j field.qualifier y) e))
       ∙ ap₂ number_order (qualifier_kind rs i x) (qualifier_kind ss j y))

@@ -1,6 +1,6 @@
 -- Steps read from lent numbers, and the steps of two bundles in turn. Assumes nothing.
 use Prim.Native.Nat.{ℕ, ◌+◌, ◌<◌, min}
-use mathlib.Core.Path.{◌≡◌, sym, ap, ap₂, ◌∙◌}
+use mathlib.Core.Path.{◌≡◌, refl, sym, ap, ap₂, ◌∙◌}
 use mathlib.Core.Bool.{true, false}
 use mathlib.Core.List.{List, [], ◌∷◌, map}
 use native.Mathlib.Numerals.{add-one}
@@ -18,7 +18,7 @@ use Rattle.ordering.specs.TermOrder.{term_order}
 use Rattle.ordering.specs.BundleOrder.{term_step, step_order, steps_order}
 use Rattle.ordering.specs.code.FieldsCompared.{order_of}
 use Rattle.ordering.proofs.Orders.{Numbers, below, alike, above, numbers}
-use Rattle.ordering.proofs.Compared.{decided, passed}
+use Rattle.ordering.proofs.Compared.{Three, decided, passed}
 
 -- a step of those that are read from lent numbers
 pub step_there : (ps : List (List ℕ)) (qs : List Step) (k : ℕ) {xs : List ℕ} {p : Step} → p ≡ step_in xs
@@ -28,39 +28,19 @@ step_there ps qs k e f g = e ∙ ap step_in f ∙ sym (get_or-map step_in ps k [
 pub steps_there : (ps : List (List ℕ)) (qs : List Step) → map step_in ps ≡ qs → length ps ≡ length qs
 steps_there ps qs g = sym (length-map ps step_in) ∙ ap length g
 
--- two steps, of rows rs and ss
-module _ (rs ss : List Row) (p q : Step) where
-  abbrev rules : Order
-  rules = number_order p.rule q.rule
-
-  abbrev lefts : Order
-  lefts = term_order (term_at rs p.left) (term_at ss q.left)
-
-  abbrev rights : Order
-  rights = term_order (term_at rs p.right) (term_at ss q.right)
-
-  module _ (r₀ : Ordering) (rule : order_of r₀ ≡ rules) where
-    pub rules_differ : is_ne r₀ ≡ true → order_of r₀ ≡ step_order (term_step rs p) (term_step ss q)
-    unfolding step_order term_step
-    rules_differ n = decided rules _ r₀ rule n
-
-    module _ (rule-equal : is_ne r₀ ≡ false) (r₁ : Ordering) (left : order_of r₁ ≡ lefts) where
-      pub lefts_differ : is_ne r₁ ≡ true → order_of r₁ ≡ step_order (term_step rs p) (term_step ss q)
-      unfolding step_order term_step
-      lefts_differ n = decided lefts _ r₁ left n ∙ sym (passed rules (lefts and_then rights) r₀ rule rule-equal)
-
-      pub rights_decide : is_ne r₁ ≡ false → (r : Ordering) → order_of r ≡ rights
-          → order_of r ≡ step_order (term_step rs p) (term_step ss q)
-      unfolding step_order term_step
-      rights_decide left-equal r e =
-          e ∙ sym (passed rules (lefts and_then rights) r₀ rule rule-equal ∙ passed lefts rights r₁ left left-equal)
+-- two steps, of rows rs and ss: their rules, then their left and right rows
+pub by_rows : (rs ss : List Row) (p q : Step) → Three (step_order (term_step rs p) (term_step ss q))
+    (number_order p.rule q.rule) (term_order (term_at rs p.left) (term_at ss q.left))
+    (term_order (term_at rs p.right) (term_at ss q.right))
+unfolding step_order term_step
+by_rows rs ss p q = record { is = refl }
 
 -- the steps from k on
 module _ (rs ss : List Row) (ps qs : List Step) where
   abbrev pub from : ℕ → Order
   from k = steps_order (map (term_step rs) (drop k ps)) (map (term_step ss) (drop k qs))
 
-  abbrev at : ℕ → Order
+  abbrev pub at : ℕ → Order
   at k = step_order (term_step rs (get_or ps k no_step)) (term_step ss (get_or qs k no_step))
 
   from_step : (k : ℕ) → k < length ps → k < length qs → from k ≡ (at k and_then from (k + 1))

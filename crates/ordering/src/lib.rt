@@ -6,66 +6,80 @@ ghost use Rattle.terms.specs.Row.{row_at, table_of};
 ghost use Rattle.terms.specs.Terms.{terms, term_at};
 ghost use Rattle.terms.specs.code.RowTypes.{row_of, field_of};
 ghost use Rattle.common.specs.code.Numbers.{row_number};
-ghost use Rattle.calls.specs.Book.{book};
-ghost use Rattle.calls.specs.code.Tables.{steps_of};
+ghost use Rattle.calls.specs.code.Tables.{book_held};
 ghost use Rattle.calls.specs.code.Answers.{step_of, order_answer_of};
 ghost use Rattle.ordering.specs.TermOrder.{field_order, term_order};
 ghost use Rattle.ordering.specs.BundleOrder.{term_step, step_order};
 ghost use Rattle.ordering.specs.OrderCall.{order_answer, bundle_order_answer};
 ghost use Rattle.ordering.specs.code.FieldsCompared.{term_kind, field_as, is_operand, number_as, Noted, Compared};
 
-use calls::{Step, whole_steps};
+use calls::{Held, Step, whole_steps};
 use common::Refusal;
 use common::row_kind::RowKind;
 use std::cmp::Ordering;
 use terms::{Field, Row, fields_of, is_noted, note, row_at};
 
-// The kind of a row's term: a row of no kind is read as the void path.
+// The kind of a row's term: a row of no kind is read as the void path. By its number, which is what the definition
+// orders kinds by: a RowKind with a derived order would be made a number again for `fields_of`, which takes any row's.
 fn term_kind(row: Row) -> u16
     ensures { result ≡ term_kind (row_of row).kind }
 {
     row.read_kind().unwrap_or(RowKind::Void).into()
 }
 
-// Whether the field x of row i is the number of an earlier row, as the field asks.
-#[tactic(auto, unfolding(crate::specs::code::FieldsCompared::is_operand))]
-fn is_operand(rows: &[u16], i: u16, field: Field, x: u16) -> bool
-    ensures { result ≡ is_operand (table_of rows.now) i (field_of field) x }
-{
-    let row = row_at(rows, usize::from(x));
-    match field {
-        Field::Path => x < i && row.is_path(),
-        Field::Qualifier => x < i && row.is_qualifier(),
-        Field::Unused | Field::Axis | Field::Test | Field::Name => false,
+// The number x in a field of row i.
+#[derive(Clone, Copy)]
+struct Entry<'a> {
+    rows: &'a [u16],
+    i: u16,
+    field: Field,
+    x: u16,
+}
+
+impl<'a> Entry<'a> {
+    // Whether it is the number of an earlier row, as the field asks.
+    #[tactic(auto, unfolding(crate::specs::code::FieldsCompared::is_operand))]
+    fn is_operand(self) -> bool
+        ensures { result ≡ is_operand (table_of self.entry.rows.now) self.entry.i (field_of self.entry.field)
+            self.entry.x }
+    {
+        let row = row_at(self.rows, usize::from(self.x));
+        match self.field {
+            Field::Path => self.x < self.i && row.is_path(),
+            Field::Qualifier => self.x < self.i && row.is_qualifier(),
+            Field::Unused | Field::Axis | Field::Test | Field::Name => false,
+        }
+    }
+
+    // The kind of its row where it is such an operand, else `none`.
+    fn kind_or(self, none: RowKind) -> u16
+        ensures { result ≡ cond (is_operand (table_of self.entry.rows.now) self.entry.i (field_of self.entry.field)
+            self.entry.x) (row_at (table_of self.entry.rows.now) self.entry.x).kind (row_number none) }
+    {
+        if self.is_operand() {
+            row_at(self.rows, usize::from(self.x)).kind
+        } else {
+            none.into()
+        }
+    }
+
+    // What stands for it where a field is compared as a number.
+    #[tactic(auto, unfolding(crate::specs::code::FieldsCompared::number_as))]
+    fn number(self) -> u16
+        ensures { result ≡ number_as (table_of self.entry.rows.now) self.entry.i (field_of self.entry.field)
+            self.entry.x }
+    {
+        match self.field {
+            Field::Unused => 0,
+            Field::Axis | Field::Test | Field::Name => self.x,
+            Field::Path => self.kind_or(RowKind::Void),
+            Field::Qualifier => self.kind_or(RowKind::False),
+        }
     }
 }
 
-// The kind of row x where it is such an operand of row i, else `none`.
-fn kind_or(rows: &[u16], i: u16, field: Field, x: u16, none: RowKind) -> u16
-    ensures { result ≡ cond (is_operand (table_of rows.now) i (field_of field) x)
-        (row_at (table_of rows.now) x).kind (row_number none) }
-{
-    if is_operand(rows, i, field, x) {
-        row_at(rows, usize::from(x)).kind
-    } else {
-        none.into()
-    }
-}
-
-// What stands for the field x of row i where a field is compared as a number.
-#[tactic(auto, unfolding(crate::specs::code::FieldsCompared::number_as))]
-fn number_of(rows: &[u16], i: u16, field: Field, x: u16) -> u16
-    ensures { result ≡ number_as (table_of rows.now) i (field_of field) x }
-{
-    match field {
-        Field::Unused => 0,
-        Field::Axis | Field::Test | Field::Name => x,
-        Field::Path => kind_or(rows, i, field, x, RowKind::Void),
-        Field::Qualifier => kind_or(rows, i, field, x, RowKind::False),
-    }
-}
-
-// The rows of two sessions.
+// The rows of two sessions. The notes stand beside them: in one struct with their fact each method would have to
+// promise that the rows stay as they are, where it promises `Noted`.
 #[derive(Clone, Copy)]
 struct Tables<'a> {
     left: &'a [u16],
@@ -88,17 +102,27 @@ impl<'a> Tables<'a> {
             (field_as (terms (take rows.1 (table_of self.entry.right.now))) (field_of field) fields.1)) result
             noted.new }
     {
-        let (i, j) = rows;
-        let (x, y) = fields;
-        if is_operand(self.left, i, field, x) && is_operand(self.right, j, field, y) {
+        let left = Entry {
+            rows: self.left,
+            i: rows.0,
+            field,
+            x: fields.0,
+        };
+        let right = Entry {
+            rows: self.right,
+            i: rows.1,
+            field,
+            x: fields.1,
+        };
+        if left.is_operand() && right.is_operand() {
             return self.order_rows(fields, noted);
         }
-        number_of(self.left, i, field, x).cmp(&number_of(self.right, j, field, y))
+        left.number().cmp(&right.number())
     }
 
     // The terms of two rows: first by kind, then by fields from the left. Operands are earlier rows; a pair that is
-    // found equal is noted, so that it is compared once. Not by `then_with`, here and for steps: what its closures note
-    // is known to a proof under the check's own names alone, and the proof of that didn't close.
+    // found equal is noted, so that it is compared once. Not by `then_with`, here and for steps: of a closure that it
+    // doesn't call, its contract doesn't say that what the closure borrows, the notes, stays as it is.
     #[cycle(order_fields_order_rows)]
     fn order_rows(self, rows: (u16, u16), noted: &mut [Option<u16>]) -> Ordering
         requires { Noted (table_of self.left.now) (table_of self.right.now) noted.old }
@@ -153,7 +177,8 @@ impl<'a> Tables<'a> {
     }
 }
 
-// Row i of the left rows and row j of the right ones: their order as terms, or which one is not held.
+// Row i of the left rows and row j of the right ones: their order as terms, or which one is not held. Of rows alone,
+// not of `Held`: no step is looked at, and a caller without steps would have to lend some.
 pub fn order_on(left: &[u16], i: u16, right: &[u16], j: u16) -> Result<Ordering, Refusal>
     ensures { order_answer_of result
         ≡ order_answer (table_of left.now) i (table_of right.now) j }
@@ -170,20 +195,16 @@ pub fn order_on(left: &[u16], i: u16, right: &[u16], j: u16) -> Result<Ordering,
 }
 
 // The bundles of two sessions: their steps in turn.
-pub fn bundle_order_on<'a>(
-    left: &'a [u16],
-    left_steps: &'a [u16],
-    right: &'a [u16],
-    right_steps: &'a [u16],
-) -> Result<Ordering, Refusal>
-    ensures { order_answer_of result
-        ≡ bundle_order_answer (book (table_of left.now) (steps_of left_steps.now))
-        (book (table_of right.now) (steps_of right_steps.now)) }
+pub fn bundle_order_on<'a>(left: Held<'a>, right: Held<'a>) -> Result<Ordering, Refusal>
+    ensures { order_answer_of result ≡ bundle_order_answer (book_held left.entry) (book_held right.entry) }
 {
-    let tables = Tables { left, right };
+    let tables = Tables {
+        left: left.rows,
+        right: right.rows,
+    };
     let mut noted = [None; terms::MAX_ROWS];
-    let ps = whole_steps(left_steps);
-    let qs = whole_steps(right_steps);
+    let ps = whole_steps(left.steps);
+    let qs = whole_steps(right.steps);
     for (p, q) in ps.iter().zip(qs) {
         let order = tables.order_steps(Step::from(*p), Step::from(*q), &mut noted);
         if order.is_ne() {

@@ -3,8 +3,8 @@
 #![tactic(auto)]
 
 ghost use Rattle.std.specs.Prelude.{◌≡◌, map, length, get_or};
-ghost use Rattle.calls.specs.PointCall.{place_of, point_answer, return_answer};
-ghost use Rattle.calls.specs.code.Points.{no_counts, counts_in, counts_of, FoundIs};
+ghost use Rattle.calls.specs.PointCall.{place_of, point_answer};
+ghost use Rattle.calls.specs.code.Points.{no_counts, counts_in, counts_of, FoundIs, ReturnFound};
 ghost use Rattle.calls.specs.code.Answers.{done_answer_of};
 ghost use Rattle.calls.specs.code.Points.{counts_names};
 ghost use Rattle.calls.specs.code.Points.{point_named, first_point_numbers, first_points, cleared};
@@ -12,7 +12,8 @@ ghost use Rattle.calls.specs.code.Points.{point_named, first_point_numbers, firs
 use calls::{MAX_POINTS, POINT_WIDTH, PointCounts, front};
 use common::Refusal;
 
-// The numbers of the first k points.
+// The numbers of the first k points, where k are held. Each function takes these in its first line: a struct of numbers
+// and k would be made at each call for that line alone.
 fn first_points(points: &[u16], k: usize) -> &[u16]
     ensures { result.now ≡ first_point_numbers k points.now }
 {
@@ -22,10 +23,10 @@ fn first_points(points: &[u16], k: usize) -> &[u16]
 fn point_count(points: &[u16]) -> usize
     ensures { result ≡ length (counts_of points.now) }
 {
-    points.len() / POINT_WIDTH
+    whole_points(points).len()
 }
 
-// The points, each as its numbers.
+// The points, each as its numbers. `as_chunks` is what rows, steps and points share.
 fn whole_points(points: &[u16]) -> &[[u16; POINT_WIDTH]]
     ensures { map counts_in result.now ≡ counts_of points.now }
 {
@@ -41,20 +42,12 @@ fn place_in(points: &[u16], name: u16) -> Option<usize>
         .position(|&numbers| PointCounts::from(numbers).name == name)
 }
 
-// The same among the first k points; how many these are where it is none of them.
-// Not an Option, which would be no plainer: a return asks for a place only after `judge_return` has found it.
-pub fn point_place(points: &[u16], k: usize, name: u16) -> usize
-    ensures { result ≡ place_of (counts_names (first_points k points.now)) name }
+// The point at a place among the first k points, counted from 0; zeros where there is none, with which `point_named`
+// goes on. For a record of any width a function would be no plainer than `get`.
+pub fn point_at(points: &[u16], k: usize, place: usize) -> PointCounts
+    ensures { result ≡ get_or (first_points k points.now) place no_counts }
 {
-    let held = first_points(points, k);
-    place_in(held, name).unwrap_or(point_count(held))
-}
-
-// The point at a place, counted from 0; zeros where there is none, with which `point_named` goes on.
-fn point_at(points: &[u16], i: usize) -> PointCounts
-    ensures { result ≡ get_or (counts_of points.now) i no_counts }
-{
-    match whole_points(points).get(i) {
+    match whole_points(first_points(points, k)).get(place) {
         Some(&numbers) => PointCounts::from(numbers),
         None => PointCounts {
             name: 0,
@@ -64,12 +57,14 @@ fn point_at(points: &[u16], i: usize) -> PointCounts
     }
 }
 
-// The point of that name among the first k points; zeros where there is none.
-// Not an Option, which would be no plainer: a return to no point is judged as one to no rows and steps.
+// The point of that name among the first k points; zeros where there is none. They are no stand-in for an Option:
+// whether a return would drop a row or step in use is asked of any name, and one to no point leaves no rows and steps.
 pub fn point_named(points: &[u16], k: usize, name: u16) -> PointCounts
     ensures { result ≡ point_named (first_points k points.now) name }
 {
-    point_at(first_points(points, k), point_place(points, k, name))
+    let held = first_points(points, k);
+    let place = place_in(held, name).unwrap_or(point_count(held));
+    point_at(points, k, place)
 }
 
 // The answer of a call that sets a point of that name after the first k points.
@@ -87,15 +82,12 @@ pub fn judge_point(points: &[u16], k: usize, name: u16) -> Result<(), Refusal>
     Ok(())
 }
 
-// The answer of a call that returns to the point of that name among the first k points.
+// The place of the point of that name among the first k points, to which a call returns, or the call's refusal.
 #[tactic(auto, unfolding(calls::specs::PointCall::return_answer), using(calls::proofs::PointTables::names_count))]
-pub fn judge_return(points: &[u16], k: usize, name: u16) -> Result<(), Refusal>
-    ensures { done_answer_of result ≡ return_answer (counts_names (first_points k points.now)) name }
+pub fn judge_return(points: &[u16], k: usize, name: u16) -> Result<usize, Refusal>
+    ensures { ReturnFound result (counts_names (first_points k points.now)) name }
 {
-    match place_in(first_points(points, k), name) {
-        Some(_) => Ok(()),
-        None => Err(Refusal::BadPoint(name)),
-    }
+    place_in(first_points(points, k), name).ok_or(Refusal::BadPoint(name))
 }
 
 // The numbers from place `from` on become 0.

@@ -7,7 +7,8 @@ use mathlib.Core.Option.{Option, none, some}
 use Rattle.std.specs.Prelude.{Option as Maybe, Some, None}
 use Rattle.std.specs.Option.{option_or}
 use native.Mathlib.Omega.{arith}
-use lib.Dec.{eqb, ltb, lt→ltb, ltb→lt}
+use Rattle.std.proofs.lemmas.Bool.{false≢true, le-ltb, lt-ltb}
+use lib.Dec.{eqb, ltb}
 use lib.ListN.{length, take, drop, length-append}
 use lib.Seq.{sets, length-sets, length-take-le, drop-drop, drop-set-lt}
 use Rattle.terms.specs.Row.{Row, row, table_of, max_rows, find}
@@ -15,24 +16,11 @@ use Rattle.terms.proofs.LentRows.{rows_lent, row_put}
 use Rattle.terms.proofs.Find.{find_le}
 use Rattle.grammar.specs.Bytes.{Bytes}
 use Rattle.grammar.specs.Denotes.{Put, put, Named, unlisted}
-use Rattle.grammar.proofs.Basics.{so, is_true, never}
-use Rattle.heads.specs.declared.Head.{Head}
-use Rattle.common.specs.code.Numbers.{axis_number, test_number}
-use Rattle.heads.specs.code.Head.{place_of, name_number, name_place}
+use Rattle.heads.specs.code.Head.{place_of}
 use Rattle.readings.specs.declared.Reading.{Reading}
 use Rattle.readings.specs.code.Build.{Standing, stands, row_width, row_numbers, capped, moved_to, row_taken}
 use Rattle.readings.specs.code.Build.{no_room, Sized, Holds, Beyond, SameText, PutMet, first_of, Made, Grown}
-use Rattle.readings.specs.code.Build.{HeadPut, joined, over, leaf}
-
-not_less : (m n : ℕ) → n ≤ m → ltb m n ≡ false
-not_less m n h = go (ltb m n) refl
-  where
-    go : (b : Bool) → ltb m n ≡ b → ltb m n ≡ false
-    go true e = absurd (omega (arith, ltb→lt m n (so (ltb m n) e)))
-    go false e = e
-
-less : (m n : ℕ) → m < n → ltb m n ≡ true
-less m n h = is_true (ltb m n) (lt→ltb m n h)
+use Rattle.readings.specs.code.Build.{StepPut, joined, over, leaf}
 
 -- a row put never leaves fewer rows
 pub put_more : (rs : List Row) (r : Row) → length rs ≤ length (put rs r).rows
@@ -46,18 +34,18 @@ put_more rs r = go (ltb (find rs r) (length rs))
 -- a row that is held, and one that is not
 put_held : (rs : List Row) (r : Row) → find rs r < length rs → (put rs r).rows ≡ rs
 unfolding put
-put_held rs r h = rw (less (find rs r) (length rs) h) refl
+put_held rs r h = rw (lt-ltb (find rs r) (length rs) h) refl
 
 put_new : (rs : List Row) (r : Row) → length rs ≤ find rs r → (put rs r).rows ≡ rs ++ (r ∷ [])
 unfolding put
-put_new rs r h = rw (not_less (find rs r) (length rs) h) refl
+put_new rs r h = rw (le-ltb (find rs r) (length rs) h) refl
 
 put_at : (rs : List Row) (r : Row) → (put rs r).at ≡ find rs r
 unfolding put
 put_at rs r = refl
 
 pub refuse : {A : Type 0} (b : Bool) → b ≡ true → b ≡ false → A
-refuse b e f = absurd (never (sym f ∙ e))
+refuse b e f = absurd (false≢true (sym f ∙ e))
 
 unchanged : (x y : Standing) → y.ok ≡ x.ok → y.at ≡ x.at → y.missing ≡ x.missing → SameText x y
 unchanged x y a b c = record { ok = a; at = b; missing = c }
@@ -110,10 +98,13 @@ module _ (r : Row) (nesting : ℕ) (xs : List ℕ) (x : Standing) (z : Sized xs 
       record {
         sized = z;
         puts = record {
-          held = λ rs h. record { rows = λ f. absurd (never f); over = λ _. omega (arith, h.over e, put_more rs r) };
-          at = λ rs h f. absurd (never f);
-          keeps = λ f. absurd (never f);
-          beyond = λ f. absurd (never f);
+          held = λ rs h. record {
+            rows = λ f. absurd (false≢true f);
+            over = λ _. omega (arith, h.over e, put_more rs r);
+          };
+          at = λ rs h f. absurd (false≢true f);
+          keeps = λ f. absurd (false≢true f);
+          beyond = λ f. absurd (false≢true f);
         };
         text = unchanged x (no_room x nesting) refl refl refl;
         nest = refl;
@@ -150,12 +141,12 @@ module _ (r : Row) (nesting : ℕ) (xs : List ℕ) (x : Standing) (z : Sized xs 
             sized = z;
             puts = record {
               held = λ rs h. record {
-                rows = λ g. absurd (never g);
+                rows = λ g. absurd (false≢true g);
                 over = λ g. rw (fresh_rows rs h) (omega (arith, length-append rs (r ∷ []), held_count rs h e, j));
               };
-              at = λ rs h g. absurd (never g);
-              keeps = λ g. absurd (never g);
-              beyond = λ g. absurd (never g);
+              at = λ rs h g. absurd (false≢true g);
+              keeps = λ g. absurd (false≢true g);
+              beyond = λ g. absurd (false≢true g);
             };
             text = unchanged x (no_room x nesting) refl refl refl;
             nest = refl;
@@ -353,11 +344,10 @@ unfolding first_of
 place_or None o = refl
 place_or (Some i) o = refl
 
--- put_head: a row put, whose name may be the first that is not listed
-pub head_put : (xs : List ℕ) (x : Standing) (h : Head) (ys : List ℕ) (y : Reading) (o : Maybe ℕ)
-    → o ≡ option_or y.missing (name_place h.name)
-    → PutMet (row 2 (axis_number h.axis) (test_number h.test) (name_number h.name)) 1 xs (moved_to x h.at) ys (stands y)
-    → HeadPut xs x h ys (stands (record {
+-- put_step: a row put, whose name may be the first that is not listed
+pub step_put : (r : Row) (m : Maybe ℕ) (xs : List ℕ) (x : Standing) (at : ℕ) (ys : List ℕ) (y : Reading) (o : Maybe ℕ)
+    → o ≡ option_or y.missing m → PutMet r 1 xs (moved_to x at) ys (stands y)
+    → StepPut r (place_of m) xs x at ys (stands (record {
       at = y.at;
       row = y.row;
       nesting = y.nesting;
@@ -365,17 +355,15 @@ pub head_put : (xs : List ℕ) (x : Standing) (h : Head) (ys : List ℕ) (y : Re
       fits = y.fits;
       missing = o;
     }))
-head_put xs x h ys y o e a =
-    let m =
-    made_row (row 2 (axis_number h.axis) (test_number h.test) (name_number h.name)) 1 xs (moved_to x h.at) ys
-    (stands y) a in
+step_put r m xs x at ys y o e a =
+    let made = made_row r 1 xs (moved_to x at) ys (stands y) a in
     record {
       sized = record { size = a.sized.size; bound = a.sized.bound };
       at = a.text.at;
       ok = a.text.ok;
       made = record {
-        puts = record { held = m.puts.held; at = m.puts.at; keeps = m.puts.keeps; beyond = m.puts.beyond };
-        nest = m.nest;
-        names = rw (e, place_or y.missing (name_place h.name), a.text.missing) refl;
+        puts = record { held = made.puts.held; at = made.puts.at; keeps = made.puts.keeps; beyond = made.puts.beyond };
+        nest = made.nest;
+        names = rw (e, place_or y.missing m, a.text.missing) refl;
       };
     }

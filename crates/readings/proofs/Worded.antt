@@ -6,6 +6,7 @@ use mathlib.Core.Bool.{Bool, true, false}
 use mathlib.Core.List.{List, [], ◌∷◌}
 use native.Mathlib.Omega.{arith}
 use native.Mathlib.Numerals.{add-one}
+use Rattle.std.proofs.lemmas.Bool.{ne_eqb}
 use Rattle.std.proofs.Common.{add-zero}
 use lib.ListN.{length, get_or, drop}
 use Rattle.grammar.specs.Bytes.{Bytes, is_space, is_start, is_name}
@@ -13,7 +14,6 @@ use Rattle.grammar.specs.Grammar.{Unary}
 use Rattle.grammar.specs.code.Reader.{need, keyword, k_a, k_an, k_and, k_o, k_or, inside, Open, Pend, plain}
 use Rattle.grammar.specs.code.Reader.{both, either, left_of, and_to, or_to, first, begin, step, follow, finish, run}
 use Rattle.grammar.specs.code.Reader.{bad, unary_byte, keyword_byte, lead_end}
-use Rattle.grammar.proofs.Basics.{never}
 use Rattle.words.specs.code.Scan.{byte_at, Passed, begins_step}
 use Rattle.heads.specs.code.Head.{proceed}
 use Rattle.readings.specs.code.Build.{Standing, capped, moved_to, refused_at, Sized, PutMet, Grown, below_of}
@@ -22,13 +22,7 @@ use Rattle.readings.specs.code.Passing.{SlashPut, BeginPut, Starting, start_of, 
 use Rattle.readings.specs.code.Passing.{after_and, after_or}
 use Rattle.words.proofs.Scanned.{head_drop}
 use Rattle.heads.proofs.Ran.{on_pass, on_stop}
-use Rattle.heads.proofs.Headed.{differs, byte_there}
-
-no : {A : Type 0} → ◌≡◌ {A = Bool} false true → A
-no e = absurd (never e)
-
-yes_no : {A : Type 0} → ◌≡◌ {A = Bool} true false → A
-yes_no e = absurd (never (sym e))
+use Rattle.heads.proofs.Headed.{byte_there, no, yes_no}
 
 and_ends : (t : Bytes) (x : Open) (p : Pend) (u : Unary) (w : Bytes) → is_name (get_or t 0 0) ≡ false
     → run t (keyword x p u w k_and) ≡ run t (need (inside x (both (left_of p) (and_to p u) w)) first begin [])
@@ -71,7 +65,7 @@ module _ (s : Bytes) (r : Standing) (b : byte_at s r.at ≡ 97) where
   and_second e = stopped s r 3 after_and (r.at + 1) (omega arith) (omega (arith, a_there))
       (λ x p u w. first_a x p u w
       ∙ on_stop s (r.at + 1) (keyword x p u w k_a) (omega (arith, a_there))
-      (rw (differs (byte_at s (r.at + 1)) 110 e) refl) refl)
+      (rw (ne_eqb (byte_at s (r.at + 1)) 110 e) refl) refl)
 
   module _ (c : byte_at s (r.at + 1) ≡ 110) where
     n_there : r.at + 1 < length s
@@ -89,7 +83,7 @@ module _ (s : Bytes) (r : Standing) (b : byte_at s r.at ≡ 97) where
     and_third e = stopped s r 3 after_and (r.at + 1 + 1) (omega arith) (omega (arith, n_there))
         (λ x p u w. second_a x p u w
         ∙ on_stop s (r.at + 1 + 1) (keyword x p u w k_an) (omega (arith, n_there))
-        (rw (differs (byte_at s (r.at + 1 + 1)) 100 e) refl) refl)
+        (rw (ne_eqb (byte_at s (r.at + 1 + 1)) 100 e) refl) refl)
 
     module _ (d : byte_at s (r.at + 1 + 1) ≡ 100) where
       d_there : r.at + 1 + 1 < length s
@@ -135,7 +129,7 @@ module _ (s : Bytes) (r : Standing) (b : byte_at s r.at ≡ 111) where
   or_second e = stopped s r 2 after_or (r.at + 1) (omega arith) (omega (arith, o_there))
       (λ x p u w. first_o x p u w
       ∙ on_stop s (r.at + 1) (keyword x p u w k_o) (omega (arith, o_there))
-      (rw (differs (byte_at s (r.at + 1)) 114 e) refl) refl)
+      (rw (ne_eqb (byte_at s (r.at + 1)) 114 e) refl) refl)
 
   module _ (c : byte_at s (r.at + 1) ≡ 114) where
     r_there : r.at + 1 < length s
@@ -296,7 +290,7 @@ root_slash s r e f = sym (rw f refl)
 pub root_alone : (s : Bytes) (r : Standing) → begins_step (byte_at s r.at) ≡ false → (byte_at s r.at ≡ 47 → ⊥)
     → start_of r true false ≡ root_start s r
 unfolding root_start
-root_alone s r e f = sym (rw (e, differs (byte_at s r.at) 47 f) refl)
+root_alone s r e f = sym (rw (e, ne_eqb (byte_at s r.at) 47 f) refl)
 
 module _ (s : Bytes) (xs : List ℕ) (r : Standing) (to : ℕ) (q : Passed is_space s r.at to) where
   pub begin_bare : (byte_at s to ≡ 47 → ⊥) → BeginPut s xs r xs (start_of (moved_to r to) false true)

@@ -10,7 +10,8 @@ ghost use Rattle.terms.specs.code.RowTypes.{row_of};
 ghost use Rattle.words.specs.code.Scan.{byte_at};
 ghost use Rattle.readings.specs.code.Build.{stands, ended, capped, refused_at, row_taken, no_room};
 ghost use Rattle.readings.specs.code.Build.{Sized, PutMet, Grown, below_of, some_of_put, only_in_step};
-ghost use Rattle.readings.specs.code.Build.{nothing_read, HeadPut};
+ghost use Rattle.readings.specs.code.Build.{nothing_read, StepPut, HeadPut};
+ghost use Rattle.heads.specs.code.Head.{place_of};
 ghost use Rattle.readings.specs.code.Passing.{WordPassed, CloseMet, ConstPut, SlashPut, NegatePut};
 ghost use Rattle.readings.specs.code.Passing.{BeginPut, started, root_start};
 
@@ -25,7 +26,8 @@ use words::bytes::{byte_at, is_name, skip};
 // `count` how many rows there are. `missing` is the place of the first name that is not listed. A reading whose rows
 // don't all fit goes on, since a later byte may be refused; then its row and its count say nothing. `fits` is no Option
 // of the row: before the first term there is no row, and all rows fit. That `count` is within the table is no ghost
-// field: readings are written with `..`, which Rattle has not for a struct that has one.
+// field: Rattle has no `..` for a struct with one, and all that changes a part of a reading would write out six. The
+// table is none either: a reading is copied, as the left operand is kept while the right one is read into the table.
 #[derive(Clone, Copy)]
 pub struct Reading {
     pub at: usize,
@@ -171,19 +173,30 @@ fn step_row(axis: Axis, test: NodeTest, name: u16) -> Row
     }
 }
 
+// The row of a step that ends before `at`; `unlisted` is the place of its name, if that is not listed. Any row may be
+// put.
+pub fn put_step(
+    rows: &mut [u16],
+    from: Reading,
+    at: usize,
+    row: Row,
+    unlisted: Option<usize>,
+) -> Reading
+    requires { Sized rows.old from.count }
+    ensures { StepPut (row_of row) (place_of unlisted) rows.old (stands from) at rows.new (stands result) }
+{
+    let step = put(rows, Reading { at, ..from }, row, 1);
+    let missing = step.missing.or(unlisted);
+    Reading { missing, ..step }
+}
+
 // The step of a head.
 pub fn put_head(rows: &mut [u16], from: Reading, head: Head) -> Reading
     requires { Sized rows.old from.count }
     ensures { HeadPut rows.old (stands from) head rows.new (stands result) }
 {
     let row = step_row(head.axis, head.test, head.name.number());
-    let place = Reading {
-        at: head.at,
-        ..from
-    };
-    let step = put(rows, place, row, 1);
-    let missing = step.missing.or(head.name.unlisted());
-    Reading { missing, ..step }
+    put_step(rows, from, head.at, row, head.name.unlisted())
 }
 
 // A step ends where nothing follows that only a step could take.
@@ -280,7 +293,8 @@ pub fn some_of(rows: &mut [u16], paths: Reading) -> Reading
     put_over(rows, inclusion, RowKind::Not)
 }
 
-// The row of `not` over the expression in `not ( )`; a group is what it holds.
+// The row of `not` over the expression in `not ( )`; a group is what it holds. One function for both, with the kind:
+// crate text reads what they hold in one place.
 pub fn negate_if(rows: &mut [u16], opens: Opens, r: Reading) -> Reading
     requires { Sized rows.old r.count }
     ensures { NegatePut opens rows.old (stands r) rows.new (stands result) }
@@ -291,7 +305,7 @@ pub fn negate_if(rows: &mut [u16], opens: Opens, r: Reading) -> Reading
     }
 }
 
-// What follows the `(` of `true ( )` or `false ( )`.
+// What follows the `(` of `true ( )` or `false ( )`. Any kind may be put, as in `join`.
 pub fn constant(s: &[u8], rows: &mut [u16], from: Reading, kind: u16) -> Result<Reading, usize>
     requires at_in_bounds { from.at ≤ length s.now }
     requires sized { Sized rows.old from.count }

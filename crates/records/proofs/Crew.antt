@@ -1,22 +1,20 @@
 -- What a crew sees: released records are held ones, so the laws of editions are theirs; and they stay released.
 -- Assumes nothing.
-use Prim.Native.Nat.{ℕ, zero, suc, ◌+◌, ◌-◌, ◌≤◌, ◌<◌}
+use Prim.Native.Nat.{ℕ, zero, suc, ◌+◌, ◌-◌, ◌<◌}
 use mathlib.Core.Path.{◌≡◌, refl, sym, ap, subst, ◌∙◌}
 use mathlib.Core.Bool.{Bool, true, false, cond}
 use mathlib.Core.List.{List, [], ◌∷◌}
 use native.Mathlib.Omega.{arith}
 use lib.Dec.{T, eqb}
 use borrow.Author.Tests.{eq-eqb, eqb-true}
-use lib.ListN.{length, get_or, set, length-append, length-take, get_or-append}
+use lib.ListN.{length, get_or, set, length-append, get_or-append}
 use Rattle.terms.specs.Row.{Row}
 use Rattle.terms.specs.Fields.{held_path}
 use Rattle.records.specs.declared.Record.{Record}
-use Rattle.records.specs.declared.Records.{Records}
 use Rattle.calls.specs.Runs.{next, final}
 use Rattle.calls.specs.Above.{passed, own}
 use Rattle.calls.proofs.Accepted.{by_accepted}
-use Rattle.records.specs.Records.{empty_record, max_records}
-use Rattle.records.specs.code.Held.{size_of, records_in}
+use Rattle.records.specs.Records.{empty_record}
 use Rattle.records.specs.Register.{Within, EditionsContained}
 use Rattle.records.specs.Releases.{released, with_release, IsReleased, OfficeCall, OfficeHoldings, plain_office}
 use Rattle.records.specs.Releases.{ShowsReleased, StillReleased, ReleasesStay}

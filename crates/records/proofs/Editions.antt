@@ -10,7 +10,8 @@ use lib.Dec.{T, leb, ltb, eqb}
 use lib.ListN.{length, get_or, length-append, get_or-append}
 use lib.Seq.{get_or_at}
 use borrow.Author.Tests.{eq-eqb, ne_eqb, eqb-true, eqb-false, ltb-true, ltb-false, leb-true, not-false, lt-ltb}
-use Rattle.common.proofs.Reflect.{below_suc}
+use Rattle.std.proofs.lemmas.Bool.{and_parts}
+use Rattle.common.proofs.Reflect.{below_suc, true_iff}
 use Rattle.common.proofs.Entries.{every_there}
 use Rattle.common.specs.Lists.{all_of}
 use Rattle.xpath.specs.Meaning.{selects}
@@ -40,14 +41,6 @@ use Rattle.records.specs.Register.{plain_register, empty_register}
 use Rattle.records.specs.Register.{Within, EditionsContained}
 use Rattle.records.proofs.Judged.{Accepted, record_accepted}
 
-and_both : (a b : Bool) → (a && b) ≡ true → (a ≡ true) × (b ≡ true)
-and_both true b e = (refl, e)
-and_both false b e = absurd (false≢true e)
-
-true_is : (b : Bool) → b ≡ true → T b
-true_is true e = tt
-true_is false e = absurd (false≢true e)
-
 -- every edition held of a series is at most the current one
 current_most : (rs : List Record) (s i : ℕ) → i < length rs → (get_or rs i empty_record).series ≡ s
     → (get_or rs i empty_record).edition ≤ current rs s
@@ -67,7 +60,7 @@ current_most (r ∷ rs) s (suc i) h e =
         → (get_or rs i empty_record).edition ≤ current rs s
         → (get_or rs i empty_record).edition ≤ cond a r.edition (current rs s)
     by_test true p l =
-        let q = ltb-true (current rs s) r.edition (and_both (eqb r.series s) _ p).1 in omega arith
+        let q = ltb-true (current rs s) r.edition (and_parts (eqb r.series s) _ p).1 in omega arith
     by_test false p l = l
 
 -- a record of that series, edition and row is held
@@ -87,7 +80,7 @@ current_held (r ∷ rs) s h = by_test (eqb r.series s && ltb (current rs s) r.ed
         → 0 < cond a r.edition (current rs s)
         → (0 < current rs s → HeldAs rs s (current rs s) (λ n. Unit {0}))
         → HeldAs (r ∷ rs) s (cond a r.edition (current rs s)) (λ n. Unit {0})
-    by_test true p h later = (0, omega arith, eqb-true r.series s (and_both (eqb r.series s) _ p).0, refl, tt)
+    by_test true p h later = (0, omega arith, eqb-true r.series s (and_parts (eqb r.series s) _ p).0, refl, tt)
     by_test false p h later = let (i, l, e, f, u) = later h in (suc i, omega arith, e, f, u)
 
 -- the row of an edition that is held is that of some record of it
@@ -103,7 +96,7 @@ row_pattern (r ∷ rs) s e (suc i) h p q =
     by_test : (a : Bool) → (eqb r.series s && eqb r.edition e) ≡ a → HeldAs rs s e (λ n. n ≡ row_of rs s e)
         → HeldAs (r ∷ rs) s e (λ n. n ≡ cond a r.row (row_of rs s e))
     by_test true f w =
-        let k = and_both (eqb r.series s) (eqb r.edition e) f in
+        let k = and_parts (eqb r.series s) (eqb r.edition e) f in
         (0, omega arith, eqb-true r.series s k.0, eqb-true r.edition e k.1, refl)
     by_test false f w = (suc w.0, omega arith, w.2, w.3, w.4)
 
@@ -113,16 +106,16 @@ kept_at : (n m : ℕ) (rs : List Record) → all_kept n m rs ≡ true → (i : �
 unfolding all_kept all_of
 kept_at n m [] e i h = absurd (omega arith)
 kept_at n m (r ∷ rs) e zero h =
-    let both = (and_both (ltb r.row n && leb r.step m) (all_kept n m rs) e).0 in
-    ltb-true r.row n (and_both (ltb r.row n) (leb r.step m) both).0
+    let both = (and_parts (ltb r.row n && leb r.step m) (all_kept n m rs) e).0 in
+    ltb-true r.row n (and_parts (ltb r.row n) (leb r.step m) both).0
 kept_at n m (r ∷ rs) e (suc i) h =
-    kept_at n m rs (and_both (ltb r.row n && leb r.step m) (all_kept n m rs) e).1 i (omega arith)
+    kept_at n m rs (and_parts (ltb r.row n && leb r.step m) (all_kept n m rs) e).1 i (omega arith)
 
 -- a held path, by its two tests
 path_there : (rows : List Row) (x : ℕ) → held_path rows x ≡ true → (x < length rows) × (is_path (row_at rows x) ≡ true)
 unfolding held_path
 path_there rows x e =
-    let (a, b) = and_both (ltb x (length rows)) (is_path (row_at rows x)) e in (ltb-true x (length rows) a, b)
+    let (a, b) = and_parts (ltb x (length rows)) (is_path (row_at rows x)) e in (ltb-true x (length rows) a, b)
 
 path_held : (rows : List Row) (x : ℕ) → x < length rows → is_path (row_at rows x) ≡ true → held_path rows x ≡ true
 unfolding held_path
@@ -216,10 +209,10 @@ module _ (rows : List Row) (ps : List Step) (laws : HeldLaws rows ps) (rs : List
   unfolding is_fit_step
   step_tests f =
       let e = rw (ne_eqb r.edition 1 f) at tests.fits in
-      let a = and_both (leb 1 r.step && leb r.step (length ps)) _ e in
-      let c = and_both (leb 1 r.step) (leb r.step (length ps)) a.0 in
+      let a = and_parts (leb 1 r.step && leb r.step (length ps)) _ e in
+      let c = and_parts (leb 1 r.step) (leb r.step (length ps)) a.0 in
       let previous = row_of rs r.series (current rs r.series) in
-      let d = and_both (eqb (step_numbered ps r.step).left previous) _ a.1 in
+      let d = and_parts (eqb (step_numbered ps r.step).left previous) _ a.1 in
       record {
         from_1 = leb-true _ _ c.0;
         held = leb-true _ _ c.1;
@@ -366,6 +359,6 @@ pub editions_contained : {b : Holdings} → Reached plain_register empty_registe
 editions_contained {b} h =
     let order = (editions_in_order h).order in
     record {
-      paths = λ i l. true_is _ (order.paths i l);
+      paths = λ i l. (true_iff _).1 (order.paths i l);
       contained = λ i j k l same older. order.within i j k l same (omega arith);
     }

@@ -6,15 +6,15 @@ use mathlib.Core.List.{List, [], ◌∷◌, ◌++◌, append-nil}
 use native.Mathlib.Omega.{arith}
 use native.Mathlib.Numerals.{add-one}
 use lib.Dec.{eqb}
-use lib.ListN.{length, get_or, take, drop, set, replicate, length-append, drop_of_length-le}
-use lib.Seq.{drop-cons, append_snoc, set-append_seam, take-append_seam}
+use lib.ListN.{length, get_or, drop, set, replicate, length-append, drop_of_length-le}
+use lib.Seq.{drop-cons, append_snoc, set-append_seam}
 use borrow.Author.Tests.{le-leb, lt-leb, eq-eqb, ne_eqb}
 use Rattle.calls.specs.Book.{answer}
 use Rattle.common.specs.Refusals.{no_record}
 use Rattle.records.specs.declared.Record.{Record}
 use Rattle.records.specs.declared.Records.{Records}
 use Rattle.records.specs.Records.{empty_record, max_records}
-use Rattle.records.specs.code.Held.{records_in, no_records, with_record}
+use Rattle.records.specs.code.Held.{no_records, with_record}
 use Rattle.records.specs.Releases.{release_answer, released}
 use Rattle.records.specs.code.Listed.{listed}
 

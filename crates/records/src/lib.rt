@@ -13,6 +13,7 @@ ghost use Rattle.records.specs.Releases.{released};
 ghost use Rattle.records.specs.code.Listed.{no_releases, listed};
 ghost use Rattle.records.specs.code.Promises.{RecordMade, all_releases, ReleaseMade};
 
+use calls::Held;
 use common::Refusal;
 
 pub const MAX_RECORDS: usize = 256;
@@ -27,14 +28,15 @@ pub struct Record {
 }
 
 // Records, of which the first ones are held, as many as the count says. Fixed memory without a heap: no call can fail
-// for want of it.
+// for want of it. No ArrayVec: calls copy records and registers, and it can't be copied.
 #[derive(Clone, Copy)]
 pub struct Records {
     pub held: [Record; MAX_RECORDS],
     pub count: usize,
 }
 
-// What a call gives: its answer, and the records or the releases that it leaves.
+// What a call gives: its answer, and the records or the releases that it leaves. Not the type of a session's or of a
+// register's call: the demands name the fields of these, `session` and `register`.
 #[derive(Clone, Copy)]
 pub struct Answered<T> {
     pub answer: Result<(), Refusal>,
@@ -56,20 +58,19 @@ const NO_RECORD: Record = Record {
 };
 
 // Whether a step is as it must be for an edition with that row, where the previous edition has the row `previous`.
+#[tactic(auto, unfolding(crate::specs::Records::is_fit_step))]
 fn is_fit_step(steps: &[u16], previous: u16, given: Record) -> bool
     ensures { result ≡ is_fit_step (steps_of steps.now) previous given }
 {
     if given.edition == 1 {
         return given.step == 0;
     }
-    let sides = calls::sides_of(steps, given.step);
-    1 <= given.step
-        && usize::from(given.step) <= calls::step_count(steps)
-        && sides.left == previous
-        && sides.right == given.row
+    calls::step_numbered(steps, given.step).is_some_and(|step| step.left == previous
+        && step.right == given.row)
 }
 
 impl Records {
+    #[tactic(auto, unfolding(crate::specs::code::Held::no_records))]
     pub fn new() -> Records
         ensures { result ≡ no_records }
     {
@@ -111,7 +112,8 @@ impl Records {
             .unwrap_or(0)
     }
 
-    // The row of an edition of a series; 0 where it is not held.
+    // The row of an edition of a series; 0 where it is not held, as the definition has it: the edition due is 1 then,
+    // of which no row before it is looked at.
     fn row_of(self, series: u16, edition: u16) -> u16
         ensures { result ≡ row_of (records_in self) series edition }
     {
@@ -121,7 +123,8 @@ impl Records {
             .map_or(0, |r| r.row)
     }
 
-    // Whether every row and every step in use is among the first ones, as many as given.
+    // Whether every row and every step in use is among the first ones, as many as given. Of counts, not of `Held`: no
+    // row or step is looked at.
     pub fn all_kept(self, rows: usize, steps: usize) -> bool
         ensures { result ≡ all_kept rows steps (records_in self) }
     {
@@ -129,20 +132,20 @@ impl Records {
     }
 
     // The answer of a record call on lent rows and steps: the first refusal that applies, or acceptance.
-    fn judge<'a>(self, rows: &'a [u16], steps: &'a [u16], given: Record) -> Result<(), Refusal>
+    fn judge(self, held: Held, given: Record) -> Result<(), Refusal>
         ensures { done_answer_of result
-            ≡ record_answer (table_of rows.now) (steps_of steps.now) (records_in self) given }
+            ≡ record_answer (table_of held.entry.rows.now) (steps_of held.entry.steps.now) (records_in self) given }
     {
         let highest = self.current(given.series);
         let due = u32::from(highest) + 1;
         if u32::from(given.edition) != due {
             return Err(Refusal::NotNext(due));
         }
-        if !terms::is_held_path(rows, given.row) {
+        if !terms::is_held_path(held.rows, given.row) {
             return Err(Refusal::BadRecord(1));
         }
         let previous = self.row_of(given.series, highest);
-        if !is_fit_step(steps, previous, given) {
+        if !is_fit_step(held.steps, previous, given) {
             return Err(Refusal::BadRecord(2));
         }
         if self.is_full() {
@@ -162,10 +165,10 @@ impl Records {
     }
 
     // A record call on lent rows and steps: the answer, and the record after those held where it is accepted.
-    pub fn record<'a>(self, rows: &'a [u16], steps: &'a [u16], given: Record) -> Answered<Records>
-        ensures { RecordMade (table_of rows.now) (steps_of steps.now) self given result }
+    pub fn record(self, held: Held, given: Record) -> Answered<Records>
+        ensures { RecordMade (table_of held.entry.rows.now) (steps_of held.entry.steps.now) self given result }
     {
-        let answer = self.judge(rows, steps, given);
+        let answer = self.judge(held, given);
         let mut left = self;
         if answer.is_ok() {
             left.put(given);
@@ -197,6 +200,7 @@ impl Records {
 }
 
 impl Releases {
+    #[tactic(auto, unfolding(crate::specs::code::Listed::no_releases))]
     pub fn new() -> Releases
         ensures { result ≡ no_releases }
     {
@@ -205,6 +209,7 @@ impl Releases {
         }
     }
 
+    #[tactic(auto, unfolding(crate::specs::code::Promises::all_releases))]
     fn all() -> Releases
         ensures { result ≡ all_releases }
     {

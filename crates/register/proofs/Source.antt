@@ -1,13 +1,12 @@
 -- What the register's contracts in the source say of each call, and demand 3 of them. Assumes nothing.
 use Prim.Native.Nat.{ℕ, ◌+◌}
 use mathlib.Core.Path.{◌≡◌, refl, sym, ap, subst, ◌∙◌}
-use mathlib.Core.Bool.{Bool, true, false, not, cond, ◌&&◌}
+use mathlib.Core.Bool.{Bool, false, not, cond, ◌&&◌, and-false}
 use mathlib.Core.List.{List, []}
 use lib.Dec.{leb, eqb}
 use lib.ListN.{length}
-use denote.Ref.{Bor}
-use denote.MutBor.{MutBor}
-use Rattle.terms.specs.Row.{Row, row}
+use Rattle.terms.specs.Row.{Row}
+use Rattle.terms.specs.code.RowTypes as code
 use Rattle.terms.specs.Fields.{held_path}
 use Rattle.session.specs.declared.session.Session.{Session}
 use Rattle.records.specs.declared.Record.{Record}
@@ -16,18 +15,18 @@ use Rattle.records.specs.declared.Records.{Records}
 use Rattle.common.specs.declared.refusal.Refusal.TheVariants as Refused
 use Rattle.register.specs.declared.Register.{Register}
 use Rattle.register.specs.code.Results.{ReadResult}
-use Rattle.calls.specs.Book as book
 use Rattle.calls.specs.Book.{Step, Answer, answer, accepted}
 use Rattle.common.specs.Refusals.{full_or_in_use, no_record}
+use Rattle.common.proofs.Lent.{lent, lent_to_write}
 use Rattle.calls.specs.PointCall.{point_names, return_answer}
 use Rattle.calls.specs.Promises.{row_yielded, row_step_answer}
 use Rattle.calls.specs.Runs.{next, Run}
 use Rattle.calls.specs.Calls.{term, step, text, point, return}
 use Rattle.calls.specs.Above.{passed, own}
-use Rattle.calls.specs.code.Answers.{NumberOrRefusal, DoneOrRefusal, OrderOrRefusal, answer_of, done_answer_of}
+use Rattle.calls.specs.code.Answers.{NumberOrRefusal, DoneOrRefusal, OrderOrRefusal, step_of, answer_of, done_answer_of}
 use Rattle.calls.proofs.Runs.{made, run_exists}
 use Rattle.calls.proofs.Cases.{HasCase, either_case, term_case, step_case, text_case, point_case, return_case}
-use Rattle.records.specs.Records.{recorded, max_records, current, row_of, is_fit_step, record_answer}
+use Rattle.records.specs.Records.{max_records, current, row_of, is_fit_step, record_answer}
 use Rattle.records.specs.code.Held.{records_in, no_records}
 use Rattle.records.specs.Register.{drops_in_use}
 use Rattle.records.specs.Releases.{release_answer, crew_listing, crew_current, OfficeCall, OfficeSeen}
@@ -39,6 +38,7 @@ use Rattle.session.specs.OrderDemand.{OrderMet, BundleOrderMet}
 use Rattle.session.specs.WriteCall.{WriteMet}
 use Rattle.session.proofs.Demand3.{SelectsKept}
 use Rattle.session.proofs.Source as below
+use Rattle.session.proofs.Source.{given_row, given_step}
 use Rattle.register.specs.Promises.{fresh_register, register, RegisterMet, holdings, released_in}
 use Rattle.register.specs.Promises.{RegisterReadMet}
 use Rattle.register.specs.Demand.{DemandOfRegister, ReleasesKept, ReleasedAgain, CrewIsolated}
@@ -71,13 +71,9 @@ pub data New : Register → Type 0 where
 -- call, has an answer and leaves a register
 pub data Called : Register → OfficeCall → Answer → Register → Type 0 where
   term_called : (κs : _) (a : _) (r : _) (x : _) → term-reads.Post κs a r x
-      → Called a.0 (passed (passed (term (row a.1.0 a.1.1.0 a.1.1.1.0 a.1.1.1.1.0))))
-      (answer_of r.answer) r.register
+      → Called a.0 (passed (passed (term (code.row_of a.1.0)))) (answer_of r.answer) r.register
   step_called : (κs : _) (a : _) (r : _) (x : _) → step-reads.Post κs a r x
-      → Called a.0
-      (passed (passed
-      (step (book.step a.1.0 a.1.1.0 a.1.1.1.0 a.1.1.1.1.0 a.1.1.1.1.1.0))))
-      (answer_of r.answer) r.register
+      → Called a.0 (passed (passed (step (step_of a.1.0)))) (answer_of r.answer) r.register
   text_called : (κs : _) (a : _) (r : _) (x : _) → text-reads.Post κs a r x
       → Called a.0 (passed (passed (text a.1.0.now a.1.1.0.now))) (answer_of r.answer)
       r.register
@@ -86,8 +82,7 @@ pub data Called : Register → OfficeCall → Answer → Register → Type 0 whe
   return_called : (κs : _) (a : _) (r : _) (x : _) → return-reads.Post κs a r x
       → Called a.0 (passed (passed (return a.1.0))) (done_answer_of r.answer) r.register
   record_called : (κs : _) (a : _) (r : _) (x : _) → record-reads.Post κs a r x
-      → Called a.0 (passed (own (recorded a.1.0 a.1.1.0 a.1.1.1.0 a.1.1.1.1.0)))
-      (done_answer_of r.answer) r.register
+      → Called a.0 (passed (own a.1.0)) (done_answer_of r.answer) r.register
   release_called : (κs : _) (a : _) (r : _) (x : _) → release-reads.Post κs a r x
       → Called a.0 (own a.1.0) (done_answer_of r.answer) r.register
 
@@ -211,17 +206,7 @@ release_case rs place =
 
 -- what is not barred answers as the session does
 not_barred : (t barred : Answer) → t ≡ cond (accepted t && false) barred t
-not_barred t barred = by_test (accepted t)
-  where
-    by_test : (b : Bool) → t ≡ cond (b && false) barred t
-    by_test true = refl
-    by_test false = refl
-
-abbrev lent : {A : Type 0} → A → Bor A
-lent x = record { ref_ptr = (0, 0); now = x }
-
-abbrev lent_to_write : {A : Type 0} → A → MutBor A
-lent_to_write x = record { ref_ptr = (0, 0); ghost_name = 0; now = x }
+not_barred t barred = rw (and-false (accepted t)) refl
 
 -- a release bars none of the register's calls
 not_barred_twice : (t : Answer) → t ≡ cond (accepted (cond (accepted t && false) (answer full_or_in_use 0) t) && false)
@@ -235,14 +220,13 @@ met_called r (passed (passed (term p))) a t m =
     let (o, e) = term_case (view r.session).rows p in
     let told = e ∙ not_barred_twice _ in
     subst (λ a. Called r (passed (passed (term p))) a t) (told ∙ sym m.answer)
-    (term_called tt (r, (p.kind, (p.a, (p.b, (p.c, tt))))) (record { answer = o; register = t })
-    (r, (p.kind, (p.a, (p.b, (p.c, tt))))) (record { answer = told; left = m.left }))
+    (term_called tt (r, (given_row p, tt)) (record { answer = o; register = t }) (r, (given_row p, tt))
+    (record { answer = told; left = m.left }))
 met_called r (passed (passed (step p))) a t m =
     let (o, e) = step_case (row_yielded (view r.session) p) (view r.session) p in
     let told = e ∙ not_barred_twice _ in
     subst (λ a. Called r (passed (passed (step p))) a t) (told ∙ sym m.answer)
-    (step_called tt (r, (p.rule, (p.left, (p.right, (p.first, (p.second, tt))))))
-    (record { answer = o; register = t }) (r, (p.rule, (p.left, (p.right, (p.first, (p.second, tt))))))
+    (step_called tt (r, (given_step p, tt)) (record { answer = o; register = t }) (r, (given_step p, tt))
     (record { answer = told; left = m.left }))
 met_called r (passed (passed (text names t))) a u m =
     let (o, e) = text_case (view r.session).rows names t in
@@ -267,8 +251,8 @@ met_called r (passed (own g)) a t m =
     let (o, e) = record_case (view r.session).rows (view r.session).steps (records_in r.records) g in
     let told = e ∙ not_barred _ (answer no_record 0) in
     subst (λ a. Called r (passed (own g)) a t) (told ∙ sym m.answer)
-    (record_called tt (r, (g.series, (g.edition, (g.row, (g.step, tt))))) (record { answer = o; register = t })
-    (r, (g.series, (g.edition, (g.row, (g.step, tt))))) (record { answer = told; left = m.left }))
+    (record_called tt (r, (g, tt)) (record { answer = o; register = t }) (r, (g, tt))
+    (record { answer = told; left = m.left }))
 met_called r (own p) a t m =
     let (o, e) = release_case (records_in r.records) p in
     subst (λ a. Called r (own p) a t) (e ∙ sym m.answer)

@@ -4,12 +4,11 @@
 #![tactic(auto)]
 
 ghost use Rattle.std.specs.Prelude.{◌≡◌};
-ghost use Rattle.terms.specs.Row.{row};
-ghost use Rattle.calls.specs.Book.{step};
+ghost use Rattle.terms.specs.code.RowTypes.{row_of};
 ghost use Rattle.calls.specs.Calls.{Call};
 ghost use Rattle.calls.specs.Above.{Above};
-ghost use Rattle.calls.specs.code.Answers.{answer_of, done_answer_of};
-ghost use Rattle.records.specs.Records.{recorded, current};
+ghost use Rattle.calls.specs.code.Answers.{answer_of, done_answer_of, step_of};
+ghost use Rattle.records.specs.Records.{current};
 ghost use Rattle.records.specs.code.Held.{records_in};
 ghost use Rattle.session.specs.Promises.{SelectMet};
 ghost use Rattle.session.specs.ReplaceDemand.{ReplaceMet};
@@ -21,11 +20,13 @@ ghost use Rattle.register.specs.Promises.{fresh_register, released_in, RegisterM
 ghost use Rattle.register.specs.Promises.{RegisterReadMet};
 ghost use Rattle.register.specs.code.Results.{over};
 
-use common::Refusal;
 use records::Releases;
-pub use records::{Record, Records};
-use session::{LineRefusal, Session};
+use session::Session;
 use std::cmp::Ordering;
+
+// With what calls take and answer, so that callers name no crate below.
+pub use records::{Record, Records};
+pub use session::{Answer, LineRefusal, Refusal, Row, Step};
 
 #[derive(Clone, Copy)]
 pub struct Register {
@@ -34,8 +35,8 @@ pub struct Register {
     releases: Releases,
 }
 
-// What a call gives: its answer, and the register that it leaves. The demands name the field, so a session has a type
-// of its own.
+// What a call gives: its answer, and the register that it leaves. No one type for sessions and registers:
+// specs/Promises and session's specs/ReadCall, which are believed, name the fields `register` and `session`.
 #[derive(Clone, Copy)]
 pub struct Answered<A> {
     pub answer: A,
@@ -43,6 +44,7 @@ pub struct Answered<A> {
 }
 
 impl Register {
+    // The most records, for callers, as a session names its limits.
     pub const RECORDS: usize = records::MAX_RECORDS;
 
     pub fn new() -> Register
@@ -57,22 +59,9 @@ impl Register {
 
     // Records an edition of a series: its path row, and the step by which the previous edition's path is contained in
     // it.
-    pub fn record(
-        self,
-        series: u16,
-        edition: u16,
-        row: u16,
-        step: u16,
-    ) -> Answered<Result<(), Refusal>>
-        ensures { RegisterMet self (Above.passed (Above.own (recorded series edition row step)))
-            (done_answer_of result.answer) result.register }
+    pub fn record(self, given: Record) -> Answered<Result<(), Refusal>>
+        ensures { RegisterMet self (Above.passed (Above.own given)) (done_answer_of result.answer) result.register }
     {
-        let given = Record {
-            series,
-            edition,
-            row,
-            step,
-        };
         let made = self.session.record(self.records, given);
         Answered {
             answer: made.answer,
@@ -83,7 +72,8 @@ impl Register {
         }
     }
 
-    // The current edition of a series, 0 if it has none: editions count from 1.
+    // The current edition of a series, 0 if it has none: a number and no Option, since specs/Demand, which is believed,
+    // has it so, and editions count from 1.
     pub fn current(self, series: u16) -> u16
         ensures { result ≡ current (records_in self.records) series }
     {
@@ -118,7 +108,7 @@ impl Register {
         self.records.released(self.releases)
     }
 
-    // The highest released edition of a series, 0 if it has none: editions count from 1.
+    // The highest released edition of a series; 0 if it has none, as of `current`.
     pub fn crew_current(self, series: u16) -> u16
         ensures { result ≡ crew_current (released_in self) series }
     {
@@ -155,25 +145,18 @@ impl Register {
         }
     }
 
-    pub fn term(self, kind: u16, a: u16, b: u16, c: u16) -> Answered<Result<u16, Refusal>>
-        ensures { RegisterMet self (Above.passed (Above.passed (Call.term (row kind a b c))))
+    pub fn term(self, row: Row) -> Answered<Result<u16, Refusal>>
+        ensures { RegisterMet self (Above.passed (Above.passed (Call.term (row_of row))))
             (answer_of result.answer) result.register }
     {
-        self.passed_on(self.session.term(kind, a, b, c))
+        self.passed_on(self.session.term(row))
     }
 
-    pub fn step(
-        self,
-        rule: u16,
-        left: u16,
-        right: u16,
-        first: u16,
-        second: u16,
-    ) -> Answered<Result<u16, Refusal>>
-        ensures { RegisterMet self (Above.passed (Above.passed (Call.step (step rule left right first second))))
+    pub fn step(self, step: Step) -> Answered<Result<u16, Refusal>>
+        ensures { RegisterMet self (Above.passed (Above.passed (Call.step (step_of step))))
             (answer_of result.answer) result.register }
     {
-        self.passed_on(self.session.step(rule, left, right, first, second))
+        self.passed_on(self.session.step(step))
     }
 
     pub fn text(self, names: &[u8], selector: &[u8]) -> Answered<Result<u16, Refusal>>
@@ -191,6 +174,7 @@ impl Register {
         self.passed_on(self.session.point(name))
     }
 
+    // With the parameters of `Session::select`, which says why they are no struct.
     pub fn select(
         self,
         row: u16,

@@ -16,7 +16,7 @@ use Rattle.common.proofs.Search.{none_iff, found_below, first_in}
 use Rattle.common.proofs.Reflect.{true_iff, all_yes, yes_all}
 use Rattle.calls.specs.Book.{Book, answer}
 use Rattle.common.specs.Refusals.{bad_lists, not_covered}
-use Rattle.calls.proofs.StepJudged.{neither}
+use Rattle.std.proofs.lemmas.Bool.{or_parts}
 use Rattle.std.specs.Prelude.{Ok, Err}
 use Rattle.common.specs.declared.refusal.Refusal.TheVariants.{BadLists, NotCovered}
 use Rattle.calls.specs.code.Answers.{DoneOrRefusal, done_answer_of}
@@ -32,13 +32,13 @@ module _ (old new by : List ℕ) (fit : are_bad_lists old new by ≡ false) wher
   abbrev lists : ((ltb max_list (length old) || ltb max_list (length new)) ≡ false)
       × (not (eqb (length by) (length old)) ≡ false)
   unfolding are_bad_lists
-  lists = neither (ltb max_list (length old) || ltb max_list (length new)) (not (eqb (length by) (length old))) fit
+  lists = or_parts (ltb max_list (length old) || ltb max_list (length new)) (not (eqb (length by) (length old))) fit
 
   pub as_many : length by ≡ length old
   as_many = eqb-true (length by) (length old) (not-false (eqb (length by) (length old)) lists.1)
 
   pub few : length old ≤ max_list
-  few = ltb-false max_list (length old) (neither (ltb max_list (length old)) (ltb max_list (length new)) lists.0).0
+  few = ltb-false max_list (length old) (or_parts (ltb max_list (length old)) (ltb max_list (length new)) lists.0).0
 
 module _ (b : Book) (old new by : List ℕ) where
   abbrev is_bad : ℕ → Bool

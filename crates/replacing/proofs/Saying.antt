@@ -9,13 +9,12 @@ use native.Mathlib.Omega.{arith}
 use lib.Dec.{leb, ltb, eqb}
 use lib.ListN.{length, get_or, length-map}
 use borrow.Author.Tests.{le-leb}
-use mir.Facts.{eqb_yes, yes_eqb}
 use Rattle.std.proofs.Common.{map, position}
 use Rattle.std.specs.List.{position_or_len}
 use Rattle.std.proofs.lemmas.List.{get_or-map}
 use Rattle.common.specs.Bounded.{first_below}
 use Rattle.common.specs.Lists.{any_of}
-use Rattle.common.proofs.Reflect.{tests_equal}
+use Rattle.common.proofs.Tests.{eqb_turned}
 use Rattle.common.proofs.Search.{none_iff, first_in}
 use Rattle.terms.specs.Fields.{held_path}
 use Rattle.calls.specs.Book.{Book, no_step}
@@ -23,9 +22,6 @@ use Rattle.calls.specs.code.Tables.{step_in}
 use Rattle.replacing.specs.Covered.{is_held_step, is_in, is_replaced, step_saying}
 use Rattle.replacing.specs.code.Places.{IndexIs}
 use Rattle.replacing.proofs.Places.{by_test}
-
-turned : (m n : ℕ) → eqb m n ≡ eqb n m
-turned m n = tests_equal (eqb m n) (eqb n m) (λ t. yes_eqb (sym (eqb_yes t)), λ t. yes_eqb (sym (eqb_yes t)))
 
 -- of a row that is no held path no step says anything
 no_path : (a l h r : Bool) → h ≡ false → (a && (l && h && r)) ≡ false
@@ -40,7 +36,7 @@ by_rows a true h false e f = rw (e, f)
 by_rows a true h true e f = rw (e, f)
 
 module _ (b : Book) (old new : ℕ) where
-  abbrev says_at : ℕ → Bool
+  abbrev pub says_at : ℕ → Bool
   says_at k = is_replaced b (new ∷ []) old (suc k)
 
   -- a step, as its numbers, has these two rows
@@ -65,7 +61,7 @@ module _ (b : Book) (old new : ℕ) where
         let held : leb (suc k) (length b.steps) ≡ true = le-leb (suc k) (length b.steps) (omega (arith, l, size)) in
         by_rows (leb 1 (suc k) && leb (suc k) (length b.steps)) _ _ _ (rw (held, le-leb 1 (suc k) (omega arith)) refl)
         path-held
-        ∙ rw (at, turned new (step_in (get_or ps k [])).right)
+        ∙ rw (at, eqb_turned new (step_in (get_or ps k [])).right)
 
     pub said_found : IndexIs (position has_rows ps) (first_below (length b.steps) says_at)
     said_found =

@@ -4,25 +4,16 @@
 ghost use Rattle.std.specs.Prelude.{◌≡◌, length};
 ghost use Rattle.terms.specs.code.RowTypes.{PlaceIs};
 ghost use Rattle.calls.specs.code.Answers.{done_answer_of};
-ghost use Rattle.calls.specs.code.Tables.{steps_of, book_held};
-ghost use Rattle.replacing.specs.Covered.{is_held_step, is_in, is_replaced, step_saying};
+ghost use Rattle.calls.specs.code.Tables.{book_held};
+ghost use Rattle.replacing.specs.Covered.{is_in, is_replaced, step_saying};
 ghost use Rattle.replacing.specs.ReplaceCall.{are_bad_lists, first_uncovered, replace_answer};
 ghost use Rattle.replacing.specs.code.Places.{IndexIs};
 
 use calls::{Held, Step};
 use common::Refusal;
-use matching::Sides;
 
 // The most old rows of a call, and the most new ones.
 pub const MAX_LIST: usize = 64;
-
-// Whether step i, counted from 1, is held.
-#[tactic(auto, unfolding(crate::specs::Covered::is_held_step))]
-fn is_held_step(steps: &[u16], i: u16) -> bool
-    ensures { result ≡ is_held_step (steps_of steps.now) i }
-{
-    1 <= i && usize::from(i) <= calls::step_count(steps)
-}
 
 // Whether the list has the number n.
 fn is_in(list: &[u16], n: u16) -> bool
@@ -32,27 +23,25 @@ fn is_in(list: &[u16], n: u16) -> bool
 }
 
 // Whether step i is held and says that the row `old`, a path, is contained in some row of `new`.
-#[tactic(auto, unfolding(crate::specs::Covered::is_replaced, calls::specs::Promises::sides_of))]
+#[tactic(auto, unfolding(crate::specs::Covered::is_replaced, crate::specs::Covered::is_held_step))]
 fn is_replaced(held: Held, new: &[u16], old: u16, i: u16) -> bool
     ensures { result ≡ is_replaced (book_held held.entry) new.now old i }
 {
-    let Sides { left, right } = calls::sides_of(held.steps, i);
-    is_held_step(held.steps, i)
-        && left == old
-        && terms::is_held_path(held.rows, old)
-        && is_in(new, right)
+    calls::step_numbered(held.steps, i).is_some_and(|step| {
+        step.left == old && terms::is_held_path(held.rows, old) && is_in(new, step.right)
+    })
 }
 
 // Whether a list is too long, or there are not as many steps as old rows.
 #[tactic(auto, unfolding(crate::specs::ReplaceCall::are_bad_lists))]
-fn are_bad_lists<'a>(old: &'a [u16], new: &'a [u16], by: &'a [u16]) -> bool
+fn are_bad_lists(old: &[u16], new: &[u16], by: &[u16]) -> bool
     ensures { result ≡ are_bad_lists old.now new.now by.now }
 {
     MAX_LIST < old.len() || MAX_LIST < new.len() || by.len() != old.len()
 }
 
 // The first place, counted from 0, of an old row whose step isn't as it must be.
-fn first_uncovered<'a>(held: Held, old: &'a [u16], new: &'a [u16], by: &'a [u16]) -> Option<usize>
+fn first_uncovered(held: Held, old: &[u16], new: &[u16], by: &[u16]) -> Option<usize>
     requires { length by.now ≡ length old.now }
     ensures { IndexIs result (first_uncovered (book_held held.entry) old.now new.now by.now) }
 {
@@ -62,13 +51,9 @@ fn first_uncovered<'a>(held: Held, old: &'a [u16], new: &'a [u16], by: &'a [u16]
 }
 
 // A replace call on lent rows and steps, as `Session::replace` makes it on those that it holds. `by` has the number of
-// a step for each old row.
-pub fn replace_on<'a>(
-    held: Held,
-    old: &'a [u16],
-    new: &'a [u16],
-    by: &'a [u16],
-) -> Result<(), Refusal>
+// a step for each old row. The lists are parameters of `Session::replace` too: a struct of them would be made there for
+// this call alone.
+pub fn replace_on(held: Held, old: &[u16], new: &[u16], by: &[u16]) -> Result<(), Refusal>
     ensures { done_answer_of result ≡ replace_answer (book_held held.entry) old.now new.now by.now }
 {
     if are_bad_lists(old, new, by) {

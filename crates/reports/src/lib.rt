@@ -11,16 +11,12 @@ const LONGEST_REPORT: usize = 256;
 // The answer, the refused line or 0, the steps held, and the rows of the last step, or zeros, under a heading.
 fn print(report: Report) {
     let mut text = ArrayString::<LONGEST_REPORT>::new();
-    let _ = writeln!(
-        text,
-        "answer line steps left right\n{} {} {} {} {}",
-        report.answer, report.line, report.steps, report.left, report.right
-    );
+    let _ = writeln!(text, "answer line steps left right\n{report}");
     io::write_all(1, text.as_str().as_bytes());
 }
 
-// Reads a bundle from an open file and prints the report of it. No contract can speak of what is read or printed; the
-// report is that of `auditing::audit`.
+// Reads a bundle from an open file and prints the report of it. The file is a number, since crate io reads files by
+// theirs. No contract can speak of what is read or printed; the report is that of `auditing::audit`.
 pub fn print_report(file: i32) {
     // One byte more than audit takes, so that longer input shows.
     let mut bytes = [0u8; common::MAX_BYTES + 1];

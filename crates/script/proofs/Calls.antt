@@ -1,14 +1,20 @@
 -- The command of a line whose numbers are read. Assumes nothing.
-use Prim.Native.Nat.{ℕ, ◌≤◌}
+use Prim.Native.Nat.{ℕ, ◌+◌, ◌*◌, ◌≤◌}
 use mathlib.Core.Path.{◌≡◌, refl, sym, ap, subst, ◌∙◌}
-use mathlib.Core.List.{List, [], ◌∷◌}
+use mathlib.Core.List.{List, [], ◌∷◌, ◌++◌, map}
 use mathlib.Core.Option.{Option, none, some, Option-elim}
-use lib.ListN.{length, get_or, drop}
+use lib.ListN.{length, get_or, take, drop}
+use lib.Seq.{sets, length-sets}
 use native.Mathlib.Omega.{arith}
 use borrow.Author.Tests.{le-leb}
 use Rattle.std.specs.Prelude.{Option as Optional, Some, None}
+use Rattle.std.specs.List.{range_with_len}
+use Rattle.std.proofs.lemmas.List.{take-append-le, take_all}
+use Rattle.std.proofs.lemmas.List.Edits.{sets-eq}
+use Rattle.std.proofs.lemmas.List.FromFn.{fill_by_all}
+use Rattle.calls.specs.code.Tables.{step_width}
 use Rattle.lines.specs.Line.{lines}
-use Rattle.lines.specs.code.NumbersRead.{first_parts, max_count}
+use Rattle.lines.specs.code.NumbersRead.{first_parts}
 use Rattle.lines.proofs.Parts.{first_mapped, PartsMet}
 use Rattle.script_words.specs.declared.Word.{Word}
 use Rattle.script_words.specs.Words.{Shape}
@@ -60,16 +66,20 @@ module _ (word : Word) (shape : Shape) (s : shape_of word ≡ shape) (xs : List 
         inside = m.right.1;
       }
 
--- five numbers are those at their places
-pub five : (ns : List ℕ) → length ns ≡ max_count
-    → ns ≡ get_or ns 0 0 ∷ get_or ns 1 0 ∷ get_or ns 2 0 ∷ get_or ns 3 0 ∷ get_or ns 4 0 ∷ []
-five [] e = absurd (omega arith)
-five (a ∷ []) e = absurd (omega arith)
-five (a ∷ b ∷ []) e = absurd (omega arith)
-five (a ∷ b ∷ c ∷ []) e = absurd (omega arith)
-five (a ∷ b ∷ c ∷ d ∷ []) e = absurd (omega arith)
-five (a ∷ b ∷ c ∷ d ∷ f ∷ []) e = refl
-five (a ∷ b ∷ c ∷ d ∷ f ∷ g ∷ ns) e = absurd (omega arith)
+-- up to five numbers, put over five zeros, are the first of those at the five places
+pub put_first : (count : ℕ) (ns zeros all : List ℕ) → length ns ≡ count → count ≤ step_width
+    → length zeros ≡ step_width → all ≡ sets zeros (count * 0) ns
+    → take count (get_or all 0 0 ∷ get_or all 1 0 ∷ get_or all 2 0 ∷ get_or all 3 0 ∷ get_or all 4 0 ∷ []) ≡ ns
+put_first count ns zeros all size few five is =
+    let start : count * 0 ≡ 0 = omega arith in
+    let front : all ≡ ns ++ drop (0 + length ns) zeros =
+    is ∙ ap (λ i. sets zeros i ns) start ∙ sets-eq ns zeros 0 (omega (arith, size, five)) in
+    let places : all ≡ map (λ i. get_or all i 0) (range_with_len 0 5) =
+    fill_by_all (λ i. get_or all i 0) all 5 0 (ap length is ∙ length-sets zeros (count * 0) ns ∙ five)
+    (λ k h. refl) in
+    sym (ap (take count) places) ∙ ap (take count) front
+    ∙ take-append-le count ns (drop (0 + length ns) zeros) (omega (arith, size))
+    ∙ take_all count ns (omega (arith, size))
 
 -- a list's numbers are all of its line, where they are not too many
 module _ (word : Word) (most : ℕ) (s : shape_of word ≡ Listed most) (xs : List ℕ) (at : ℕ) where

@@ -6,3 +6,4 @@ pub mod NamesPut
 pub mod Selects
 pub mod Words
 pub mod Table
+pub mod EachLine

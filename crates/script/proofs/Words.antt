@@ -14,7 +14,7 @@ use Rattle.lines.specs.Number.{numbers_up_to}
 use Rattle.lines.specs.code.NumbersRead.{first_parts, starts_with}
 use Rattle.lines.proofs.Cutting.{Free, lines_at, no_whole_line}
 use Rattle.lines.proofs.Start.{starts}
-use Rattle.lines.proofs.SameBytes.{same_bytes_lem}
+use Rattle.lines.proofs.SameBytes.{same_bytes_lem, same_itself}
 use Rattle.lines.proofs.Parts.{FirstPart, no_line, only_part, part_before, first_part, before_newline, before_space}
 use Rattle.lines.proofs.Parts.{next_behind, first_none, first_mapped}
 use Rattle.script_words.specs.declared.Word.{Word}
@@ -66,11 +66,6 @@ no_numbers_behind w (inr (inl e)) ls = rw e (sym (first_none (word_command Other
 no_numbers_behind w (inr (inr (inl e))) ls = rw e (sym (first_none (word_command BundleOrder) (λ v ws. refl) ls))
 no_numbers_behind w (inr (inr (inr (inl e)))) ls = rw e (sym (first_none (word_command Records) (λ v ws. refl) ls))
 no_numbers_behind w (inr (inr (inr (inr e)))) ls = rw e (sym (first_none (word_command Released) (λ v ws. refl) ls))
-
-same_itself : (xs : List ℕ) → same_bytes xs xs ≡ true
-unfolding same_bytes
-same_itself [] = refl
-same_itself (x ∷ xs) = rw (eq-eqb x x refl, same_itself xs)
 
 starts_itself : (ys zs : List ℕ) → starts_with ys (ys ++ zs) ≡ true
 unfolding starts_with

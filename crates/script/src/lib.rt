@@ -1,19 +1,22 @@
 // A line of a script as a call on a session: a word, and numbers after it, one space before each.
 #![tactic(auto)]
 
+mod list;
+
 ghost use Rattle.std.specs.Prelude.{◌≡◌, ◌+◌, ◌≤◌, ◌<◌, min, length, take, drop};
 ghost use Rattle.script_words.specs.Words.{max_numbers};
 ghost use Rattle.script_words.specs.declared.Word.TheVariants as WORD;
 ghost use Rattle.lines.specs.Line.{lines};
-ghost use Rattle.lines.specs.code.NumbersRead.{max_count};
+ghost use Rattle.calls.specs.code.Tables.{step_width};
 ghost use Rattle.script.specs.Command.{word_command, command_of};
 ghost use Rattle.script.specs.Rest.{rest_of, newline_for_space, names_of, first_bytes};
 ghost use Rattle.script.specs.code.CommandRead.{CountedRead, ListRead, RestRead, AloneRead, CallRead};
 
-use arrayvec::ArrayVec;
-use calls::STEP_WIDTH;
+use calls::{STEP_WIDTH, Step};
+pub use list::NumberList;
+use records::Record;
 use script_words::{MAX_LISTED, MAX_NUMBERS, WORDS, Word};
-use terms::ROW_WIDTH;
+use terms::{ROW_WIDTH, Row};
 
 const MAX_LIMIT: u32 = u32::MAX;
 
@@ -23,15 +26,12 @@ pub const MAX_MARKS: usize = 1024;
 // The length of the longest buffer of a write.
 pub const MAX_ROOM: usize = common::MAX_BYTES;
 
-// Numbers that a line lists. Fixed memory without a heap: a line is read whatever memory is left.
-pub type NumberList = ArrayVec<u16, MAX_NUMBERS>;
-
 // A word with the numbers after it: of a select, the row, the context node, the limit and the length of the marks
 // buffer that it is lent; of a write, the length of its buffer. What `names` and `text` take stays in the line.
-#[derive(Drop)]
+#[derive(Clone, Copy)]
 pub enum Command {
-    Term(u16, u16, u16, u16),
-    Step(u16, u16, u16, u16, u16),
+    Term(Row),
+    Step(Step),
     Select(u16, u16, u32, usize),
     Document(NumberList),
     Fresh,
@@ -46,7 +46,7 @@ pub enum Command {
     BundleOrder,
     Names,
     Text,
-    Record(u16, u16, u16, u16),
+    Record(Record),
     Current(u16),
     Release(u16),
     Records,
@@ -55,25 +55,28 @@ pub enum Command {
 }
 
 // The command of a line, and the position of the next line.
-#[derive(Drop)]
+#[derive(Clone, Copy)]
 pub struct CallLine {
     pub command: Command,
     pub next: usize,
 }
 
-// What is made of the `count` numbers at `at`, which go to the line's end. Here and below a text and a place in it are
-// two parameters, since each call of crate lines would take a struct of the two apart.
-fn counted<F: FnOnce(u16, u16, u16, u16, u16) -> Command>(
+// What is made of the N numbers at `at`, which go to the line's end, and of zeros behind them: the check doesn't cover
+// a bound `FnOnce` that names a const parameter, as one of `[u16; N]` would. Here and below a text and a place in it
+// are two parameters: places are counted in the whole text, and of a slice from `at` on each would have to be moved
+// back.
+fn counted<const N: usize, F: FnOnce(u16, u16, u16, u16, u16) -> Command>(
     bytes: &[u8],
     at: usize,
-    count: usize,
     make: F,
 ) -> Option<CallLine>
-    requires { (count ≤ max_count) × F.IsAlwaysCallable make }
-    ensures { CountedRead count (F.post make) bytes.now at result }
+    requires { (N ≤ step_width) × F.IsAlwaysCallable make }
+    ensures { CountedRead N (F.post make) bytes.now at result }
 {
-    let line = lines::numbers_line(bytes, at, count)?;
-    let [a, b, c, d, e] = line.numbers;
+    let line = lines::numbers_line::<N>(bytes, at)?;
+    let mut numbers = [0; STEP_WIDTH];
+    common::put_record(&mut numbers, 0, line.numbers);
+    let [a, b, c, d, e] = numbers;
     Some(CallLine {
         command: make(a, b, c, d, e),
         next: line.next,
@@ -133,6 +136,7 @@ fn listed<F: FnOnce(NumberList) -> Command>(
 {
     let mut numbers = NumberList::new();
     let mut from = at;
+    // By count: where the next number starts, and whether there is one, is known only when this one is read.
     for _ in 0..most {
         let Some(more) = lines::number_at(bytes, from, lines::SPACE, lines::MAX_NUMBER) else {
             let last = lines::number_at(bytes, from, lines::NEWLINE, lines::MAX_NUMBER)?;
@@ -153,11 +157,17 @@ fn behind_word(bytes: &[u8], at: usize, word: Word) -> Option<CallLine>
     ensures { CallRead (word_command word) bytes.now at result }
 {
     match word {
-        Word::Term => counted(bytes, at, ROW_WIDTH, |kind, a, b, c, _| {
-            Command::Term(kind, a, b, c)
+        Word::Term => counted::<ROW_WIDTH, _>(bytes, at, |kind, a, b, c, _| {
+            Command::Term(Row { kind, a, b, c })
         }),
-        Word::Step => counted(bytes, at, STEP_WIDTH, |rule, left, right, first, second| {
-            Command::Step(rule, left, right, first, second)
+        Word::Step => counted::<STEP_WIDTH, _>(bytes, at, |rule, left, right, first, second| {
+            Command::Step(Step {
+                rule,
+                left,
+                right,
+                first,
+                second,
+            })
         }),
         Word::Select => selection(bytes, at),
         Word::Document => listed(bytes, at, MAX_NUMBERS, Command::Document),
@@ -165,19 +175,24 @@ fn behind_word(bytes: &[u8], at: usize, word: Word) -> Option<CallLine>
         Word::New => listed(bytes, at, MAX_LISTED, Command::New),
         Word::Replace => listed(bytes, at, MAX_LISTED, Command::Replace),
         Word::Write => room(bytes, at),
-        Word::Point => counted(bytes, at, 1, |name, _, _, _, _| Command::Point(name)),
-        Word::Return => counted(bytes, at, 1, |name, _, _, _, _| Command::Return(name)),
-        Word::Order => counted(bytes, at, 2, |other, row, _, _, _| {
+        Word::Point => counted::<1, _>(bytes, at, |name, _, _, _, _| Command::Point(name)),
+        Word::Return => counted::<1, _>(bytes, at, |name, _, _, _, _| Command::Return(name)),
+        Word::Order => counted::<2, _>(bytes, at, |other, row, _, _, _| {
             Command::Order(other, row)
         }),
         Word::Names => rest_call(bytes, at, Command::Names),
         Word::Text => rest_call(bytes, at, Command::Text),
-        Word::Record => counted(bytes, at, 4, |series, edition, row, step, _| {
-            Command::Record(series, edition, row, step)
+        Word::Record => counted::<4, _>(bytes, at, |series, edition, row, step, _| {
+            Command::Record(Record {
+                series,
+                edition,
+                row,
+                step,
+            })
         }),
-        Word::Current => counted(bytes, at, 1, |series, _, _, _, _| Command::Current(series)),
-        Word::Release => counted(bytes, at, 1, |place, _, _, _, _| Command::Release(place)),
-        Word::CrewCurrent => counted(bytes, at, 1, |series, _, _, _, _| {
+        Word::Current => counted::<1, _>(bytes, at, |series, _, _, _, _| Command::Current(series)),
+        Word::Release => counted::<1, _>(bytes, at, |place, _, _, _, _| Command::Release(place)),
+        Word::CrewCurrent => counted::<1, _>(bytes, at, |series, _, _, _, _| {
             Command::CrewCurrent(series)
         }),
         Word::Fresh | Word::Other | Word::BundleOrder | Word::Records | Word::Released => None,
@@ -252,12 +267,15 @@ fn newline_for_space(b: u8) -> u8
 }
 
 // Writes the list of names that the bytes write, as much of it as there is room for. It gives how many bytes these are.
+// A lent buffer and a size, and no ArrayVec: that has its capacity in its type, and its `extend` tests at each byte
+// whether there is room, and can fail there, where `min` tells it of all at once.
 pub fn put_names(bytes: &[u8], out: &mut [u8]) -> usize
     ensures { (result ≡ min (length bytes.now) (length out.old))
         × (take result out.new ≡ take result (names_of bytes.now))
         × (length out.new ≡ length out.old) }
 {
     let size = bytes.len().min(out.len());
+    // By place: what a `for` over `iter_mut` with `zip` leaves in `out` is a value of which no fact says anything.
     for (i, b) in bytes[..size].iter().enumerate() {
         out[i] = newline_for_space(*b);
     }

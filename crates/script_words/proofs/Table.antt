@@ -1,10 +1,12 @@
 -- The code's words are the specification's, entry by entry. Assumes nothing.
 use Prim.Native.Nat.{ℕ, zero, suc, ◌<◌}
 use mathlib.Core.Path.{◌≡◌, refl, sym, ap, ◌∙◌}
-use mathlib.Core.Bool.{Bool, true, false, ◌&&◌, false≢true}
+use mathlib.Core.Bool.{Bool, true, ◌&&◌}
 use mathlib.Core.List.{List, [], ◌∷◌, map}
 use native.Mathlib.Omega.{arith}
 use lib.ListN.{length, get_or, length-map, get_or-map}
+use Rattle.std.proofs.lemmas.Bool.{and_parts}
+use Rattle.std.proofs.lemmas.List.{get_or_default}
 use Rattle.lines.specs.Ascii.{ascii}
 use Rattle.lines.specs.Line.{newline, space}
 use Rattle.lines.proofs.Cutting.{Free, lacks, lacks_free}
@@ -25,21 +27,17 @@ all_sound : List (List ℕ × Word) → Bool
 all_sound [] = true
 all_sound (e ∷ es) = sound e && all_sound es
 
-both : (a b : Bool) → (a && b) ≡ true → (a ≡ true) × (b ≡ true)
-both true b e = (refl, e)
-both false b e = absurd (false≢true e)
-
 is_sound : (e : List ℕ × Word) → sound e ≡ true → Sound e
 unfolding sound
 is_sound e t =
-    let (n, s) = both _ _ t in
+    let (n, s) = and_parts _ _ t in
     record { no_newline = lacks_free newline e.0 n; no_space = lacks_free space e.0 s }
 
 sound_at : (es : List (List ℕ × Word)) → all_sound es ≡ true → (i : ℕ) → i < length es → Sound (get_or es i no_entry)
 unfolding all_sound
 sound_at [] t i h = absurd (omega arith)
-sound_at (e ∷ es) t zero h = is_sound e (both (sound e) (all_sound es) t).0
-sound_at (e ∷ es) t (suc i) h = sound_at es (both (sound e) (all_sound es) t).1 i (omega arith)
+sound_at (e ∷ es) t zero h = is_sound e (and_parts (sound e) (all_sound es) t).0
+sound_at (e ∷ es) t (suc i) h = sound_at es (and_parts (sound e) (all_sound es) t).1 i (omega arith)
 
 -- by one computation, for all of them
 pub word_sound : (i : ℕ) → i < length words → Sound (get_or words i no_entry)
@@ -54,17 +52,11 @@ words_same = refl
 pub word_count : length WORDS ≡ length words
 word_count = sym (length-map WORDS entry_of) ∙ ap length words_same
 
--- an entry that there is doesn't go by what is given for one that there isn't
-any_default : {A : Type 0} (xs : List A) (i : ℕ) (d e : A) → i < length xs → get_or xs i d ≡ get_or xs i e
-any_default [] i d e h = absurd (omega arith)
-any_default (x ∷ xs) zero d e h = refl
-any_default (x ∷ xs) (suc i) d e h = any_default xs i d e (omega arith)
-
 pub word_at : (i : ℕ) → i < length WORDS → (d : Word) → get_or words i no_entry ≡ entry_of (get_or WORDS i d)
 word_at i h d =
-    any_default words i no_entry (entry_of d) (omega (arith, word_count))
+    get_or_default words i no_entry (entry_of d) (omega (arith, word_count))
     ∙ ap (λ es. get_or es i (entry_of d)) (sym words_same) ∙ get_or-map entry_of WORDS i d
 
--- a line lists as many numbers in the code as in the specification
+-- a line lists as many numbers in the code as in the specification; edits are refused by it
 pub most_numbers : MAX_NUMBERS ≡ max_numbers
 most_numbers = refl

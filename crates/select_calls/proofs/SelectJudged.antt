@@ -17,12 +17,20 @@ use Rattle.terms.specs.Terms.{path_at}
 use Rattle.selection.specs.Evaluation.{Outcome, outcome, selected, no_room, too_many_visits, path_evaluated, evaluated}
 use Rattle.selection.specs.Evaluation as evaluation
 use Rattle.std.specs.Prelude.{Err}
+use Rattle.selection.specs.declared.EvaluationError.{EvaluationError}
+use Rattle.selection.specs.declared.EvaluationError.TheVariants.{NoRoom, LimitPassed}
+use Rattle.selection.specs.code.EvaluatedTypes as code
 use Rattle.common.specs.declared.refusal.Refusal.TheVariants.{BadDocument, BadArgument}
 use Rattle.calls.specs.Book.{answer, accepted}
 use Rattle.calls.specs.SelectCall.{select_answer, select_buffer}
 use Rattle.calls.specs.code.Answers.{NumberOrRefusal, answer_of, evaluation_answer}
 use Rattle.calls.specs.Promises.{SelectMade}
 use Rattle.calls.proofs.Accepted.{if_refused}
+
+-- the refusal of an error of the evaluation is its answer
+pub mistaken : (e : EvaluationError) → answer_of (Err (code.refusal_of e)) ≡ evaluation_answer (code.answer_of (Err e))
+mistaken NoRoom = refl
+mistaken LimitPassed = refl
 
 -- an evaluation by its two tests: the buffer is too short; v visits are within the limit, and leave the marks w
 abbrev by_tests : (v : ℕ) (w buffer : List ℕ) (short within : Bool) → Outcome

@@ -1,28 +1,14 @@
 // Select calls on lent rows: the answer, and the marks.
 #![tactic(auto)]
 
-ghost use Rattle.std.specs.Prelude.{◌≡◌};
 ghost use Rattle.terms.specs.Row.{table_of};
-ghost use Rattle.selection.specs.code.EvaluatedTypes.{answer_of as evaluation_of};
-ghost use Rattle.calls.specs.code.Answers.{answer_of, evaluation_answer};
 ghost use Rattle.calls.specs.Promises.{SelectMade};
 
 use common::Refusal;
-use selection::EvaluationError;
 use xpath::Checked;
 
-// The answer of a select call that comes to an evaluation.
-fn select_answer(done: Result<u32, EvaluationError>) -> Result<u32, Refusal>
-    ensures { answer_of result ≡ evaluation_answer (evaluation_of done) }
-{
-    match done {
-        Ok(visits) => Ok(visits),
-        Err(EvaluationError::NoRoom) => Err(Refusal::ShortMarks),
-        Err(EvaluationError::LimitPassed) => Err(Refusal::LimitPassed),
-    }
-}
-
-// A select call on lent rows, four numbers a row, as `Session::select` makes it on the rows that it holds.
+// A select call on lent rows, four numbers a row, as `Session::select` makes it on the rows that it holds. No struct of
+// its parameters: `SelectMade` names them one by one, and each is judged or passed on apart from the others.
 pub fn select_on(
     rows: &[u16],
     row: u16,
@@ -34,10 +20,7 @@ pub fn select_on(
     ensures { SelectMade (table_of rows.now) row document.now context limit
         marks.old result marks.new }
 {
-    let ends = match xpath::check_document(document) {
-        Ok(ends) => ends,
-        Err(value) => return Err(Refusal::BadDocument(value)),
-    };
+    let ends = xpath::check_document(document).map_err(Refusal::BadDocument)?;
     let x = usize::from(context);
     if xpath::node_count(document) <= x {
         return Err(Refusal::BadArgument(1));
@@ -49,6 +32,6 @@ pub fn select_on(
         numbers: document,
         ends: &ends,
     };
-    let done = selection::evaluate(rows, usize::from(row), document, x, limit, marks);
-    select_answer(done)
+    let visits = selection::evaluate(rows, usize::from(row), document, x, limit, marks)?;
+    Ok(visits)
 }

@@ -30,16 +30,10 @@ module _ (f : ℕ → ℕ) where
       ⊎_elim (λ q. rw q (omega arith)) (λ h. omega (arith, sum_grows (suc k) n h)) (below_suc l)
 
 -- equal tests and terms, equal folds
-module _ (f g : ℕ → Bool) where
-  pub any_cong : (n : ℕ) → ((k : ℕ) → k < n → f k ≡ g k) → any_below n f ≡ any_below n g
-  unfolding any_below
-  any_cong zero h = refl
-  any_cong (suc n) h = rw (any_cong n (λ k l. h k (omega arith)), h n (omega arith))
-
-  pub all_cong : (n : ℕ) → ((k : ℕ) → k < n → f k ≡ g k) → all_below n f ≡ all_below n g
-  unfolding all_below
-  all_cong zero h = refl
-  all_cong (suc n) h = rw (all_cong n (λ k l. h k (omega arith)), h n (omega arith))
+pub all_cong : (f g : ℕ → Bool) (n : ℕ) → ((k : ℕ) → k < n → f k ≡ g k) → all_below n f ≡ all_below n g
+unfolding all_below
+all_cong f g zero h = refl
+all_cong f g (suc n) h = rw (all_cong f g n (λ k l. h k (omega arith)), h n (omega arith))
 
 pub sum_cong : (f g : ℕ → ℕ) (n : ℕ) → ((k : ℕ) → k < n → f k ≡ g k) → sum_below n f ≡ sum_below n g
 unfolding sum_below

@@ -28,15 +28,16 @@ abbrev pub joined_below : (ℕ → Bool) → (ℕ → ℕ → Bool) → ℕ → 
 joined_below S s z y = any_below z (λ w. S w && s w y)
 
 module _ (S : ℕ → Bool) (s : ℕ → ℕ → Bool) (n : ℕ) where
-  pub none_joined : (old : List Bool) → Added n old old (joined_below S s 0)
+  pub none_joined : (old : List Bool) → Added n true old old (joined_below S s 0)
   unfolding any_below
   none_joined old = nothing_added _ (λ y h. refl)
 
-  module _ {old new : List Bool} (z : ℕ) (u : Added n old new (joined_below S s z)) where
-    pub joined_skipped : S z ≡ false → Added n old new (joined_below S s (z + 1))
+  module _ {old new : List Bool} (z : ℕ) (u : Added n true old new (joined_below S s z)) where
+    pub joined_skipped : S z ≡ false → Added n true old new (joined_below S s (z + 1))
     joined_skipped e = added_cong _ u (λ y h. any_more (λ w. S w && s w y) z ∙ rw (e, or-false))
 
-    pub joined_next : (m : List Bool) → S z ≡ true → Added n new m (s z) → Added n old m (joined_below S s (z + 1))
+    pub joined_next : (m : List Bool) → S z ≡ true → Added n true new m (s z) →
+        Added n true old m (joined_below S s (z + 1))
     joined_next m e g = added_twice _ (s z) _ u g (λ y h. any_more (λ w. S w && s w y) z ∙ rw e)
 
 pub written_more : (k : ℕ) (s : ℕ → Bool) (old new : List ℕ) (v : ℕ) → new ≡ written k s old → v ≡ cond (s k) 1 0 →

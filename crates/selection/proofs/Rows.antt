@@ -21,7 +21,7 @@ use Rattle.terms.specs.Fields.{max_kind}
 use Rattle.terms.specs.Terms.{Term, no_term, term_by, terms, term_at, as_path, as_qualifier, qualifier_in}
 use Rattle.terms.proofs.Terms.{term_past, term_at_lem, term_take}
 use Rattle.terms.proofs.ByKind.{Kind, void_kind, root_kind, step_kind, union_kind, composition_kind, filter_kind}
-use Rattle.terms.proofs.ByKind.{true_kind, false_kind, not_kind, and_kind, or_kind, in_kind, kind_of_lem}
+use Rattle.terms.proofs.ByKind.{true_kind, false_kind, not_kind, and_kind, or_kind, in_kind, kind_of_lem, past_kinds}
 use Rattle.marking.specs.code.Added.{Added}
 use Rattle.marking.proofs.Added.{nothing_added, added_cong, added_set}
 use Rattle.selection.specs.code.Parts.{leaf_path}
@@ -35,11 +35,6 @@ module _ (rs : List Row) (top r : ℕ) where
   pub term_held : r < top → get_or (terms (take top rs)) r no_term ≡ term_by (terms (take r rs)) (row_at rs r)
   unfolding term_at
   term_held h = term_take top rs r h ∙ term_at_lem rs r
-
--- a kind past the last is read as the void path, or as false
-past_kinds : (ts : List Term) (r : Row) → max_kind < r.kind → term_by ts r ≡ no_term
-unfolding term_by
-past_kinds ts r h = rw get_or-eq_default
 
 void_leaf : (r : Row) → ¬ (r.kind ≡ 2) → ¬ (r.kind ≡ 1) → leaf_path r ≡ Void
 unfolding leaf_path
@@ -100,7 +95,8 @@ module _ (ts : List Term) (r : Row) where
 
 module _ (d : Document) (x : ℕ) where
   -- the marks of the root and of the void path
-  pub root_added : (m : List Bool) → 0 < length d → 0 < length m → Added (length d) m (set m 0 true) (selects d Root x)
+  pub root_added : (m : List Bool) → 0 < length d → 0 < length m →
+      Added (length d) true m (set m 0 true) (selects d Root x)
   unfolding selects
   root_added m k l =
       added_set (selects d Root x) 0 (nothing_added (λ y. false) (λ y h. refl)) l
@@ -108,13 +104,13 @@ module _ (d : Document) (x : ℕ) where
       (λ y h ne. rw (ne_eqb y 0 ne, and-false))
 
   pub step_added : (a t c : ℕ) {old new : List Bool} →
-      Added (length d) old new (λ y. on_axis a d x y && passes a t c d y) →
-      Added (length d) old new (selects d (AxisStep a t c) x)
+      Added (length d) true old new (λ y. on_axis a d x y && passes a t c d y) →
+      Added (length d) true old new (selects d (AxisStep a t c) x)
   unfolding selects
   step_added a t c u = added_cong _ u (λ y h. rw (lt-ltb y (length d) h))
 
   pub void_added : (m : List Bool) (r : Row) → ¬ (r.kind ≡ 2) → ¬ (r.kind ≡ 1) →
-      Added (length d) m m (selects d (leaf_path r) x)
+      Added (length d) true m m (selects d (leaf_path r) x)
   unfolding selects
   void_added m r n o = nothing_added _ (λ y h. rw (void_leaf r n o))
 

@@ -1,8 +1,8 @@
 // The evaluation of a path from a context node, with a limit on its visits.
 #![tactic(auto)]
 
+mod context;
 mod evaluation;
-mod lent;
 
 ghost use Rattle.std.specs.Prelude.{◌≡◌, ◌≤◌, ◌<◌, length};
 ghost use Rattle.xpath.specs.code.Checked.{doc};
@@ -10,9 +10,10 @@ ghost use Rattle.terms.specs.Row.{table_of};
 ghost use Rattle.marking.specs.code.Added.{marked};
 ghost use Rattle.selection.specs.Marks.{written};
 ghost use Rattle.selection.specs.Evaluation.{outcome, evaluated};
-ghost use Rattle.selection.specs.code.EvaluatedTypes.{answer_of};
+ghost use Rattle.selection.specs.code.EvaluatedTypes.{answer_of, refusal_of};
 
-use lent::Lent;
+use common::Refusal;
+use context::{Context, Lent};
 use xpath::{Checked, MAX_NODES};
 
 // The marks have no room for the document; or more visits are needed than the limit.
@@ -22,12 +23,24 @@ pub enum EvaluationError {
     LimitPassed,
 }
 
+impl From<EvaluationError> for Refusal {
+    ghost from_gives = { λ error refusal. refusal ≡ refusal_of error };
+
+    fn from(error: EvaluationError) -> Refusal {
+        match error {
+            EvaluationError::NoRoom => Refusal::ShortMarks,
+            EvaluationError::LimitPassed => Refusal::LimitPassed,
+        }
+    }
+}
+
 // Writes 1 or 0 for each node that m has a byte for, as m marks it.
 #[tactic(auto, unfolding(crate::specs::Marks::written), using(crate::proofs::Marks::written_more))]
 fn copy_out(m: &[bool], buffer: &mut [u8])
     requires { length m.now ≤ length buffer.old }
     ensures { buffer.new ≡ written (length m.now) (marked m.now) buffer.old }
 {
+    // By place: what a `for` over `iter_mut` with `zip` leaves in `buffer` is a value of which no fact says anything.
     for (y, mark) in m.iter().enumerate() {
         buffer[y] = u8::from(*mark);
     }
@@ -35,7 +48,8 @@ fn copy_out(m: &[bool], buffer: &mut [u8])
 
 // Writes 1 or 0 for each node of the document into `marks`, as the path in row `row` selects it from x, and answers
 // the visits made. Where it answers an error, `marks` is as it was. It asks for a node of the document, since
-// the caller answers for all other input; no user calls it.
+// the caller answers for all other input; no user calls it. No struct of its parameters: rows, document and x go into
+// the two that the evaluation reads, `Lent` and `Context`, and the limit and the marks each another way.
 pub fn evaluate(
     rows: &[u16],
     row: usize,
@@ -53,11 +67,15 @@ pub fn evaluate(
         return Err(EvaluationError::NoRoom);
     }
     let lent = Lent { rows, document };
-    let top = terms::row_count(rows);
+    let all = Context {
+        lent: &lent,
+        top: terms::row_count(rows),
+        x,
+    };
+    let mut left = limit;
     let mut out = [false; MAX_NODES];
-    let visits = lent
-        .eval_path(top, row, x, limit, &mut out)
+    all.eval_path(row, &mut left, &mut out)
         .ok_or(EvaluationError::LimitPassed)?;
     copy_out(&out[..n], marks);
-    Ok(visits)
+    Ok(limit - left)
 }

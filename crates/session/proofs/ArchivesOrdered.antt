@@ -6,23 +6,20 @@ use mathlib.Core.List.{List, [], ◌∷◌, map}
 use Rattle.terms.specs.Row.{Row}
 use Rattle.terms.specs.Terms.{term_at}
 use Rattle.calls.specs.Book.{Book}
-use Rattle.calls.specs.Runs.{final}
-use Rattle.calls.specs.Calls.{Call, CallSeen, plain_book, book_after}
+use Rattle.calls.specs.Calls.{book_after}
 use Rattle.ordering.specs.TermOrder.{term_order}
 use Rattle.ordering.specs.OrderCall.{order_answer, bundle_order_answer}
 use Rattle.ordering.specs.OrderLaws.{Sorted}
 use Rattle.session.specs.declared.session.Session.{Session}
 use Rattle.session.specs.View.{view, fresh_session}
-use Rattle.session.specs.Promises.{CallRelation, Met, CallsMade}
+use Rattle.session.specs.Promises.{CallRelation, Met}
 use Rattle.session.specs.OrderDemand.{OrderRelation, BundleOrderRelation, OrderMet, BundleOrderMet}
 use Rattle.session.specs.OrderDemand.{SortedRows, ArchivesOrdered, OrderDemand}
-use Rattle.calls.proofs.Runs.{run_map, run_follows}
 use Rattle.ordering.proofs.TermOrder.{terms_ordered}
 use Rattle.ordering.proofs.Sorted.{sorted_match}
 use Rattle.ordering.proofs.Judged.{equal_iff, bundles_equal_iff, at_most_lem}
-use Rattle.session.proofs.Views.{fresh_view}
-use Rattle.session.proofs.Simulation.{session_as_book, fresh_kept}
-use Rattle.session.proofs.Demand3.{CallsKept}
+use Rattle.session.proofs.Simulation.{calls_follow}
+use Rattle.session.proofs.Demand3.{CallsKept, made_from_fresh}
 
 -- what one relation says of order calls, the other does
 abbrev pub OrdersKept : OrderRelation → OrderRelation → Type 0
@@ -71,18 +68,11 @@ module _ (Ordered : OrderRelation) (order_tied : OrdersKept Ordered OrderMet)
             (λ e. iff.0 (sym (bundles_told r m) ∙ e), λ h. bundles_told r m ∙ iff.1 h);
       }
 
-  -- the session that calls leave holds what the plain book does
-  holds : (cs : List Call) (os : List CallSeen) (s : Session) → CallsMade fresh_session cs os s → view s ≡ book_after cs
-  holds cs os s run =
-      let (shows, same, whole, reachable) = run_follows session_as_book fresh_kept.whole
-      fresh_kept.reachable run in
-      same ∙ ap (λ b. final plain_book b cs) fresh_view
-
   -- so for every `new` and every calls that meet theirs
   pub order_demand_by : (New : Session → Type 0) (Called : CallRelation)
       → ((s : Session) → New s → s ≡ fresh_session) → CallsKept Called Met
       → OrderDemand Ordered BundleOrdered New Called
   order_demand_by New Called new_tied call_tied s₀ t₀ s t cs ds os us new-s new-t run-s run-t =
       ordered s t (book_after cs) (book_after ds)
-      (holds cs os s (subst (λ z. CallsMade z cs os s) (new_tied s₀ new-s) (run_map call_tied run-s)))
-      (holds ds us t (subst (λ z. CallsMade z ds us t) (new_tied t₀ new-t) (run_map call_tied run-t)))
+      (calls_follow (made_from_fresh new_tied call_tied new-s run-s)).held
+      (calls_follow (made_from_fresh new_tied call_tied new-t run-t)).held

@@ -15,17 +15,16 @@ use Rattle.rules.specs.Claim.{Containment, TrueOn, IsTrue}
 use Rattle.session.specs.declared.session.Session.{Session}
 use Rattle.calls.specs.Book.{no_step, Book, Answer}
 use Rattle.calls.specs.StepCall.{claim_of}
-use Rattle.calls.specs.Runs.{shown, final}
-use Rattle.calls.specs.Calls.{Call, CallSeen, plain_book, book_after}
+use Rattle.calls.specs.Runs.{Run}
+use Rattle.calls.specs.Calls.{Call, CallSeen}
 use Rattle.session.specs.View.{view, fresh_session}
 use Rattle.session.specs.Promises.{CallRelation, SelectRelation, Met, CallsMade, SelectMet}
 use Rattle.session.specs.Demand3.{Upheld, Demand3, DemandThree}
 use Rattle.calls.proofs.Reached.{BookLaws, reachable_laws}
 use Rattle.calls.proofs.ByTerms.{containment_sides}
-use Rattle.calls.proofs.Runs.{run_map, run_follows}
+use Rattle.calls.proofs.Runs.{run_map}
 use Rattle.calls.proofs.Marked.{select_takes, select_leaves, select_well_formed, select_marks, select_stays}
-use Rattle.session.proofs.Views.{fresh_view}
-use Rattle.session.proofs.Simulation.{session_as_book, fresh_kept}
+use Rattle.session.proofs.Simulation.{calls_follow}
 
 mark_true : (b : Bool) → ◌≡◌ {A = ℕ} (cond b 1 0) 1 → T b
 mark_true true e = tt
@@ -43,6 +42,13 @@ abbrev pub SelectsKept : SelectRelation → SelectRelation → Type 0
 SelectsKept Selected Kept = (s : Session) (row : ℕ) (xs : List ℕ) (x limit : ℕ) (buffer : List ℕ)
     (t : NumberOrRefusal) (left : List ℕ) → Selected s row xs x limit buffer t left
     → Kept s row xs x limit buffer t left
+
+-- calls that all meet their promises, on what `new` gives, are made from a fresh session
+pub made_from_fresh : {New : Session → Type 0} {Called : CallRelation} → ((s : Session) → New s → s ≡ fresh_session)
+    → CallsKept Called Met → {s₀ s : Session} {cs : List Call} {os : List CallSeen} → New s₀
+    → Run view Called s₀ cs os s → CallsMade fresh_session cs os s
+made_from_fresh new_tied call_tied {s₀} {s} {cs} {os} new run =
+    subst (λ z. CallsMade z cs os s) (new_tied s₀ new) (run_map call_tied run)
 
 -- a select that meets its promise
 module _ (Selected : SelectRelation) (select_tied : SelectsKept Selected SelectMet) where
@@ -89,17 +95,15 @@ module _ (Selected : SelectRelation) (select_tied : SelectsKept Selected SelectM
   pub demanded : (cs : List Call) (os : List CallSeen) (s : Session) → CallsMade fresh_session cs os s
       → Demand3 Selected cs os s
   demanded cs os s run =
-      let (shows, holds, whole, reachable) = run_follows session_as_book fresh_kept.whole
-      fresh_kept.reachable run in
-      let same : view s ≡ book_after cs = holds ∙ ap (λ b. final plain_book b cs) fresh_view in
+      let f = calls_follow run in
       record {
-        seen = shows ∙ ap (λ b. shown plain_book b cs) fresh_view;
-        held = same;
-        upheld = upheld s _ same (subst BookLaws same (reachable_laws reachable));
+        seen = f.seen;
+        held = f.held;
+        upheld = upheld s _ f.held (subst BookLaws f.held (reachable_laws f.kept.reachable));
       }
 
   -- so for every `new` and every calls that meet theirs
   pub demand3_by : (New : Session → Type 0) (Called : CallRelation)
       → ((s : Session) → New s → s ≡ fresh_session) → CallsKept Called Met → DemandThree Selected New Called
   demand3_by New Called new_tied call_tied s₀ s cs os new run =
-      demanded cs os s (subst (λ z. CallsMade z cs os s) (new_tied s₀ new) (run_map call_tied run))
+      demanded cs os s (made_from_fresh new_tied call_tied new run)

@@ -1,26 +1,22 @@
 -- What the code does at a line of a bundle is what the reading does. Assumes nothing.
 use Rattle.calls.specs.code.Answers.{NumberOrRefusal, answer_of}
 use Prim.Native.Nat.{ℕ, ◌+◌, ◌*◌, ◌≤◌, ◌<◌, min}
-use mathlib.Core.Path.{◌≡◌, refl, sym, ap, subst, ◌∙◌}
-use mathlib.Core.Bool.{true, false}
-use mathlib.Core.List.{List}
-use mathlib.Core.Option.{none, some}
-use Rattle.std.specs.Prelude.{Option, None, Some, Ok, Err, MatchResult, is_ok}
+use mathlib.Core.Path.{◌≡◌, refl, sym, ap, ◌∙◌}
+use mathlib.Core.Bool.{Bool, true, false}
+use mathlib.Core.List.{List, [], ◌∷◌, ◌++◌}
+use mathlib.Core.Option.{none}
+use Rattle.std.specs.Prelude.{Ok, Err, MatchResult, is_ok}
 use Rattle.common.specs.declared.refusal.Refusal.{Refusal}
-use Rattle.std.specs.Option.{ok_or}
 use Rattle.calls.specs.declared.answer.LineRefusal.{LineRefusal}
 use native.Mathlib.Omega.{arith}
-use lib.ListN.{length, take, drop}
+use lib.ListN.{length, drop}
 use lib.Seq.{sets}
 use Rattle.terms.specs.Row.{max_rows}
 use Rattle.lines.specs.Ascii.{ascii}
 use Rattle.lines.specs.Line.{newline, lines, first_is}
-use Rattle.lines.specs.declared.NumbersLine.{NumbersLine}
-use Rattle.lines.specs.code.NumbersRead.{first_numbers, max_count, counted_numbers, LineMet}
+use Rattle.lines.specs.code.NumbersRead.{first_numbers, LineMet, starts_with}
 use Rattle.lines.proofs.Cutting.{Free, lacks, lacks_free, no_lines, some_line}
-use Rattle.lines.proofs.Filled.{first_four, first_five}
-use Rattle.lines.proofs.LineRead.{parts_met, no_parts_met}
-use Rattle.lines.proofs.Start.{line_passed}
+use Rattle.lines.proofs.Start.{line_passed, starts_with_line}
 use Rattle.session.specs.declared.session.Session.{Session}
 use Rattle.calls.specs.Book.{max_steps, book, answer}
 use Rattle.calls.specs.code.Tables.{row_width, step_width, first_rows, first_steps}
@@ -47,11 +43,6 @@ pub step_names_free : Free newline step_names
 unfolding step_names ascii lacks
 step_names_free = lacks_free newline step_names refl
 
--- what a `?` behind `ok_or` gives up for
-pub none_by_ok_or : {A E : Type 0} (o : Option A) (w e : E) → Err e ≡ ok_or o w → (o ≡ None) × (e ≡ w)
-none_by_ok_or None w e h = (refl, cc h)
-none_by_ok_or (Some x) w e h = cc h
-
 -- what a `?` behind `map_err` gives up for: a call's refusal, at its line
 pub refused_by_map_err : (t : NumberOrRefusal) (line : ℕ) (e : LineRefusal) (P : ℕ → Type 0) (Q : Refusal → Type 0)
     → MatchResult t P Q → is_ok t ≡ false → ((k : Refusal) → Q k → e ≡ record { refusal = k; line = line })
@@ -59,10 +50,14 @@ pub refused_by_map_err : (t : NumberOrRefusal) (line : ℕ) (e : LineRefusal) (P
 refused_by_map_err (Ok x) line e P Q h f told = cc f
 refused_by_map_err (Err k) line e P Q h f told = ap refused_by (told k h)
 
--- the numbers of a line that has them
-line_numbers_lem : (count : ℕ) (xs : List ℕ) (at : ℕ) → count ≤ max_count → (r : NumbersLine) → LineMet count xs at r →
-    some (take count r.numbers) ≡ first_numbers count (lines (drop at xs))
-line_numbers_lem count xs at few r m = (parts_met count xs at few r m).numbers
+-- the names lines, as the code finds them
+pub is_row_names : (xs : List ℕ) (b : Bool) → b ≡ starts_with (row_names ++ newline ∷ []) xs
+    → b ≡ first_is row_names (lines xs)
+is_row_names xs b e = e ∙ starts_with_line row_names row_names_free xs
+
+pub is_step_names : (xs : List ℕ) (b : Bool) → b ≡ starts_with (step_names ++ newline ∷ []) xs
+    → b ≡ first_is step_names (lines xs)
+is_step_names xs b e = e ∙ starts_with_line step_names step_names_free xs
 
 -- term lines, where the first n rows of xs are held
 module _ (bytes xs : List ℕ) (n line at : ℕ) where
@@ -83,43 +78,30 @@ module _ (bytes xs : List ℕ) (n line at : ℕ) where
   row_end h = rw (no_lines bytes at h)
 
   pub row_wrong_there : first_is step_names (lines (drop at bytes)) ≡ false
-      → none ≡ counted_numbers row_width (drop at bytes)
+      → none ≡ first_numbers row_width (lines (drop at bytes))
       → rows_read row_step_answer here line (lines (drop at bytes)) ≡ refused_at wrong_form line
-  row_wrong_there other e = row_wrong here line _ other (no_parts_met row_width bytes at (omega arith) e)
+  row_wrong_there other e = row_wrong here line _ other e
 
-  module _ (other : first_is step_names (lines (drop at bytes)) ≡ false) (r : NumbersLine)
-      (m : LineMet row_width bytes at r) where
-    -- the first four of the numbers are all that a row takes
-    abbrev four : List ℕ
-    four = take row_width r.numbers
-
-    row_there : row_of_numbers r.numbers ≡ row_of_numbers four
-    row_there = rw (first_four r.numbers (omega (arith, m.size)))
-
+  module _ (other : first_is step_names (lines (drop at bytes)) ≡ false) (four : List ℕ) (next : ℕ)
+      (m : LineMet row_width bytes at four next) where
     module _ (few : n ≤ max_rows) (ys : List ℕ) (t : NumberOrRefusal)
-        (placed : TermPlaced xs n (row_of_numbers r.numbers) ys t)
+        (placed : TermPlaced xs n (row_of_numbers four) ys t)
       where
-        four_read : some four ≡ first_numbers row_width (lines (drop at bytes))
-        four_read = line_numbers_lem row_width bytes at (omega arith) r m
-
-        four_placed : TermPlaced xs n (row_of_numbers four) ys t
-        four_placed = subst (λ q. TermPlaced xs n q ys t) row_there placed
-
         count : n ≡ min n max_rows
         count = omega arith
 
         pub row_refused_there : ¬ ((answer_of t).number ≡ 0) → rows_read row_step_answer here line
             (lines (drop at bytes)) ≡ refused_at (answer_of t).number line
         row_refused_there f =
-            row_refused here line _ other four four_read _ _
-            (term_made_refused here (row_of_numbers four) n count ys t four_placed f) f
+            row_refused here line _ other four m.numbers _ _
+            (term_made_refused here (row_of_numbers four) n count ys t placed f) f
 
         module _ (e : (answer_of t).number ≡ 0) where
           pub row_held_there : rows_read row_step_answer here line (lines (drop at bytes)) ≡ rows_read row_step_answer
-              (holding ys (n + 1) fresh_session.steps 0) (line + 1) (lines (drop r.next bytes))
+              (holding ys (n + 1) fresh_session.steps 0) (line + 1) (lines (drop next bytes))
           row_held_there =
-              row_held here line _ other four four_read _ _
-              (term_made_held here (row_of_numbers four) n count ys t four_placed e) e
+              row_held here line _ other four m.numbers _ _
+              (term_made_held here (row_of_numbers four) n count ys t placed e) e
               ∙ ap (rows_read row_step_answer (holding ys (n + 1) fresh_session.steps 0) (line + 1))
               (sym m.rest)
 
@@ -139,47 +121,31 @@ module _ (bytes xs : List ℕ) (n : ℕ) (ys : List ℕ) (k line at : ℕ) where
       let same : min k max_steps ≡ k = omega arith in
       rw (no_lines bytes at h) (ap (λ j. record { answer = answer 0 j; session = now_held }) (held ∙ same))
 
-  pub step_wrong_there : at < length bytes → none ≡ counted_numbers step_width (drop at bytes)
+  pub step_wrong_there : at < length bytes → none ≡ first_numbers step_width (lines (drop at bytes))
       → steps_read row_step_answer now_held line (lines (drop at bytes)) ≡ refused_at wrong_form line
-  step_wrong_there inside e = step_wrong now_held line _ (some_line bytes at inside)
-      (no_parts_met step_width bytes at (omega arith) e)
+  step_wrong_there inside e = step_wrong now_held line _ (some_line bytes at inside) e
 
-  module _ (r : NumbersLine) (m : LineMet step_width bytes at r) where
-    -- a step takes all five numbers
-    abbrev five : List ℕ
-    five = take step_width r.numbers
-
-    step_there : step_of_numbers r.numbers ≡ step_of_numbers five
-    step_there = rw (first_five r.numbers (omega (arith, m.size)))
-
+  module _ (five : List ℕ) (next : ℕ) (m : LineMet step_width bytes at five next) where
     module _ (few : k ≤ max_steps) (t : NumberOrRefusal)
         (judged : answer_of t ≡ row_step_answer (book (first_rows n xs) (first_steps k ys))
-        (step_of_numbers r.numbers))
+        (step_of_numbers five))
       where
-        five_read : some five ≡ first_numbers step_width (lines (drop at bytes))
-        five_read = line_numbers_lem step_width bytes at (omega arith) r m
-
-        five_judged : answer_of t ≡ row_step_answer (book (first_rows n xs) (first_steps k ys))
-            (step_of_numbers five)
-        five_judged = judged ∙ ap (row_step_answer (book (first_rows n xs) (first_steps k ys))) step_there
-
         steps_counted_lem : k ≡ min k max_steps
         steps_counted_lem = omega arith
 
         pub step_refused_there : ¬ ((answer_of t).number ≡ 0) → steps_read row_step_answer now_held line
             (lines (drop at bytes)) ≡ refused_at (answer_of t).number line
         step_refused_there f =
-            step_refused now_held line _ five five_read _ _
-            (step_made_refused now_held (step_of_numbers five) t five_judged f) f
+            step_refused now_held line _ five m.numbers _ _
+            (step_made_refused now_held (step_of_numbers five) t judged f) f
 
         module _ (e : (answer_of t).number ≡ 0) where
-          pub step_held_there : (zs : List ℕ) → zs ≡ sets ys (step_width * k) (step_numbers (step_of_numbers r.numbers))
+          pub step_held_there : (zs : List ℕ) → zs ≡ sets ys (step_width * k) (step_numbers (step_of_numbers five))
               → steps_read row_step_answer now_held line (lines (drop at bytes)) ≡ steps_read row_step_answer
-              (holding xs n zs (k + 1)) (line + 1) (lines (drop r.next bytes))
+              (holding xs n zs (k + 1)) (line + 1) (lines (drop next bytes))
           step_held_there zs written =
-              let five-written = written ∙ ap (λ q. sets ys (step_width * k) (step_numbers q)) step_there in
-              step_held now_held line _ five five_read _ _
-              (step_made_held now_held (step_of_numbers five) t five_judged e k steps_counted_lem zs five-written) e
+              step_held now_held line _ five m.numbers _ _
+              (step_made_held now_held (step_of_numbers five) t judged e k steps_counted_lem zs written) e
               ∙ ap (steps_read row_step_answer (holding xs n zs (k + 1)) (line + 1)) (sym m.rest)
 
           pub step_room : length ys ≡ step_width * max_steps → k < max_steps

@@ -1,6 +1,6 @@
 -- What calls leave is the whole session of the book, and a return restores it. Assumes nothing.
 use Prim.Native.Nat.{ℕ, ◌+◌}
-use mathlib.Core.Path.{◌≡◌, refl, sym, ap, subst, ◌∙◌}
+use mathlib.Core.Path.{◌≡◌, refl, sym, ap, ◌∙◌}
 use mathlib.Core.List.{List, [], ◌∷◌}
 use lib.ListN.{take}
 use lib.Seq.{take-nil}
@@ -19,16 +19,13 @@ use Rattle.session.specs.SessionLaws.{WholeSession, NoPointLeft, SessionRestored
 use Rattle.calls.proofs.Accepted.{if_accepted, by_accepted}
 use Rattle.calls.proofs.Runs.{run_map, run_follows}
 use Rattle.calls.proofs.Returns.{return_restores}
-use Rattle.session.proofs.Views.{fresh_view}
-use Rattle.session.proofs.Demand3.{CallsKept}
-use Rattle.session.proofs.Simulation.{session_as_book, Kept, fresh_kept, call_follows, kept_on}
+use Rattle.session.proofs.Demand3.{CallsKept, made_from_fresh}
+use Rattle.session.proofs.Simulation.{session_as_book, Kept, calls_follow, call_follows, kept_on}
 
 pub whole_left : (s : Session) (cs : List Call) (os : List CallSeen) → CallsMade fresh_session cs os s
     → s ≡ session_of (book_after cs)
 whole_left s cs os run =
-    let (shows, holds, whole, reachable) = run_follows session_as_book fresh_kept.whole
-    fresh_kept.reachable run in
-    whole.same ∙ ap session_of (holds ∙ ap (λ b. final plain_book b cs) fresh_view)
+    let f = calls_follow run in f.kept.whole.same ∙ ap session_of f.held
 
 -- calls that set no point leave none
 no_point_with : (b : Book) (c : Call) → SetsNoPoint c → b.points ≡ [] → (book_with b c).points ≡ []
@@ -98,16 +95,14 @@ module _ (New : Session → Type 0) (Called : CallRelation) (new_tied : (s : Ses
   where
     pub whole_by : WholeSession New Called
     whole_by s₀ s cs os new run =
-        whole_left s cs os (subst (λ z. CallsMade z cs os s) (new_tied s₀ new) (run_map call_tied run))
+        whole_left s cs os (made_from_fresh new_tied call_tied new run)
 
     pub no_point_left_by : NoPointLeft New Called
     no_point_left_by s₀ s cs os new run f =
-        no_point_held s cs os (subst (λ z. CallsMade z cs os s) (new_tied s₀ new) (run_map call_tied run)) f
+        no_point_held s cs os (made_from_fresh new_tied call_tied new run) f
 
     pub restored_by : SessionRestored New Called
     restored_by s₀ s t u v cs ds os ps n a b new run set taken later keep back =
-        let made = subst (λ z. CallsMade z cs os s) (new_tied s₀ new) (run_map call_tied run) in
-        let (shows, holds, whole, reachable) = run_follows session_as_book fresh_kept.whole
-        fresh_kept.reachable made in
-        restored s t u v ds ps n a b (record { whole = whole; reachable = reachable }) (call_tied _ _ _ _ set) taken
-        (run_map call_tied later) keep (call_tied _ _ _ _ back)
+        let kept = (calls_follow (made_from_fresh new_tied call_tied new run)).kept in
+        restored s t u v ds ps n a b kept (call_tied _ _ _ _ set) taken (run_map call_tied later) keep
+        (call_tied _ _ _ _ back)

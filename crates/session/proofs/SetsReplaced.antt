@@ -4,8 +4,7 @@ use Prim.Native.Nat.{ℕ}
 use mathlib.Core.Path.{◌≡◌, sym, ap, subst, ◌∙◌}
 use mathlib.Core.List.{List}
 use Rattle.calls.specs.Book.{Book}
-use Rattle.calls.specs.Runs.{final}
-use Rattle.calls.specs.Calls.{Call, CallSeen, plain_book, book_after}
+use Rattle.calls.specs.Calls.{Call, CallSeen, book_after}
 use Rattle.replacing.specs.ReplaceCall.{replace_answer}
 use Rattle.replacing.specs.NoneLost.{paths_of}
 use Rattle.session.specs.declared.session.Session.{Session}
@@ -13,13 +12,11 @@ use Rattle.session.specs.View.{view, fresh_session}
 use Rattle.session.specs.Promises.{CallRelation, Met, CallsMade}
 use Rattle.session.specs.ReplaceDemand.{ReplaceRelation, ReplaceMet, SetsReplaced, ReplaceDemand}
 use Rattle.calls.proofs.Reached.{HeldLaws, reachable_laws}
-use Rattle.calls.proofs.Runs.{run_map, run_follows}
 use Rattle.replacing.proofs.Judged.{accepts_iff}
 use Rattle.replacing.proofs.ByTerms.{replaced_iff}
 use Rattle.replacing.proofs.NoneLost.{covered_none_lost, rows_covered}
-use Rattle.session.proofs.Views.{fresh_view}
-use Rattle.session.proofs.Simulation.{session_as_book, fresh_kept}
-use Rattle.session.proofs.Demand3.{CallsKept}
+use Rattle.session.proofs.Simulation.{calls_follow}
+use Rattle.session.proofs.Demand3.{CallsKept, made_from_fresh}
 
 -- what one relation says of replace calls, the other does
 abbrev pub ReplacesKept : ReplaceRelation → ReplaceRelation → Type 0
@@ -54,13 +51,11 @@ module _ (Replaced : ReplaceRelation) (replace_tied : ReplacesKept Replaced Repl
   replaced : (cs : List Call) (os : List CallSeen) (s : Session) → CallsMade fresh_session cs os s
       → SetsReplaced Replaced s (book_after cs)
   replaced cs os s run =
-      let (shows, holds, whole, reachable) = run_follows session_as_book fresh_kept.whole
-      fresh_kept.reachable run in
-      let same : view s ≡ book_after cs = holds ∙ ap (λ b. final plain_book b cs) fresh_view in
-      sets_replaced s _ same (subst (λ b. HeldLaws b.rows b.steps) same (reachable_laws reachable).held)
+      let f = calls_follow run in
+      sets_replaced s _ f.held (subst (λ b. HeldLaws b.rows b.steps) f.held (reachable_laws f.kept.reachable).held)
 
   -- so for every `new` and every calls that meet theirs
   pub replace_demand_by : (New : Session → Type 0) (Called : CallRelation)
       → ((s : Session) → New s → s ≡ fresh_session) → CallsKept Called Met → ReplaceDemand Replaced New Called
   replace_demand_by New Called new_tied call_tied s₀ s cs os new run =
-      replaced cs os s (subst (λ z. CallsMade z cs os s) (new_tied s₀ new) (run_map call_tied run))
+      replaced cs os s (made_from_fresh new_tied call_tied new run)

@@ -1,11 +1,12 @@
 -- A session moves as the plain book does. Assumes nothing.
 use mathlib.Core.Path.{◌≡◌, sym, ap, subst, ◌∙◌}
+use mathlib.Core.List.{List}
 use Rattle.session.specs.declared.session.Session.{Session}
 use Rattle.calls.specs.Book.{empty_book, Answer}
-use Rattle.calls.specs.Runs.{first}
-use Rattle.calls.specs.Calls.{Call, book_with, plain_book, Reachable}
+use Rattle.calls.specs.Runs.{first, shown, final}
+use Rattle.calls.specs.Calls.{Call, CallSeen, book_with, book_after, plain_book, Reachable}
 use Rattle.session.specs.View.{view, fresh_session}
-use Rattle.session.specs.Promises.{session_answer, session_with, session, Met, AnswersByTerms}
+use Rattle.session.specs.Promises.{session_answer, session_with, session, Met, CallsMade, AnswersByTerms}
 use Rattle.session.specs.SessionLaws.{session_of}
 use Rattle.calls.proofs.ByTerms.{answer_by_terms}
 use Rattle.calls.proofs.Runs as runs
@@ -46,6 +47,23 @@ fresh_kept =
       whole = record
           { same = fresh_of ∙ ap session_of (sym fresh_view); fits = subst Fits (sym fresh_view) empty_fits };
       reachable = subst Reachable (sym fresh_view) first;
+    }
+
+-- what calls from a fresh session show and leave: as the plain book does
+pub record Followed (cs : List Call) (os : List CallSeen) (s : Session) : Type 0 where
+  pub seen : os ≡ shown plain_book empty_book cs
+  pub held : view s ≡ book_after cs
+  pub kept : Kept s
+
+pub calls_follow : {cs : List Call} {os : List CallSeen} {s : Session} → CallsMade fresh_session cs os s
+    → Followed cs os s
+calls_follow {cs} run =
+    let (shows, holds, whole, reachable) = runs.run_follows session_as_book fresh_kept.whole
+    fresh_kept.reachable run in
+    record {
+      seen = shows ∙ ap (λ b. shown plain_book b cs) fresh_view;
+      held = holds ∙ ap (λ b. final plain_book b cs) fresh_view;
+      kept = record { whole = whole; reachable = reachable };
     }
 
 pub call_follows : {s t : Session} {c : Call} {a : Answer} → Kept s → Met s c a t

@@ -1,19 +1,18 @@
 -- What the contracts in the source say of each call, as the toolchain reads them off it, and demand 3 of them.
 -- Assumes nothing.
-use Rattle.calls.specs.code.Answers.{NumberOrRefusal, DoneOrRefusal, OrderOrRefusal, answer_of, done_answer_of}
+use Rattle.calls.specs.code.Answers.{NumberOrRefusal, DoneOrRefusal, OrderOrRefusal, step_of, answer_of, done_answer_of}
 use Prim.Native.Nat.{ℕ}
 use mathlib.Core.Path.{◌≡◌, refl, sym, subst, ◌∙◌}
-use mathlib.Core.Bool.{Bool, true, false, cond}
 use mathlib.Core.List.{List, []}
 use lib.Dec.{leb}
-use denote.Ref.{Bor}
-use denote.MutBor.{MutBor}
 use lib.ListN.{length}
-use Rattle.terms.specs.Row.{row}
+use Rattle.terms.specs.Row.{Row}
+use Rattle.terms.specs.declared.Row.{Row as CodeRow}
+use Rattle.terms.specs.code.RowTypes.{row_of}
 use Rattle.session.specs.declared.session.Session.{Session}
 use Rattle.session.specs.code.Results.{ReadResult}
-use Rattle.calls.specs.Book as book
-use Rattle.calls.specs.Book.{Answer, answer}
+use Rattle.calls.specs.declared.step.Step.{Step as CodeStep}
+use Rattle.calls.specs.Book.{Step, Answer}
 use Rattle.calls.specs.Calls.{Call, term, step, text, point, return, CallSeen}
 use Rattle.calls.specs.PointCall.{point_names}
 use Rattle.calls.specs.SelectCall.{select_buffer}
@@ -25,7 +24,7 @@ use Rattle.session.specs.Demand3.{DemandThree}
 use Rattle.session.specs.SessionLaws.{WholeSession, NoPointLeft, SessionRestored}
 use Rattle.std.specs.Prelude.{Ok, Err}
 use Rattle.common.specs.declared.refusal.Refusal.TheVariants.{ShortBuffer}
-use Rattle.common.specs.Refusals.{short_buffer}
+use Rattle.common.proofs.Lent.{lent, lent_to_write}
 use Rattle.session.specs.Reading.{reading}
 use Rattle.session.specs.ReadCall.{ReadMet}
 use Rattle.session.specs.WriteCall.{session_text, write_answer, write_buffer, WriteMet}
@@ -35,7 +34,8 @@ use Rattle.session.specs.OrderDemand.{OrderMet, BundleOrderMet, OrderDemand}
 use Rattle.replacing.proofs.Judged.{replace_case}
 use Rattle.ordering.proofs.Judged.{order_case, bundle_order_case}
 use Rattle.calls.proofs.Runs.{made, run_exists}
-use Rattle.calls.proofs.Cases.{term_case, step_case, text_case, point_case, return_case, select_case}
+use Rattle.calls.proofs.Cases.{HasCase, either_case, term_case, step_case, text_case, point_case, return_case}
+use Rattle.calls.proofs.Cases.{select_case}
 use Rattle.session.proofs.Demand3.{CallsKept, SelectsKept, demand3_by}
 use Rattle.session.proofs.Restored.{whole_by, no_point_left_by, restored_by}
 use Rattle.session.proofs.ReadMade.{read_met}
@@ -64,12 +64,9 @@ pub data New : Session → Type 0 where
 -- leaves a session
 pub data Called : Session → Call → Answer → Session → Type 0 where
   term_called : (κs : _) (a : _) (r : _) (x : _) → term-reads.Post κs a r x
-      → Called a.0 (term (row a.1.0 a.1.1.0 a.1.1.1.0 a.1.1.1.1.0))
-      (answer_of r.answer) r.session
+      → Called a.0 (term (row_of a.1.0)) (answer_of r.answer) r.session
   step_called : (κs : _) (a : _) (r : _) (x : _) → step-reads.Post κs a r x
-      → Called a.0
-      (step (book.step a.1.0 a.1.1.0 a.1.1.1.0 a.1.1.1.1.0 a.1.1.1.1.1.0))
-      (answer_of r.answer) r.session
+      → Called a.0 (step (step_of a.1.0)) (answer_of r.answer) r.session
   text_called : (κs : _) (a : _) (r : _) (x : _) → text-reads.Post κs a r x
       → Called a.0 (text a.1.0.now a.1.1.0.now) (answer_of r.answer) r.session
   point_called : (κs : _) (a : _) (r : _) (x : _) → point-reads.Post κs a r x
@@ -138,11 +135,12 @@ pub write_tied : (s : Session) (buffer : List ℕ) (w : NumberOrRefusal) (left :
     → WriteMet s buffer w left
 write_tied s buffer w left (write_called κs a r x m) = m
 
-abbrev lent : {A : Type 0} → A → Bor A
-lent x = record { ref_ptr = (0, 0); now = x }
+-- a row and a step as the code has them
+abbrev pub given_row : Row → CodeRow
+given_row r = record { kind = r.kind; a = r.a; b = r.b; c = r.c }
 
-abbrev lent_to_write : {A : Type 0} → A → MutBor A
-lent_to_write x = record { ref_ptr = (0, 0); ghost_name = 0; now = x }
+abbrev pub given_step : Step → CodeStep
+given_step p = record { rule = p.rule; left = p.left; right = p.right; first = p.first; second = p.second }
 
 -- and no more: a call that meets what they say can be made
 met_called : CallsKept Met Called
@@ -150,13 +148,12 @@ unfolding row_step_answer
 met_called s (term r) a t m =
     let (o, e) = term_case (view s).rows r in
     subst (λ a. Called s (term r) a t) (e ∙ sym m.answer)
-    (term_called tt (s, (r.kind, (r.a, (r.b, (r.c, tt))))) (record { answer = o; session = t })
-    (s, (r.kind, (r.a, (r.b, (r.c, tt))))) (record { answer = e; left = m.left }))
+    (term_called tt (s, (given_row r, tt)) (record { answer = o; session = t }) (s, (given_row r, tt))
+    (record { answer = e; left = m.left }))
 met_called s (step p) a t m =
     let (o, e) = step_case (row_yielded (view s) p) (view s) p in
     subst (λ a. Called s (step p) a t) (e ∙ sym m.answer)
-    (step_called tt (s, (p.rule, (p.left, (p.right, (p.first, (p.second, tt))))))
-    (record { answer = o; session = t }) (s, (p.rule, (p.left, (p.right, (p.first, (p.second, tt))))))
+    (step_called tt (s, (given_step p, tt)) (record { answer = o; session = t }) (s, (given_step p, tt))
     (record { answer = e; left = m.left }))
 met_called s (text names t) a u m =
     let (o, e) = text_case (view s).rows names t in
@@ -243,13 +240,10 @@ bundle_orders_exist s t =
 pub order_demand : OrderDemand Ordered BundleOrdered New Called
 order_demand = order_demand_by Ordered order_tied BundleOrdered bundle_order_tied New Called new_tied call_tied
 
-write_case : (bundle : List ℕ) (room : ℕ) → (w : NumberOrRefusal) × (answer_of w ≡ write_answer bundle room)
-write_case bundle room = by_test (leb (length bundle) room)
-  where
-    by_test : (b : Bool) → (w : NumberOrRefusal) ×
-        (answer_of w ≡ cond b (answer 0 (length bundle)) (answer short_buffer (length bundle)))
-    by_test true = (Ok (length bundle), refl)
-    by_test false = (Err (ShortBuffer (length bundle)), refl)
+write_case : (bundle : List ℕ) (room : ℕ) → HasCase answer_of (write_answer bundle room)
+write_case bundle room =
+    either_case answer_of (leb (length bundle) room) _ _ (Ok (length bundle), refl)
+    (Err (ShortBuffer (length bundle)), refl)
 
 pub writes_exist : (s : Session) (buffer : List ℕ) → (w : NumberOrRefusal) × (left : List ℕ) × Write s buffer w left
 writes_exist s buffer =

@@ -1,7 +1,7 @@
 -- What a write call leaves, and what is read from it. Assumes nothing.
 use Rattle.calls.specs.code.Answers.{NumberOrRefusal, answer_of}
 use Prim.Native.Nat.{ℕ, ◌+◌, ◌*◌, ◌≤◌, ◌<◌}
-use mathlib.Core.Path.{◌≡◌, refl, sym, ap, ap₂, subst, ◌∙◌}
+use mathlib.Core.Path.{◌≡◌, refl, sym, ap, ap₂, ◌∙◌}
 use mathlib.Core.Bool.{Bool, true, false, cond}
 use mathlib.Core.List.{List, [], ◌∷◌, ◌++◌, append_assoc}
 use native.Mathlib.Omega.{arith}
@@ -19,11 +19,11 @@ use Rattle.common.specs.declared.refusal.Refusal.TheVariants.{ShortBuffer}
 use Rattle.calls.specs.Book.{Step, max_steps, Book, answer}
 use Rattle.common.specs.Refusals.{short_buffer}
 use Rattle.calls.specs.Calls.{CallSeen}
-use Rattle.calls.specs.code.Tables.{row_width, step_width}
+use Rattle.calls.specs.code.Tables.{row_width, step_width, first_row_numbers, first_step_numbers}
 use Rattle.bundles.specs.Bundle.{row_names, step_names, bundle_text}
 use Rattle.bundles.specs.code.TextPut.{held_text, TextWritten}
 use Rattle.bundles.proofs.Lengths.{bundle_short}
-use Rattle.bundles.proofs.Tables.{tables_text_lem}
+use Rattle.bundles.proofs.Tables.{tables_text_lem, first_again}
 use Rattle.bundles.proofs.Spelling.{text_of, lines_joined, text_append, rows_spelled, steps_spelled}
 use Rattle.session.specs.View.{rows_held, steps_held, view, fresh_session}
 use Rattle.session.specs.Promises.{CallsMade}
@@ -79,11 +79,13 @@ read_text bytes rs ps os u b run taken =
     ap (λ b. bundle_text b.rows b.steps) (calls_held rs ps os u run taken) ∙ sym (bundle_spelled bytes rs ps b)
 
 -- the numbers of a session's tables are those of the rows and steps that it holds
-pub session_tables : (s : Session) → length s.rows ≡ row_width * max_rows → length s.steps ≡ step_width * max_steps
-    → held_text s.row_count s.rows s.step_count s.steps ≡ session_text s
+pub session_tables : (s : Session) {us vs : List ℕ} → length s.rows ≡ row_width * max_rows
+    → length s.steps ≡ step_width * max_steps → us ≡ first_row_numbers s.row_count s.rows
+    → vs ≡ first_step_numbers s.step_count s.steps → held_text max_rows us max_steps vs ≡ session_text s
 unfolding view
-session_tables s rows steps =
-    tables_text_lem (rows_held s) (steps_held s) _ _
+session_tables s rows steps e f =
+    first_again s.row_count s.step_count s.rows s.steps e f
+    ∙ tables_text_lem (rows_held s) (steps_held s) _ _
     (length-take-le (row_width * rows_held s) s.rows (omega (arith, rows)))
     (length-take-le (step_width * steps_held s) s.steps (omega (arith, steps)))
 

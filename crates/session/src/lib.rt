@@ -9,5 +9,8 @@ mod replace;
 mod session;
 mod write;
 
-pub use calls::LineRefusal;
+// With what calls take and answer, so that callers name no crate below.
+pub use calls::{Answer, LineRefusal, Step};
+pub use common::Refusal;
 pub use session::{Answered, Session};
+pub use terms::Row;

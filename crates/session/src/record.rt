@@ -8,6 +8,7 @@ ghost use Rattle.records.specs.Register.{drops_in_use};
 ghost use Rattle.session.specs.View.{view};
 
 use crate::session::Session;
+use calls::Held;
 use records::{Answered, Record, Records};
 
 impl Session {
@@ -16,9 +17,7 @@ impl Session {
     pub fn record(self, records: Records, given: Record) -> Answered<Records>
         ensures { RecordMade (view self).rows (view self).steps records given result }
     {
-        let rows = self.held_rows();
-        let steps = self.held_steps();
-        records.record(rows, steps, given)
+        records.record(self.held(), given)
     }
 
     // Whether a return to the point of that name would drop a row or step in use by the caller's records.
@@ -26,10 +25,8 @@ impl Session {
         ensures { result ≡ drops_in_use (view self) (records_in records) (Call.return name) }
     {
         let point = point_calls::point_named(&self.points, self.point_count, name);
-        let rows = calls::first_rows(&self.rows, usize::from(point.rows));
-        let row_count = terms::row_count(rows);
-        let steps = calls::first_steps(&self.steps, usize::from(point.steps));
-        let step_count = steps.len() / calls::STEP_WIDTH;
-        !records.all_kept(row_count, step_count)
+        let (n, m) = (usize::from(point.rows), usize::from(point.steps));
+        let kept = Held::first(&self.rows, n, &self.steps, m);
+        !records.all_kept(terms::row_count(kept.rows), calls::step_count(kept.steps))
     }
 }

@@ -1,8 +1,7 @@
 // A session: rows of terms, steps of derivations and named points, held by value, and the calls on it.
-ghost use Rattle.calls.specs.code.Answers.{answer_of, done_answer_of};
+ghost use Rattle.calls.specs.code.Answers.{answer_of, done_answer_of, step_of};
 ghost use Rattle.std.specs.Prelude.{◌≡◌};
-ghost use Rattle.terms.specs.Row.{row};
-ghost use Rattle.calls.specs.Book.{step};
+ghost use Rattle.terms.specs.code.RowTypes.{row_of};
 ghost use Rattle.calls.specs.Calls.{Call};
 ghost use Rattle.calls.specs.code.Tables.{first_row_numbers, first_step_numbers};
 ghost use Rattle.session.specs.View.{rows_held, steps_held, points_held, fresh_session};
@@ -10,20 +9,20 @@ ghost use Rattle.session.specs.Promises.{Met, SelectMet};
 
 use calls::{Held, PointCounts, Step};
 use common::Refusal;
-use terms::Row;
+use terms::{Row, TABLE_NUMBERS};
 
-// The numbers of a session's tables.
-const ROW_NUMBERS: usize = terms::ROW_WIDTH * terms::MAX_ROWS;
-
+// The numbers of a session's tables of steps and of points; that of rows is crate terms' `TABLE_NUMBERS`.
 const STEP_NUMBERS: usize = calls::STEP_WIDTH * calls::MAX_STEPS;
 
 const POINT_NUMBERS: usize = calls::POINT_WIDTH * calls::MAX_POINTS;
 
 // Rows, four numbers each, steps, five each, and points, three each; of each the first ones are held, as many as the
-// counts say. Fixed memory without a heap: no call can fail for want of it. No ArrayVec: calls copy sessions.
+// counts say. Numbers, and no arrays of Row or Step: specs/View, which is believed, reads numbers, and calls on tables
+// take any numbers that are lent, an incomplete last row among them. Fixed memory without a heap: no call can fail for
+// want of it. No ArrayVec: calls copy sessions.
 #[derive(Clone, Copy)]
 pub struct Session {
-    pub(crate) rows: [u16; ROW_NUMBERS],
+    pub(crate) rows: [u16; TABLE_NUMBERS],
     pub(crate) row_count: usize,
     pub(crate) steps: [u16; STEP_NUMBERS],
     pub(crate) step_count: usize,
@@ -31,8 +30,8 @@ pub struct Session {
     pub(crate) point_count: usize,
 }
 
-// What a call gives: its answer, and the session that it leaves. The demands name the field, so a register has a type
-// of its own.
+// What a call gives: its answer, and the session that it leaves. No one type for sessions and registers: specs/ReadCall
+// and register's specs/Promises, which are believed, name the fields `session` and `register`.
 #[derive(Clone, Copy)]
 pub struct Answered<A> {
     pub answer: A,
@@ -55,7 +54,7 @@ impl Session {
         ensures { result ≡ fresh_session }
     {
         Session {
-            rows: [0u16; ROW_NUMBERS],
+            rows: [0u16; TABLE_NUMBERS],
             row_count: 0,
             steps: [0u16; STEP_NUMBERS],
             step_count: 0,
@@ -64,7 +63,7 @@ impl Session {
         }
     }
 
-    // How many rows are held.
+    // How many rows are held; below the same of steps and points, each by a definition of its own.
     fn rows_counted(&self) -> usize
         ensures { result ≡ rows_held self.now }
     {
@@ -105,11 +104,11 @@ impl Session {
         Held::first(&self.rows, self.row_count, &self.steps, self.step_count)
     }
 
-    pub fn term(mut self, kind: u16, a: u16, b: u16, c: u16) -> Answered<Result<u16, Refusal>>
-        ensures { Met self (Call.term (row kind a b c)) (answer_of result.answer) result.session }
+    pub fn term(mut self, row: Row) -> Answered<Result<u16, Refusal>>
+        ensures { Met self (Call.term (row_of row)) (answer_of result.answer) result.session }
     {
         let n = self.rows_counted();
-        let answer = term_calls::term_in_place(&mut self.rows, n, Row { kind, a, b, c });
+        let answer = term_calls::term_in_place(&mut self.rows, n, row);
         if answer.is_ok() {
             self.row_count = n + 1;
         }
@@ -119,25 +118,10 @@ impl Session {
         }
     }
 
-    pub fn step(
-        mut self,
-        rule: u16,
-        left: u16,
-        right: u16,
-        first: u16,
-        second: u16,
-    ) -> Answered<Result<u16, Refusal>>
-        ensures { Met self (Call.step (step rule left right first second)) (answer_of result.answer)
-            result.session }
+    pub fn step(mut self, step: Step) -> Answered<Result<u16, Refusal>>
+        ensures { Met self (Call.step (step_of step)) (answer_of result.answer) result.session }
     {
         let m = self.steps_counted();
-        let step = Step {
-            rule,
-            left,
-            right,
-            first,
-            second,
-        };
         let judged = step_calls::judge_step(self.held(), step);
         if judged.is_ok() {
             common::put_record(&mut self.steps, m, step.into());
@@ -178,9 +162,8 @@ impl Session {
         ensures { Met self (Call.return name) (done_answer_of result.answer) result.session }
     {
         let found = point_calls::judge_return(&self.points, self.point_count, name);
-        if found.is_ok() {
-            let place = point_calls::point_place(&self.points, self.point_count, name);
-            let point = point_calls::point_named(&self.points, self.point_count, name);
+        if let Ok(place) = found {
+            let point = point_calls::point_at(&self.points, self.point_count, place);
             let n = usize::from(point.rows);
             let m = usize::from(point.steps);
             point_calls::clear(&mut self.rows, terms::ROW_WIDTH * n);
@@ -191,7 +174,7 @@ impl Session {
             self.point_count = place + 1;
         }
         Answered {
-            answer: found,
+            answer: found.map(|_| ()),
             session: self,
         }
     }
@@ -201,23 +184,21 @@ impl Session {
         ensures { Met self (Call.text names.now selector.now) (answer_of result.answer)
             result.session }
     {
-        let held_rows = self.rows;
-        let answer = match text::read_text(selector, names, held_rows, self.row_count) {
-            Ok(held) => {
-                let rows = held.rows;
-                self.rows = rows;
-                self.row_count = held.count;
-                Ok(held.row)
-            }
-            Err(refused) => Err(refused),
-        };
+        let read = text::read_text(selector, names, self.rows, self.row_count);
+        if let Ok(held) = read {
+            let rows = held.rows;
+            self.rows = rows;
+            self.row_count = held.count;
+        }
         Answered {
-            answer,
+            answer: read.map(|held| held.row),
             session: self,
         }
     }
 
-    // Marks the nodes that the path in row `row` selects from the context node.
+    // Marks the nodes that the path in row `row` selects from the context node, in bytes, as C lends them. Five
+    // parameters, and no struct: C and a script's line have them apart, `SelectMet` names them one by one, and
+    // `select_on` would take it apart again.
     #[tactic(auto, unfolding(crate::specs::View::view))]
     pub fn select(
         self,

@@ -2,9 +2,10 @@
 #![tactic(auto)]
 
 ghost use Rattle.std.specs.Prelude.{◌≡◌};
+ghost use Rattle.common.specs.code.Refusal.{RefusedAt};
+ghost use Rattle.common.specs.declared.refusal.Refusal.TheVariants.{BadSide, BadPremise};
 ghost use Rattle.terms.specs.Row.{row_at, table_of};
 ghost use Rattle.terms.specs.Fields.{is_path};
-ghost use Rattle.terms.specs.code.RowTypes.{PlaceIs};
 ghost use Rattle.matching.specs.code.RowWayBack.{Noted};
 ghost use Rattle.calls.specs.StepCall.{same_sort, bad_side_of, premise_ok, bad_premise_of};
 ghost use Rattle.calls.specs.Uses.{uses_of};
@@ -40,20 +41,20 @@ fn same_sort(rows: &[u16], i: usize, j: usize) -> bool
     is_path(rows, i) == is_path(rows, j)
 }
 
-// The place of refusal 5.
+// Refusal 5, with its place.
 #[tactic(auto, unfolding(calls::specs::StepCall::bad_side_of))]
-fn bad_side(rows: &[u16], step: Step) -> Option<u16>
-    ensures { PlaceIs result (bad_side_of (table_of rows.now) (step_of step)) }
+fn check_sides(rows: &[u16], step: Step) -> Result<(), Refusal>
+    ensures { RefusedAt BadSide (bad_side_of (table_of rows.now) (step_of step)) result }
 {
     let n = terms::row_count(rows);
     let left = usize::from(step.left);
     let right = usize::from(step.right);
     if n <= left {
-        Some(1)
+        Err(Refusal::BadSide(1))
     } else if n <= right || !same_sort(rows, left, right) {
-        Some(2)
+        Err(Refusal::BadSide(2))
     } else {
-        None
+        Ok(())
     }
 }
 
@@ -69,22 +70,23 @@ fn premise_ok(needed: bool, held: usize, i: u16) -> bool
     }
 }
 
-// The place of refusal 6.
+// Refusal 6, with its place, where `held` steps are.
 #[tactic(auto, unfolding(calls::specs::StepCall::bad_premise_of))]
-fn bad_premise(held: usize, step: Step) -> Option<u16>
-    ensures { PlaceIs result (bad_premise_of held (step_of step)) }
+fn check_premises(held: usize, step: Step) -> Result<(), Refusal>
+    ensures { RefusedAt BadPremise (bad_premise_of held (step_of step)) result }
 {
     let count = matching::premise_count(step.rule);
     if !premise_ok(1 <= count, held, step.first) {
-        Some(1)
+        Err(Refusal::BadPremise(1))
     } else if !premise_ok(2 <= count, held, step.second) {
-        Some(2)
+        Err(Refusal::BadPremise(2))
     } else {
-        None
+        Ok(())
     }
 }
 
-// Whether the rule yields the step, judged by row numbers.
+// Whether the rule yields the step, judged by row numbers. The premises are read apart, as a step names them, and lent
+// apart, as `yields` takes them.
 fn is_yielded(held: Held, step: Step, noted: &mut [Option<u16>]) -> bool
     requires { Noted (table_of held.rows.now) noted.old }
     ensures { (result ≡ row_yielded (book_held held.entry) (step_of step))
@@ -110,13 +112,9 @@ pub fn judge_noted(held: Held, step: Step, noted: &mut [Option<u16>]) -> Result<
     if step.rule == 0 || matching::MAX_RULE < step.rule {
         return Err(Refusal::NoRule);
     }
-    if let Some(place) = bad_side(held.rows, step) {
-        return Err(Refusal::BadSide(place));
-    }
+    check_sides(held.rows, step)?;
     let count = step_count(held.steps);
-    if let Some(place) = bad_premise(count, step) {
-        return Err(Refusal::BadPremise(place));
-    }
+    check_premises(count, step)?;
     if !is_yielded(held, step, noted) {
         return Err(Refusal::NotYielded);
     }

@@ -1,7 +1,7 @@
 -- The column adds up to the total. Assumes nothing.
 use Prim.Native.Nat.{ℕ, zero, suc, ◌+◌, ◌*◌, ◌≤◌, ◌<◌}
 use mathlib.Core.Path.{◌≡◌, refl, ap, ◌∙◌}
-use mathlib.Core.Bool.{Bool, true, false, cond}
+use mathlib.Core.Bool.{Bool, cond}
 use mathlib.Core.List.{List, [], ◌∷◌}
 use mathlib.Core.Logic.{⊎_elim}
 use native.Mathlib.Omega.{arith}
@@ -10,6 +10,7 @@ use lib.ListN.{length}
 use borrow.Author.Tests.{eq-eqb, ne_eqb}
 use Rattle.common.specs.Lists.{Every}
 use Rattle.common.proofs.Reflect.{eq_or_ne}
+use Rattle.common.proofs.Tests.{at_most_one}
 use Rattle.rules.specs.Yields.{max_rule}
 use Rattle.calls.specs.Book.{Step, max_steps}
 use Rattle.calls.specs.Uses.{uses_of}
@@ -63,10 +64,6 @@ column_adds_up (f ∷ fs) =
     sum_plus 1 max_rule (λ r. uses_of r (counted_steps f)) (λ r. uses r fs) ∙ omega (arith, first, others)
 
 -- no rule has more uses than there are steps, and 64 bundles have few steps
-at_most_one : (b : Bool) → cond b 1 0 ≤ 1
-at_most_one true = omega arith
-at_most_one false = omega arith
-
 uses_few : (r : ℕ) (ps : List Step) → uses_of r ps ≤ length ps
 unfolding uses_of
 uses_few r [] = omega arith

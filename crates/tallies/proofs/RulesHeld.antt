@@ -2,12 +2,13 @@
 -- Assumes nothing.
 use Prim.Native.Nat.{ℕ, zero, suc, ◌+◌, ◌≤◌}
 use mathlib.Core.Path.{◌≡◌, refl, sym, ap, subst, ◌∙◌}
-use mathlib.Core.Bool.{Bool, true, false, cond, not, ◌&&◌, false≢true}
+use mathlib.Core.Bool.{Bool, true, false, cond, not, ◌&&◌}
 use mathlib.Core.List.{List, [], ◌∷◌}
 use native.Mathlib.Omega.{arith}
 use lib.Dec.{leb}
 use lib.ListN.{length, get_or}
 use borrow.Author.Tests.{eqb-true}
+use Rattle.std.proofs.lemmas.Bool.{and_parts}
 use Rattle.common.specs.Lists.{Every}
 use Rattle.common.proofs.Entries.{every_more, every_first}
 use Rattle.rules.specs.Yields.{max_rule}
@@ -31,10 +32,6 @@ use Rattle.tallies.specs.Count.{File, is_accepted, counted_steps}
 -- the step is held by a rule of the table
 abbrev pub RuleHeld : Step → Type 0
 RuleHeld p = (1 ≤ p.rule) × (p.rule ≤ max_rule)
-
-second : (a b : Bool) → (a && b) ≡ true → b ≡ true
-second true b e = e
-second false b e = absurd (false≢true e)
 
 every_at : {A : Type 0} (P : A → Type 0) (d : A) (xs : List A) (i : ℕ) → Every P xs → P d → P (get_or xs i d)
 every_at P d [] i h g = g
@@ -96,7 +93,7 @@ unfolding is_accepted
 rules_held f =
     let short = not f.failed && leb (length f.bytes) max_bytes in
     by_bundle (Every RuleHeld) f
-    (λ e. (rules_read f.bytes (second short (accepted (reading f.bytes).answer) e)).0)
+    (λ e. (rules_read f.bytes (and_parts short (accepted (reading f.bytes).answer) e).1).0)
     tt
 
 few_viewed : (s : Session) → length (view s).steps ≤ max_steps

@@ -1,16 +1,16 @@
 // The yearly tally: the uses of each rule over bundles, and the total of their steps.
 #![tactic(auto)]
 
-ghost use Rattle.std.specs.Prelude.{◌≡◌};
+ghost use Rattle.std.specs.Prelude.{◌≡◌, map};
 ghost use Rattle.calls.specs.code.Answers.{done_answer_of};
 ghost use Rattle.session.specs.View.{view};
 ghost use Rattle.tallies.specs.NameList.{is_bad_name, list_answer};
 ghost use Rattle.tallies.specs.code.Tally.{plus_each, column_of, fresh_tally, file_read, with_file};
-ghost use Rattle.tallies.specs.code.Tally.{entries_of, LineIs};
+ghost use Rattle.tallies.specs.code.Tally.{entries_of, entry_of, LineIs};
 
 use common::Refusal;
 use session::Session;
-use std::fmt;
+use std::{array, fmt};
 
 // The most names of a list.
 pub const MAX_FILES: usize = 64;
@@ -20,7 +20,8 @@ pub const LINES: usize = RULES + 1;
 
 const RULES: usize = matching::MAX_RULE as usize;
 
-// The uses of each rule, from 1 up, and the total of the steps.
+// The uses of each rule, from 1 up, and the total of the steps. An array, since each rule has its uses from the start;
+// the total counts steps, and is no length of it.
 #[derive(Clone, Copy)]
 pub struct Tally {
     uses: [u64; RULES],
@@ -45,6 +46,7 @@ impl fmt::Display for TallyLine {
 }
 
 // Whether the line at place k, counted from 0, is refused.
+#[tactic(auto, unfolding(crate::specs::NameList::is_bad_name))]
 fn is_bad_name(opened: &[bool], k: usize) -> bool
     ensures { result ≡ is_bad_name opened.now k }
 {
@@ -52,16 +54,13 @@ fn is_bad_name(opened: &[bool], k: usize) -> bool
 }
 
 // Judges a list of names, where `opened` says of each place, counted from 0, whether its file was opened.
-pub fn judge_list<'a>(list: &'a [u8], opened: &'a [bool]) -> Result<(), Refusal>
+pub fn judge_list(list: &[u8], opened: &[bool]) -> Result<(), Refusal>
     ensures { done_answer_of result ≡ list_answer list.now opened.now }
 {
-    let count = names::count(list);
-    for k in 0..count {
-        if is_bad_name(opened, k) {
-            return Err(Refusal::BadName(k + 1));
-        }
+    match (0..names::count(list)).find(|&k| is_bad_name(opened, k)) {
+        Some(k) => Err(Refusal::BadName(k + 1)),
+        None => Ok(()),
     }
-    Ok(())
 }
 
 // The uses, and those among the session's steps.
@@ -76,6 +75,7 @@ fn plus_uses(mut uses: [u64; RULES], session: Session) -> [u64; RULES]
 }
 
 impl Tally {
+    #[tactic(auto, unfolding(crate::specs::code::Tally::fresh_tally))]
     pub fn new() -> Tally
         ensures { result ≡ fresh_tally }
     {
@@ -106,19 +106,23 @@ impl Tally {
         }
     }
 
-    // Line k of the tally, counted from 0; none past the last.
-    pub fn line(self, k: usize) -> Option<TallyLine>
+    // Line k, counted from 0: a rule's, and then the total's.
+    fn line(self, k: usize) -> TallyLine
         ensures { LineIs (entries_of self) k result }
     {
-        if k < RULES {
-            return Some(TallyLine::Rule {
+        match self.uses.get(k) {
+            Some(&uses) => TallyLine::Rule {
                 rule: k as u16 + 1,
-                uses: self.uses[k],
-            });
+                uses,
+            },
+            None => TallyLine::Total(self.total),
         }
-        if k == RULES {
-            return Some(TallyLine::Total(self.total));
-        }
-        None
+    }
+
+    // The lines of the tally, in order.
+    pub fn lines(self) -> [TallyLine; LINES]
+        ensures { map entry_of result ≡ entries_of self }
+    {
+        array::from_fn(|k| self.line(k))
     }
 }

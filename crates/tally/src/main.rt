@@ -2,10 +2,10 @@
 // these files.
 #![tactic(auto)]
 
-const STANDARD_INPUT: i32 = 0;
+use std::os::fd::AsRawFd;
 
 fn main(rt: HostRuntime) {
     let mut list = [0u8; tally_reports::LONGEST_LIST];
-    let length = io::read_full(STANDARD_INPUT, &mut list);
+    let length = io::read_full(rt.stdin().as_raw_fd(), &mut list);
     tally_reports::print_list(&rt, &list[..length]);
 }

@@ -1,7 +1,7 @@
 // Prints of lists of the files in data/ what tally prints of them, and last of the list in standard input.
 #![tactic(auto)]
 
-const STANDARD_INPUT: i32 = 0;
+use std::os::fd::AsRawFd;
 
 fn main(rt: HostRuntime) {
     // No name; names with and without the last newline; a name twice.
@@ -19,6 +19,6 @@ fn main(rt: HostRuntime) {
     tally_reports::print_list(&rt, b"one\n\none\n");
     tally_reports::print_list(&rt, b"one\none\0e\n");
     let mut list = [0u8; 4096];
-    let length = io::read_full(STANDARD_INPUT, &mut list);
+    let length = io::read_full(rt.stdin().as_raw_fd(), &mut list);
     tally_reports::print_list(&rt, &list[..length]);
 }

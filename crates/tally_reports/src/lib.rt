@@ -4,7 +4,9 @@
 ghost use Rattle.std.specs.Prelude.{IfOk};
 ghost use Rattle.io.specs.Counts.{IsPrefixLen};
 
+use answer_lines::AnswerLine;
 use arrayvec::ArrayString;
+use std::array;
 use std::fmt::{Display, Write};
 use std::fs::File;
 use std::io::Read;
@@ -52,7 +54,8 @@ fn read_file(file: &mut File, bytes: &mut [u8]) -> std::io::Result<usize>
     ensures { IfOk result (λ n. IsPrefixLen n bytes.new) }
 {
     let mut length = 0;
-    // How much a read gives is known only when it has been made.
+    // How much a read gives is known only when it has been made. `io::read_full` takes a read that fails for the end,
+    // `read_exact` fails at the end, and `read_to_end` wants a heap.
     while length < bytes.len() {
         let more = file.read(&mut bytes[length..])?;
         if more == 0 {
@@ -66,18 +69,12 @@ fn read_file(file: &mut File, bytes: &mut [u8]) -> std::io::Result<usize>
 fn add_file(tally: Tally, mut file: File) -> Tally {
     // One byte more than a bundle has, so that a longer file shows.
     let mut bytes = [0u8; common::MAX_BYTES + 1];
-    match read_file(&mut file, &mut bytes) {
-        Ok(length) => tally.add(Some(&bytes[..length])),
-        Err(_) => tally.add(None),
-    }
+    let length = read_file(&mut file, &mut bytes).ok();
+    tally.add(length.map(|length| &bytes[..length]))
 }
 
 fn add_all(files: OpenFiles) -> Tally {
-    let mut tally = Tally::new();
-    for file in files.into_iter().flatten() {
-        tally = add_file(tally, file);
-    }
-    tally
+    files.into_iter().flatten().fold(Tally::new(), add_file)
 }
 
 fn print_line<T: Display + Drop>(line: T) {
@@ -88,10 +85,8 @@ fn print_line<T: Display + Drop>(line: T) {
 
 fn print_tally(tally: Tally) {
     print_line("rule uses");
-    for k in 0..tallies::LINES {
-        if let Some(line) = tally.line(k) {
-            print_line(line);
-        }
+    for line in tally.lines() {
+        print_line(line);
     }
 }
 
@@ -101,12 +96,9 @@ fn print_tally(tally: Tally) {
 pub fn print_list(rt: &impl Files<File = File>, list: &[u8]) {
     let files = open_all(rt, list);
     // Beside the files, since a list is judged by what was opened, and no definition knows a file.
-    let mut opened = [false; tallies::MAX_FILES];
-    for (open, file) in opened.iter_mut().zip(&files) {
-        *open = file.is_some();
-    }
+    let opened: [bool; tallies::MAX_FILES] = array::from_fn(|k| files[k].is_some());
     if let Err(refused) = tallies::judge_list(list, &opened) {
-        print_line(format_args!("{} {}", refused.number(), refused.value()));
+        print_line(AnswerLine::of(refused));
         return;
     }
     print_tally(add_all(files));

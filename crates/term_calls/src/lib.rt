@@ -22,12 +22,8 @@ fn term_answer(rows: &[u16], depth: u16, found: Option<usize>, row: Row) -> Resu
         × FoundIs found (find (table_of rows.now) (row_of row)) (length (table_of rows.now)) }
     ensures { answer_of result ≡ term_answer (table_of rows.now) (row_of row) }
 {
-    if row.read_kind().is_none() {
-        return Err(Refusal::BadKind);
-    }
-    if let Some(place) = terms::bad_place(rows, row) {
-        return Err(Refusal::BadField(place));
-    }
+    row.read_kind().ok_or(Refusal::BadKind)?;
+    terms::check_fields(rows, row)?;
     if terms::MAX_NESTING < depth {
         return Err(Refusal::TooDeep);
     }

@@ -1,12 +1,13 @@
 -- The twelve kinds of rows, for proofs by cases. Assumes nothing.
-use Prim.Native.Nat.{ℕ, zero, suc, ◌≤◌}
+use Prim.Native.Nat.{ℕ, zero, suc, ◌≤◌, ◌<◌}
 use mathlib.Core.Path.{◌≡◌, refl}
 use mathlib.Core.List.{List}
 use native.Mathlib.Omega.{arith}
+use lib.ListN.{get_or-eq_default}
 use Rattle.xpath.specs.Term.{Void, Root, AxisStep, Union, Composition, Filter, True, False, Not, And, Or, In}
-use Rattle.terms.specs.Row.{row}
+use Rattle.terms.specs.Row.{Row, row}
 use Rattle.terms.specs.Fields.{max_kind}
-use Rattle.terms.specs.Terms.{Term, of_path, of_qualifier, as_path, as_qualifier, term_by}
+use Rattle.terms.specs.Terms.{Term, of_path, of_qualifier, as_path, as_qualifier, no_term, term_by}
 
 pub data Kind : ℕ → Type 0 where
   void_kind : Kind 0
@@ -36,6 +37,11 @@ kind_of_lem (suc (suc (suc (suc (suc (suc (suc (suc (suc zero))))))))) h = and_k
 kind_of_lem (suc (suc (suc (suc (suc (suc (suc (suc (suc (suc zero)))))))))) h = or_kind
 kind_of_lem (suc (suc (suc (suc (suc (suc (suc (suc (suc (suc (suc zero))))))))))) h = in_kind
 kind_of_lem (suc (suc (suc (suc (suc (suc (suc (suc (suc (suc (suc (suc k)))))))))))) h = absurd (omega arith)
+
+-- a row of a kind past the last is read as the void path
+pub past_kinds : (ts : List Term) (r : Row) → max_kind < r.kind → term_by ts r ≡ no_term
+unfolding term_by
+past_kinds ts r h = rw get_or-eq_default
 
 -- the kind of a row with that term
 unfoldable pub kind_of : Term → ℕ

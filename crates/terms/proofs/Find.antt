@@ -15,6 +15,7 @@ use Rattle.terms.specs.code.RowTypes.{FoundIs}
 use Rattle.std.proofs.Common.{map, position, Some, None, ltb}
 use Rattle.std.proofs.Common.{add_comm}
 use Rattle.std.specs.List.{position_or_len}
+use Rattle.std.proofs.lemmas.Bool.{false_from_ne_true}
 use Rattle.std.proofs.lemmas.List.Recursion.{is_position_or_len}
 use borrow.Author.Tests.{ltb-true, ltb-false}
 use lib.ListN.{length-map}
@@ -38,11 +39,8 @@ unfolding same_row
 same_is s r t = let u = simp facts at t in row_equal u.0.0.0 u.0.0.1 u.0.1 u.1
 
 pub same_row_no : (s r : Row) → ¬ (s ≡ r) → same_row s r ≡ false
-same_row_no s r f = by (same_row s r) refl
-  where
-    by : (b : Bool) → same_row s r ≡ b → same_row s r ≡ false
-    by true e = absurd (f (same_is s r ((true_iff (same_row s r)).1 e)))
-    by false e = e
+same_row_no s r f =
+    false_from_ne_true (same_row s r) (λ e. f (same_is s r ((true_iff (same_row s r)).1 e)))
 
 pub find_le : (rs : List Row) (r : Row) → find rs r ≤ length rs
 unfolding find

@@ -1,39 +1,35 @@
 -- The table of lent numbers, row by row. Assumes nothing.
 use Prim.Native.Nat.{ℕ, zero, suc, ◌+◌, ◌*◌, ◌/◌, ◌≤◌}
-use mathlib.Core.Path.{◌≡◌, refl, sym, ap, ◌∙◌}
-use mathlib.Core.List.{List, [], ◌∷◌, ◌++◌, append_assoc}
+use mathlib.Core.Path.{◌≡◌, refl, ap, ◌∙◌}
+use mathlib.Core.Bool.{cond}
+use mathlib.Core.List.{List, [], ◌∷◌, ◌++◌}
 use native.Mathlib.Omega.{arith}
+use lib.Dec.{leb}
 use lib.ListN.{length, take, drop, length-append}
 use lib.Seq.{sets, sets-eq, length-take-le, take_at}
 use Rattle.std.proofs.Common.{map}
-use Rattle.std.proofs.lemmas.List.{drop-drop}
-use borrow.Rule.Slice.PartMut.{put_mid}
+use Rattle.std.proofs.lemmas.Bool.{le-leb}
 use Rattle.std.specs.Simd.{first_chunks}
+use Rattle.common.proofs.Chunks.{by_width, count_by_width}
 use Rattle.terms.specs.Row.{Row, row, row_width, row_numbers, table_of}
 use Rattle.terms.specs.code.RowTypes.{row_in}
 
+-- a list has a first row where it has four numbers
+one_row : (xs : List ℕ) → table_of xs ≡ cond (leb 4 (length xs)) (row_in (take 4 xs) ∷ table_of (drop 4 xs)) []
+unfolding table_of
+one_row [] = refl
+one_row (k ∷ []) = refl
+one_row (k ∷ x ∷ []) = refl
+one_row (k ∷ x ∷ y ∷ []) = refl
+one_row (k ∷ x ∷ y ∷ z ∷ xs) = rw (le-leb 4 (length (k ∷ x ∷ y ∷ z ∷ xs)) (omega arith))
+
 -- a row is four numbers
 pub rows_lent : (xs : List ℕ) → length (table_of xs) ≡ length xs / 4
-unfolding table_of
-rows_lent [] = refl
-rows_lent (k ∷ []) = refl
-rows_lent (k ∷ x ∷ []) = refl
-rows_lent (k ∷ x ∷ y ∷ []) = refl
-rows_lent (k ∷ x ∷ y ∷ z ∷ xs) = let h = rows_lent xs in omega arith
+rows_lent xs = count_by_width 4 row_in table_of one_row (length xs / 4) xs (omega arith) (omega arith)
 
 -- the rows are the numbers four by four
 pub rows_by_four : (n : ℕ) (xs : List ℕ) → n ≡ length xs / 4 → map row_in (first_chunks 4 n xs) ≡ table_of xs
-unfolding table_of
-rows_by_four zero [] e = refl
-rows_by_four (suc n) [] e = absurd (omega arith)
-rows_by_four zero (k ∷ []) e = refl
-rows_by_four (suc n) (k ∷ []) e = absurd (omega arith)
-rows_by_four zero (k ∷ x ∷ []) e = refl
-rows_by_four (suc n) (k ∷ x ∷ []) e = absurd (omega arith)
-rows_by_four zero (k ∷ x ∷ y ∷ []) e = refl
-rows_by_four (suc n) (k ∷ x ∷ y ∷ []) e = absurd (omega arith)
-rows_by_four zero (k ∷ x ∷ y ∷ z ∷ xs) e = absurd (omega arith)
-rows_by_four (suc n) (k ∷ x ∷ y ∷ z ∷ xs) e = ap (λ (rs : List Row). row k x y z ∷ rs) (rows_by_four n xs (omega arith))
+rows_by_four n xs e = by_width 4 row_in table_of one_row n xs (omega arith) (omega arith)
 
 -- n whole rows, and then other numbers
 pub table_append : (n : ℕ) (xs ys : List ℕ) → length xs ≡ 4 * n → table_of (xs ++ ys) ≡ table_of xs ++ table_of ys
@@ -54,13 +50,6 @@ take_sets xs m vs h =
     ap (take (m + length vs)) (sets-eq vs xs m h)
     ∙ take_at (take m xs ++ vs) (drop (m + length vs) xs) (m + length vs)
     (length-append (take m xs) vs ∙ ap (λ k. k + length vs) (length-take-le m xs (omega arith)))
-
--- a copy of the numbers vs to the place m and those after it
-pub copied : (m k : ℕ) (xs vs ys : List ℕ) → ys ≡ vs → k ≡ length vs → m + k ≤ length xs
-    → put_mid m k xs ys ≡ sets xs m vs
-copied m k xs vs ys same size fits =
-    rw (same, drop-drop k m xs, size)
-    (sym (append_assoc (take m xs) vs (drop (m + length vs) xs)) ∙ sym (sets-eq vs xs m (omega arith)))
 
 -- a row is put after the first n
 pub row_put : (n : ℕ) (xs : List ℕ) (r : Row) → row_width * n + 4 ≤ length xs

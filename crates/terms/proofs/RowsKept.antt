@@ -5,15 +5,16 @@ use mathlib.Core.Bool.{Bool, true, false, cond, false≢true}
 use mathlib.Core.List.{List, [], ◌∷◌, ◌++◌}
 use mathlib.Core.Logic.{⊎_elim}
 use native.Mathlib.Omega.{arith}
-use lib.ListN.{length, get_or, set, take, length-set, length-append}
+use lib.ListN.{length, get_or, set, take, length-set, length-append, length-take}
 use lib.Seq.{sets, length-take-le, take-suc-set, get_or-set_same, get_or-set_other}
 use Rattle.common.proofs.Reflect.{eq_or_ne}
 use Rattle.terms.specs.Row.{Row, row_width, row_numbers, max_rows, entries_from, same_row, find}
-use Rattle.terms.specs.Nesting.{nestings, nesting}
+use Rattle.terms.specs.Nesting.{nesting_by, nestings, nesting}
 use Rattle.terms.specs.code.Kept.{slot_count, slot_of, rows_in, Filters, Nestings, Kept}
 use Rattle.terms.proofs.LentRows.{rows_lent, row_put}
 use Rattle.terms.proofs.Find.{same_row_no}
 use Rattle.terms.proofs.Nesting.{nestings_snoc}
+use Rattle.terms.proofs.Entries.{length_entries}
 
 pub slot_below : (r : Row) → slot_of r < slot_count
 unfolding slot_of
@@ -23,6 +24,12 @@ slot_below r = omega arith
 pub rows_put : (xs : List ℕ) (n : ℕ) → row_width * n ≤ length xs → length (rows_in xs n) ≡ n
 rows_put xs n fits =
     omega (arith, rows_lent (take (row_width * n) xs), length-take-le (row_width * n) xs fits)
+
+-- a table that has the nestings of rows has room for them
+pub nested_few : (rs : List Row) (table : List ℕ) → Nestings rs table → length rs ≤ max_rows
+unfolding nestings
+nested_few rs table k =
+    omega (arith, k.size, ap length k.entries, length-take (length rs) table, length_entries nesting_by rs)
 
 -- a row that is not found is not found after another one
 find_more : (rs : List Row) (s r : Row) → find rs r ≡ length rs → ¬ (s ≡ r) →

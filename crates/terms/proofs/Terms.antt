@@ -7,9 +7,10 @@ use native.Mathlib.Omega.{arith}
 use lib.ListN.{length, get_or, take, get_or-eq_default}
 use lib.Seq.{take-append_seam, get_or-take}
 use Rattle.common.proofs.Reflect.{le_or_lt}
+use Rattle.xpath.specs.Term.{AxisStep}
 use Rattle.terms.specs.Row.{Row, no_row, row_at}
 use Rattle.terms.specs.Fields.{max_kind}
-use Rattle.terms.specs.Terms.{of_path, of_qualifier, no_term, term_by, terms, term_at, path_at, qualifier_at}
+use Rattle.terms.specs.Terms.{of_path, of_qualifier, no_term, as_path, term_by, terms, term_at, path_at, qualifier_at}
 use Rattle.terms.proofs.ByKind.{kind_of_lem, term_path, term_qualifier}
 use Rattle.terms.proofs.Entries.{entries_take, entry_at_lem, entry_past}
 
@@ -48,3 +49,9 @@ pub qualifier_term : (rs : List Row) (i : ℕ) → 6 ≤ (row_at rs i).kind → 
     term_at rs i ≡ of_qualifier (qualifier_at rs i)
 qualifier_term rs i g h = rw (term_at_lem rs i)
     (term_qualifier (terms (take i rs)) _ _ _ (kind_of_lem (row_at rs i).kind h) g)
+
+-- the path of a row of kind 2
+pub step_path : (rs : List Row) (i : ℕ) → (row_at rs i).kind ≡ 2
+    → path_at rs i ≡ AxisStep (row_at rs i).a (row_at rs i).b (row_at rs i).c
+unfolding as_path term_by
+step_path rs i e = ap as_path (term_at_lem rs i) ∙ rw e

@@ -7,16 +7,16 @@ ghost use Rattle.terms.specs.Nesting.{nesting};
 ghost use Rattle.terms.specs.code.RowTypes.{row_of, FoundIs};
 ghost use Rattle.terms.specs.code.Kept.{slot_count, slot_of, rows_in, Nestings, Kept};
 
-use crate::{MAX_ROWS, ROW_WIDTH, Row, deeper_operand, find_row, row_count};
+use crate::{MAX_ROWS, ROW_WIDTH, Row, TABLE_NUMBERS, deeper_operand, find_row, row_count};
 
 // How many slots a filter has.
 pub const SLOTS: usize = 8192;
 
 // The first `count` rows of the table are put. A slot of the filter that is false says that no row falls in it. Fixed
-// memory: no call can fail for want of it.
+// memory: no call can fail for want of it. `nestings` is an array of its own, since rows are lent as their numbers.
 #[derive(Clone, Copy)]
 pub struct KeptRows {
-    pub numbers: [u16; ROW_WIDTH * MAX_ROWS],
+    pub numbers: [u16; TABLE_NUMBERS],
     pub count: usize,
     pub nestings: [u16; MAX_ROWS],
     pub filter: [bool; SLOTS],
@@ -35,7 +35,7 @@ fn slot_of(row: Row) -> usize
 
 // The nesting of a row whose operands are among the rows, by the nestings kept of these.
 pub(crate) fn nesting_kept(rows: &[u16], nestings: &[u16], row: Row) -> u16
-    requires { (length (table_of rows.now) ≤ max_rows) × Nestings (table_of rows.now) nestings.now }
+    requires { Nestings (table_of rows.now) nestings.now }
     ensures { result ≡ nesting (table_of rows.now) (row_of row) }
 {
     deeper_operand(&nestings[..row_count(rows)], row) + 1
@@ -46,7 +46,7 @@ impl KeptRows {
         ensures { (result.numbers ≡ replicate (row_width * max_rows) 0) × (result.count ≡ 0) }
     {
         KeptRows {
-            numbers: [0; ROW_WIDTH * MAX_ROWS],
+            numbers: [0; TABLE_NUMBERS],
             count: 0,
             nestings: [0; MAX_ROWS],
             filter: [false; SLOTS],

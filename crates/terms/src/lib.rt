@@ -1,23 +1,29 @@
 // Tables of rows lent as 16-bit numbers, four a row: what the fields of a row must be, its nesting, the search for an
-// equal row, and rows that are put and kept. An incomplete last row is no row. Notes of what a search found of rows.
+// equal row, and rows that are put and kept. Notes of what a search found of rows.
+// Numbers, and no slices of rows: C lends them so, and a table may end in an incomplete row, which is no row.
 #![tactic(auto)]
 
 mod kept;
 
 ghost use Rattle.std.specs.Prelude.{◌≡◌, ◌↔◌, IsTrue, Some, None, cond, leb, ◌+◌, ◌≤◌};
-ghost use Rattle.std.specs.Prelude.{map, length, get_or, set, take};
+ghost use Rattle.std.specs.Prelude.{map, length, get_or, set};
 ghost use Rattle.terms.specs.Row.{row_at, row_numbers, table_of, max_rows, find};
 ghost use Rattle.terms.specs.Fields.{is_path, is_qualifier, fields_of, held_path, held_qualifier, field_ok, bad_place};
-ghost use Rattle.terms.specs.Nesting.{operand_nesting, nesting_by, nestings, nesting};
-ghost use Rattle.terms.specs.code.RowTypes.{row_of, row_in, field_of, fields_in, KindIs, PlaceIs, FoundIs};
+ghost use Rattle.terms.specs.Nesting.{operand_nesting, nesting_by, nesting};
+ghost use Rattle.terms.specs.code.Kept.{Nestings};
+ghost use Rattle.terms.specs.code.RowTypes.{row_of, row_in, field_of, fields_in, KindIs, RowIs, FoundIs};
+ghost use Rattle.common.specs.code.Refusal.{RefusedAt};
+ghost use Rattle.common.specs.declared.refusal.Refusal.TheVariants.{BadField};
 
+use common::Refusal;
 use common::axis::Axis;
 use common::node_test::NodeTest;
 use common::row_kind::RowKind;
 use kept::nesting_kept;
 pub use kept::{KeptRows, SLOTS};
 
-// The most rows of a table.
+// The most rows of a table. An array of what is kept or noted of each row has so many, and a count beside it or the
+// table says how many count: fixed memory without a heap.
 pub const MAX_ROWS: usize = 1024;
 
 // The deepest nesting of a row.
@@ -25,6 +31,9 @@ pub const MAX_NESTING: u16 = 32;
 
 // How many numbers a row has.
 pub const ROW_WIDTH: usize = 4;
+
+// How many numbers a table with room for all rows has.
+pub const TABLE_NUMBERS: usize = ROW_WIDTH * MAX_ROWS;
 
 #[derive(Clone, Copy, PartialEq, Eq, Debug)]
 pub struct Row {
@@ -34,7 +43,8 @@ pub struct Row {
     pub c: u16,
 }
 
-// What stands past the end of a table.
+// What the definitions have past the end of a table: the void path, whose fields are unused. No derived Default: its
+// zeros wouldn't name the kind.
 const NO_ROW: Row = Row {
     kind: RowKind::Void as u16,
     a: 0,
@@ -92,13 +102,6 @@ impl From<Row> for [u16; ROW_WIDTH] {
     }
 }
 
-// A division, as for steps and points: a function of any width would be no plainer.
-pub fn row_count(rows: &[u16]) -> usize
-    ensures { result ≡ length (table_of rows.now) }
-{
-    rows.len() / ROW_WIDTH
-}
-
 // The rows, each as its numbers. `as_chunks` is what rows, steps and points share; each says what its numbers are.
 fn whole_rows(rows: &[u16]) -> &[[u16; ROW_WIDTH]]
     ensures { map row_in result.now ≡ table_of rows.now }
@@ -106,14 +109,24 @@ fn whole_rows(rows: &[u16]) -> &[[u16; ROW_WIDTH]]
     rows.as_chunks().0
 }
 
-// Row i; `0 0 0 0` past the last row, which is read as the void path.
+pub fn row_count(rows: &[u16]) -> usize
+    ensures { result ≡ length (table_of rows.now) }
+{
+    whole_rows(rows).len()
+}
+
+// Row i. For a record of any width a function would be no plainer than `get`.
+pub fn get_row(rows: &[u16], i: usize) -> Option<Row>
+    ensures { RowIs result (table_of rows.now) i }
+{
+    whole_rows(rows).get(i).map(|&numbers| Row::from(numbers))
+}
+
+// The same; `0 0 0 0` past the last row, with which the definitions of terms and steps go on.
 pub fn row_at(rows: &[u16], i: usize) -> Row
     ensures { row_of result ≡ row_at (table_of rows.now) i }
 {
-    match whole_rows(rows).get(i) {
-        Some(&numbers) => Row::from(numbers),
-        None => NO_ROW,
-    }
+    get_row(rows, i).unwrap_or(NO_ROW)
 }
 
 // Whether x is the number of a row that is a path.
@@ -121,8 +134,7 @@ pub fn row_at(rows: &[u16], i: usize) -> Row
 pub fn is_held_path(rows: &[u16], x: u16) -> bool
     ensures { result ≡ held_path (table_of rows.now) x }
 {
-    let i = usize::from(x);
-    i < row_count(rows) && row_at(rows, i).is_path()
+    get_row(rows, usize::from(x)).is_some_and(|row| row.is_path())
 }
 
 // Whether x is the number of a row that is a qualifier.
@@ -130,11 +142,11 @@ pub fn is_held_path(rows: &[u16], x: u16) -> bool
 pub fn is_held_qualifier(rows: &[u16], x: u16) -> bool
     ensures { result ≡ held_qualifier (table_of rows.now) x }
 {
-    let i = usize::from(x);
-    i < row_count(rows) && row_at(rows, i).is_qualifier()
+    get_row(rows, usize::from(x)).is_some_and(|row| row.is_qualifier())
 }
 
-// What the fields a, b and c of a row of that kind must be.
+// What the fields a, b and c of a row of that kind must be. Of any number, as a row that is lent may have it: of one
+// that no kind has, no field is used.
 #[tactic(auto, unfolding(crate::specs::Fields::fields_of))]
 pub fn fields_of(kind: u16) -> (Field, Field, Field)
     ensures { fields_in result.0 result.1 result.2 ≡ fields_of kind }
@@ -171,20 +183,20 @@ fn field_ok(rows: &[u16], field: Field, x: u16, t: u16) -> bool
     }
 }
 
-// The first place, 1 to 3, whose field is bad.
+// Refusal 2, with the first place, 1 to 3, whose field is bad.
 #[tactic(auto, unfolding(crate::specs::Fields::bad_place))]
-pub fn bad_place(rows: &[u16], row: Row) -> Option<u16>
-    ensures { PlaceIs result (bad_place (table_of rows.now) (row_of row)) }
+pub fn check_fields(rows: &[u16], row: Row) -> Result<(), Refusal>
+    ensures { RefusedAt BadField (bad_place (table_of rows.now) (row_of row)) result }
 {
     let (first, second, third) = fields_of(row.kind);
     if !field_ok(rows, first, row.a, row.b) {
-        Some(1)
+        Err(Refusal::BadField(1))
     } else if !field_ok(rows, second, row.b, row.b) {
-        Some(2)
+        Err(Refusal::BadField(2))
     } else if !field_ok(rows, third, row.c, row.b) {
-        Some(3)
+        Err(Refusal::BadField(3))
     } else {
-        None
+        Ok(())
     }
 }
 
@@ -227,26 +239,16 @@ pub(crate) fn deeper_operand(nestings: &[u16], row: Row) -> u16
     x.max(y)
 }
 
-// The nestings of the rows, in order, each by those before it.
-fn fill_nestings(rows: &[u16], table: &mut [u16])
-    requires { (length (table_of rows.now) ≤ max_rows) × (length table.old ≡ max_rows) }
-    ensures { take (length (table_of rows.now)) table.new ≡ nestings
-        (table_of rows.now) }
+// The nestings of the rows, in order, each by those before it, from the start of a table.
+fn nestings(rows: &[u16]) -> [u16; MAX_ROWS]
+    requires { length (table_of rows.now) ≤ max_rows }
+    ensures { Nestings (table_of rows.now) result }
 {
+    let mut table = [0; MAX_ROWS];
     for i in 0..row_count(rows) {
         table[i] = deeper_operand(&table[..i], row_at(rows, i)) + 1;
     }
-}
-
-// The nesting of a row whose operands are among the rows. These are at most MAX_ROWS: the table of their nestings has
-// room for no more.
-fn nesting_within(rows: &[u16], row: Row) -> u16
-    requires { length (table_of rows.now) ≤ max_rows }
-    ensures { result ≡ nesting (table_of rows.now) (row_of row) }
-{
-    let mut table = [0u16; MAX_ROWS];
-    fill_nestings(rows, &mut table);
-    nesting_kept(rows, &table, row)
+    table
 }
 
 // The nesting of a row whose operands are among the rows; none where these are more than MAX_ROWS.
@@ -257,11 +259,13 @@ pub fn nesting_of(rows: &[u16], row: Row) -> Option<u16>
     if MAX_ROWS < row_count(rows) {
         None
     } else {
-        Some(nesting_within(rows, row))
+        Some(nesting_kept(rows, &nestings(rows), row))
     }
 }
 
-// Whether it is noted that a search found row j for row i: at i stands j.
+// Whether it is noted that a search found row j for row i: at i stands j. Notes are lent beside the rows, and that they
+// are true of these stands in the contracts (`Noted` of matching): `Held` has the rows with their steps, and a struct
+// of rows and notes would have them twice.
 pub fn is_noted(noted: &[Option<u16>], i: u16, j: u16) -> bool
     ensures { IsTrue result ↔ (get_or noted.now i None ≡ Some j) }
 {
@@ -272,6 +276,7 @@ pub fn is_noted(noted: &[Option<u16>], i: u16, j: u16) -> bool
 pub fn note(noted: &mut [Option<u16>], i: u16, j: u16)
     ensures { noted.new ≡ set noted.old i (Some j) }
 {
+    // By index: the contract of `get_mut` says nothing of what the slice becomes.
     let at = usize::from(i);
     if at < noted.len() {
         noted[at] = Some(j);

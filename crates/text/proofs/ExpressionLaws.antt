@@ -157,12 +157,6 @@ module _ (s list : Bytes) (left : ℕ) (xs : List ℕ) (x : Standing) (ys : List
             ∙ rw p.text.at (m.failed (sym p.text.ok ∙ f) o (both l a.tree a.spaces) i);
       }
 
--- no `and` follows
-pub and_ends : (s list : Bytes) (left : ℕ) (xs : List ℕ) (x : Standing) (ys : List ℕ) (y : Standing)
-    → (y.ok ≡ true → eqb (byte_at s y.at) 97 ≡ false) → AndGot s list left xs x ys y → AndMet s list left xs x ys y
-and_ends s list left xs x ys y stop got =
-    record { reached = got.reached; read = got.read; stops = stop; failed = got.failed }
-
 -- those joined by `or` so far: the last operand, and what stands before it
 pub record Choosing (s list : Bytes) (left : ℕ) (xs : List ℕ) (x : Standing) (ys : List ℕ) (y : Standing) : Type 0 where
   pub tree : Or

@@ -33,12 +33,6 @@ unfolding numbers_of
 numbers_length_lem [] = refl
 numbers_length_lem (r ∷ rs) = let h = numbers_length_lem rs in omega arith
 
--- and back
-pub rows_of : (rs : List Row) → table_of (rows_numbers rs) ≡ rs
-unfolding table_of numbers_of
-rows_of [] = refl
-rows_of (r ∷ rs) = ap (λ (q : List Row). r ∷ q) (rows_of rs)
-
 -- ys holds the rows ss, which are those of xs and new ones, and is as xs past them
 pub left_table : (xs ys : List ℕ) (n k : ℕ) (ss new : List Row) → Sized xs n → Sized ys k → held_rows ys k ≡ ss
     → ss ≡ held_rows xs n ++ new → Beyond xs n ys k → ys ≡ table_with xs n ss

@@ -4,9 +4,9 @@ use mathlib.Core.Path.{◌≡◌, refl, ap}
 use mathlib.Core.Bool.{Bool, true, false}
 use mathlib.Core.List.{List}
 use native.Mathlib.Omega.{arith}
+use Rattle.std.proofs.lemmas.Bool.{eqb-true}
 use lib.Dec.{eqb}
 use Rattle.grammar.specs.Bytes.{Bytes}
-use Rattle.grammar.proofs.Basics.{eq_byte}
 use Rattle.words.specs.code.Scan.{byte_at}
 use Rattle.readings.specs.code.Build.{Standing}
 use Rattle.readings.specs.code.Passing.{SlashPut}
@@ -19,7 +19,7 @@ after_slash s ys y zs z p = go (eqb (byte_at s (y.at + 1)) 47) refl
   where
     go : (k : Bool) → eqb (byte_at s (y.at + 1)) 47 ≡ k → y.at < z.at
     go true e =
-        let q = p.two (eq_byte (byte_at s (y.at + 1)) 47 e) in
+        let q = p.two (eqb-true (byte_at s (y.at + 1)) 47 e) in
         omega (arith, q.2.from, ap (λ (r : Standing). r.at) q.4)
     go false e =
         let q = p.one (λ f. refuse true refl (rw f at e)) in

@@ -6,6 +6,7 @@ use mathlib.Core.List.{List, [], ◌∷◌, ◌++◌}
 use mathlib.Core.Option.{none, some}
 use native.Mathlib.Omega.{arith}
 use native.Mathlib.Decide.{dec_lt}
+use Rattle.std.proofs.lemmas.Bool.{eqb-true, ne_eqb}
 use lib.Dec.{eqb}
 use lib.ListN.{length, drop, length-append, length-drop, drop_of_length-le}
 use lib.Seq.{drop-cons}
@@ -23,7 +24,6 @@ use Rattle.grammar.specs.code.Reader.{first, begin, Pend, step, finish, follow, 
 use Rattle.grammar.specs.code.Reader.{room_of, enter, shut, need_byte, lead_byte, group_byte, after_byte}
 use Rattle.grammar.specs.code.Reader.{paren_byte_next}
 use Rattle.grammar.specs.code.Reader.{call_byte, union_byte, unary_byte}
-use Rattle.grammar.proofs.Basics.{eq_byte}
 use Rattle.heads.specs.declared.Opens.{Opens}
 use Rattle.heads.specs.declared.Opens.TheVariants as Opening
 use Rattle.words.specs.code.Scan.{byte_at, Passed}
@@ -33,7 +33,7 @@ use Rattle.readings.specs.code.Passing.{ConstPut, NegatePut}
 use Rattle.text.specs.code.Readers.{after_union, union_at_top, MadeQual, NoOperand, UnionMet, UnaryMet}
 use Rattle.words.proofs.Scanned.{past, head_drop}
 use Rattle.heads.proofs.Ran.{on_here, on_pass, on_stop, over, need_over, closed_over}
-use Rattle.heads.proofs.Headed.{differs, byte_there, passed_length, on_fail, same_split}
+use Rattle.heads.proofs.Headed.{byte_there, passed_length, passed_to, on_fail, same_split}
 use Rattle.readings.proofs.Built.{refuse, made_row, made_over, made_from}
 use Rattle.text.proofs.StepLaws.{has_room, Enclosed}
 
@@ -92,9 +92,6 @@ module _ (s : Bytes) (at : ℕ) (o : Open) (p : Pend) (w : Bytes) where
 
 -- the operand begins at `to`, after whitespace
 module _ (s list : Bytes) (left : ℕ) (xs : List ℕ) (x : Standing) (to : ℕ) (q : Passed is_space s x.at to) where
-  spaces_there : x.at + length q.bytes ≡ to
-  spaces_there = omega (arith, passed_length is_space s x.at to q, q.from)
-
   -- paths: some node is selected
   pub unary_paths : (ys : List ℕ) (y : Standing) (zs : List ℕ) (z : Standing) → NoCall s to × (byte_at s to ≡ 40 → ⊥)
       → UnionMet s list left xs x ys y → Grown some_of_put (λ n. suc (suc (max n 1))) ys y zs z
@@ -171,11 +168,13 @@ module _ (s list : Bytes) (left : ℕ) (xs : List ℕ) (x : Standing) (to : ℕ)
             };
             read = λ e. let t = m.read e in
                 let at : x.at + length (q.bytes ++ (40 ∷ [])) ≡ to + 1 =
-                simp length-append (omega (arith, spaces_there)) in
+                simp length-append (omega (arith, passed_to is_space s x.at to q)) in
                 record {
                   tree = group q.bytes t.tree t.inner;
                   spaces = t.spaces;
-                  size = simp length-append (omega (arith, simp length-append at t.size, spaces_there));
+                  size =
+                      simp length-append
+                      (omega (arith, simp length-append at t.size, passed_to is_space s x.at to q));
                   made = rw at (made_from x (to + 1) y t.made);
                   runs = λ o p i. group_opens o p i
                       ∙ t.runs (grouped o p q.bytes) (ap (λ (n : ℕ). n - 1) i)
@@ -292,7 +291,7 @@ module _ (s list : Bytes) (left : ℕ) (xs : List ℕ) (x : Standing) (to : ℕ)
           → PutMet (row 8 y.row 0 0) (capped (suc y.nesting)) ys y zs z → UnaryMet s list left xs x zs z
       unfolding room_of shut step unary_of unary_names spell_unary put_qual nest_qual ascii
       unary_not ys y zs z m p =
-          let there = spaces_there s list left xs x to q in
+          let there = passed_to is_space s x.at to q in
           record {
             reached = record {
               from = omega (arith, q.from, a.size, m.reached.from, p.text.at);
@@ -354,7 +353,7 @@ module _ (s list : Bytes) (left : ℕ) (xs : List ℕ) (x : Standing) (to : ℕ)
             read = λ e. refuse y.ok e no;
             failed = λ _ o p i. const_inner o p c.to v
                 ∙ rw at (on_stop s c.to (const_open o p k q.bytes a.spaces v.bytes) v.fits
-                (rw (v.stops, differs (byte_at s c.to) 41 f) refl) refl);
+                (rw (v.stops, ne_eqb (byte_at s c.to) 41 f) refl) refl);
           }
 
       -- `)` is there: its row, and whitespace
@@ -380,7 +379,7 @@ module _ (s list : Bytes) (left : ℕ) (xs : List ℕ) (x : Standing) (to : ℕ)
               spaces = r.bytes;
               size = simp length-append (omega (
                 arith,
-                spaces_there s list left xs x to q,
+                passed_to is_space s x.at to q,
                 a.size,
                 at,
                 passed_length is_space s (paren + 1) c.to v,
@@ -404,7 +403,7 @@ module _ (s list : Bytes) (left : ℕ) (xs : List ℕ) (x : Standing) (to : ℕ)
       unary_constant = go (eqb (byte_at s c.to) 41) refl
         where
           go : (b : Bool) → eqb (byte_at s c.to) 41 ≡ b → UnaryMet s list left xs x ys y
-          go true e = const_right (eq_byte (byte_at s c.to) 41 e)
+          go true e = const_right (eqb-true (byte_at s c.to) 41 e)
           go false e = const_wrong (λ f. refuse true refl (rw f at e))
 
   -- the two by name
@@ -427,15 +426,6 @@ Encloses Opening.True = ⊥
 Encloses Opening.False = ⊥
 
 module _ (s list : Bytes) (left : ℕ) (xs : List ℕ) (x : Standing) (to : ℕ) (q : Passed is_space s x.at to) where
-  pub enclosing_there : (k : Opens) (paren : ℕ) → Encloses k → OperandMet s to k paren
-      → (x.at ≤ paren) × (paren < length s)
-  enclosing_there Opening.Group paren n m =
-      let i = byte_there s to 40 refl m.0 in (omega (arith, q.from, m.1), omega (arith, i, m.1))
-  enclosing_there Opening.Not paren n m = (omega (arith, q.from, m.size), byte_there s paren 40 refl m.byte)
-  enclosing_there Opening.Paths paren n m = absurd n
-  enclosing_there Opening.True paren n m = absurd n
-  enclosing_there Opening.False paren n m = absurd n
-
   -- no level is left
   pub unary_full : (k : Opens) (paren : ℕ) → Encloses k → OperandMet s to k paren → left ≡ 0 → Sized xs x.count
       → UnaryMet s list left xs x xs (refused_at paren)

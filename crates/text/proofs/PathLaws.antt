@@ -6,6 +6,7 @@ use mathlib.Core.List.{List, [], ◌∷◌, ◌++◌}
 use mathlib.Core.Option.{none}
 use native.Mathlib.Omega.{arith}
 use native.Mathlib.Numerals.{add-one}
+use Rattle.std.proofs.lemmas.Bool.{eqb-true, ne_eqb, or_parts}
 use lib.Dec.{eqb}
 use lib.ListN.{length, get_or, drop, length-append}
 use lib.Seq.{drop-cons}
@@ -23,7 +24,6 @@ use Rattle.grammar.specs.code.Reader.{bare, at_root, at_any, prefix_of, join, wi
 use Rattle.grammar.specs.code.Reader.{step, follow}
 use Rattle.grammar.specs.code.Reader.{finish, run, room, shut, need_byte, lead_byte, lead_end, group_byte}
 use Rattle.grammar.specs.code.Reader.{after_byte, path_byte, union_byte, unary_byte, at_top}
-use Rattle.grammar.proofs.Basics.{eq_byte}
 use Rattle.words.specs.code.Scan.{byte_at, Passed, begins_step}
 use Rattle.heads.specs.code.Head.{callable, Due}
 use Rattle.readings.specs.code.Build.{Standing, capped, moved_to, refused_at, PutMet, Grown, below_of, only_in_step}
@@ -32,7 +32,7 @@ use Rattle.text.specs.code.Readers.{after_path, after_union, union_at_top, MadeP
 use Rattle.text.specs.code.Readers.{NoOperand, PathFails, PathMet, UnionFails, UnionMet}
 use Rattle.words.proofs.Scanned.{head_drop}
 use Rattle.heads.proofs.Ran.{on_pass, need_over}
-use Rattle.heads.proofs.Headed.{differs, byte_there, passed_length, on_fail}
+use Rattle.heads.proofs.Headed.{byte_there, passed_length, passed_to, on_fail}
 use Rattle.readings.proofs.Worded.{root_step, root_slash, root_alone}
 use Rattle.readings.proofs.Built.{refuse, unlisted_append, made_row, made_from, made_to, made_join}
 
@@ -161,7 +161,7 @@ module _ (s list : Bytes) (left : ℕ) (xs : List ℕ) (x : Standing) (to : ℕ)
   unfolding group_byte callable
   group_none top g n = refl
   group_none (inside o p) (more u w) n = refl
-  group_none (inside o p) first n = rw (differs (byte_at s to) 40 (n refl to q).1) refl
+  group_none (inside o p) first n = rw (ne_eqb (byte_at s to) 40 (n refl to q).1) refl
 
   -- so neither `/` nor `(` is due
   bare_due : (c : Ctx) (g : Alt) → NoOperand s x.at c g → Due s to c g begin q.bytes
@@ -169,14 +169,14 @@ module _ (s list : Bytes) (left : ℕ) (xs : List ℕ) (x : Standing) (to : ℕ)
   bare_due c g n =
       record {
         plain = λ k. (n k to q).0;
-        lead = λ _. (rw (differs (byte_at s to) 47 b) (group_none c g n), refl);
+        lead = λ _. (rw (ne_eqb (byte_at s to) 47 b) (group_none c g n), refl);
       }
 
   pub path_bare : (zs : List ℕ) (z : Standing) → StepMet s list left xs (moved_to x to) zs z
       → PathGot s list left xs x zs z
   unfolding path_of rel_of path_names rel_names spell_path spell_rel prefix_of join with_prefix
   path_bare zs z m =
-      let there : x.at + length q.bytes ≡ to = omega (arith, passed_length is_space s x.at to q, q.from) in
+      let there = passed_to is_space s x.at to q in
       record {
         reached = record {
           from = omega (arith, q.from, m.reached.from);
@@ -198,10 +198,6 @@ module _ (s list : Bytes) (left : ℕ) (xs : List ℕ) (x : Standing) (to : ℕ)
       }
 
 -- neither holds
-or_none : (a b : Bool) → (a || b) ≡ false → (a ≡ false) × (b ≡ false)
-or_none true b e = refuse true refl e
-or_none false b e = (refl, e)
-
 -- `/` and `//` at the beginning
 root_ends : (t : Bytes) (c : Ctx) (g : Alt) (w : Bytes) → eqb (get_or t 0 0) 47 ≡ false
     → run t (root1 c g w) ≡ run t (need c g (start (at_root w)) [])
@@ -228,19 +224,15 @@ root_after : (t : Bytes) (c : Ctx) (g : Alt) (w v : Bytes) → begins_step (get_
 unfolding run finish step need_byte lead_byte lead_end after_path begins_step
 root_after [] c g w v h k = refl
 root_after (b ∷ t) c g w v h k =
-    let i = or_none (is_start b) (eqb b 42 || (eqb b 64 || eqb b 46)) h in
-    let j = or_none (eqb b 42) (eqb b 64 || eqb b 46) i.1 in
-    let l = or_none (eqb b 64) (eqb b 46) j.1 in
+    let i = or_parts (is_start b) (eqb b 42 || (eqb b 64 || eqb b 46)) h in
+    let j = or_parts (eqb b 42) (eqb b 64 || eqb b 46) i.1 in
+    let l = or_parts (eqb b 64) (eqb b 46) j.1 in
     rw (i.0, k, j.0, l.0, l.1) refl
 
 module _ (s list : Bytes) (left : ℕ) (xs : List ℕ) (x : Standing) (to : ℕ) (q : Passed is_space s x.at to)
     (b : byte_at s to ≡ 47) where
   slash_there : to < length s
   slash_there = byte_there s to 47 refl b
-
-  -- the whitespace is as long as its places say
-  spaces_there : x.at + length q.bytes ≡ to
-  spaces_there = omega (arith, passed_length is_space s x.at to q, q.from)
 
   -- the first `/`
   slash_opens : (c : Ctx) (g : Alt) → run (drop x.at s) (need c g begin [])
@@ -257,7 +249,7 @@ module _ (s list : Bytes) (left : ℕ) (xs : List ℕ) (x : Standing) (to : ℕ)
         ≡ run (drop end s) (need c g (start (at_root q.bytes)) v.bytes)
     root_runs c g =
         slash_opens c g
-        ∙ root_ends (drop (to + 1) s) c g q.bytes (rw (head_drop s (to + 1)) (differs (byte_at s (to + 1)) 47 d))
+        ∙ root_ends (drop (to + 1) s) c g q.bytes (rw (head_drop s (to + 1)) (ne_eqb (byte_at s (to + 1)) 47 d))
         ∙ need_over s (to + 1) end v c g (start (at_root q.bytes))
 
     -- its row
@@ -269,7 +261,8 @@ module _ (s list : Bytes) (left : ℕ) (xs : List ℕ) (x : Standing) (to : ℕ)
     pub leads_root : begins_step (byte_at s end) ≡ true → Leads s list left xs x ys (moved_to y end)
     unfolding path_of rel_after path_names rel_names spell_path spell_rel prefix_of join with_prefix is_begin
     leads_root e =
-        let at : x.at + length (q.bytes ++ (47 ∷ [])) ≡ to + 1 = simp length-append (omega (arith, spaces_there)) in
+        let at : x.at + length (q.bytes ++ (47 ∷ [])) ≡ to + 1 =
+        simp length-append (omega (arith, passed_to is_space s x.at to q)) in
         record {
           lead = start (at_root q.bytes);
           spaces = v.bytes;
@@ -287,7 +280,7 @@ module _ (s list : Bytes) (left : ℕ) (xs : List ℕ) (x : Standing) (to : ℕ)
           };
           denotes = λ t. refl;
           named = λ t. rw at refl;
-          size = λ t. simp length-append (omega (arith, spaces_there));
+          size = λ t. simp length-append (omega (arith, passed_to is_space s x.at to q));
         }
 
     -- `/` alone
@@ -316,7 +309,7 @@ module _ (s list : Bytes) (left : ℕ) (xs : List ℕ) (x : Standing) (to : ℕ)
               tree = root q.bytes;
               spaces = v.bytes;
               size = simp length-append
-                  (omega (arith, spaces_there, passed_length is_space s (to + 1) end v, v.from));
+                  (omega (arith, passed_to is_space s x.at to q, passed_length is_space s (to + 1) end v, v.from));
               made = root_made;
               runs = λ c g i. root_runs c g ∙ root_after (drop end s) c g q.bytes v.bytes
                   (rw (head_drop s end) e) (rw (head_drop s end) v.stops);
@@ -333,7 +326,7 @@ module _ (s list : Bytes) (left : ℕ) (xs : List ℕ) (x : Standing) (to : ℕ)
         unlisted step lead_byte lead_end
     leads_any =
         let at : x.at + length (q.bytes ++ (47 ∷ 47 ∷ [])) ≡ to + 2 =
-        simp length-append (omega (arith, spaces_there)) in
+        simp length-append (omega (arith, passed_to is_space s x.at to q)) in
         let lead = start (at_any q.bytes) in
         record {
           lead = lead;
@@ -355,7 +348,7 @@ module _ (s list : Bytes) (left : ℕ) (xs : List ℕ) (x : Standing) (to : ℕ)
           };
           denotes = λ t. refl;
           named = λ t. rw at refl;
-          size = λ t. simp length-append (omega (arith, spaces_there));
+          size = λ t. simp length-append (omega (arith, passed_to is_space s x.at to q));
         }
 
 -- `/` and `//` after a path
@@ -460,7 +453,7 @@ module _ (s list : Bytes) (left : ℕ) (xs : List ℕ) (x : Standing) (ys : List
         made = made_to x y to a.made;
         runs = λ c g i. slash_pass c g i
             ∙ slash_ends (drop (y.at + 1) s) c g prefix rel a.spaces
-            (rw (head_drop s (y.at + 1)) (differs (byte_at s (y.at + 1)) 47 d))
+            (rw (head_drop s (y.at + 1)) (ne_eqb (byte_at s (y.at + 1)) 47 d))
             ∙ need_over s (y.at + 1) to q c g lead;
         due = λ c g. record {
           plain = λ k. refuse (callable c g lead) k (not_callable c g lead refl);
@@ -505,7 +498,7 @@ module _ (s list : Bytes) (left : ℕ) (xs : List ℕ) (x : Standing) (ys : List
     where
       go : (k : Bool) → eqb (byte_at s (y.at + 1)) 47 ≡ k → Leads s list left xs x zs z
       go true e =
-          let d = eq_byte (byte_at s (y.at + 1)) 47 e in
+          let d = eqb-true (byte_at s (y.at + 1)) 47 e in
           let q = p.two d in
           subst (λ (r : Standing). Leads s list left xs x zs r) (sym q.4)
           (leads_two d q.0 zs q.1 q.2 q.3)
@@ -541,8 +534,8 @@ after_path_lem : (t : Bytes) (c : Ctx) (g : Alt) (l : Lead) (x : LocationStep) (
 unfolding run finish step after_byte after_path only_in_step
 after_path_lem [] c g l x w h k e = refl
 after_path_lem (b ∷ t) c g l x w h k e =
-    let u = or_none (eqb b 40) (eqb b 58 || eqb b 91) e in
-    let v = or_none (eqb b 58) (eqb b 91) u.1 in
+    let u = or_parts (eqb b 40) (eqb b 58 || eqb b 91) e in
+    let v = or_parts (eqb b 58) (eqb b 91) u.1 in
     rw (h, k, v.1, u.0, v.0) refl
 
 pub path_ends : (s list : Bytes) (left : ℕ) (xs : List ℕ) (x : Standing) (ys : List ℕ) (y : Standing)
@@ -634,7 +627,7 @@ module _ (s list : Bytes) (left : ℕ) (xs : List ℕ) (x : Standing) (r : Ready
           (begun_step ys (moved_to y end) record { ok = ok; fits = v.fits; sized = p.sized } v.stops
           (leads_root s list left xs x to q b d ys y end p v e))
       go false e true f =
-          let g = eq_byte (byte_at s end) 47 f in
+          let g = eqb-true (byte_at s end) 47 f in
           from_it (start_of (refused_at end) true false) (root_slash s (moved_to y end) e g)
           (begun_alone ys (refused_at end) (path_second s list left xs x to q b d ys y end p v e g))
       go false e false f =
@@ -658,14 +651,14 @@ module _ (s list : Bytes) (left : ℕ) (xs : List ℕ) (x : Standing) (r : Ready
           (subst (λ (us : List ℕ). Begun s list left xs x us (start_of (moved_to x p.to) false true)) (sym c.0)
           (begun_bare p.to p.passed b))
       go true e false f =
-          let b = eq_byte (byte_at s p.to) 47 e in
+          let b = eqb-true (byte_at s p.to) 47 e in
           let d : byte_at s (p.to + 1) ≡ 47 → ⊥ = λ h. refuse true refl (rw h at f) in
           let c = p.root b d in
           from_it (root_start s (moved_to c.0 c.1)) c.4
           (begun_root p.to p.passed b d ys c.0 c.1 c.2 c.3)
       go true e true f =
-          let b = eq_byte (byte_at s p.to) 47 e in
-          let d = eq_byte (byte_at s (p.to + 1)) 47 f in
+          let b = eqb-true (byte_at s p.to) 47 e in
+          let d = eqb-true (byte_at s (p.to + 1)) 47 f in
           let c = p.any b d in
           let z = moved_to c.1 c.3 in
           let put = c.4 in

@@ -7,6 +7,7 @@ use mathlib.Core.Option.{none, some}
 use mathlib.Core.Logic.{⊎_elim}
 use native.Mathlib.Omega.{arith}
 use native.Mathlib.Numerals.{add-one}
+use Rattle.std.proofs.lemmas.Bool.{eqb-true, ne_eqb, or_cases}
 use lib.Dec.{eqb, eqb_refl, ltb, lt→ltb}
 use lib.ListN.{length, drop, length-append}
 use Rattle.terms.specs.Row.{row}
@@ -16,7 +17,7 @@ use Rattle.grammar.specs.Grammar.{LocationStep, filter, Or, takes_predicate, spe
 use Rattle.grammar.specs.Denotes.{step_of, or_of, step_names, or_names, put_path, put_qual, nest_path}
 use Rattle.grammar.specs.code.Reader.{State, after, Ctx, Open, bracket, Alt, Lead, step, follow, run, bad}
 use Rattle.grammar.specs.code.Reader.{room, room_of, enter, shut, after_byte, paren_byte_next, colon_byte_next}
-use Rattle.grammar.proofs.Basics.{is_true, eq_byte, or_out}
+use Rattle.grammar.proofs.Basics.{is_true}
 use Rattle.std.specs.Prelude.{Ok, Err}
 use Rattle.heads.specs.declared.Head.{Head}
 use Rattle.words.specs.code.Scan.{byte_at, Passed}
@@ -26,7 +27,7 @@ use Rattle.readings.specs.code.Passing.{CloseMet}
 use Rattle.text.specs.code.Readers.{MadeQual, Ready, Reached, PredicateMet, StepRead, StepFails, StepMet, OrMet}
 use Rattle.words.proofs.Scanned.{there}
 use Rattle.heads.proofs.Ran.{on_pass, over}
-use Rattle.heads.proofs.Headed.{differs, byte_there, passed_length, on_fail}
+use Rattle.heads.proofs.Headed.{byte_there, passed_length, on_fail}
 use Rattle.readings.proofs.Built.{refuse, unlisted_append, made_from, made_to, made_join}
 
 -- there is room for one more level
@@ -73,7 +74,7 @@ module _ (s list : Bytes) (left b : ℕ) (xs : List ℕ) (x : Standing) (ys : Li
           sized = record { size = m.reached.sized.size; bound = omega arith };
         };
         read = λ g. refuse false g refl;
-        failed = λ _ o i n. r.runs o i ∙ rw (n r.tree r.spaces (byte_at s y.at) (differs _ b f)) refl;
+        failed = λ _ o i n. r.runs o i ∙ rw (n r.tree r.spaces (byte_at s y.at) (ne_eqb _ b f)) refl;
       }
 
   -- the closing byte is there
@@ -112,7 +113,7 @@ module _ (s list : Bytes) (left b : ℕ) (xs : List ℕ) (x : Standing) (ys : Li
   enclosed = go (eqb (byte_at s y.at) b) refl
     where
       go : (q : Bool) → eqb (byte_at s y.at) b ≡ q → Enclosed s list left b xs x ys z
-      go true f = enclosed_right (eq_byte (byte_at s y.at) b f)
+      go true f = enclosed_right (eqb-true (byte_at s y.at) b f)
       go false f = enclosed_wrong (λ g. refuse (eqb b b) (is_true (eqb b b) (eqb_refl b)) (rw g at f))
 
 -- read_predicate
@@ -308,11 +309,11 @@ module _ (s list : Bytes) (left : ℕ) (filters : Bool) (xs : List ℕ) (x : Sta
       → step (after c g l (a.tree w) a.spaces) (byte_at s y.at) ≡ none
   unfolding only_in_step step after_byte is_space
   refused_byte a ok e c g l w d =
-      ⊎_elim (λ h. let b = eq_byte (byte_at s y.at) 40 h in rw (b, a.paren c g l w d.plain b) refl)
-      (λ h. ⊎_elim (λ h. let b = eq_byte (byte_at s y.at) 58 h in rw (b, a.colon c g l w b) refl)
-      (λ h. let b = eq_byte (byte_at s y.at) 91 h in bracketed b filters refl)
-      (or_out (eqb (byte_at s y.at) 58) (eqb (byte_at s y.at) 91) h))
-      (or_out (eqb (byte_at s y.at) 40) (eqb (byte_at s y.at) 58 || eqb (byte_at s y.at) 91) e)
+      ⊎_elim (λ h. let b = eqb-true (byte_at s y.at) 40 h in rw (b, a.paren c g l w d.plain b) refl)
+      (λ h. ⊎_elim (λ h. let b = eqb-true (byte_at s y.at) 58 h in rw (b, a.colon c g l w b) refl)
+      (λ h. let b = eqb-true (byte_at s y.at) 91 h in bracketed b filters refl)
+      (or_cases (eqb (byte_at s y.at) 58) (eqb (byte_at s y.at) 91) h))
+      (or_cases (eqb (byte_at s y.at) 40) (eqb (byte_at s y.at) 58 || eqb (byte_at s y.at) 91) e)
     where
       bracketed : byte_at s y.at ≡ 91 → (f : Bool) → filters ≡ f
           → step (after c g l (a.tree w) a.spaces) (byte_at s y.at) ≡ none

@@ -1,11 +1,12 @@
 -- One law for each answer of read_text. Assumes nothing.
 use Prim.Native.Nat.{ℕ, suc, ◌-◌, ◌<◌, ◌≤◌, min}
 use mathlib.Core.Path.{◌≡◌, refl, sym, ap, subst, ◌∙◌}
-use mathlib.Core.Bool.{Bool, true, false}
+use mathlib.Core.Bool.{true, false}
 use mathlib.Core.List.{List, []}
 use mathlib.Core.Option.{none, some}
 use native.Mathlib.Omega.{arith}
-use lib.Dec.{leb, leb→le, le→leb}
+use Rattle.std.proofs.lemmas.Bool.{le-leb, lt-leb}
+use lib.Dec.{leb}
 use lib.ListN.{length, drop, length-drop, drop_of_length-le}
 use lib.Seq.{drop-cons}
 use Rattle.xpath.specs.Term as term
@@ -16,7 +17,6 @@ use Rattle.grammar.specs.Denotes.{unlisted, union_names, union_of, put_path, nes
 use Rattle.grammar.specs.code.Reader.{top, initial, union_byte, follow, room, run, outcome, good, bad}
 use Rattle.grammar.specs.Answer.{Reply, reply, Answers}
 use Rattle.grammar.specs.code.ReaderAnswer.{term_answer, names_answer, read_answer, answer}
-use Rattle.grammar.proofs.Basics.{so, is_true}
 use Rattle.grammar.proofs.Answered.{given}
 use Rattle.grammar.proofs.Longer.{answer_longer, refused_stays}
 use Rattle.std.specs.Prelude.{Result, Ok, Err}
@@ -33,16 +33,6 @@ use Rattle.readings.proofs.Built.{refuse, table_count}
 use Rattle.text.proofs.Left.{left_table}
 
 -- tests as facts
-at_most_lem : (m n : ℕ) → m ≤ n → leb m n ≡ true
-at_most_lem m n h = is_true (leb m n) (le→leb m n h)
-
-more_than : (m n : ℕ) → n < m → leb m n ≡ false
-more_than m n h = go (leb m n) refl
-  where
-    go : (b : Bool) → leb m n ≡ b → leb m n ≡ false
-    go true e = absurd (omega (arith, leb→le m n (so (leb m n) e)))
-    go false e = e
-
 module _ (s list : Bytes) (xs : List ℕ) (count : ℕ) (z : Sized xs count) (ys : List ℕ) (y : Standing)
     (m : UnionMet s list 32 xs (nothing_read count) ys y) where
   abbrev held : List Row
@@ -119,13 +109,13 @@ module _ (s list : Bytes) (xs : List ℕ) (count : ℕ) (z : Sized xs count) (ys
         unfolding term_answer
         text_deep i =
             let g : leb (nest_path path) 32 ≡ false =
-            more_than (nest_path path) 32 (omega (arith, i, read.made.nest)) in
+            lt-leb (nest_path path) 32 (omega (arith, i, read.made.nest)) in
             let a : answer list s held ≡ reply 3 0 held = all_listed ∙ rw g refl in
             refused_as 3 0 (λ j. omega (arith, j)) (ap (λ (r : Reply). r.number) a) (ap (λ (r : Reply). r.value) a)
 
         module _ (i : y.nesting ≤ 32) where
           shallow : leb (nest_path path) 32 ≡ true
-          shallow = at_most_lem (nest_path path) 32 (omega (arith, i, read.made.nest))
+          shallow = le-leb (nest_path path) 32 (omega (arith, i, read.made.nest))
 
           -- the rows put are those of the term
           holds : Holds (put_path path held).rows ys y.count y.fits
@@ -136,7 +126,7 @@ module _ (s list : Bytes) (xs : List ℕ) (count : ℕ) (z : Sized xs count) (ys
           unfolding term_answer
           text_full g =
               let k : leb (length (put_path path held).rows) max_rows ≡ false =
-              more_than (length (put_path path held).rows) max_rows (holds.over g) in
+              lt-leb (length (put_path path held).rows) max_rows (holds.over g) in
               let a : answer list s held ≡ reply 11 0 held = all_listed ∙ rw (shallow, k) refl in
               refused_as 11 0 (λ j. omega (arith, j)) (ap (λ (r : Reply). r.number) a)
               (ap (λ (r : Reply). r.value) a)
@@ -150,7 +140,7 @@ module _ (s list : Bytes) (xs : List ℕ) (count : ℕ) (z : Sized xs count) (ys
               let size : length (put_path path held).rows ≡ y.count =
               sym (ap length rows) ∙ table_count ys y.count m.reached.sized in
               let k : leb (length (put_path path held).rows) max_rows ≡ true =
-              at_most_lem (length (put_path path held).rows) max_rows (omega (arith, size, m.reached.sized.bound)) in
+              le-leb (length (put_path path held).rows) max_rows (omega (arith, size, m.reached.sized.bound)) in
               let a : answer list s held ≡ reply 0 (put_path path held).at (put_path path held).rows =
               all_listed ∙ rw (shallow, k) refl in
               record {

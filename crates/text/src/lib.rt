@@ -1,6 +1,7 @@
 // Reads a selector typed as text and puts the rows of its term into a lent table. The readers go from left to right,
-// one byte at a time; each takes where the reading stands and gives where it stands afterwards. A refused reading
-// leaves rows of no use in the table that it works on, which is a copy.
+// one byte at a time; each takes where the reading stands and gives where it stands afterwards. A place is a number,
+// and no rest of the text: a refusal tells the place of the first byte that can't continue, and that of a name that
+// isn't listed. A refused reading leaves rows of no use in the table that it works on, which is a copy.
 #![tactic(auto)]
 
 ghost use Rattle.std.specs.Prelude.{◌≡◌, true, false, min, ◌≤◌, length};
@@ -15,7 +16,7 @@ ghost use Rattle.text.specs.Promises.{TextRead};
 
 use common::Refusal;
 use common::row_kind::RowKind;
-use heads::Opens;
+use heads::{Opens, Selector};
 use readings::{Reading, Start};
 use words::Names;
 use words::bytes::{byte_at, skip};
@@ -24,7 +25,7 @@ use words::bytes::{byte_at, skip};
 const MAX_LEVELS: usize = 32;
 
 // How many numbers a table has.
-const TABLE_SIZE: usize = terms::ROW_WIDTH * terms::MAX_ROWS;
+const TABLE_SIZE: usize = terms::TABLE_NUMBERS;
 
 // A list of fewer bytes is not indexed, nor for a text of fewer.
 const MIN_LIST: usize = 2048;
@@ -34,7 +35,8 @@ const MIN_TEXT: usize = 32;
 const MAX_LIST: usize = 4294967295;
 
 // The row of a text's term, and the table with the rows that it needs, of which the first are held, as many as `count`
-// says. Fixed memory without a heap: no call can fail for want of it.
+// says. Fixed memory without a heap, and no ArrayVec: the table is the session's, which promises of the numbers past
+// its rows that they stay as they were.
 #[derive(Clone, Copy)]
 pub struct TextHeld {
     pub row: u16,
@@ -42,189 +44,217 @@ pub struct TextHeld {
     pub count: usize,
 }
 
-// What is read: the text, and the list of its names. What its methods ask of a reading, `Ready`, is no ghost field: it
-// is of the reading and the table together, and each method changes both.
-#[derive(Clone, Copy)]
-struct Reader<'a> {
-    s: &'a [u8],
-    names: Names<'a>,
+// What the readers ask of a reading, `Ready`, is no ghost field of it: it is of the reading, the text and the table
+// together, and each reader changes the table. Selector and rows are no struct with the readers as its methods: these
+// would have it by `&mut`, and each contract would have to say that the selector stays. The reading is another at each
+// call, and the depth in each predicate and group.
+
+// A predicate whose `[` is where `from`, the step so far, ends.
+#[cycle(expression)]
+fn read_predicate(
+    selector: Selector<'_>,
+    rows: &mut [u16],
+    from: Reading,
+    left: usize,
+) -> Result<Reading, usize>
+    requires ready { Ready selector.s.now rows.old (stands from) }
+    requires at_value { byte_at selector.s.now from.at ≡ open_bracket }
+    ensures { PredicateMet selector.entry.s.now selector.entry.names.list.now
+        left rows.old (stands from) rows.new (ended result) }
+{
+    if left == 0 {
+        return Err(from.at);
+    }
+    let at = from.at + 1;
+    let inner = read_or(selector, rows, Reading { at, ..from }, left - 1)?;
+    let shut = readings::close(selector.s, inner, b']')?;
+    Ok(readings::join(rows, RowKind::Filter.into(), from, shut))
 }
 
-impl Reader<'_> {
-    // A predicate whose `[` is where `from`, the step so far, ends.
-    #[cycle(expression)]
-    fn read_predicate(self, rows: &mut [u16], from: Reading, left: usize) -> Result<Reading, usize>
-        requires ready { Ready self.s.now rows.old (stands from) }
-        requires at_value { byte_at self.s.now from.at ≡ open_bracket }
-        ensures { PredicateMet self.entry.s.now self.entry.names.list.now
-            left rows.old (stands from) rows.new (ended result) }
-    {
-        if left == 0 {
-            return Err(from.at);
-        }
-        let at = from.at + 1;
-        let inner = self.read_or(rows, Reading { at, ..from }, left - 1)?;
-        let shut = readings::close(self.s, inner, b']')?;
-        Ok(readings::join(rows, RowKind::Filter.into(), from, shut))
+// A step that begins at a place without whitespace: its head and predicates.
+#[cycle(expression)]
+fn read_step(
+    selector: Selector<'_>,
+    rows: &mut [u16],
+    from: Reading,
+    left: usize,
+) -> Result<Reading, usize>
+    requires ready { Ready selector.s.now rows.old (stands from) }
+    requires at_value { is_space (byte_at selector.s.now from.at) ≡ false }
+    ensures { StepMet selector.entry.s.now selector.entry.names.list.now
+        left rows.old (stands from) rows.new (ended result) }
+{
+    let head = selector.read_head(from.at)?;
+    let mut got = readings::put_head(rows, from, head);
+    if !head.filters {
+        return readings::step_end(selector.s, got);
     }
+    // By `while`: where the next predicate begins is known only when this one is read.
+    while byte_at(selector.s, got.at) == b'[' {
+        got = read_predicate(selector, rows, got, left)?;
+    }
+    readings::step_end(selector.s, got)
+}
 
-    // A step that begins at a place without whitespace: its head and predicates.
-    #[cycle(expression)]
-    fn read_step(self, rows: &mut [u16], from: Reading, left: usize) -> Result<Reading, usize>
-        requires ready { Ready self.s.now rows.old (stands from) }
-        requires at_value { is_space (byte_at self.s.now from.at) ≡ false }
-        ensures { StepMet self.entry.s.now self.entry.names.list.now
-            left rows.old (stands from) rows.new (ended result) }
-    {
-        let head = heads::read_head(self.s, self.names, from.at)?;
-        let mut got = readings::put_head(rows, from, head);
-        if !head.filters {
-            return readings::step_end(self.s, got);
+// Steps joined by `/` and `//`, which may stand in front of them too; or `/` alone.
+#[cycle(expression)]
+fn read_path(
+    selector: Selector<'_>,
+    rows: &mut [u16],
+    from: Reading,
+    left: usize,
+) -> Result<Reading, usize>
+    requires ready { Ready selector.s.now rows.old (stands from) }
+    ensures { PathMet selector.entry.s.now selector.entry.names.list.now
+        left rows.old (stands from) rows.new (ended result) }
+{
+    let mut got = match readings::begin_path(selector.s, rows, from)? {
+        Start::Root(root) => {
+            return Ok(root);
         }
-        // By `while`: where the next predicate begins is known only when this one is read.
-        while byte_at(self.s, got.at) == b'[' {
-            got = self.read_predicate(rows, got, left)?;
+        Start::First(lead) => read_step(selector, rows, lead, left)?,
+        Start::Below(lead) => {
+            let step = read_step(selector, rows, lead, left)?;
+            readings::join(rows, RowKind::Composition.into(), lead, step)
         }
-        readings::step_end(self.s, got)
+    };
+    // By `while`: where the next step begins is known only when this one is read.
+    while byte_at(selector.s, got.at) == b'/' {
+        let before = readings::pass_slash(selector.s, rows, got);
+        let step = read_step(selector, rows, before, left)?;
+        got = readings::join(rows, RowKind::Composition.into(), before, step);
     }
+    Ok(got)
+}
 
-    // Steps joined by `/` and `//`, which may stand in front of them too; or `/` alone.
-    #[cycle(expression)]
-    fn read_path(self, rows: &mut [u16], from: Reading, left: usize) -> Result<Reading, usize>
-        requires ready { Ready self.s.now rows.old (stands from) }
-        ensures { PathMet self.entry.s.now self.entry.names.list.now
-            left rows.old (stands from) rows.new (ended result) }
-    {
-        let mut got = match readings::begin_path(self.s, rows, from)? {
-            Start::Root(root) => {
-                return Ok(root);
-            }
-            Start::First(lead) => self.read_step(rows, lead, left)?,
-            Start::Below(lead) => {
-                let step = self.read_step(rows, lead, left)?;
-                readings::join(rows, RowKind::Composition.into(), lead, step)
-            }
-        };
-        // By `while`: where the next step begins is known only when this one is read.
-        while byte_at(self.s, got.at) == b'/' {
-            let before = readings::pass_slash(self.s, rows, got);
-            let step = self.read_step(rows, before, left)?;
-            got = readings::join(rows, RowKind::Composition.into(), before, step);
-        }
-        Ok(got)
+// Paths joined by `|`. `read_and` and `read_or` are no one function with this: it would take the byte, the word, the
+// kind and the reader of a part, for a loop of five lines, and the trees that each promises are of three types.
+#[cycle(expression)]
+fn read_union(
+    selector: Selector<'_>,
+    rows: &mut [u16],
+    from: Reading,
+    left: usize,
+) -> Result<Reading, usize>
+    requires ready { Ready selector.s.now rows.old (stands from) }
+    ensures { UnionMet selector.entry.s.now selector.entry.names.list.now
+        left rows.old (stands from) rows.new (ended result) }
+{
+    let mut got = read_path(selector, rows, from, left)?;
+    // By `while`: where the next path begins is known only when this one is read.
+    while byte_at(selector.s, got.at) == b'|' {
+        let at = got.at + 1;
+        let path = read_path(selector, rows, Reading { at, ..got }, left)?;
+        got = readings::join(rows, RowKind::Union.into(), got, path);
     }
+    Ok(got)
+}
 
-    // Paths joined by `|`. `read_and` and `read_or` are no one function with this: they share a loop of a few lines,
-    // and each promises the tree of its own rule.
-    #[cycle(expression)]
-    fn read_union(self, rows: &mut [u16], from: Reading, left: usize) -> Result<Reading, usize>
-        requires ready { Ready self.s.now rows.old (stands from) }
-        ensures { UnionMet self.entry.s.now self.entry.names.list.now
-            left rows.old (stands from) rows.new (ended result) }
-    {
-        let mut got = self.read_path(rows, from, left)?;
-        // By `while`: where the next path begins is known only when this one is read.
-        while byte_at(self.s, got.at) == b'|' {
-            let at = got.at + 1;
-            let path = self.read_path(rows, Reading { at, ..got }, left)?;
-            got = readings::join(rows, RowKind::Union.into(), got, path);
+// An operand of `and` or `or`: paths, of which there must be some; an expression in `( )` or `not ( )`;
+// `true ( )` or `false ( )`.
+#[cycle(expression)]
+fn read_operand(
+    selector: Selector<'_>,
+    rows: &mut [u16],
+    from: Reading,
+    left: usize,
+) -> Result<Reading, usize>
+    requires ready { Ready selector.s.now rows.old (stands from) }
+    ensures { UnaryMet selector.entry.s.now selector.entry.names.list.now
+        left rows.old (stands from) rows.new (ended result) }
+{
+    let operand = heads::operand_at(selector.s, skip(selector.s, from.at));
+    let paren = operand.paren;
+    // The place behind `paren` in each arm: where paths open, `operand_at` promises no bound of `paren`, so that before
+    // the match `paren + 1` might not fit.
+    match operand.opens {
+        Opens::Paths => {
+            let paths = read_union(selector, rows, from, left)?;
+            return Ok(readings::some_of(rows, paths));
         }
-        Ok(got)
+        Opens::True => {
+            let at = paren + 1;
+            return readings::constant(
+                selector.s,
+                rows,
+                Reading { at, ..from },
+                RowKind::True.into(),
+            );
+        }
+        Opens::False => {
+            let at = paren + 1;
+            return readings::constant(
+                selector.s,
+                rows,
+                Reading { at, ..from },
+                RowKind::False.into(),
+            );
+        }
+        // Both go on below: what they hold is read alike, and in two arms it would be read in two places.
+        Opens::Group | Opens::Not => {}
     }
+    if left == 0 {
+        return Err(paren);
+    }
+    let at = paren + 1;
+    let inner = read_or(selector, rows, Reading { at, ..from }, left - 1)?;
+    let shut = readings::close(selector.s, inner, b')')?;
+    Ok(readings::negate_if(rows, operand.opens, shut))
+}
 
-    // An operand of `and` or `or`: paths, of which there must be some; an expression in `( )` or `not ( )`;
-    // `true ( )` or `false ( )`.
-    #[cycle(expression)]
-    fn read_operand(self, rows: &mut [u16], from: Reading, left: usize) -> Result<Reading, usize>
-        requires ready { Ready self.s.now rows.old (stands from) }
-        ensures { UnaryMet self.entry.s.now self.entry.names.list.now
-            left rows.old (stands from) rows.new (ended result) }
-    {
-        let operand = heads::operand_at(self.s, skip(self.s, from.at));
-        let paren = operand.paren;
-        match operand.opens {
-            Opens::Paths => {
-                let paths = self.read_union(rows, from, left)?;
-                return Ok(readings::some_of(rows, paths));
-            }
-            Opens::True => {
-                let at = paren + 1;
-                return readings::constant(
-                    self.s,
-                    rows,
-                    Reading { at, ..from },
-                    RowKind::True.into(),
-                );
-            }
-            Opens::False => {
-                let at = paren + 1;
-                return readings::constant(
-                    self.s,
-                    rows,
-                    Reading { at, ..from },
-                    RowKind::False.into(),
-                );
-            }
-            Opens::Group | Opens::Not => {}
-        }
-        if left == 0 {
-            return Err(paren);
-        }
-        let at = paren + 1;
-        let inner = self.read_or(rows, Reading { at, ..from }, left - 1)?;
-        let shut = readings::close(self.s, inner, b')')?;
-        Ok(readings::negate_if(rows, operand.opens, shut))
+// Operands joined by `and`.
+#[cycle(expression)]
+fn read_and(
+    selector: Selector<'_>,
+    rows: &mut [u16],
+    from: Reading,
+    left: usize,
+) -> Result<Reading, usize>
+    requires ready { Ready selector.s.now rows.old (stands from) }
+    ensures { AndMet selector.entry.s.now selector.entry.names.list.now
+        left rows.old (stands from) rows.new (ended result) }
+{
+    let mut got = read_operand(selector, rows, from, left)?;
+    // By `while`: where the next operand begins is known only when this one is read.
+    while byte_at(selector.s, got.at) == b'a' {
+        let word = readings::pass_word(selector.s, got, b"and")?;
+        let right = read_operand(selector, rows, word, left)?;
+        got = readings::join(rows, RowKind::And.into(), got, right);
     }
+    Ok(got)
+}
 
-    // Operands joined by `and`.
-    #[cycle(expression)]
-    fn read_and(self, rows: &mut [u16], from: Reading, left: usize) -> Result<Reading, usize>
-        requires ready { Ready self.s.now rows.old (stands from) }
-        ensures { AndMet self.entry.s.now self.entry.names.list.now
-            left rows.old (stands from) rows.new (ended result) }
-    {
-        let mut got = self.read_operand(rows, from, left)?;
-        // By `while`: where the next operand begins is known only when this one is read.
-        while byte_at(self.s, got.at) == b'a' {
-            let word = readings::pass_word(self.s, got, b"and")?;
-            let right = self.read_operand(rows, word, left)?;
-            got = readings::join(rows, RowKind::And.into(), got, right);
-        }
-        Ok(got)
+// Those joined by `or`.
+#[cycle(expression)]
+fn read_or(
+    selector: Selector<'_>,
+    rows: &mut [u16],
+    from: Reading,
+    left: usize,
+) -> Result<Reading, usize>
+    requires ready { Ready selector.s.now rows.old (stands from) }
+    ensures { OrMet selector.entry.s.now selector.entry.names.list.now
+        left rows.old (stands from) rows.new (ended result) }
+{
+    let mut got = read_and(selector, rows, from, left)?;
+    // By `while`: where the next operand begins is known only when this one is read.
+    while byte_at(selector.s, got.at) == b'o' {
+        let word = readings::pass_word(selector.s, got, b"or")?;
+        let right = read_and(selector, rows, word, left)?;
+        got = readings::join(rows, RowKind::Or.into(), got, right);
     }
-
-    // Those joined by `or`.
-    #[cycle(expression)]
-    fn read_or(self, rows: &mut [u16], from: Reading, left: usize) -> Result<Reading, usize>
-        requires ready { Ready self.s.now rows.old (stands from) }
-        ensures { OrMet self.entry.s.now self.entry.names.list.now left rows.old (stands from) rows.new (ended result) }
-    {
-        let mut got = self.read_and(rows, from, left)?;
-        // By `while`: where the next operand begins is known only when this one is read.
-        while byte_at(self.s, got.at) == b'o' {
-            let word = readings::pass_word(self.s, got, b"or")?;
-            let right = self.read_and(rows, word, left)?;
-            got = readings::join(rows, RowKind::Or.into(), got, right);
-        }
-        Ok(got)
-    }
+    Ok(got)
 }
 
 // The reading of the whole text, where the first rows of the table are held, as many as `count` says. A refused text
 // may leave other rows after them.
-fn read_in(s: &[u8], names: Names<'_>, rows: &mut [u16], count: usize) -> Result<Reading, Refusal>
+fn read_in(selector: Selector<'_>, rows: &mut [u16], count: usize) -> Result<Reading, Refusal>
     requires sized { Sized rows.old count }
-    ensures { TextMet s.now names.entry.list.now rows.old count rows.new (end_of count result) }
+    ensures { TextMet selector.entry.s.now selector.entry.names.list.now rows.old count rows.new (end_of count result) }
 {
     let start = readings::nothing_read(count);
-    let reader = Reader { s, names };
-    let got = match reader.read_union(rows, start, MAX_LEVELS) {
-        Ok(got) => got,
-        Err(at) => {
-            return Err(Refusal::OutsideGrammar(at));
-        }
-    };
-    if got.at < s.len() {
+    let got = read_union(selector, rows, start, MAX_LEVELS).map_err(Refusal::OutsideGrammar)?;
+    if got.at < selector.s.len() {
         return Err(Refusal::OutsideGrammar(got.at));
     }
     if let Some(place) = got.missing {
@@ -247,8 +277,14 @@ fn is_indexed(s: &[u8], names: &[u8]) -> bool
     MIN_TEXT <= s.len() && MIN_LIST <= names.len() && names.len() <= MAX_LIST
 }
 
-// The same reading, by an index of the list.
-fn read_indexed(s: &[u8], names: &[u8], rows: &mut [u16], count: usize) -> Result<Reading, Refusal>
+// The same reading, by an index of the list. Text and list are no `Selector` up to here: that has the index, which is
+// made here. Rows and count are two, since the rows are lent and the count goes into the reading.
+fn read_indexed<'a>(
+    s: &'a [u8],
+    names: &'a [u8],
+    rows: &mut [u16],
+    count: usize,
+) -> Result<Reading, Refusal>
     requires sized { Sized rows.old count }
     requires names_len_bound { length names.now ≤ max_length }
     ensures { TextMet s.now names.now rows.old count rows.new (end_of count result) }
@@ -260,11 +296,16 @@ fn read_indexed(s: &[u8], names: &[u8], rows: &mut [u16], count: usize) -> Resul
         index: &index[..size],
         others,
     };
-    read_in(s, names, rows, count)
+    read_in(Selector { s, names }, rows, count)
 }
 
 // The same reading, with an index or without.
-fn read_listed(s: &[u8], names: &[u8], rows: &mut [u16], count: usize) -> Result<Reading, Refusal>
+fn read_listed<'a>(
+    s: &'a [u8],
+    names: &'a [u8],
+    rows: &mut [u16],
+    count: usize,
+) -> Result<Reading, Refusal>
     requires { Sized rows.old count }
     ensures { TextMet s.now names.now rows.old count rows.new (end_of count result) }
 {
@@ -276,7 +317,7 @@ fn read_listed(s: &[u8], names: &[u8], rows: &mut [u16], count: usize) -> Result
         index: &[],
         others: 0,
     };
-    read_in(s, names, rows, count)
+    read_in(Selector { s, names }, rows, count)
 }
 
 // The reading of the text `s` with the lent list of names, where the first rows of the table are held, as many as

@@ -1,49 +1,69 @@
 -- What a line that is read tells of the line that ends the run. Assumes nothing.
-use Prim.Native.Nat.{ℕ, ◌+◌, ◌≤◌, ◌<◌}
+use Prim.Native.Nat.{ℕ, ◌+◌}
 use mathlib.Core.Path.{◌≡◌, refl, sym, ap, ◌∙◌}
 use mathlib.Core.Bool.{Bool, true, false, cond}
 use mathlib.Core.List.{List, [], ◌∷◌}
-use mathlib.Core.Option.{none}
-use lib.ListN.{length, drop}
+use Rattle.std.specs.Prelude.{Option as Optional, Some, None, MatchOption}
+use Rattle.std.specs.Bool.{then_some}
 use Rattle.lines.specs.Line.{Line, lines}
 use Rattle.lines.specs.code.NumbersRead.{first_parts}
-use Rattle.lines.proofs.Cutting.{no_lines, some_line}
 use Rattle.script.specs.declared.CallLine.{CallLine}
 use Rattle.script.specs.Command.{command_of}
-use Rattle.script.specs.code.CommandRead.{written_command, CallMet}
+use Rattle.script.specs.code.CommandRead.{written_command, CallMet, CallRead}
 use Rattle.transcript.specs.declared.Style.{Style}
 use Rattle.transcript.specs.Transcript.{word_taken, is_taken, ending_line}
 
-by_first_line : (style : Style) (n : ℕ) (ls : List Line) → ¬ (ls ≡ [])
-    → ending_line style n ls ≡ cond (is_taken style (first_parts command_of ls))
-    (ending_line style (n + 1) (drop 1 ls)) n
-unfolding ending_line first_parts
-by_first_line style n [] full = absurd (full refl)
-by_first_line style n (l ∷ ls) full = refl
-
-pub no_line_left : (style : Style) (n : ℕ) (xs : List ℕ) (at : ℕ) → length xs ≤ at
-    → 0 ≡ ending_line style n (lines (drop at xs))
+pub no_line_left : (style : Style) (n : ℕ) (ls : List Line) → ls ≡ [] → ending_line style n ls ≡ 0
 unfolding ending_line
-no_line_left style n xs at h = rw (no_lines xs at h)
+no_line_left style n ls e = rw e refl
 
-module _ (style : Style) (n : ℕ) (xs : List ℕ) (at : ℕ) (inside : at < length xs) where
-  -- a line that is no call
-  pub no_call_ends : none ≡ first_parts command_of (lines (drop at xs)) → n ≡ ending_line style n (lines (drop at xs))
-  no_call_ends e =
-      sym (by_first_line style n _ (some_line xs at inside)
-      ∙ ap (λ o. cond (is_taken style o) (ending_line style (n + 1) (drop 1 (lines (drop at xs)))) n) (sym e))
+-- line n, the first of the lines ls, is all that the piece has
+module _ (style : Style) (n : ℕ) (ls later : List Line) (piece : List ℕ) (l : Line) (alone : lines piece ≡ l ∷ [])
+    (there : ls ≡ l ∷ later)
+  where
+    first : ending_line style n ls
+        ≡ cond (is_taken style (first_parts command_of (lines piece))) (ending_line style (n + 1) later) n
+    unfolding ending_line first_parts
+    first =
+        ap (ending_line style n) there
+        ∙ ap (λ ms. cond (is_taken style (first_parts command_of ms)) (ending_line style (n + 1) later) n) (sym alone)
 
-  module _ (r : CallLine) (m : CallMet command_of xs at r) (taken : Bool)
-      (told : taken ≡ word_taken style (written_command r.command).word)
-    where
-      first_taken : is_taken style (first_parts command_of (lines (drop at xs))) ≡ taken
-      first_taken = ap (is_taken style) (sym m.line) ∙ sym told
+    -- what is read of it is passed on where the style takes it
+    module _ (o q : Optional CallLine) (read : CallRead command_of piece 0 o) (W : CallLine → Bool → Type 0)
+        (passed_on : MatchOption o (q ≡ None) (λ r. (b : Bool) × W r b × (q ≡ then_some b r)))
+        (told : (r : CallLine) (b : Bool) → W r b → b ≡ word_taken style (written_command r.command).word)
+      where
+        by_read : (r : CallLine) (b : Bool) → W r b → CallMet command_of piece 0 r
+            → ending_line style n ls ≡ cond b (ending_line style (n + 1) later) n
+        by_read r b w m =
+            first ∙ ap (λ o. cond (is_taken style o) (ending_line style (n + 1) later) n) (sym m.line)
+            ∙ ap (λ b. cond b (ending_line style (n + 1) later) n) (sym (told r b w))
 
-      pub line_ends : taken ≡ false → n ≡ ending_line style n (lines (drop at xs))
-      line_ends e = sym (by_first_line style n _ (some_line xs at inside) ∙ rw (first_taken, e))
+        pub line_ends : q ≡ None → ending_line style n ls ≡ n
+        line_ends = by_option o read passed_on
+          where
+            by_taken : (r : CallLine) (b : Bool) → W r b → CallMet command_of piece 0 r → q ≡ then_some b r
+                → q ≡ None → ending_line style n ls ≡ n
+            by_taken r true w m e gone = cc
+            by_taken r false w m e gone = by_read r false w m
 
-      pub line_passed : taken ≡ true
-          → ending_line style n (lines (drop at xs)) ≡ ending_line style (n + 1) (lines (drop r.next xs))
-      line_passed e =
-          by_first_line style n _ (some_line xs at inside)
-          ∙ rw (first_taken, e) (ap (ending_line style (n + 1)) (sym m.rest))
+            by_option : (p : Optional CallLine) → CallRead command_of piece 0 p
+                → MatchOption p (q ≡ None) (λ r. (b : Bool) × W r b × (q ≡ then_some b r)) → q ≡ None
+                → ending_line style n ls ≡ n
+            by_option None m h gone =
+                first ∙ ap (λ o. cond (is_taken style o) (ending_line style (n + 1) later) n) (sym m)
+            by_option (Some r) m h gone = by_taken r h.0 h.1 m h.2 gone
+
+        pub line_passed : (x : CallLine) → q ≡ Some x → ending_line style n ls ≡ ending_line style (n + 1) later
+        line_passed x = by_option o read passed_on
+          where
+            by_taken : (r : CallLine) (b : Bool) → W r b → CallMet command_of piece 0 r → q ≡ then_some b r
+                → q ≡ Some x → ending_line style n ls ≡ ending_line style (n + 1) later
+            by_taken r true w m e is = by_read r true w m
+            by_taken r false w m e is = cc
+
+            by_option : (p : Optional CallLine) → CallRead command_of piece 0 p
+                → MatchOption p (q ≡ None) (λ r. (b : Bool) × W r b × (q ≡ then_some b r)) → q ≡ Some x
+                → ending_line style n ls ≡ ending_line style (n + 1) later
+            by_option None m h is = cc
+            by_option (Some r) m h is = by_taken r h.0 h.1 m h.2 is

@@ -2,11 +2,13 @@
 #![tactic(auto)]
 
 ghost use Rattle.std.specs.Prelude.{◌≡◌};
+ghost use Rattle.std.specs.Result.{result_err};
 ghost use Rattle.terms.specs.code.RowTypes.{PlaceIs};
 ghost use Rattle.lines.specs.Line.{lines};
 ghost use Rattle.script.specs.code.CommandRead.{written_command};
 ghost use Rattle.transcript.specs.Transcript.{word_taken, ending_line};
 
+use answer_lines::AnswerLine;
 use arrayvec::ArrayString;
 use calls::{Answer, LineRefusal};
 use common::Refusal;
@@ -35,27 +37,24 @@ pub enum Style {
 // A line that is printed; what no longer fits is left out.
 type Line = ArrayString<LINE>;
 
-// Puts a number behind what the line has, and a space before it, but none at the line's start.
-fn put_number(line: &mut Line, n: usize) {
+// Puts a node behind what the line has, and a space before it, but none at the line's start.
+fn put_node(line: &mut Line, node: usize) {
     let _ = if line.is_empty() {
-        write!(line, "{n}")
+        write!(line, "{node}")
     } else {
-        write!(line, " {n}")
+        write!(line, " {node}")
     };
 }
 
 // An answer in a style: nothing where it is an accepted one that `Nodes` leaves out.
 fn answer_line<A: Answer + Copy>(style: Style, answer: A) -> Line {
     let mut line = Line::new();
-    let number = answer.number();
-    if style == Style::Nodes && number == 0 {
-        return line;
-    }
-    if style == Style::Nodes {
-        let _ = line.try_push_str("refused");
-    }
-    put_number(&mut line, usize::from(number));
-    put_number(&mut line, answer.value());
+    let told = AnswerLine::of(answer);
+    let _ = match style {
+        Style::Answers => write!(line, "{told}"),
+        Style::Nodes if told.number == 0 => Ok(()),
+        Style::Nodes => write!(line, "refused {told}"),
+    };
     line
 }
 
@@ -87,9 +86,12 @@ fn print_listing(listing: Records) {
     let size = listing.size();
     let mut line = answer_line::<Result<usize, Refusal>>(Style::Answers, Ok(size));
     for record in listing.held.iter().take(size) {
-        for n in [record.series, record.edition, record.row, record.step] {
-            put_number(&mut line, usize::from(n));
-        }
+        // By its fields: a record is printed here alone, and a Display of it would name the same four.
+        let _ = write!(
+            line,
+            " {} {} {} {}",
+            record.series, record.edition, record.row, record.step
+        );
     }
     write_line(line);
 }
@@ -152,16 +154,12 @@ impl<'a> State<'a> {
     fn make(self, command: Command, rest: &'a [u8]) -> State<'a> {
         let r = self.register;
         match command {
-            Command::Term(kind, a, b, c) => self.after(r.term(kind, a, b, c)),
-            Command::Step(rule, left, right, first, second) => {
-                self.after(r.step(rule, left, right, first, second))
-            }
+            Command::Term(row) => self.after(r.term(row)),
+            Command::Step(step) => self.after(r.step(step)),
             Command::Point(name) => self.after(r.point(name)),
             Command::Return(name) => self.after(r.return_to(name)),
             Command::Text => self.text(rest),
-            Command::Record(series, edition, row, step) => {
-                self.after(r.record(series, edition, row, step))
-            }
+            Command::Record(record) => self.after(r.record(record)),
             Command::Release(place) => self.after(r.release(place)),
             Command::Document(document) => State { document, ..self },
             Command::Old(old) => State { old, ..self },
@@ -192,7 +190,10 @@ impl<'a> State<'a> {
         let style = self.style;
         match command {
             Command::Select(row, context, limit, marks) => self.select(row, context, limit, marks),
-            Command::Replace(by) => print(style, r.replace(&self.old, &self.new, &by)),
+            Command::Replace(by) => {
+                let answer = r.replace(self.old.as_slice(), self.new.as_slice(), by.as_slice());
+                print(style, answer)
+            }
             Command::Write(room) => write(r, room),
             Command::Order(other, row) => print(style, self.other.order(other, r, row)),
             Command::BundleOrder => print(style, self.other.bundle_order(r)),
@@ -208,14 +209,18 @@ impl<'a> State<'a> {
     fn select(&self, row: u16, context: u16, limit: u32, size: usize) {
         let mut marks = [FILL; script::MAX_MARKS];
         let size = size.min(script::MAX_MARKS);
-        let answer = self
-            .register
-            .select(row, &self.document, context, limit, &mut marks[..size]);
+        let answer = self.register.select(
+            row,
+            self.document.as_slice(),
+            context,
+            limit,
+            &mut marks[..size],
+        );
         let mut line = answer_line(self.style, answer);
         if answer.is_ok() {
             for (node, mark) in marks.iter().enumerate() {
                 if *mark == 1 {
-                    put_number(&mut line, node);
+                    put_node(&mut line, node);
                 }
             }
         }
@@ -239,27 +244,20 @@ fn is_taken(command: &Command, style: Style) -> bool
     }
 }
 
-// Makes the calls of a script, a call a line, from a fresh register, and prints their answers. Gives the number of the
-// line that ended it, the first that is not taken, if one is not. What is printed is beyond contracts, since the C
-// library's write is.
-pub fn run(input: &[u8], style: Style) -> Option<usize>
-    ensures { PlaceIs result (ending_line style 1 (lines input.now)) }
+// Makes the calls of a script, a call a line, from a fresh register, and prints their answers. The error is the number
+// of the line that ends it, the first that is not taken. What is printed is beyond contracts, since the C library's
+// write is.
+pub fn run(input: &[u8], style: Style) -> Result<(), usize>
+    ensures { PlaceIs (result_err result) (ending_line style 1 (lines input.now)) }
 {
     let mut state = State::new(style);
-    let mut at = 0;
-    let mut line: usize = 0;
-    // By place: where the next line starts is known only when this one is read.
-    while at < input.len() {
-        line += 1;
-        let read = match script::call_at(input, at) {
-            Some(read) if is_taken(&read.command, style) => read,
-            _ => return Some(line),
-        };
-        let rest = script::rest_at(input, at);
-        at = read.next;
-        state = state.make(read.command, rest);
+    for (i, line) in input.split_inclusive(|b| *b == lines::NEWLINE).enumerate() {
+        let read = script::call_at(line, 0)
+            .filter(|read| is_taken(&read.command, style))
+            .ok_or(i + 1)?;
+        state = state.make(read.command, script::rest_at(line, 0));
     }
-    None
+    Ok(())
 }
 
 // The same of a script from standard input. A line that is not taken is printed as refusal 10; so is input that is too
@@ -272,7 +270,7 @@ fn run_input(style: Style) {
         print_wrong_form(style, 0);
         return;
     }
-    if let Some(line) = run(&input[..length], style) {
+    if let Err(line) = run(&input[..length], style) {
         print_wrong_form(style, line);
     }
 }

@@ -1,13 +1,14 @@
 -- The index of the lent list: how it is made, and the search in it. Assumes nothing.
-use Prim.Native.Nat.{ℕ, suc, ◌+◌, ◌<◌, ◌≤◌}
+use Prim.Native.Nat.{ℕ, suc, ◌+◌, ◌<◌, ◌≤◌, min}
 use Rattle.std.specs.List.{fold}
 use Rattle.std.specs.Borrow.{Bor}
 use Rattle.std.specs.Prelude.{Option as Maybe, Some, None, MatchOption}
 use mathlib.Core.Path.{◌≡◌, refl, sym, ap, ◌∙◌}
-use mathlib.Core.Bool.{Bool, true, false, cond}
+use mathlib.Core.Bool.{Bool, true, false, cond, false≢true}
 use mathlib.Core.Logic.{◌⊎◌, inl, inr}
 use mathlib.Core.List.{List, [], ◌∷◌}
 use native.Mathlib.Omega.{arith}
+use Rattle.std.proofs.lemmas.Bool.{eqb-true, ne_eqb}
 use lib.Dec.{eqb, leb}
 use lib.ListN.{length, get_or, set, drop, drop_of_length-le}
 use lib.Seq.{drop-cons, drop-drop, get_or-set_same, get_or-set_other}
@@ -22,7 +23,7 @@ use Rattle.words.specs.code.Index.{signed_by, signature_of, line_of, ended}
 use Rattle.words.specs.code.Index.{LineMet, LineAt, LineIndexed, Indexed}
 use Rattle.words.specs.declared.index.IndexedLine.{IndexedLine}
 use Rattle.words.proofs.Named.{first_bytes_lem, first_line}
-use Rattle.words.proofs.Listed.{differs, after_byte_lem, after_end, find_past, numbered_one, next_from, first_hit}
+use Rattle.words.proofs.Listed.{after_byte_lem, after_end, find_past, numbered_one, next_from, first_hit}
 
 cons_at : (t : Bytes) (i : ℕ) → i < length t → drop i t ≡ byte_at t i ∷ drop (i + 1) t
 cons_at t i h =
@@ -44,6 +45,17 @@ pub ended_get : (t : Bytes) (at : ℕ) (o : Maybe (Bor ℕ)) (r : Bool)
 ended_get t at None r l e = e ∙ ends_past t at l
 ended_get t at (Some b) r l e = e ∙ ap (λ (x : ℕ). eqb x 10) l.1 ∙ ends_here t at l.0
 
+-- a place at which a line doesn't end has a byte; where it ends, the byte is a newline, or the list ends
+pub goes_on : (t : Bytes) (at : ℕ) → ended (drop at t) ≡ false → (at < length t) × (byte_at t at ≡ 10 → ⊥)
+goes_on t at e = go (le_or_lt (length t) at)
+  where
+    go : (length t ≤ at) ⊎ (at < length t) → (at < length t) × (byte_at t at ≡ 10 → ⊥)
+    go (inl h) = absurd (false≢true (sym e ∙ sym (ends_past t at h)))
+    go (inr h) = (h, λ q. false≢true (sym e ∙ sym (ends_here t at h) ∙ rw q))
+
+pub newline_there : (t : Bytes) (at : ℕ) → ended (drop at t) ≡ true → at < length t → byte_at t at ≡ 10
+newline_there t at e h = eqb-true (byte_at t at) 10 (ends_here t at h ∙ e)
+
 -- pass_line: what is left of the line that begins at `at`, from i on, where the bytes before i have a signature
 pub record LineLeft (list : Bytes) (at i signature : ℕ) : Type 0 where
   pub rest : drop 1 (lines (drop i list)) ≡ drop 1 (lines (drop at list))
@@ -54,7 +66,7 @@ module _ (list : Bytes) (at i h : ℕ) (p : LineLeft list at i h) where
       → LineLeft list at (i + 1) (signed_by h (byte_at list i))
   unfolding line_of signature_of
   left_more l e =
-      let b = differs (byte_at list i) 10 e in
+      let b = ne_eqb (byte_at list i) 10 e in
       let q : signature_of h (line_of (drop i list))
       ≡ signature_of (signed_by h (byte_at list i)) (line_of (drop (i + 1) list)) = rw (cons_at list i l, b) refl in
       record {
@@ -63,7 +75,7 @@ module _ (list : Bytes) (at i h : ℕ) (p : LineLeft list at i h) where
         signed = sym q ∙ p.signed;
       }
 
-  pub left_ends : i < length list → byte_at list i ≡ 10 → at ≤ i → LineMet list at (i + 1) h
+  left_ends : i < length list → byte_at list i ≡ 10 → at ≤ i → LineMet list at (i + 1) h
   unfolding line_of signature_of
   left_ends l e f =
       let b : eqb (byte_at list i) 10 ≡ true = rw e refl in
@@ -76,7 +88,7 @@ module _ (list : Bytes) (at i h : ℕ) (p : LineLeft list at i h) where
         signed = sym q ∙ p.signed;
       }
 
-  pub left_none : length list ≤ i → at < length list → LineMet list at (length list) h
+  left_none : length list ≤ i → at < length list → LineMet list at (length list) h
   unfolding lines line_of signature_of
   left_none l f =
       let none = drop_of_length-le list {i = i} l in
@@ -88,6 +100,14 @@ module _ (list : Bytes) (at i h : ℕ) (p : LineLeft list at i h) where
             ∙ sym (ap (λ (t : Bytes). drop 1 (lines t)) none) ∙ p.rest;
         signed = sym q ∙ p.signed;
       }
+
+  pub line_left : ended (drop i list) ≡ true → at ≤ i → at < length list → LineMet list at (min (length list) (i + 1)) h
+  line_left e f g = go (le_or_lt (length list) i)
+    where
+      go : (length list ≤ i) ⊎ (i < length list) → LineMet list at (min (length list) (i + 1)) h
+      go (inl l) = let z : min (length list) (i + 1) ≡ length list = omega arith in rw z (left_none l g)
+      go (inr l) = let z : min (length list) (i + 1) ≡ i + 1 = omega (arith, l) in
+          rw z (left_ends l (newline_there list i e l) f)
 
 -- signature: a fold over the bytes
 pub signed_all : (t : Bytes) (h : ℕ) → fold (λ (x b : ℕ). signed_by x b) h t ≡ signature_of h t
@@ -129,9 +149,8 @@ unindexed list =
       rest = record { rest = refl; fits = omega arith; few = omega arith };
     }
 
--- is_indexed_line
+-- a line that is the word has its signature
 module _ (list n : Bytes) (k : ℕ) (l : IndexedLine) (x : LineIndexed list k l) where
-  -- a line that is the word has its signature
   pub line_unlike : is_word n ≡ true → (sought : ℕ) → sought ≡ signature_of 0 n → (l.signature ≡ sought → ⊥)
       → false ≡ first_line_is n (drop k (lines list))
   line_unlike w sought e h = sym (ap (first_line_is n) (sym x.place.rest) ∙ go (first_line_is n (lines t)) refl)

@@ -5,25 +5,21 @@ use mathlib.Core.Bool.{Bool, true, false, cond, ◌&&◌, ◌||◌}
 use mathlib.Core.List.{List, [], ◌∷◌}
 use mathlib.Core.Option.{Option, none, some}
 use native.Mathlib.Omega.{arith}
+use Rattle.std.proofs.lemmas.Bool.{and_from, and_parts, eqb-true, false≢true, or_parts}
+use Rattle.std.specs.Prelude.{None, Result, Ok, Err, MatchResult}
+use Rattle.std.specs.Result.{result_ok}
 use lib.Dec.{eqb, leb}
 use lib.ListN.{length, get_or, drop, drop_of_length-le}
 use lib.Seq.{drop-cons, drop-drop, get_or-drop}
+use Rattle.common.proofs.Tests.{at_most_one}
 use Rattle.lines.specs.Line.{Line, lines, in_first_line}
 use Rattle.lines.specs.code.NumbersRead.{starts_with}
 use Rattle.grammar.specs.Bytes.{Bytes, is_word}
 use Rattle.grammar.specs.Words.{find, next, bytes_of, numbered, number_of}
-use Rattle.grammar.proofs.Basics.{never, and_out, and_in, eq_byte}
 use Rattle.words.specs.code.Scan.{byte_at}
 use Rattle.words.specs.code.Names.{first_line_is, numbered_from, LinesPassed, Sought, Searched}
 use Rattle.words.specs.code.Index.{ended}
 use Rattle.words.proofs.Named.{line_is}
-
-pub differs : (b c : ℕ) → (b ≡ c → ⊥) → eqb b c ≡ false
-differs b c h = go (eqb b c) refl
-  where
-    go : (x : Bool) → eqb b c ≡ x → eqb b c ≡ false
-    go true e = absurd (h (eq_byte b c e))
-    go false e = e
 
 -- the lines after the first, one byte on
 pub after_byte_lem : (b : ℕ) (t : Bytes) → eqb b 10 ≡ false → drop 1 (lines (b ∷ t)) ≡ drop 1 (lines t)
@@ -40,7 +36,7 @@ after_end b t e = rw e refl
 
 pub find_hit : (n : Bytes) (ls : List Line) → first_line_is n ls ≡ true → find n (bytes_of ls) ≡ some 0
 unfolding first_line_is find bytes_of
-find_hit n [] h = absurd (never h)
+find_hit n [] h = absurd (false≢true h)
 find_hit n (l ∷ ls) h = rw h refl
 
 pub find_past : (n : Bytes) (ls : List Line) → first_line_is n ls ≡ false → find n (bytes_of ls)
@@ -62,26 +58,24 @@ next_from k (some i) = let e : k + suc i ≡ k + 1 + i = omega arith in rw e ref
 assoc : (a b c : ℕ) → a + (b + c) ≡ a + b + c
 assoc a b c = omega arith
 
-pub one_most : (b : Bool) → cond b 1 0 ≤ 1
-one_most true = omega arith
-one_most false = omega arith
-
-or-false : (a b : Bool) → (a || b) ≡ false → (a ≡ false) × (b ≡ false)
-or-false true b e = absurd (never (sym e))
-or-false false b e = (refl, e)
-
 -- the bytes of what a text starts with
 starts_byte : (n t : Bytes) (j : ℕ) → starts_with n t ≡ true → j < length n → eqb (get_or t j 0) (get_or n j 0) ≡ true
 unfolding starts_with
 starts_byte [] t j h i = absurd (omega (arith, i))
-starts_byte (c ∷ n) [] j h i = absurd (never h)
-starts_byte (c ∷ n) (x ∷ t) zero h i = (and_out (eqb x c) (starts_with n t) h).0
-starts_byte (c ∷ n) (x ∷ t) (suc j) h i = starts_byte n t j (and_out (eqb x c) (starts_with n t) h).1 (omega (arith, i))
+starts_byte (c ∷ n) [] j h i = absurd (false≢true h)
+starts_byte (c ∷ n) (x ∷ t) zero h i = (and_parts (eqb x c) (starts_with n t) h).0
+starts_byte (c ∷ n) (x ∷ t) (suc j) h i =
+    starts_byte n t j (and_parts (eqb x c) (starts_with n t) h).1 (omega (arith, i))
 
 pub word_there : (n : Bytes) → is_word n ≡ true → 0 < length n
 unfolding is_word
-word_there [] h = absurd (never h)
+word_there [] h = absurd (false≢true h)
 word_there (b ∷ n) h = omega arith
+
+-- a search that ends in an Err
+pub missed : (P Q : ℕ → Type 0) (r : Result ℕ ℕ) → MatchResult r P Q → result_ok r ≡ None → (n : ℕ) × Q n
+missed P Q (Ok n) m e = let z : ◌≡◌ {A = ℕ} 0 1 = cc in absurd (omega arith)
+missed P Q (Err n) m e = (n, m)
 
 -- a look so far, which may find that none of the lines is the name
 pub record LookMet (list name : Bytes) (from to ends : ℕ) (may : Bool) : Type 0 where
@@ -125,15 +119,15 @@ module _ (list n : Bytes) where
       go : (f : Bool) → Begins i ≡ f → Begins i ≡ false
       go false x = x
       go true x =
-          let u = and_out (starts_with n (drop (i + 1) list)) (ended (drop (length n) (drop (i + 1) list)))
+          let u = and_parts (starts_with n (drop (i + 1) list)) (ended (drop (length n) (drop (i + 1) list)))
           (sym (line_is n list (i + 1) w) ∙ x) in
-          let lined = p ∙ and_in (eqb (byte_at list i) 10) (eqb (byte_at list (i + length n + 1)) 10)
+          let lined = p ∙ and_from (eqb (byte_at list i) 10) (eqb (byte_at list (i + length n + 1)) 10)
           (ap (λ (x : ℕ). eqb x 10) e) (at_end u.1) in
-          let edged = q ∙ and_in (eqb (byte_at list (i + 1)) (get_or n 0 0))
+          let edged = q ∙ and_from (eqb (byte_at list (i + 1)) (get_or n 0 0))
           (eqb (byte_at list (i + length n)) (get_or n (length n - 1) 0))
           (at_byte 0 (i + 1) (omega arith) size u.0)
           (at_byte (length n - 1) (i + length n) (omega (arith, size)) (omega (arith, size)) u.0) in
-          absurd (never (sym f ∙ o ∙ and_in a b lined edged))
+          absurd (false≢true (sym f ∙ o ∙ and_from a b lined edged))
 
   -- where a search stands
   pub sought_first : (at k : ℕ) → LinesPassed list n at k → first_line_is n (lines (drop at list)) ≡ false
@@ -172,7 +166,7 @@ module _ (list n : Bytes) where
             let z : suc k + 1 ≡ suc (k + 1) = omega arith in
             sought_end e
             ∙ ap (λ (o : Option ℕ). numbered_from (suc k) (next o))
-            (find_past n (lines (drop (i + 1) list)) (f (eq_byte (byte_at list i) 10 e)))
+            (find_past n (lines (drop (i + 1) list)) (f (eqb-true (byte_at list i) 10 e)))
             ∙ next_from (suc k) (next rest)
             ∙ ap (λ (j : ℕ). numbered_from j (next rest)) z
 
@@ -191,8 +185,8 @@ module _ (list n : Bytes) where
         record {
           on = λ _ k g. rw (q, assoc k ends (cond (eqb (byte_at list i) 10) 1 0))
               (sought_byte i (k + ends) h (s.on refl k g) f);
-          hit = λ e. absurd (never e);
-          few = omega (arith, s.few, q, one_most (eqb (byte_at list i) 10));
+          hit = λ e. absurd (false≢true e);
+          few = omega (arith, s.few, q, at_most_one (eqb (byte_at list i) 10));
         }
 
     pub searched_hit : (to : ℕ) → i < to → eqb (byte_at list i) 10 ≡ true → Begins i ≡ true
@@ -200,7 +194,7 @@ module _ (list n : Bytes) where
     searched_hit to l e f =
         let one_is : one ≡ 1 = q ∙ rw e refl in
         record {
-          on = λ x. absurd (never (sym x));
+          on = λ x. absurd (false≢true (sym x));
           hit = λ _ k g.
               let z : k + (ends + one) + 1 ≡ k + ends + 1 + 1 = omega (arith, one_is) in
               rw z (sought_hit i (k + ends) h (s.on refl k g) e f);
@@ -219,7 +213,7 @@ module _ (list n : Bytes) where
     walk_byte x = go (eqb (byte_at list i) 10) refl
       where
         go : (b : Bool) → eqb (byte_at list i) 10 ≡ b → Searched list n from (i + 1) ends false
-        go true e = absurd (x (eq_byte (byte_at list i) 10 e))
+        go true e = absurd (x (eqb-true (byte_at list i) 10 e))
         go false e =
             let z : ends + 0 ≡ ends = omega arith in
             rw z at (searched_byte from i ends 0 s h (rw e refl) (λ y. absurd (x y)))
@@ -230,6 +224,6 @@ module _ (list n : Bytes) where
       → more ≡ (may || here) → to ≡ i + 1 → LookMet list n from to (ends + one) more
   look_byte from i to ends one may here more l h q f o e =
       rw (e, o) (record {
-        none = λ x. let u = or-false may here x in searched_byte from i ends one (l.none u.0) h q (f u.1);
-        few = omega (arith, l.few, q, one_most (eqb (byte_at list i) 10));
+        none = λ x. let u = or_parts may here x in searched_byte from i ends one (l.none u.0) h q (f u.1);
+        few = omega (arith, l.few, q, at_most_one (eqb (byte_at list i) 10));
       })

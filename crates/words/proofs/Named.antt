@@ -4,27 +4,21 @@ use mathlib.Core.Path.{◌≡◌, refl, sym, ap, ◌∙◌}
 use mathlib.Core.Bool.{Bool, true, false, cond, ◌&&◌}
 use mathlib.Core.List.{List, [], ◌∷◌}
 use native.Mathlib.Omega.{arith}
-use lib.Dec.{eqb, eqb_refl}
+use Rattle.std.proofs.lemmas.Bool.{and_parts, eqb-true, false≢true}
+use lib.Dec.{eqb}
 use lib.ListN.{length, get_or, drop, length-drop}
 use lib.Seq.{drop-drop}
 use Rattle.std.specs.Borrow.{Bor}
 use Rattle.std.specs.Prelude.{Option as Maybe, Some, None, MatchOption, option_map, map}
 use Rattle.std.specs.List.{AllWithin, HoldsAt, range_with_len}
+use Rattle.common.proofs.Tests.{eqb_turned}
 use Rattle.lines.specs.Line.{Line, line, lines, in_first_line, same_bytes}
 use Rattle.lines.specs.code.NumbersRead.{starts_with}
 use Rattle.grammar.specs.Bytes.{Bytes, is_start, is_name, every, is_word}
-use Rattle.grammar.proofs.Basics.{never, and_out, eq_byte, start_name, is_true}
-use Rattle.lines.proofs.SameBytes.{same_bytes_lem}
+use Rattle.grammar.proofs.Basics.{start_name}
+use Rattle.lines.proofs.SameBytes.{same_bytes_lem, same_itself}
 use Rattle.words.specs.code.Names.{pick_from, found, first_line_is}
 use Rattle.words.specs.code.Index.{line_of, ended}
-
-pub eqb_sym : (x y : ℕ) → eqb x y ≡ eqb y x
-eqb_sym x y = go (eqb x y) (eqb y x) refl refl
-  where
-    go : (b c : Bool) → eqb x y ≡ b → eqb y x ≡ c → eqb x y ≡ eqb y x
-    go true c e f = rw (eq_byte x y e) refl
-    go false true e f = rw (eq_byte y x f) refl
-    go false false e f = e ∙ sym f
 
 -- the bytes of the first line
 unfoldable pub first_bytes : List Line → Bytes
@@ -48,7 +42,7 @@ first_bytes_lem (x ∷ t) = go (eqb x 10) refl (first_bytes_lem t)
 
 pub first_line : (n : Bytes) (ls : List Line) → is_word n ≡ true → first_line_is n ls ≡ same_bytes n (first_bytes ls)
 unfolding first_line_is first_bytes is_word same_bytes
-first_line [] ls h = absurd (never h)
+first_line [] ls h = absurd (false≢true h)
 first_line (b ∷ n) [] h = refl
 first_line (b ∷ n) (l ∷ ls) h = refl
 
@@ -57,7 +51,7 @@ unfolding is_name is_start
 name_newline b h = go (eqb 10 b) refl
   where
     go : (c : Bool) → eqb 10 b ≡ c → eqb 10 b ≡ false
-    go true e = absurd (never (rw (← eq_byte 10 b e) at h))
+    go true e = absurd (false≢true (rw (← eqb-true 10 b e) at h))
     go false e = e
 
 line_same : (n t : Bytes) → every is_name n ≡ true
@@ -71,7 +65,7 @@ line_same [] (x ∷ t) h = go (eqb x 10) refl
     go false e = rw e refl
 line_same (c ∷ n) [] h = refl
 line_same (c ∷ n) (x ∷ t) h =
-    let u = and_out (is_name c) (every is_name n) h in
+    let u = and_parts (is_name c) (every is_name n) h in
     go (eqb x 10) refl u.0 (line_same n t u.1)
   where
     both : (a p q : Bool) → (a && (p && q)) ≡ ((a && p) && q)
@@ -82,19 +76,19 @@ line_same (c ∷ n) (x ∷ t) h =
         ≡ (starts_with n t && ended (drop (length n) t))
         → same_bytes (c ∷ n) (cond (eqb x 10) [] (x ∷ line_of t))
         ≡ ((eqb x c && starts_with n t) && ended (drop (length n) t))
-    go true e i k = rw (e, eq_byte x 10 e, name_newline c i) refl
-    go false e i k = rw (e, k, eqb_sym c x) (both (eqb x c) (starts_with n t) (ended (drop (length n) t)))
+    go true e i k = rw (e, eqb-true x 10 e, name_newline c i) refl
+    go false e i k = rw (e, k, eqb_turned c x) (both (eqb x c) (starts_with n t) (ended (drop (length n) t)))
 
-word_names : (n : Bytes) → is_word n ≡ true → every is_name n ≡ true
+pub word_names : (n : Bytes) → is_word n ≡ true → every is_name n ≡ true
 unfolding is_word every
-word_names [] h = absurd (never h)
-word_names (b ∷ n) h = let u = and_out (is_start b) (every is_name n) h in rw (start_name b u.0, u.1) refl
+word_names [] h = absurd (false≢true h)
+word_names (b ∷ n) h = let u = and_parts (is_start b) (every is_name n) h in rw (start_name b u.0, u.1) refl
 
 starts_length : (n t : Bytes) → starts_with n t ≡ true → length n ≤ length t
 unfolding starts_with
 starts_length [] t h = omega arith
-starts_length (c ∷ n) [] h = absurd (never h)
-starts_length (c ∷ n) (x ∷ t) h = omega (arith, starts_length n t (and_out (eqb x c) (starts_with n t) h).1)
+starts_length (c ∷ n) [] h = absurd (false≢true h)
+starts_length (c ∷ n) (x ∷ t) h = omega (arith, starts_length n t (and_parts (eqb x c) (starts_with n t) h).1)
 
 -- is_name_line
 module _ (n list : Bytes) (at : ℕ) (h : is_word n ≡ true) where
@@ -116,17 +110,12 @@ module _ (n list : Bytes) (at : ℕ) (h : is_word n ≡ true) where
     word_fits = go n h e
       where
         go : (m : Bytes) → is_word m ≡ true → starts_with m (drop at list) ≡ true → at + length m ≤ length list
-        go [] w x = absurd (never w)
+        go [] w x = absurd (false≢true w)
         go (b ∷ m) w x = omega (arith, starts_length (b ∷ m) (drop at list) x, length-drop at list)
 
 -- find
 pub same_of : (t u : Bytes) → t ≡ u → same_bytes t u ≡ true
-unfolding same_bytes
-same_of t u h = rw h (same_self u)
-  where
-    same_self : (v : Bytes) → same_bytes v v ≡ true
-    same_self [] = refl
-    same_self (b ∷ v) = rw (is_true (eqb b b) (eqb_refl b)) (same_self v)
+same_of t u h = rw h (same_itself u)
 
 pub not_same : (t u : Bytes) → (t ≡ u → ⊥) → same_bytes t u ≡ false
 not_same t u h = go (same_bytes t u) refl

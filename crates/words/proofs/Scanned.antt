@@ -1,15 +1,21 @@
 -- Bytes passed over. Assumes nothing.
 use Prim.Native.Nat.{ℕ, zero, suc, ◌+◌, ◌-◌, ◌<◌, ◌≤◌}
 use mathlib.Core.Path.{◌≡◌, refl, ap, ◌∙◌}
-use mathlib.Core.Bool.{Bool, true, false}
+use mathlib.Core.Bool.{Bool, true, false, not, cond}
 use mathlib.Core.List.{[], ◌∷◌, ◌++◌, append_assoc}
 use native.Mathlib.Omega.{arith}
 use native.Mathlib.Decide.{dec_lt}
 use native.Mathlib.Numerals.{add-one}
-use lib.ListN.{length, get_or, drop, get_or-eq_default}
+use Rattle.std.proofs.lemmas.Bool.{false≢true}
+use borrow.Author.Tests.{not-true, not-false, ltb-false}
+use Rattle.std.specs.Prelude.{Some, None, unwrap_or}
+use Rattle.std.specs.List.{position, position_or_len}
+use Rattle.std.proofs.lemmas.List.Sums.{fails_before_first, passes_at_first, prefix_len-le-length}
+use lib.Dec.{ltb}
+use lib.ListN.{length, get_or, drop, length-drop, get_or-eq_default}
 use lib.Seq.{drop-cons, get_or-drop}
 use Rattle.grammar.specs.Bytes.{Bytes, every}
-use Rattle.grammar.proofs.Basics.{never, and_out, and_in}
+use Rattle.grammar.proofs.Back.{snoc}
 use Rattle.words.specs.code.Scan.{byte_at, PassedOver, Passed}
 
 pub past : (s : Bytes) (at : ℕ) → length s ≤ at → byte_at s at ≡ 0
@@ -21,16 +27,10 @@ there p s at h e = go (dec_lt at (length s))
   where
     go : Dec (at < length s) → at < length s
     go (yes i) = i
-    go (no i) = absurd (never (rw (past s at (omega (arith, i)), h) at e))
+    go (no i) = absurd (false≢true (rw (past s at (omega (arith, i)), h) at e))
 
 pub head_drop : (s : Bytes) (at : ℕ) → get_or (drop at s) 0 0 ≡ byte_at s at
 head_drop s at = get_or-drop at s 0 0 ∙ ap (byte_at s) (omega arith)
-
-every_snoc : (p : ℕ → Bool) (w : Bytes) (b : ℕ) → every p w ≡ true → p b ≡ true → every p (w ++ (b ∷ [])) ≡ true
-unfolding every
-every_snoc p [] b h e = rw e
-every_snoc p (c ∷ w) b h e = let u =
-    and_out (p c) (every p w) h in and_in (p c) (every p (w ++ (b ∷ []))) u.0 (every_snoc p w b u.1 e)
 
 module _ (p : ℕ → Bool) (s : Bytes) (at : ℕ) where
   -- the bytes up to a place, each of which passes the test
@@ -49,7 +49,7 @@ module _ (p : ℕ → Bool) (s : Bytes) (at : ℕ) where
       let i : at + n < length s = omega (arith, h) in
       rw e (record {
         bytes = g.bytes ++ (byte_at s (at + n) ∷ []);
-        all = every_snoc p g.bytes (byte_at s (at + n)) g.all (a n (omega arith));
+        all = snoc p g.bytes (byte_at s (at + n)) g.all (a n (omega arith));
         split = g.split ∙ (rw (add-one, append_assoc, drop-cons s (at + n) 0) refl);
       })
 
@@ -69,6 +69,41 @@ module _ (p : ℕ → Bool) (s : Bytes) (at : ℕ) where
         fits = l;
         stops = e;
       }
+
+  -- the first byte that fails the test, or the end
+  pub passed_over : (to : ℕ) → at ≤ length s
+      → to ≡ at + unwrap_or (position (λ b. not (p b)) (drop at s)) (length (drop at s)) → PassedOver p s at to
+  passed_over to f e = rw (e, place_or_length) (passed_up_to (at + n) (omega arith) (omega (arith, few, size, f))
+      (λ k h l. go k h l)
+      (λ l. not-true _ (rw (← get_or-drop at s n 0) (passes_at_first q xs 0 (omega (arith, size, l))))))
+    where
+      xs : Bytes
+      xs = drop at s
+
+      q : ℕ → Bool
+      q b = not (p b)
+
+      n : ℕ
+      n = position_or_len q xs
+
+      few : n ≤ length xs
+      few = prefix_len-le-length (λ b. not (q b)) xs
+
+      size : length xs ≡ length s - at
+      size = length-drop at s
+
+      place_or_length : unwrap_or (position q xs) (length xs) ≡ n
+      place_or_length = by (ltb n (length xs)) refl
+        where
+          by : (b : Bool) → ltb n (length xs) ≡ b → unwrap_or (cond b (Some n) None) (length xs) ≡ n
+          by true h = refl
+          by false h = omega (arith, few, ltb-false n (length xs) h)
+
+      go : (k : ℕ) → at ≤ k → k < at + n → p (byte_at s k) ≡ true
+      go k h l =
+          let z : at + (k - at) ≡ k = omega (arith, h) in
+          rw z at (rw (get_or-drop at s (k - at) 0) at
+          (not-false _ (fails_before_first q xs (k - at) 0 (omega (arith, h, l)))))
 
   -- a test that the end of the text fails
   pub passed : (to : ℕ) → p 0 ≡ false → PassedOver p s at to → Passed p s at to

@@ -1,6 +1,6 @@
 // The index of a lent list of names: of its first lines, where each begins and the signature of its bytes.
-ghost use Rattle.std.specs.Prelude.{◌≡◌, ◌<◌, ◌≤◌, length, take};
-ghost use Rattle.words.specs.code.Index.{max_length, signed_by, signature_of, LineMet, Indexed};
+ghost use Rattle.std.specs.Prelude.{◌≡◌, ◌<◌, ◌≤◌, length, take, drop};
+ghost use Rattle.words.specs.code.Index.{max_length, signed_by, signature_of, ended, LineMet, Indexed};
 
 // How many lines an index has at most.
 pub const MAX_LINES: usize = 10240;
@@ -28,21 +28,27 @@ pub fn signature(word: &[u8]) -> u32
     word.iter().fold(0, |signed, byte| signed_by(signed, *byte))
 }
 
+// Whether a line ends at a place: by a newline, or with the list.
+pub(crate) fn ends_at(list: &[u8], at: usize) -> bool
+    ensures { result ≡ ended (drop at list.now) }
+{
+    list.get(at).is_none_or(|byte| *byte == lines::NEWLINE)
+}
+
 // Passes the line that begins at `at`: where the next line begins, or the end of the list; and the line's signature.
-// One pass for both: to find the line's end first took a quarter longer, 126 us for 100 of a list of 10,000 names.
 fn pass_line(list: &[u8], at: usize) -> (usize, u32)
     requires { at < length list.now }
     ensures { LineMet list.now at result.0 result.1 }
 {
     let mut signed = 0;
-    for i in at..list.len() {
-        let byte = list[i];
-        if byte == lines::NEWLINE {
-            return (i + 1, signed);
-        }
-        signed = signed_by(signed, byte);
+    let mut i = at;
+    // By index, 10,000 names of 5 bytes take 96 us. With `for` they take 108, with `enumerate` 103, with `take_while`
+    // and `fold` 100, and with `split_inclusive`, which goes over each line twice, 126.
+    while !ends_at(list, i) {
+        signed = signed_by(signed, list[i]);
+        i += 1;
     }
-    (list.len(), signed)
+    (list.len().min(i + 1), signed)
 }
 
 // Fixed memory without a heap: no call can fail for want of it.
@@ -60,17 +66,16 @@ pub fn index_lines(list: &[u8], index: &mut [IndexedLine]) -> (usize, usize)
     ensures { (result.0 ≤ length index.new) × Indexed list.now (take result.0 index.new) result.1 }
 {
     let mut at = 0;
-    let mut count = 0;
-    // By `while`: where a line begins is known only when the one before it is passed. By `split_inclusive` each line
-    // is gone over twice, which took a quarter longer.
-    while at < list.len() && count < index.len() {
+    for (count, line) in index.iter_mut().enumerate() {
+        if list.len() <= at {
+            return (count, at);
+        }
         let (next, signature) = pass_line(list, at);
-        index[count] = IndexedLine {
+        *line = IndexedLine {
             start: at as u32,
             signature,
         };
         at = next;
-        count += 1;
     }
-    (count, at)
+    (index.len(), at)
 }

@@ -1,19 +1,16 @@
 -- A bound on the visits of paths of steps alone, by induction on the steps. Assumes nothing.
 use Prim.Native.Nat.{ℕ, zero, suc, ◌+◌, ◌-◌, ◌≤◌}
 use mathlib.Core.Path.{◌≡◌}
-use mathlib.Core.Bool.{Bool, true, false, cond}
+use mathlib.Core.Bool.{Bool, cond}
 use native.Mathlib.Omega.{arith}
 use native.Mathlib.Nat.{suc-mul}
 use lib.ListN.{length}
 use Rattle.common.specs.Bounded.{sum_below}
+use Rattle.common.proofs.Tests.{at_most_one}
 use Rattle.xpath.specs.Term.{Path}
 use Rattle.xpath.specs.Meaning.{selects}
 use Rattle.xpath.specs.Visits.{visits}
 use Rattle.xpath.specs.Chain.{Chain, one, more, visit_bound, ChainVisits}
-
-at_most_one : (b : Bool) → cond b 1 0 ≤ 1
-at_most_one true = omega arith
-at_most_one false = omega arith
 
 -- of n numbers, no more than n pass a test
 count_le : (n : ℕ) (f : ℕ → Bool) → sum_below n (λ z. cond (f z) 1 0) ≤ n

@@ -19,7 +19,7 @@ use Rattle.xpath.proofs.Tree.{Ancestor, parent_is, ancestor_cases, ancestor_yes,
 use Rattle.xpath.proofs.Tree.{ancestor_smaller, yes_ancestor, subtree_contiguous}
 use Rattle.xpath.proofs.Climbing.{count_least}
 use Rattle.xpath.proofs.Facts.{AncestorOrSelf}
-use Rattle.xpath.proofs.Order.{or_self_trans, ancestor_of_or_self, or_self_of_ancestor}
+use Rattle.xpath.proofs.Order.{or_self_trans, ancestor_of_or_self, or_self_of_ancestor, or_self_le}
 
 same_at : (n v x : ℕ) → x < n → get_or {A = ℕ} (replicate n v) x 0 ≡ v
 same_at zero v x h = absurd (omega arith)
@@ -45,15 +45,11 @@ pub record Closing (d : Document) (last at : ℕ) (es : List ℕ) : Type 0 where
   pub rest : (x : ℕ) → last < x → x < length d → get_or es x 0 ≡ length d
 
 module _ (d : Document) (w : T (well_formed d)) where
-  or_self_le : {x y : ℕ} → y < length d → AncestorOrSelf d x y → x ≤ y
-  or_self_le l (inl e) = omega arith
-  or_self_le l (inr a) = let h = ancestor_smaller d w l a in omega arith
-
   -- a row's subtree ends after row k, which is in it or is the row itself, where the next row isn't
   ends_after : (x k : ℕ) → suc k ≤ length d → AncestorOrSelf d x k → (suc k < length d → ¬ (Ancestor d x (suc k))) →
       EndsAt d x (suc k)
   ends_after x k l o f =
-      let h : x ≤ k = or_self_le (omega arith) o in
+      let h : x ≤ k = or_self_le d w (omega arith) o in
       record {
         after = omega arith;
         within = l;
@@ -98,7 +94,7 @@ module _ (d : Document) (w : T (well_formed d)) where
 
   module _ (last at : ℕ) (es : List ℕ) (u : Closing d last at es) where
     at_le : at ≤ last
-    at_le = or_self_le u.inside u.current
+    at_le = or_self_le d w u.inside u.current
 
     -- the subtree of `at` ends before the next row, whose parent comes before `at`
     close_one : suc last < length d → length d ≤ max_nodes → parent_at d (suc last) < at →
@@ -129,7 +125,7 @@ module _ (d : Document) (w : T (well_formed d)) where
     next_row : suc last < length d → at ≤ parent_at d (suc last) → Closing d (suc last) (suc last) es
     next_row l h =
         let k : at ≤ last = at_le in
-        let p : parent_at d (suc last) ≤ at = or_self_le (omega arith) (u.next l) in
+        let p : parent_at d (suc last) ≤ at = or_self_le d w (omega arith) (u.next l) in
         let e : parent_at d (suc last) ≡ at = omega arith in
         let up : Ancestor d at (suc last) = parent_is {y = suc last} (omega arith) e in
         record {

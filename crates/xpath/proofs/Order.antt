@@ -70,7 +70,7 @@ module _ (d : Document) (w : T (well_formed d)) where
       ⊎_elim (λ e. omega arith) (λ b. let q = ancestor_smaller d w {y = parent_at d y} (omega arith) b in omega arith)
       (ancestor_cases a)
 
-  or_self_le : {x y : ℕ} → y < length d → AncestorOrSelf d x y → x ≤ y
+  pub or_self_le : {x y : ℕ} → y < length d → AncestorOrSelf d x y → x ≤ y
   or_self_le l (inl e) = omega arith
   or_self_le l (inr a) = let h = ancestor_smaller d w l a in omega arith
 

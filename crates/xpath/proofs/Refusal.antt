@@ -1,37 +1,34 @@
 -- Refusal 8 on the lent numbers, by the document that they are. Assumes nothing.
 use Prim.Native.Nat.{ℕ, ◌+◌, ◌-◌, ◌*◌, ◌/◌, ◌≤◌}
 use mathlib.Core.Path.{◌≡◌, refl, ◌∙◌}
-use mathlib.Core.Bool.{Bool, true, false, not, cond, ◌||◌}
+use mathlib.Core.Bool.{Bool, true, false, cond}
 use mathlib.Core.List.{List}
 use mathlib.Core.Logic.{◌↔◌}
 use mathlib.Core.Option.{Option, none, some}
 use native.Mathlib.Omega.{arith}
 use lib.Dec.{T, leb, ltb, eqb}
 use lib.ListN.{length}
-use borrow.Author.Tests.{eqb-false, ltb-false, ne_eqb, le-ltb, not-false}
+use borrow.Author.Tests.{eqb-false, ltb-false, ne_eqb, le-ltb}
 use mir.Facts.{yes_and, and_yes, yes_leb, leb_yes}
 use Rattle.common.specs.Bounded.{first_below, all_below}
 use Rattle.xpath.specs.Document.{row_ok, well_formed, document_of, lent_rows, max_nodes, bad_row, document_refusal}
 use Rattle.xpath.proofs.LentNumbers.{nodes_lent}
 use Rattle.common.proofs.Reflect.{yes_all, all_yes, true_iff}
 use Rattle.common.proofs.Search.{none_iff}
+use Rattle.common.proofs.Tests.{or_not_parts}
 
 -- where no test finds a refusal
 no_refusal : (a b : Bool) (v w : ℕ) (o : Option ℕ) → cond a (some v) (cond b (some w) o) ≡ none →
     (a ≡ false) × (b ≡ false) × (o ≡ none)
-no_refusal true b v w o e = let z : ◌≡◌ {A = ℕ} 0 1 = cc in absurd (omega arith)
-no_refusal false true v w o e = let z : ◌≡◌ {A = ℕ} 0 1 = cc in absurd (omega arith)
+no_refusal true b v w o e = absurd (cc)
+no_refusal false true v w o e = absurd (cc)
 no_refusal false false v w o e = (refl, refl, e)
-
-neither_test : (a b : Bool) → (a || not b) ≡ false → (a ≡ false) × (b ≡ true)
-neither_test true b e = let z : ◌≡◌ {A = ℕ} 0 1 = cc in absurd (omega arith)
-neither_test false b e = (refl, not-false b e)
 
 module _ (xs : List ℕ) where
   pub row_sound : (n : ℕ) → bad_row xs n ≡ false → (3 * n + 3 ≤ length xs) × T (row_ok (document_of xs) n)
   unfolding bad_row row_ok
   row_sound n e =
-      let r = neither_test (ltb (length xs) (3 * n + 3)) (row_ok (document_of xs) n) e in
+      let r = or_not_parts (ltb (length xs) (3 * n + 3)) (row_ok (document_of xs) n) e in
       (ltb-false (length xs) (3 * n + 3) r.0, (true_iff _).1 r.1)
 
   sound_row : (n : ℕ) → 3 * n + 3 ≤ length xs → T (row_ok (document_of xs) n) → bad_row xs n ≡ false

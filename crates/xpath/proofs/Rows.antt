@@ -1,20 +1,20 @@
 -- The check of lent numbers, row by row, up to its answer. Assumes nothing.
-use Prim.Native.Nat.{ℕ, zero, suc, ◌+◌, ◌*◌, ◌%◌, ◌≤◌, ◌<◌}
+use Prim.Native.Nat.{ℕ, suc, ◌+◌, ◌*◌, ◌%◌, ◌≤◌, ◌<◌}
 use mathlib.Core.Path.{◌≡◌, refl, sym, ap, subst, ◌∙◌}
 use mathlib.Core.Bool.{Bool, true, false}
-use mathlib.Core.List.{List}
+use mathlib.Core.List.{List, [], ◌∷◌}
 use mathlib.Core.Logic.{inl, ⊎_elim}
-use Rattle.common.proofs.Reflect.{le_or_lt}
+use Rattle.common.proofs.Reflect.{le_or_lt, eq_or_ne}
 use mathlib.Core.Option.{none}
-use Rattle.std.specs.Prelude.{Some, None, Ok, Err}
+use Rattle.std.specs.Prelude.{Some, None, Ok, Err, min}
 use native.Mathlib.Omega.{arith}
 use lib.Dec.{ltb}
-use lib.ListN.{length, length-set}
+use lib.ListN.{length}
 use borrow.Author.Tests.{eq-eqb, ne_eqb, lt-ltb, le-ltb}
 use Rattle.common.specs.Bounded.{first_below}
-use Rattle.xpath.specs.Document.{Document, parent_at}
+use Rattle.xpath.specs.Document.{Document, kind_at, parent_at, name_at}
 use Rattle.xpath.specs.Document.{row_ok_by, document_of, lent_rows, bad_row_by, max_nodes, document_refusal}
-use Rattle.xpath.specs.Climb.{above, climb_met}
+use Rattle.xpath.specs.Climb.{climb_met}
 use Rattle.xpath.specs.code.Ends.{Filled}
 use Rattle.xpath.specs.code.Check.{closed, closed_before, closed_in_turn, ClimbMade, Placed, FirstBad}
 use Rattle.xpath.specs.code.Check.{DocumentChecked}
@@ -24,27 +24,6 @@ use Rattle.xpath.proofs.LentNumbers.{nodes_lent}
 use Rattle.xpath.proofs.Refusal.{accepted_iff}
 use Rattle.xpath.proofs.Climbing.{takes_none, not_met, refuses_alike}
 use Rattle.xpath.proofs.Ends.{ends_found}
-
--- closing subtrees changes no length
-closed_length : (d : Document) (y e k : ℕ) (es : List ℕ) → length (closed d y e k es) ≡ length es
-unfolding closed
-closed_length d y e zero es = refl
-closed_length d y e (suc k) es = length-set (closed d y e k es) (above d k y) e ∙ closed_length d y e k es
-
-pub before_length : (d : Document) (n : ℕ) (es : List ℕ) → length (closed_before d n es) ≡ length es
-unfolding closed_before
-before_length d zero es = refl
-before_length d (suc n) es = closed_length d n (suc n) _ es
-
-in_turn_length : (d : Document) (n : ℕ) (es : List ℕ) → length (closed_in_turn d n es) ≡ length es
-unfolding closed_in_turn
-in_turn_length d zero es = refl
-in_turn_length d (suc n) es = before_length d n (closed_in_turn d n es) ∙ in_turn_length d n es
-
--- no subtree ends before row 0
-pub root_closes : (d : Document) (es : List ℕ) → es ≡ closed_before d 0 es
-unfolding closed_before
-root_closes d es = refl
 
 -- the first n rows are as they must be, and the subtrees that end before the last of them are closed
 pub record Passed (xs es : List ℕ) (n : ℕ) (left : List ℕ) : Type 0 where
@@ -57,9 +36,6 @@ module _ (xs es : List ℕ) where
   none_passed = record { sound = refl; ends = refl }
 
   module _ (n : ℕ) (left : List ℕ) (p : Passed xs es n left) where
-    pub passed_length : length left ≡ length es
-    passed_length = ap length p.ends ∙ in_turn_length (document_of xs) n es
-
     module _ (whole : n < length (document_of xs)) where
       -- the row is not an incomplete one
       complete : ltb (length xs) (3 * n + 3) ≡ false
@@ -108,6 +84,30 @@ module _ (xs es : List ℕ) where
             first = sym (first_found (bad_row_by climb_met xs) n (lent_rows xs) h p.sound bad);
             ends = tt;
           }
+
+-- row 0 of no rows is read as one
+no_row : (d : Document) → length d ≡ 0 → row_ok_by climb_met d 0 ≡ true
+unfolding kind_at parent_at name_at
+no_row [] e = refl
+no_row (n ∷ d) e = absurd (omega arith)
+
+pub some_row : (d : Document) → row_ok_by climb_met d 0 ≡ false → 0 < length d
+some_row d fails =
+    ⊎_elim
+    (λ e. let z : false ≡ true = sym fails ∙ no_row d e in absurd (cc))
+    (λ ne. omega (arith, ne))
+    (eq_or_ne (length d) 0)
+
+-- row 0 is passed, where there is one; no subtree ends before it
+pub root_passed : (xs es : List ℕ) → row_ok_by climb_met (document_of xs) 0 ≡ true →
+    Passed xs es (min 1 (length (document_of xs))) es
+unfolding closed_before
+root_passed xs es ok =
+    ⊎_elim
+    (λ e. let z : min 1 (length (document_of xs)) ≡ 0 = omega arith in rw z (none_passed xs es))
+    (λ ne. let z : min 1 (length (document_of xs)) ≡ 1 = omega (arith, ne) in
+    rw z (passed_on xs es 0 es (none_passed xs es) (omega (arith, ne)) es ok refl))
+    (eq_or_ne (length (document_of xs)) 0)
 
 -- a bad row is one of those lent
 pub bad_below : (xs es : List ℕ) (n : ℕ) (left : List ℕ) → FirstBad xs es (Some n) left → n < lent_rows xs

@@ -9,11 +9,12 @@ mod node_tests;
 
 pub use checked::Checked;
 pub use document::{
-    Node, check_document, is_attribute, node_at, node_count, parent_at, whole_node,
+    Node, check_document, is_attribute, node_at, node_count, parent_at, parent_of, whole_node,
 };
 pub use node_tests::{AnyNode, Named, NodeSet, OfKind, StepTest, passes_test};
 
-// The largest document that a call takes.
+// The largest document that a call takes. An array of a mark or an end for each row has so many, and the document's
+// size says how many count: fixed memory without a heap.
 pub const MAX_NODES: usize = 512;
 
 // How many numbers a node has.

@@ -73,14 +73,12 @@ fn principal_kind(axis: u16) -> NodeKind
 }
 
 impl StepTest {
-    // None where the test selects nothing.
+    // None where the test selects nothing. By three numbers, here and below, as a row of any table has them: a struct
+    // of them would promise nothing, and be made for this call.
     pub fn new(axis: u16, test: u16, name: usize) -> Option<StepTest>
         ensures { Asks axis test name result }
     {
-        let Ok(test) = NodeTest::try_from(test) else {
-            return None;
-        };
-        let test = match test {
+        let test = match NodeTest::try_from(test).ok()? {
             NodeTest::Name => StepTest::Name(Named(principal_kind(axis), name)),
             NodeTest::Star => StepTest::Kind(OfKind(principal_kind(axis))),
             NodeTest::Node => StepTest::Everything(AnyNode),

@@ -10,5 +10,5 @@ returns c =
       arith,
       c.lines_length.ensures.0,
       c.lines_length-2.ensures.0,
-      tables_length a.rows.now a.steps.now,
+      tables_length a.held.rows.now a.held.steps.now,
     )

@@ -11,7 +11,7 @@ use Rattle.bundles.proofs.put_bundle.Goals as goal
 pub put_names-names-requires : goal.put_names-names-requires
 put_names-names-requires c =
     let a = c.args in
-    omega (arith, c.requires, tables_length a.rows.now a.steps.now)
+    omega (arith, c.requires, tables_length a.held.rows.now a.held.steps.now)
 
 pub put_lines-rows_end-requires : goal.put_lines-rows_end-requires
 put_lines-rows_end-requires c =
@@ -21,7 +21,7 @@ put_lines-rows_end-requires c =
       omega (
         arith,
         c.requires,
-        tables_length a.rows.now a.steps.now,
+        tables_length a.held.rows.now a.held.steps.now,
         names.position,
         put_keeps names,
       ),
@@ -35,8 +35,8 @@ put_names-more_names-requires c =
     omega (
       arith,
       c.requires,
-      tables_length a.rows.now a.steps.now,
-      numbers_length_lem 4 3 a.rows.now,
+      tables_length a.held.rows.now a.held.steps.now,
+      numbers_length_lem 4 3 a.held.rows.now,
       names.position,
       put_keeps names,
       rows.position,
@@ -53,8 +53,8 @@ put_lines-requires c =
       omega (
         arith,
         c.requires,
-        tables_length a.rows.now a.steps.now,
-        numbers_length_lem 4 3 a.rows.now,
+        tables_length a.held.rows.now a.held.steps.now,
+        numbers_length_lem 4 3 a.held.rows.now,
         names.position,
         put_keeps names,
         rows.position,

@@ -1,9 +1,13 @@
 -- Tables of numbers as rows and as steps. Assumes nothing.
-use Rattle.std.specs.Prelude.{ℕ, ◌*◌, min, List, [], ◌∷◌, get_or, take}
+use Rattle.std.specs.Prelude.{ℕ, ◌*◌, ◌≡◌, Bool, true, false, ◌&&◌, min, List, [], ◌∷◌, leb, length, get_or, take}
+use Rattle.std.specs.Prelude.{Option, Some, None}
 use Rattle.terms.specs.Row.{Row, table_of, max_rows}
 pub use Rattle.terms.specs.Row.{row_width}
 use Rattle.calls.specs.declared.held.Held.{Held}
+use Rattle.calls.specs.declared.step.Step.{Step as CodeStep}
 use Rattle.calls.specs.Book.{Step, step, max_steps, Book, book}
+use Rattle.calls.specs.StepCall.{step_numbered}
+use Rattle.calls.specs.code.Answers.{step_of}
 
 -- how many numbers a step has
 abbrev pub step_width : ℕ
@@ -21,6 +25,15 @@ steps_of (n ∷ l ∷ r ∷ i ∷ j ∷ xs) = step n l r i j ∷ steps_of xs
 -- five numbers as a step
 abbrev pub step_in : List ℕ → Step
 step_in xs = step (get_or xs 0 0) (get_or xs 1 0) (get_or xs 2 0) (get_or xs 3 0) (get_or xs 4 0)
+
+-- whether ps has a step numbered i, counted from 1
+abbrev pub is_numbered : List Step → (i : ℕ) → Bool
+is_numbered ps i = leb 1 i && leb i (length ps)
+
+-- o is step i of ps, counted from 1; none where there is none
+abbrev pub StepIs : Option CodeStep → List Step → (i : ℕ) → Type 0
+StepIs None ps i = is_numbered ps i ≡ false
+StepIs (Some p) ps i = (step_of p ≡ step_numbered ps i) × (is_numbered ps i ≡ true)
 
 -- how many rows and steps a count says are held: one above the limit is read as the limit
 abbrev pub rows_counted : ℕ → ℕ

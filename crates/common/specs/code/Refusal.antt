@@ -1,5 +1,5 @@
 -- The code's refusals: the number of each, by the papers' names, and its value, 0 where it has none. Assumes nothing.
-use Rattle.std.specs.Prelude.{ℕ}
+use Rattle.std.specs.Prelude.{ℕ, ◌<◌, ◌≡◌, Result, MatchResult}
 use Rattle.common.specs.declared.refusal.Refusal.{Refusal}
 use Rattle.common.specs.declared.refusal.Refusal.TheVariants as Cases
 use Rattle.common.specs.Refusals.{bad_kind, bad_field, too_deep, no_rule, bad_side}
@@ -66,3 +66,7 @@ refusal_value Cases.FullOrInUse = 0
 refusal_value Cases.BadLists = 0
 refusal_value (Cases.NotCovered n) = n
 refusal_value (Cases.NoRecord n) = n
+
+-- the place n, counted from 1, is refused; where n is 0 nothing is
+abbrev pub RefusedAt : (ℕ → Refusal) → (n : ℕ) → Result (Unit {0}) Refusal → Type 0
+RefusedAt refusal n r = MatchResult r (λ done. n ≡ 0) (λ e. (e ≡ refusal n) × (0 < n))

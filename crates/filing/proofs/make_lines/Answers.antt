@@ -1,38 +1,50 @@
--- `make_lines` meets its contract: what is filed is what the lines from `at` on file. Assumes nothing.
+-- `make_lines` meets its contract: what is filed is what the lines that are left file. Assumes nothing.
 use Prim.Native.Nat.{◌+◌}
 use mathlib.Core.Path.{sym, ◌∙◌}
-use native.Mathlib.Omega.{arith}
-use borrow.Author.Rules.{rules}
+use borrow.Author.Tests.{tests}
+use lib.ListN.{length}
+use Rattle.std.proofs.Common.{rules}
+use Rattle.std.specs.Slice.Iter.{split_inclusive_rest, split_inclusive_callee}
+use Rattle.std.proofs.lemmas.List.{length_push}
+use Rattle.std.proofs.lemmas.List.Sorted.{answers_always}
 use Rattle.std.proofs.lemmas.Result.{err_from_is_err_and}
-use Rattle.filing.proofs.LinesLaws.{nothing_left, line_refused_by, line_taken_by, line_taken}
+use Rattle.script.proofs.EachLine.{turn, no_turn}
+use Rattle.filing.proofs.LinesLaws.{no_line_left, line_refused_by, line_taken_by}
 use Rattle.filing.proofs.CallLaws.{filed_from_start}
 use Rattle.filing.proofs.make_lines.Goals as goal
 
-pub loop-at-init : goal.loop-at-init
-loop-at-init c =
-    (omega arith, omega arith, filed_from_start c.args.script.now c.new-left.result c.new-left.ensures)
+pub loop-i-init : goal.loop-i-init
+loop-i-init c = filed_from_start c.args.script.now c.new-left.result c.new-left.ensures
 
-pub returns-in_err-made : goal.returns-in_err-made
-returns-in_err-made c =
-    let l = c.loop-at in
+pub returns-in_err-left : goal.returns-in_err-left
+returns-in_err-left c =
+    let l = c.loop-i in
+    let t = turn _ split_inclusive_rest split_inclusive_callee c.args.script.now _ (cc) (cc)
+    (answers_always _ _ _ (λ f a r q k. search (rules, tests))) l.yielded _ l.yielded_by _ _ _ c.in-Some.is
+    c.next.ensures.steps in
     let exit = err_from_is_err_and c.from_residual.result c.from_residual.ensures.1 in
-    let refused = c.in_err-made.ensures in
-    let told = line_refused_by (record { session = l.left.0; names = l.left.1.0 }) c.args.script.now l.at
-    c.loop-at-test.true (l.line + 1) c.line.result c.line.ensures c.in_err-made.field-0.0 _ _ refused.cases
-    (sym refused.variant) (λ k h. search rules) in
-    rw (exit.1, exit.2) (told ∙ sym l.invariant.2)
+    let refused = c.in_err-left.ensures in
+    let told = line_refused_by (record { session = l.left.0; names = l.left.1.0 }) (c.in-Some.i + 1) _ _
+    c.in-Some.line.now _ t.line.alone t.line.there c.line.result c.line.ensures c.in_err-left.field-0.0 _ _
+    refused.cases (sym refused.variant) (λ k h. search rules) in
+    rw (exit.1, exit.2) ((rw t.place at told) ∙ sym l.invariant)
 
-pub loop-at-preserved : goal.loop-at-preserved
-loop-at-preserved c =
-    let l = c.loop-at in
-    let taken = c.in_ok-made.ensures in
-    let line = line_taken_by (record { session = l.left.0; names = l.left.1.0 }) c.args.script.now l.at
-    c.loop-at-test.true (l.line + 1) c.line.result c.line.ensures c.in_ok-made.made _ _ taken.cases
-    (sym taken.variant) (λ x h. search rules) in (
-      omega (arith, line.further, l.invariant.0),
-      line.inside,
-      l.invariant.2 ∙ line_taken _ _ _ c.loop-at-test.true _ _ line,
-    )
+pub loop-i-preserved : goal.loop-i-preserved
+loop-i-preserved c =
+    let l = c.loop-i in
+    let t = turn _ split_inclusive_rest split_inclusive_callee c.args.script.now _ (cc) (cc)
+    (answers_always _ _ _ (λ f a r q k. search (rules, tests))) l.yielded _ l.yielded_by _ _ _ c.in-Some.is
+    c.next.ensures.steps in
+    let taken = c.in_ok-left.ensures in
+    let passed = line_taken_by (record { session = l.left.0; names = l.left.1.0 }) (length l.yielded + 1) _ _
+    c.in-Some.line.now _ t.line.alone t.line.there c.line.result c.line.ensures c.in_ok-left.left _ _ taken.cases
+    (sym taken.variant) (λ x h. search rules) in
+    rw (length_push l.yielded (c.in-Some.i, c.in-Some.line)) (l.invariant ∙ passed)
 
 pub returns : goal.returns
-returns c = nothing_left _ c.args.script.now _ _ c.loop-at.at c.loop-at-test.false ∙ sym c.loop-at.invariant.2
+returns c =
+    let l = c.loop-i in
+    let e = no_turn _ split_inclusive_rest split_inclusive_callee c.args.script.now _ (cc) (cc)
+    (answers_always _ _ _ (λ f a r q k. search (rules, tests))) l.yielded _ l.yielded_by _ _ c.in-None.is
+    c.next.ensures.steps in
+    no_line_left _ _ _ _ e ∙ sym l.invariant

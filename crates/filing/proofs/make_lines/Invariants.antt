@@ -1,15 +1,14 @@
--- `make_lines` meets its contract: what is filed is what the lines from `at` on file. Assumes nothing.
-use Prim.Native.Nat.{◌+◌, ◌-◌, ◌≤◌}
+-- `make_lines` meets its contract: what is filed is what the lines that are left file. Assumes nothing.
+use Prim.Native.Nat.{◌+◌}
 use mathlib.Core.Path.{◌≡◌}
-use lib.ListN.{length}
-use Rattle.filing.specs.Filing.{filed}
+use lib.ListN.{length, drop}
+use Rattle.lines.specs.Line.{lines}
 use Rattle.script.specs.Rest.{names_of}
-use Rattle.filing.proofs.LinesLaws.{filed_from}
+use Rattle.filing.specs.Filing.{filed, lines_filed}
 use Rattle.filing.proofs.make_lines.Given as goal
 
-abbrev pub invariant-loop-at : goal.invariant-loop-at
-invariant-loop-at l = (l.line ≤ l.at) × (l.at ≤ length l.script)
-    × (filed l.script ≡ filed_from l.left.0 l.script (names_of l.left.1.0.bytes.now) (l.line + 1) l.at)
-
-abbrev pub decreases-loop-at : goal.decreases-loop-at
-decreases-loop-at l = length l.script - l.at
+abbrev pub invariant-loop-i : goal.invariant-loop-i
+invariant-loop-i l =
+    filed l.script
+    ≡ lines_filed l.left.0 (names_of l.left.1.0.bytes.now) (length l.yielded + 1)
+    (drop (length l.yielded) (lines l.script))

@@ -1,10 +1,10 @@
 -- What the functions that file a script promise. Assumes nothing.
-use Rattle.std.specs.Prelude.{ℕ, ◌≤◌, ◌<◌, ◌≡◌, List, [], ◌∷◌, length, drop}
+use Rattle.std.specs.Prelude.{◌≡◌, List, [], ◌∷◌}
 use Rattle.std.specs.Prelude.{Result, Ok, Err}
 use Rattle.std.proofs.Math.Option.{Option, none}
 use Rattle.common.specs.declared.refusal.Refusal.{Refusal}
 use Rattle.common.specs.code.Refusal.{refusal_number}
-use Rattle.lines.specs.Line.{Line, lines}
+use Rattle.lines.specs.Line.{Line}
 use Rattle.grammar.specs.Bytes.{Bytes}
 use Rattle.calls.specs.Book.{Answer, answer}
 use Rattle.calls.specs.code.Answers.{refusal_answer, line_answer}
@@ -13,25 +13,17 @@ use Rattle.session.specs.declared.session.Session.{Session}
 use Rattle.session.specs.Reading.{Reading}
 use Rattle.session.specs.code.Parts.{refused_by}
 use Rattle.script.specs.declared.Command.{Command}
-use Rattle.script.specs.Rest.{rest_of, names_of, first_bytes}
+use Rattle.script.specs.Rest.{names_of}
 use Rattle.script.specs.code.CommandRead.{written_command}
 use Rattle.filing.specs.declared.FileRefusal.{FileRefusal}
 use Rattle.filing.specs.declared.FileRefusal.TheVariants as file
 use Rattle.filing.specs.declared.Filed.{Filed}
-use Rattle.filing.specs.declared.LineMade.{LineMade}
 use Rattle.filing.specs.Filing.{Action, action_of, line_action, line_number, line_session, line_names, filed}
 
 -- number and value of a refusal: a line's number and which line it is, or what write answers
 abbrev pub file_refusal_answer : FileRefusal → Answer
 file_refusal_answer (file.Line e) = line_answer e
 file_refusal_answer (file.Write k) = refusal_answer k
-
--- the rest of the line at a place of the script, and the list of names that it writes
-abbrev pub rest_at : (script : Bytes) (at : ℕ) → Bytes
-rest_at script at = rest_of (first_bytes (lines (drop at script)))
-
-abbrev pub names_at : (script : Bytes) (at : ℕ) → Bytes
-names_at script at = names_of (rest_at script at)
 
 -- the list that is lent to texts
 abbrev pub lent_by : Filed → Bytes
@@ -61,19 +53,6 @@ ActionDone f o (Err k) = refusal_number k ≡ line_number f.session o
 abbrev pub first_action : (names : Bytes) → List Line → Option Action
 first_action names [] = none
 first_action names (l ∷ ls) = line_action names l
-
--- the line at `at`, where it is taken: what it leaves, and the lines after it
-pub record LineTaken (f : Filed) (script : Bytes) (at : ℕ) (r : LineMade) : Type 0 where
-  pub done : ActionTaken f (first_action (lent_by f) (lines (drop at script))) r.left
-  pub rest : lines (drop r.next script) ≡ drop 1 (lines (drop at script))
-  pub further : at < r.next
-  pub inside : r.next ≤ length script
-
--- and where it is refused
-abbrev pub LineMet : Filed → (script : Bytes) (at : ℕ) → Result LineMade Refusal → Type 0
-LineMet f script at (Ok r) = LineTaken f script at r
-LineMet f script at (Err k) =
-    refusal_number k ≡ line_number f.session (first_action (lent_by f) (lines (drop at script)))
 
 -- what the lines leave
 abbrev pub filed_of : Result Session LineRefusal → Reading

@@ -1,5 +1,5 @@
--- `number_at` meets its contract. The loop's invariant:
--- the number at `at` is the value so far with the digits from i on. Assumes nothing.
+-- `number_at` meets its contract. The loop's invariant: the number at `at` is the value so far with the digits from i
+-- on, counted behind the first. Assumes nothing.
 use Prim.Native.Nat.{◌≤◌}
 use mathlib.Core.Path.{◌≡◌}
 use lib.ListN.{drop}
@@ -9,4 +9,4 @@ use Rattle.lines.proofs.number_at.Given as goal
 
 abbrev pub invariant-loop-i : goal.invariant-loop-i
 invariant-loop-i l = (l.value ≤ l.most)
-    × (number_cut l.most l.end (drop l.at l.bytes) ≡ scan l.most l.end l.value (drop l.i l.bytes))
+    × (number_cut l.most l.end (drop l.at l.bytes) ≡ scan l.most l.end l.value (drop l.i l.others))

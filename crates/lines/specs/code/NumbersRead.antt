@@ -1,9 +1,8 @@
 -- What the functions that read a text promise. Assumes nothing.
 use Rattle.std.specs.Prelude.{ℕ, ◌-◌, ◌≤◌, ◌<◌, ◌≡◌, Bool, true, false, cond, not, ◌&&◌, List, [], ◌∷◌, leb, ltb, eqb}
-use Rattle.std.specs.Prelude.{length, take, drop, replicate}
+use Rattle.std.specs.Prelude.{length, drop}
 use Rattle.std.specs.Prelude.{Option as Optional, Some, None}
 use Rattle.std.proofs.Math.Option.{Option, none, some, Option-elim}
-use Rattle.lines.specs.declared.NumbersLine.{NumbersLine}
 use Rattle.lines.specs.Line.{Line, lines, parts_read}
 use Rattle.lines.specs.Number.{digit0, is_digit, append_digit, number_up_to, line_numbers}
 
@@ -67,25 +66,17 @@ first_parts read (l ∷ ls) = parts_read read l
 abbrev pub first_numbers : (count : ℕ) → List Line → Option (List ℕ)
 first_numbers count ls = first_parts (line_numbers count) ls
 
--- the most numbers of a line that is read
-abbrev pub max_count : ℕ
-max_count = 5
+-- the line that starts at `at` of the text xs, read by its parts: it has what `read` takes, these are its numbers, and
+-- there the next line starts
+pub record PartsMet (read : List (List ℕ) → Option (List ℕ)) (xs : List ℕ) (at : ℕ) (ns : List ℕ) (next : ℕ) : Type 0
+  where
+    pub numbers : some ns ≡ first_parts read (lines (drop at xs))
+    pub rest : lines (drop next xs) ≡ drop 1 (lines (drop at xs))
+    pub right : (at < next) × (next ≤ length xs)
 
-abbrev pub no_counted : List ℕ
-no_counted = replicate max_count 0
-
--- the numbers of a text's first line, where it has `count`, at most five
-abbrev pub counted_numbers : (count : ℕ) → List ℕ → Option (List ℕ)
-counted_numbers count xs = cond (leb count max_count) (first_numbers count (lines xs)) none
-
--- the line that starts at `at` of the text xs: it has `count` numbers, at most five, which are these, and where the
--- next line starts
-pub record LineMet (count : ℕ) (xs : List ℕ) (at : ℕ) (r : NumbersLine) : Type 0 where
-  pub numbers : some (take count r.numbers) ≡ counted_numbers count (drop at xs)
-  pub size : length r.numbers ≡ max_count
-  pub zeros : drop count r.numbers ≡ drop count no_counted
-  pub rest : lines (drop r.next xs) ≡ drop 1 (lines (drop at xs))
-  pub right : (at < r.next) × (r.next ≤ length xs)
+-- it has `count` numbers
+abbrev pub LineMet : (count : ℕ) (xs : List ℕ) (at : ℕ) (ns : List ℕ) (next : ℕ) → Type 0
+LineMet count xs at ns next = PartsMet (line_numbers count) xs at ns next
 
 -- the text xs starts with the bytes ys
 unfoldable pub starts_with : (ys xs : List ℕ) → Bool

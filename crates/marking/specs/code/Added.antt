@@ -1,17 +1,17 @@
 -- Marks that are added to marks. Assumes nothing.
-use Rattle.std.specs.Prelude.{ℕ, ◌≤◌, ◌<◌, ◌≡◌, Bool, true, false, not, cond, ◌&&◌, ◌||◌, List, eqb, length, get_or}
+use Rattle.std.specs.Prelude.{ℕ, ◌≤◌, ◌<◌, ◌≡◌, Bool, true, false, not, cond, ◌&&◌, List, eqb, length, get_or}
 use Rattle.xpath.specs.Document.{Document, is_attribute, is_child, max_nodes}
 use Rattle.common.specs.Axes.{attribute}
 use Rattle.xpath.specs.code.Tests.{picks}
 
--- y is marked
+-- y is marked, where marks are Booleans
 abbrev pub marked : List Bool → ℕ → Bool
 marked m y = get_or m y false
 
--- of the first n nodes, those of the set s are marked in `new` beside those that were marked in `old`
-pub record Added (n : ℕ) (old new : List Bool) (s : ℕ → Bool) : Type 0 where
+-- of the first n nodes, those of the set s have the mark in `new`, and the others what they had in `old`
+pub record Added {M : Type 0} (n : ℕ) (mark : M) (old new : List M) (s : ℕ → Bool) : Type 0 where
   pub size : length new ≡ length old
-  pub marks : (y : ℕ) → y < n → marked new y ≡ (marked old y || s y)
+  pub marks : (none : M) (y : ℕ) → y < n → get_or new y none ≡ cond (s y) mark (get_or old y none)
 
 -- y is a node that axis a, one of child, descendant, the siblings, following, preceding and attribute, may hold: an
 -- attribute on axis 11, another node on any other
@@ -30,6 +30,6 @@ pub record ChildrenFrom (d : Document) (es : List ℕ) (p lo hi : ℕ) : Type 0 
   pub first : lo < hi → is_child d p lo ≡ true
 
 -- x is a row of the document, and the marks have room for every row
-pub record StepFrom (d : Document) (x : ℕ) (m : List Bool) : Type 0 where
+pub record StepFrom {M : Type 0} (d : Document) (x : ℕ) (m : List M) : Type 0 where
   pub row : x < length d
   pub room : length m ≡ max_nodes

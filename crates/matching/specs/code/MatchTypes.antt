@@ -1,11 +1,13 @@
 -- The code's types as the definitions have them. Assumes nothing.
 use Rattle.std.specs.Prelude.{ℕ, ◌≡◌, Bool, true, false, ◌&&◌, List, map, Option, None, Some}
-use Rattle.terms.specs.Row.{Row}
+use Rattle.terms.specs.declared.Row.{Row as CodeRow}
+use Rattle.terms.specs.Row.{Row, row_at}
+use Rattle.terms.specs.code.RowTypes.{row_of}
 use Rattle.matching.specs.declared.matcher.Sides.{Sides as CodeSides}
 use Rattle.matching.specs.declared.matcher.Letters.{Letters}
 use Rattle.matching.specs.declared.way_back.Reversal.{Reversal}
 use Rattle.matching.specs.declared.way_back.Reversal.TheVariants.{Never, Always, Operands}
-use Rattle.matching.specs.code.RowYields.{Sides, sides, Match}
+use Rattle.matching.specs.code.RowYields.{Sides, sides, Match, is_row}
 use Rattle.matching.specs.code.RowWayBack.{is_back_by}
 
 abbrev pub sides_in : CodeSides → Sides
@@ -27,6 +29,11 @@ values_in l = map value_or_0 l.values
 -- all that was compared so far fits: what the letters stand for
 abbrev pub matched : Letters → Match
 matched l = record { fits = true; known = map has_value l.values; value = values_in l }
+
+-- o is the held row of number v, where it is of that kind
+abbrev pub KindRowIs : Option CodeRow → List Row → (kind v : ℕ) → Type 0
+KindRowIs None rs kind v = is_row rs kind v ≡ false
+KindRowIs (Some r) rs kind v = (is_row rs kind v ≡ true) × (row_of r ≡ row_at rs v)
 
 -- the answer of a comparison, and the letters after it, which don't matter where it doesn't fit
 pub record Matches (fits : Bool) (l : Letters) (m : Match) : Type 0 where

@@ -10,5 +10,7 @@ use Rattle.ordering.proofs.bundle_order_on.Given as goal
 
 abbrev pub invariant-loop-p : goal.invariant-loop-p
 invariant-loop-p l =
-    let order = from (table_of l.left) (table_of l.right) (steps_of l.left_steps) (steps_of l.right_steps) in
-    Noted (table_of l.left) (table_of l.right) l.noted × (order 0 ≡ order (length l.yielded))
+    let rs = table_of l.left.rows.now in
+    let ss = table_of l.right.rows.now in
+    let order = from rs ss (steps_of l.left.steps.now) (steps_of l.right.steps.now) in
+    Noted rs ss l.noted × (order 0 ≡ order (length l.yielded))

@@ -165,13 +165,18 @@ some_of_put f = over not_row (joined inclusion_row f (leaf void_row))
 unfoldable pub only_in_step : ℕ → Bool
 only_in_step b = eqb b open_byte || (eqb b colon_byte || eqb b open_bracket)
 
--- the step of a head was put
-pub record HeadPut (xs : List ℕ) (x : Standing) (h : Head) (ys : List ℕ) (y : Standing) : Type 0 where
+-- the row r of a step that ends before `to` was put, with the place m of its name, if that is not listed
+pub record StepPut (r : Row) (m : Option ℕ) (xs : List ℕ) (x : Standing) (to : ℕ) (ys : List ℕ) (y : Standing)
+    : Type 0 where
   pub sized : Sized ys y.count
-  pub at : y.at ≡ h.at
+  pub at : y.at ≡ to
   pub ok : y.ok ≡ x.ok
-  pub made : Made (λ rs. put rs (row step_row (axis_number h.axis) (test_number h.test) (name_number h.name))) 1
-      (place_of (name_place h.name)) xs x ys y
+  pub made : Made (λ rs. put rs r) 1 m xs x ys y
+
+-- the step of a head was put
+abbrev pub HeadPut : List ℕ → Standing → Head → List ℕ → Standing → Type 0
+HeadPut xs x h ys y = StepPut (row step_row (axis_number h.axis) (test_number h.test) (name_number h.name))
+    (place_of (name_place h.name)) xs x h.at ys y
 
 abbrev pub nothing_read : ℕ → Standing
 nothing_read n = record { ok = true; at = 0; row = 0; nesting = 0; count = n; fits = true; missing = none }

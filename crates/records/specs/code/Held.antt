@@ -1,9 +1,7 @@
--- The code's records, and its answers as document 02 numbers them. Assumes nothing.
+-- The code's records. Assumes nothing.
 use Rattle.std.specs.Prelude.{ℕ, ◌+◌, min, List, take, set, replicate}
 use Rattle.records.specs.declared.Record.{Record}
 use Rattle.records.specs.declared.Records.{Records}
-use Rattle.calls.specs.Book.{Answer, answer}
-use Rattle.common.specs.Refusals.{not_next, bad_record, full_or_in_use}
 use Rattle.records.specs.Records.{empty_record, max_records}
 
 -- how many records are held: a count above the limit is read as the limit

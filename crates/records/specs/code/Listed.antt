@@ -1,10 +1,8 @@
--- The code's releases and listings, and its answers as document 02 numbers them. Assumes nothing.
+-- The code's releases and listings. Assumes nothing.
 use Rattle.std.specs.Prelude.{ℕ, ◌-◌, List, ◌++◌, length, replicate}
 use Rattle.records.specs.declared.Record.{Record}
 use Rattle.records.specs.declared.Records.{Records}
 use Rattle.records.specs.declared.Releases.{Releases}
-use Rattle.calls.specs.Book.{Answer, answer}
-use Rattle.common.specs.Refusals.{no_record}
 use Rattle.records.specs.Records.{empty_record, max_records}
 use Rattle.records.specs.Releases.{none_released}
 

@@ -1,9 +1,11 @@
 -- `listed` meets its contract. The loop's invariant: the line has the numbers so far and goes on at `from`.
 -- Assumes nothing.
-use mathlib.Core.Path.{refl, sym, subst}
+use mathlib.Core.Path.{refl, sym, ap, subst, ◌∙◌}
 use native.Mathlib.Omega.{arith}
+use lib.ListN.{length, length-append}
 use Rattle.lines.proofs.Parts.{PartsMet}
 use Rattle.script.specs.Command.{all_numbers}
+use Rattle.script.specs.code.CommandRead.{items}
 use Rattle.script.proofs.Numbers.{SoFar, no_number_yet, one_more_number, last_of_all}
 use Rattle.script.proofs.Calls.{list_call}
 use Rattle.script.proofs.Lists.{no_number_there, no_room}
@@ -19,7 +21,7 @@ returns-in_err-last g c =
     let a = c.args in
     let l = c.loop in
     rw c.from_residual.ensures
-    (λ word s made. no_number_there word a.most s a.bytes.now a.at l.from l.numbers.items l.invariant.1
+    (λ word s made. no_number_there word a.most s a.bytes.now a.at l.from (items l.numbers) l.invariant.1
     c.in_default.ensures c.in_err-last.ensures)
 
 pub returns-in_default : goal.returns-in_default
@@ -27,22 +29,23 @@ returns-in_default g c =
     let a = c.args in
     let l = c.loop in
     λ word s made. list_call word a.most s a.bytes.now a.at _ _
-    (subst (λ ns. PartsMet all_numbers a.bytes.now a.at ns c.in_ok-last.last.next) (sym c.push.ensures.items)
-    (last_of_all a.bytes.now a.at l.from l.numbers.items l.invariant.1 _ _ c.in_ok-last.ensures))
-    (omega (arith, c.push.ensures.len, l.invariant.0, c.loop-test.true)) _ (made _ _ c.make.ensures)
+    (subst (λ ns. PartsMet all_numbers a.bytes.now a.at ns c.in_ok-last.last.next) (sym c.push.ensures)
+    (last_of_all a.bytes.now a.at l.from (items l.numbers) l.invariant.1 _ _ c.in_ok-last.ensures))
+    (omega (arith, ap length c.push.ensures ∙ length-append (items l.numbers) _, l.invariant.0, c.loop-test.true))
+    _ (made _ _ c.make.ensures)
 
 pub loop-preserved : goal.loop-preserved
 loop-preserved g c =
     let a = c.args in
     let l = c.loop in (
-      omega (arith, c.push-in-loop.ensures.len, l.invariant.0),
-      subst (SoFar a.bytes.now a.at c.in-Some.more.next) (sym c.push-in-loop.ensures.items)
-          (one_more_number a.bytes.now a.at l.from l.numbers.items l.invariant.1 _ _ c.in-Some.ensures),
+      omega (arith, ap length c.push-in-loop.ensures ∙ length-append (items l.numbers) _, l.invariant.0),
+      subst (SoFar a.bytes.now a.at c.in-Some.more.next) (sym c.push-in-loop.ensures)
+          (one_more_number a.bytes.now a.at l.from (items l.numbers) l.invariant.1 _ _ c.in-Some.ensures),
     )
 
 pub returns : goal.returns
 returns g c =
     let a = c.args in
     let l = c.loop in
-    λ word s made. no_room word a.most s a.bytes.now a.at l.from l.numbers.items l.invariant.1
+    λ word s made. no_room word a.most s a.bytes.now a.at l.from (items l.numbers) l.invariant.1
     (omega (arith, l.invariant.0, c.loop-test.false, l.auto.counter-end))

@@ -2,8 +2,9 @@
 -- Assumes nothing.
 use mathlib.Core.Path.{◌≡◌}
 use lib.ListN.{length}
+use Rattle.script.specs.code.CommandRead.{items}
 use Rattle.script.proofs.Numbers.{SoFar}
 use Rattle.script.proofs.listed.Given as goal
 
 abbrev pub invariant-loop : goal.invariant-loop
-invariant-loop g l = (length l.numbers.items ≡ l.counter) × SoFar l.bytes l.at l.from l.numbers.items
+invariant-loop g l = (length (items l.numbers) ≡ l.counter) × SoFar l.bytes l.at l.from (items l.numbers)

@@ -2,7 +2,10 @@
 use Rattle.std.specs.Prelude.{ℕ, ◌≤◌, ◌<◌, ◌≡◌, List, [], ◌∷◌, length, take, drop}
 use Rattle.std.specs.Prelude.{Option as Optional, Some, None}
 use Rattle.std.proofs.Math.Option.{Option, none, some}
-use Rattle.arrayvec.specs.ArrayVec.{ArrayVec}
+use Rattle.terms.specs.Row.{row_numbers}
+use Rattle.terms.specs.code.RowTypes.{row_of}
+use Rattle.calls.specs.Book.{step_numbers}
+use Rattle.calls.specs.code.Answers.{step_of}
 use Rattle.lines.specs.Line.{lines}
 use Rattle.lines.specs.code.NumbersRead.{first_parts}
 use Rattle.script_words.specs.declared.Word.{Word}
@@ -14,18 +17,23 @@ use Rattle.script_words.specs.Words.{shape_of}
 use Rattle.script.specs.declared.Command.{Command as Given}
 use Rattle.script.specs.declared.Command.TheVariants as given
 use Rattle.script.specs.declared.CallLine.{CallLine}
+use Rattle.script.specs.declared.list.NumberList.{NumberList}
 use Rattle.script.specs.Command.{Command, command, word_command}
+
+-- the numbers of a list
+abbrev pub items : NumberList → List ℕ
+items ns = take ns.count ns.numbers
 
 -- the command that the code gives
 abbrev pub written_command : Given → Command
-written_command (given.Term k a b c) = command Term (k ∷ a ∷ b ∷ c ∷ [])
-written_command (given.Step k a b c d) = command Step (k ∷ a ∷ b ∷ c ∷ d ∷ [])
+written_command (given.Term r) = command Term (row_numbers (row_of r))
+written_command (given.Step p) = command Step (step_numbers (step_of p))
 written_command (given.Select r x l m) = command Select (r ∷ x ∷ l ∷ m ∷ [])
-written_command (given.Document ns) = command Document ns.items
+written_command (given.Document ns) = command Document (items ns)
 written_command given.Fresh = command Fresh []
-written_command (given.Old ns) = command Old ns.items
-written_command (given.New ns) = command New ns.items
-written_command (given.Replace ns) = command Replace ns.items
+written_command (given.Old ns) = command Old (items ns)
+written_command (given.New ns) = command New (items ns)
+written_command (given.Replace ns) = command Replace (items ns)
 written_command (given.Write n) = command Write (n ∷ [])
 written_command (given.Point n) = command Point (n ∷ [])
 written_command (given.Return n) = command Return (n ∷ [])
@@ -34,7 +42,7 @@ written_command (given.Order r s) = command Order (r ∷ s ∷ [])
 written_command given.BundleOrder = command BundleOrder []
 written_command given.Names = command Names []
 written_command given.Text = command Text []
-written_command (given.Record s e r p) = command Record (s ∷ e ∷ r ∷ p ∷ [])
+written_command (given.Record r) = command Record (r.series ∷ r.edition ∷ r.row ∷ r.step ∷ [])
 written_command (given.Current s) = command Current (s ∷ [])
 written_command (given.Release p) = command Release (p ∷ [])
 written_command given.Records = command Records []
@@ -62,11 +70,11 @@ CountedRead count makes xs at r =
     → written_command k ≡ command word (take count (a ∷ b ∷ c ∷ d ∷ e ∷ [])))
     → CallRead (word_command word) xs at r
 
-abbrev pub ListRead : (most : ℕ) (makes : ArrayVec ℕ → Given → Type 0) (xs : List ℕ) (at : ℕ) → Optional CallLine
+abbrev pub ListRead : (most : ℕ) (makes : NumberList → Given → Type 0) (xs : List ℕ) (at : ℕ) → Optional CallLine
     → Type 0
 ListRead most makes xs at r =
     (word : Word) → shape_of word ≡ Listed most
-    → ((ns : ArrayVec ℕ) (k : Given) → makes ns k → written_command k ≡ command word ns.items)
+    → ((ns : NumberList) (k : Given) → makes ns k → written_command k ≡ command word (items ns))
     → CallRead (word_command word) xs at r
 
 -- any bytes are the rest of this command

@@ -10,18 +10,18 @@ use Rattle.selection.proofs.evaluate.Goals as goal
 pub returns-then-marks-n : goal.returns-then-marks-n
 returns-then-marks-n c = too_short _ _ _ _ _ _ c.args.document.prepared.few (omega arith)
 
-pub returns-in_err-visits : goal.returns-in_err-visits
-returns-in_err-visits c =
+pub returns-in_err-ok_or : goal.returns-in_err-ok_or
+returns-in_err-ok_or c =
     let p = err_from_is_err_and c.from_residual.result c.from_residual.ensures.1 in
-    let z = c.in_err-visits.ensures in
+    let z = c.in_err-ok_or.ensures in
     let v = rw z.ok_part at z.value in
     let e : c.from_residual.result ≡ Err LimitPassed = cc (p.1, p.2) in
     rw e
-    (passed _ _ _ _ _ _ c.args.document.prepared.few (omega (arith, c.node_count-n.ensures)) _ c.row_count-top.ensures
+    (passed _ _ _ _ _ _ c.args.document.prepared.few (omega (arith, c.node_count-n.ensures)) _ c.row_count.ensures
     (rw z.ok_part at c.eval_path.ensures))
 
 pub returns : goal.returns
 returns c =
-    let z = c.in_ok-visits.ensures in
-    copied _ _ _ _ _ _ c.args.document.prepared.few (omega (arith, c.node_count-n.ensures)) _ c.row_count-top.ensures
+    let z = c.in_ok-ok_or.ensures in
+    copied _ _ _ _ _ _ c.args.document.prepared.few (omega (arith, c.node_count-n.ensures)) _ c.row_count.ensures
     _ (rw z.ok_part at c.eval_path.ensures) _ _ c.node_count-n.ensures c.copy_out.ensures

@@ -1,5 +1,7 @@
--- The answer of each result of the code. Assumes nothing.
+-- The answer of each result of the code, and the refusal of each error. Assumes nothing.
 use Rattle.std.specs.Prelude.{ℕ, Result, Ok, Err}
+use Rattle.common.specs.declared.refusal.Refusal.{Refusal}
+use Rattle.common.specs.declared.refusal.Refusal.TheVariants as refusal
 use Rattle.selection.specs.declared.EvaluationError.{EvaluationError}
 use Rattle.selection.specs.declared.EvaluationError.TheVariants.{NoRoom, LimitPassed}
 use Rattle.selection.specs.Evaluation.{EvaluationAnswer, selected, no_room, too_many_visits}
@@ -8,3 +10,7 @@ abbrev pub answer_of : Result ℕ EvaluationError → EvaluationAnswer
 answer_of (Ok made) = selected made
 answer_of (Err NoRoom) = no_room
 answer_of (Err LimitPassed) = too_many_visits
+
+abbrev pub refusal_of : EvaluationError → Refusal
+refusal_of NoRoom = refusal.ShortMarks
+refusal_of LimitPassed = refusal.LimitPassed

@@ -1,28 +1,34 @@
 -- What the parts of an evaluation find: a path's marks, a qualifier's value. Assumes nothing.
-use Rattle.std.specs.Prelude.{ℕ, ◌≡◌, Bool, List, [], ◌∷◌, length, get_or, take, Option}
+use Rattle.std.specs.Prelude.{ℕ, ◌≡◌, Bool, true, List, [], ◌∷◌, length, get_or, take, Option}
 use Rattle.xpath.specs.Document.{Document}
 use Rattle.xpath.specs.Term.{Path, Qualifier, Void, Root, AxisStep}
 use Rattle.xpath.specs.Meaning.{selects, holds}
 use Rattle.xpath.specs.Visits.{visits, qualifier_visits}
+use Rattle.xpath.specs.code.Checked.{doc}
 use Rattle.terms.specs.Row.{Row, table_of}
 use Rattle.terms.specs.Terms.{Term, terms}
 use Rattle.marking.specs.code.Added.{Added}
-use Rattle.selection.specs.declared.evaluation.Judged.{Judged}
+use Rattle.selection.specs.declared.context.Context.{Context}
 use Rattle.selection.specs.code.Limit.{UnderLimit}
 
--- what p selects from x is marked in `new` beside what `old` marks
-abbrev pub PathAdded : Document → Path → ℕ → (before limit : ℕ) (made : Option ℕ) (old new : List Bool) → Type 0
-PathAdded d p x before limit made old new =
-    UnderLimit (λ n. n) (λ _. Added (length d) old new (selects d p x)) (visits d p x) before limit made
+-- the document, and the terms of the first `top` rows, that a context lends
+abbrev pub document_in : Context → Document
+document_in c = doc c.lent.now.document
 
--- the value is that of f at x
-abbrev pub QualifierFound : Document → Qualifier → ℕ → (before limit : ℕ) → Option Judged → Type 0
-QualifierFound d f x before limit result =
-    UnderLimit (λ (q : Judged). q.visits) (λ q. q.value ≡ holds d f x) (qualifier_visits d f x) before limit result
+abbrev pub terms_in : Context → List Term
+terms_in c = terms (take c.top (table_of c.lent.now.rows.now))
 
--- the terms of the first `top` rows of the lent table
-abbrev pub terms_below : List ℕ → ℕ → List Term
-terms_below rows top = terms (take top (table_of rows))
+-- what p selects is marked in `new` beside what `old` marks
+abbrev pub PathAdded : {R : Type 0} → Context → Path → (before limit : ℕ) → Option R → (left : ℕ) →
+    (old new : List Bool) → Type 0
+PathAdded c p before limit result left old new =
+    UnderLimit (λ _. Added (length (document_in c)) true old new (selects (document_in c) p c.x))
+    (visits (document_in c) p c.x) before limit result left
+
+-- the value is that of f
+abbrev pub QualifierFound : Context → Qualifier → (before limit : ℕ) → Option Bool → (left : ℕ) → Type 0
+QualifierFound c f before limit result left =
+    UnderLimit (λ v. v ≡ holds (document_in c) f c.x) (qualifier_visits (document_in c) f c.x) before limit result left
 
 -- the path of a row without operands; what is no such row is read as the void path
 unfoldable pub leaf_path : Row → Path

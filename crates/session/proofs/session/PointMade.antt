@@ -1,19 +1,22 @@
 -- From the judgement of a name, and the tables that are left, to the calls point and return on the session.
 -- Assumes nothing.
-use Rattle.calls.specs.code.Answers.{DoneOrRefusal, done_answer_of}
+use Rattle.std.specs.Prelude.{Ok, Err}
+use Rattle.common.specs.declared.refusal.Refusal.{Refusal}
+use Rattle.common.proofs.Refusals.{refusal_some}
+use Rattle.calls.specs.code.Answers.{DoneOrRefusal, done_answer_of, refusal_answer}
 use Prim.Native.Nat.{ℕ, ◌+◌, ◌*◌, ◌≤◌, ◌<◌}
-use mathlib.Core.Path.{◌≡◌, sym, ap, ◌∙◌}
+use mathlib.Core.Path.{◌≡◌, refl, sym, ap, ◌∙◌}
 use mathlib.Core.List.{List}
 use native.Mathlib.Omega.{arith}
-use lib.ListN.{length, length-map}
+use lib.ListN.{length, get_or, length-map}
 use lib.Seq.{sets, length-take-le}
 use Rattle.session.specs.declared.session.Session.{Session}
 use Rattle.calls.specs.declared.points.PointCounts.{PointCounts}
-use Rattle.calls.specs.Book.{max_points}
+use Rattle.calls.specs.Book.{Answer, answer, max_points}
 use Rattle.calls.specs.PointCall.{point_names, place_of, point_answer, return_answer}
 use Rattle.calls.specs.code.Tables.{row_width, step_width}
-use Rattle.calls.specs.code.Points.{point_width, counts, counts_names, counts_numbers, point_named}
-use Rattle.calls.specs.code.Points.{first_point_numbers, cleared}
+use Rattle.calls.specs.code.Points.{point_width, counts, no_counts, counts_names, counts_numbers, point_named}
+use Rattle.calls.specs.code.Points.{first_point_numbers, cleared, ReturnFound}
 use Rattle.calls.specs.Calls.{point, return}
 use Rattle.session.specs.View.{rows_held, steps_held, points_held, points_in, view, with_point, at_point}
 use Rattle.session.specs.Promises.{Met}
@@ -83,28 +86,32 @@ module _ (s : Session) (name : ℕ) (t : DoneOrRefusal) where
     pub point_made_refused : ¬ ((done_answer_of t).number ≡ 0) → Met s (point name) (done_answer_of t) s
     point_made_refused f = record { answer = point_judged; left = if_refused _ _ point_judged (with_point s name) s f }
 
-  -- returning to one
-  module _ (answered : done_answer_of t ≡ return_answer (counts_names (points_in s)) name) where
-    return_judged : done_answer_of t ≡ return_answer (point_names (view s).points) name
-    return_judged = answered ∙ ap (λ ns. return_answer ns name) (sym (names_viewed s))
+-- returning to one
+module _ (s : Session) (name : ℕ) where
+  return_judged : (t : Answer) → t ≡ return_answer (counts_names (points_in s)) name
+      → t ≡ return_answer (point_names (view s).points) name
+  return_judged t e = e ∙ ap (λ ns. return_answer ns name) (sym (names_viewed s))
 
-    pub return_made_held : (done_answer_of t).number ≡ 0 → (place : ℕ) → place
-        ≡ place_of (counts_names (points_in s)) name
-        → (c : PointCounts) → c ≡ point_named (points_in s) name
+  module _ (place : ℕ) (found : ReturnFound (Ok place) (counts_names (points_in s)) name) where
+    pub return_made_held : (c : PointCounts) → c ≡ get_or (points_in s) place no_counts
         → (n m : ℕ) → n ≡ c.rows → m ≡ c.steps
         → (xs ys zs : List ℕ) → xs ≡ cleared (row_width * n) s.rows → ys ≡ cleared (step_width * m) s.steps
         → zs ≡ cleared (point_width * (place + 1)) s.points
-        → Met s (return name) (done_answer_of t)
+        → Met s (return name) (answer 0 0)
         (record { rows = xs; row_count = n; steps = ys; step_count = m; points = zs; point_count = place + 1 })
     unfolding at_point
-    return_made_held e place is-place c is_c n m is-n is_m xs ys zs is-xs is-ys is-zs =
-        let rows = is-n ∙ ap (λ d. d.rows) is_c in
-        let steps = is_m ∙ ap (λ d. d.steps) is_c in
+    return_made_held c is_c n m is-n is_m xs ys zs is-xs is-ys is-zs =
+        let is-place = found.0 in
+        let there : c ≡ point_named (points_in s) name =
+        is_c ∙ ap (λ k. get_or (points_in s) k no_counts) is-place in
+        let rows = is-n ∙ ap (λ d. d.rows) there in
+        let steps = is_m ∙ ap (λ d. d.steps) there in
         let left-rows = is-xs ∙ ap (λ k. cleared (row_width * k) s.rows) rows in
         let left-steps = is-ys ∙ ap (λ k. cleared (step_width * k) s.steps) steps in
         let left-points = is-zs ∙ ap (λ k. cleared (point_width * (k + 1)) s.points) is-place in
+        let judged = return_judged (answer 0 0) found.1 in
         record {
-          answer = return_judged;
+          answer = judged;
           left = (λ i. record {
             rows = left-rows i;
             row_count = rows i;
@@ -112,8 +119,11 @@ module _ (s : Session) (name : ℕ) (t : DoneOrRefusal) where
             step_count = steps i;
             points = left-points i;
             point_count = is-place i + 1;
-          }) ∙ if_accepted _ _ return_judged (at_point s name) s e;
+          }) ∙ if_accepted _ _ judged (at_point s name) s refl;
         }
 
-    pub return_made_refused : ¬ ((done_answer_of t).number ≡ 0) → Met s (return name) (done_answer_of t) s
-    return_made_refused f = record { answer = return_judged; left = if_refused _ _ return_judged (at_point s name) s f }
+  pub return_made_refused : (r : Refusal) → ReturnFound (Err r) (counts_names (points_in s)) name
+      → Met s (return name) (refusal_answer r) s
+  return_made_refused r e =
+      let judged = return_judged (refusal_answer r) e in
+      record { answer = judged; left = if_refused _ _ judged (at_point s name) s (refusal_some r) }

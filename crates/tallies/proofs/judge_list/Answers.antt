@@ -1,31 +1,30 @@
--- `judge_list` meets its contract. The loop's invariant: none of the first k lines is refused. Assumes nothing.
-use mathlib.Core.Path.{◌≡◌, refl, sym, ◌∙◌}
-use native.Mathlib.Omega.{arith}
-use Rattle.common.specs.Bounded.{first_below}
-use Rattle.tallies.proofs.Listed.{line_refused, line_taken, all_taken}
+-- `judge_list` meets its contract: the first line that passes the test is the first refused one. Assumes nothing.
+use Rattle.std.proofs.Common.{◌≡◌, true, false, Some, None, rules, tests, arith}
+use Rattle.std.proofs.lemmas.Iterator.{first_from_Range}
+use Rattle.tallies.specs.NameList.{is_bad_name}
+use Rattle.tallies.proofs.Listed.{line_refused, all_taken}
 use Rattle.tallies.proofs.judge_list.Goals as goal
 
-pub loop-k-init : goal.loop-k-init
-unfolding first_below
-loop-k-init c = refl
+pub overflow_add-result : goal.overflow_add-result
+overflow_add-result c =
+    let opened = c.args.opened.now in
+    let first = first_from_Range _ _ _ (Some c.in-Some.k) (λ k. is_bad_name opened k ≡ true)
+    (λ k. is_bad_name opened k ≡ false) c.in-Some.ensures.ran
+    (λ x q k. search (rules, tests)) (λ x q k. (search rules, search (rules, tests))) in
+    omega (arith, first.1, c.count.type_inv)
 
-pub returns-then-is_bad_name : goal.returns-then-is_bad_name
-returns-then-is_bad_name c =
-    let l = c.loop-k in
-    let a = c.args in
-    line_refused a.list.now a.opened.now _ c.count-count.ensures l.k l.invariant
-    c.loop-k-test.true (sym c.is_bad_name.ensures ∙ c.if-is_bad_name.true)
+pub returns-in-Some : goal.returns-in-Some
+returns-in-Some c =
+    let opened = c.args.opened.now in
+    let first = first_from_Range _ _ _ (Some c.in-Some.k) (λ k. is_bad_name opened k ≡ true)
+    (λ k. is_bad_name opened k ≡ false) c.in-Some.ensures.ran
+    (λ x q k. search (rules, tests)) (λ x q k. (search rules, search (rules, tests))) in
+    line_refused c.args.list.now opened _ c.count.ensures c.in-Some.k first.1 first.2 first.3
 
-pub loop-k-preserved : goal.loop-k-preserved
-loop-k-preserved c =
-    let l = c.loop-k in
-    let a = c.args in
-    line_taken a.list.now a.opened.now _ c.count-count.ensures l.k l.invariant
-    (sym c.is_bad_name.ensures ∙ c.if-is_bad_name.false)
-
-pub returns : goal.returns
-returns c =
-    let l = c.loop-k in
-    let a = c.args in
-    let e : l.k ≡ c.count-count.result = omega arith in
-    all_taken a.list.now a.opened.now _ c.count-count.ensures l.k l.invariant e
+pub returns-in-None : goal.returns-in-None
+returns-in-None c =
+    let opened = c.args.opened.now in
+    let first = first_from_Range _ _ _ None (λ k. is_bad_name opened k ≡ true)
+    (λ k. is_bad_name opened k ≡ false) c.in-None.ensures.ran
+    (λ x q k. search (rules, tests)) (λ x q k. (search rules, search (rules, tests))) in
+    all_taken c.args.list.now opened _ c.count.ensures first

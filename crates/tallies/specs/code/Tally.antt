@@ -63,10 +63,9 @@ entry_of (Total n) = entry 0 n
 abbrev pub no_entry : Entry
 no_entry = entry 0 0
 
--- the line at place k of lines; none past the last
-abbrev pub LineIs : List Entry → (k : ℕ) → Option TallyLine → Type 0
-LineIs es k (Some l) = (k < length es) × (entry_of l ≡ get_or es k no_entry)
-LineIs es k None = length es ≤ k
+-- the line at place k of lines, where there is one
+abbrev pub LineIs : List Entry → (k : ℕ) → TallyLine → Type 0
+LineIs es k l = k < length es → entry_of l ≡ get_or es k no_entry
 
 -- what the calls of a tally come to
 pub record TallyPromise : Type 0 where

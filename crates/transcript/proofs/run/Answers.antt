@@ -1,41 +1,46 @@
--- `run` meets its contract: the line that ends it is the first not taken from `at` on. Assumes nothing.
-use mathlib.Core.Path.{sym, subst, ◌∙◌}
+-- `run` meets its contract: the line that ends it is the first not taken of those that are left. Assumes nothing.
+use Prim.Native.Nat.{◌+◌}
+use mathlib.Core.Path.{sym, ap, ◌∙◌}
 use native.Mathlib.Omega.{arith}
-use Rattle.script.specs.Command.{command_of}
-use Rattle.script.specs.code.CommandRead.{CallRead}
-use Rattle.transcript.proofs.Ending.{no_line_left, no_call_ends, line_ends, line_passed}
+use borrow.Author.Tests.{tests}
+use lib.ListN.{length}
+use Rattle.std.proofs.Common.{rules}
+use Rattle.std.specs.Slice.Iter.{split_inclusive_rest, split_inclusive_callee}
+use Rattle.std.proofs.lemmas.List.{length_push}
+use Rattle.std.proofs.lemmas.List.Sorted.{answers_always}
+use Rattle.std.proofs.lemmas.Result.{err_from_is_err_and}
+use Rattle.common.proofs.Results.{none_by_ok_or}
+use Rattle.script.proofs.EachLine.{turn, no_turn}
+use Rattle.transcript.proofs.Ending.{no_line_left, line_ends, line_passed}
 use Rattle.transcript.proofs.run.Goals as goal
 
-pub returns-in_default : goal.returns-in_default
-returns-in_default c =
-    let l = c.loop-at in
-    let a = c.args in
-    let ends =
-    line_ends _ _ a.input.now l.at c.loop-at-test.true _ c.in-Some.ensures _ c.is_taken.ensures c.if-is_taken.false
-    ∙ sym l.invariant.2 in
-    (sym ends, omega arith)
+pub returns-in_err-read : goal.returns-in_err-read
+returns-in_err-read c =
+    let l = c.loop-i in
+    let t = turn _ split_inclusive_rest split_inclusive_callee c.args.input.now _ (cc) (cc)
+    (answers_always _ _ _ (λ f a r q k. search (rules, tests))) l.yielded _ l.yielded_by _ _ _ c.in-Some.is
+    c.next.ensures.steps in
+    let no = none_by_ok_or c.filter.result (c.in-Some.i + 1) _ c.in_err-read.ensures.value in
+    let exit = err_from_is_err_and c.from_residual.result c.from_residual.ensures.1 in
+    let ends = line_ends c.args.style (length l.yielded + 1) _ _ c.in-Some.line.now _ t.line.alone t.line.there
+    c.call_at.result c.filter.result c.call_at.ensures _ c.filter.ensures (λ r b w. search rules) no.0 in
+    rw (exit.1, exit.2, no.1, t.place) (l.invariant ∙ ends, omega arith)
 
-pub returns-in_default-2 : goal.returns-in_default-2
-returns-in_default-2 c =
-    let l = c.loop-at in
-    let a = c.args in
-    let ends =
-    no_call_ends _ _ a.input.now l.at c.loop-at-test.true
-    (subst (CallRead command_of a.input.now l.at) c.in_default.is c.call_at.ensures)
-    ∙ sym l.invariant.2 in
-    (sym ends, omega arith)
-
-pub loop-at-preserved : goal.loop-at-preserved
-loop-at-preserved c =
-    let l = c.loop-at in
-    let a = c.args in
-    let read = c.in-Some.ensures in
-    let passed =
-    line_passed _ _ a.input.now l.at c.loop-at-test.true _ read _ c.is_taken.ensures c.if-is_taken.true in
-    (omega (arith, read.further), omega (arith, read.inside), l.invariant.2 ∙ passed)
+pub loop-i-preserved : goal.loop-i-preserved
+loop-i-preserved c =
+    let l = c.loop-i in
+    let t = turn _ split_inclusive_rest split_inclusive_callee c.args.input.now _ (cc) (cc)
+    (answers_always _ _ _ (λ f a r q k. search (rules, tests))) l.yielded _ l.yielded_by _ _ _ c.in-Some.is
+    c.next.ensures.steps in
+    let passed = line_passed c.args.style (length l.yielded + 1) _ _ c.in-Some.line.now _ t.line.alone t.line.there
+    c.call_at.result c.filter.result c.call_at.ensures _ c.filter.ensures (λ r b w. search rules) _
+    c.in_ok-read.ensures.ok_part in
+    rw (length_push l.yielded (c.in-Some.i, c.in-Some.line)) (l.invariant ∙ passed)
 
 pub returns : goal.returns
 returns c =
-    let l = c.loop-at in
-    let a = c.args in
-    l.invariant.2 ∙ sym (no_line_left _ _ a.input.now l.at c.loop-at-test.false)
+    let l = c.loop-i in
+    let e = no_turn _ split_inclusive_rest split_inclusive_callee c.args.input.now _ (cc) (cc)
+    (answers_always _ _ _ (λ f a r q k. search (rules, tests))) l.yielded _ l.yielded_by _ _ c.in-None.is
+    c.next.ensures.steps in
+    l.invariant ∙ no_line_left _ _ _ e

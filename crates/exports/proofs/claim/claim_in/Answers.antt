@@ -1,10 +1,10 @@
 -- `claim_in` meets its contract: the bundle or either selector may be refused, and then the claim. Assumes nothing.
-use mathlib.Core.Path.{ap, ◌∙◌}
+use mathlib.Core.Path.{◌∙◌}
 use Rattle.std.proofs.lemmas.Result.{err_from_is_err_and}
 use Rattle.exports.specs.declared.claim.ClaimRefusal.TheVariants.{Bundle, OldSelector, NewSelector}
-use Rattle.exports.specs.ClaimCall.{claimed, the_claim}
-use Rattle.exports.proofs.Judged.{mapped_ok, mapped_err, bundle_refused, bundle_accepted, old_refused, old_accepted}
-use Rattle.exports.proofs.Judged.{new_refused, new_accepted, step_said, none_said}
+use Rattle.common.proofs.Results.{mapped_ok, mapped_err}
+use Rattle.exports.proofs.Judged.{bundle_refused, bundle_accepted, old_refused, old_accepted}
+use Rattle.exports.proofs.Judged.{new_refused, new_accepted, step_told}
 use Rattle.exports.proofs.claim.claim_in.Goals as goal
 
 pub returns-in_err-map_err : goal.returns-in_err-map_err
@@ -33,23 +33,13 @@ returns-in_err-right c =
     ∙ old_accepted _ _ _ _ _ c.text-first.ensures _ _ first
     ∙ bundle_accepted _ _ c.read-read.ensures _ _ _ _ read)
 
-pub returns-in-Some : goal.returns-in-Some
-returns-in-Some c =
+pub returns : goal.returns
+returns c =
     let read = mapped_ok Bundle c.read-read.result.answer _ c.in_ok-map_err.ensures.cases in
     let first = mapped_ok OldSelector c.text-first.result.answer _ c.in_ok-left.ensures.cases in
     let second = mapped_ok NewSelector c.text-second.result.answer _ c.in_ok-right.ensures.cases in
-    rw c.from.ensures
-    (ap (claimed the_claim) (step_said _ _ _ _ c.in-Some.ensures)
+    rw c.ok_or.ensures.value
+    (step_told _ _ _ c.step_saying-step.result c.step_saying-step.ensures
     ∙ new_accepted _ _ _ _ _ c.text-second.ensures _ _ second
     ∙ old_accepted _ _ _ _ _ c.text-first.ensures _ _ first
     ∙ bundle_accepted _ _ c.read-read.ensures _ _ _ _ read)
-
-pub returns-in-None : goal.returns-in-None
-returns-in-None c =
-    let read = mapped_ok Bundle c.read-read.result.answer _ c.in_ok-map_err.ensures.cases in
-    let first = mapped_ok OldSelector c.text-first.result.answer _ c.in_ok-left.ensures.cases in
-    let second = mapped_ok NewSelector c.text-second.result.answer _ c.in_ok-right.ensures.cases in
-    ap (claimed the_claim) (none_said _ _ _ c.in-None.ensures)
-    ∙ new_accepted _ _ _ _ _ c.text-second.ensures _ _ second
-    ∙ old_accepted _ _ _ _ _ c.text-first.ensures _ _ first
-    ∙ bundle_accepted _ _ c.read-read.ensures _ _ _ _ read

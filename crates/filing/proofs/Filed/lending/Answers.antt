@@ -2,12 +2,8 @@
 use Rattle.filing.proofs.CallLaws.{lent, not_lent}
 use Rattle.filing.proofs.Filed.lending.Goals as goal
 
-pub returns-then-bytes-gt-MAX_BYTES : goal.returns-then-bytes-gt-MAX_BYTES
-returns-then-bytes-gt-MAX_BYTES c =
-    let a = c.args in
-    not_lent a.script.now a.self a.at c.rest_at-bytes.result c.rest_at-bytes.ensures c.if-bytes-gt-MAX_BYTES.true
+pub returns-then-rest-gt-MAX_BYTES : goal.returns-then-rest-gt-MAX_BYTES
+returns-then-rest-gt-MAX_BYTES c = not_lent c.args.self c.args.rest c.if-rest-gt-MAX_BYTES.true
 
 pub returns : goal.returns
-returns c =
-    let a = c.args in
-    lent a.script.now a.self a.at c.rest_at-bytes.result c.rest_at-bytes.ensures _
+returns c = lent c.args.self c.args.rest _

@@ -1,21 +1,23 @@
 -- `Filed::line` meets its contract. Assumes nothing.
+use mathlib.Core.Path.{subst}
+use Rattle.common.proofs.Results.{none_by_ok_or}
+use Rattle.common.specs.declared.refusal.Refusal.TheVariants as refusals
 use Rattle.std.proofs.lemmas.Result.{err_from_is_err_and}
-use Rattle.filing.proofs.LineLaws.{line_not_read, command_refused, command_taken}
+use Rattle.script.specs.Command.{command_of}
+use Rattle.script.specs.code.CommandRead.{CallRead}
+use Rattle.filing.proofs.LineLaws.{line_not_read, line_read}
 use Rattle.filing.proofs.Filed.line.Goals as goal
 
-pub returns-in_default : goal.returns-in_default
-returns-in_default c =
+pub returns-in_err-read : goal.returns-in_err-read
+returns-in_err-read c =
     let a = c.args in
-    line_not_read a.self a.script.now a.at c.in_default.ensures
-
-pub returns-in_err-left : goal.returns-in_err-left
-returns-in_err-left c =
-    let a = c.args in
-    let p = err_from_is_err_and c.from_residual.result c.from_residual.ensures.1 in
-    rw (p.1, p.2)
-    (command_refused a.self a.script.now a.at c.in-Some.read c.in-Some.ensures _ c.in_err-left.ensures)
+    let no = none_by_ok_or c.call_at.result refusals.WrongForm _ c.in_err-read.ensures.value in
+    let exit = err_from_is_err_and c.from_residual.result c.from_residual.ensures.1 in
+    rw (exit.1, exit.2, no.1)
+    (line_not_read a.self a.line.now (subst (CallRead command_of a.line.now 0) no.0 c.call_at.ensures))
 
 pub returns : goal.returns
 returns c =
     let a = c.args in
-    command_taken a.self a.script.now a.at c.in-Some.read c.in-Some.ensures _ c.in_ok-left.ensures
+    let met = subst (CallRead command_of a.line.now 0) c.in_ok-read.ensures.ok_part c.call_at.ensures in
+    line_read a.self a.line.now c.in_ok-read.read.command met.line _ c.rest_at.ensures _ c.command.ensures

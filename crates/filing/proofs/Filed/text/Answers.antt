@@ -15,6 +15,5 @@ slice_bounds-text-end c =
 
 pub returns : goal.returns
 returns c =
-    rw (← c.rest_at.ensures)
-    (text_done c.args.self _ _ _ c.no_bytes-list.ensures c.put_names-size.ensures _ _ _ c.text-made.ensures _
-    c.called.ensures)
+    text_done c.args.self _ _ _ c.no_bytes-list.ensures c.put_names-size.ensures _ _ _ c.text.ensures _
+    c.called.ensures

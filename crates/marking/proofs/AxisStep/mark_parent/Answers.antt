@@ -8,13 +8,14 @@ use Rattle.marking.proofs.AxisStep.mark_parent.Goals as goal
 pub mark_node-requires : goal.mark_node-requires
 mark_node-requires g c =
     let r = c.args.self.now.document.prepared in
-    let s = parent_smaller _ r.formed c.args.x c.requires.row (pos_of_ne-zero c.if-x-ne0.true) in
-    omega (arith, c.parent_at.ensures, r.few, c.requires.row, c.requires.room)
+    let s = parent_smaller _ r.formed c.args.self.now.x c.args.self.now.node (pos_of_ne-zero c.if-self-ne0.true) in
+    omega (arith, c.parent_of.ensures, r.few, c.args.self.now.node)
 
-pub returns-then-x-ne0 : goal.returns-then-x-ne0
-returns-then-x-ne0 g c =
-    parent_marked _ _ c.args.self.now.document.prepared _ _ c.requires.row _ (pos_of_ne-zero c.if-x-ne0.true)
-    c.parent_at.ensures c.mark_node.ensures
+pub returns-then-self-ne0 : goal.returns-then-self-ne0
+returns-then-self-ne0 g c =
+    parent_marked _ _ c.args.self.now.document.prepared _ _ c.args.self.now.node _ (pos_of_ne-zero c.if-self-ne0.true)
+    c.parent_of.ensures c.mark_node.ensures
 
-pub returns-else-x-ne0 : goal.returns-else-x-ne0
-returns-else-x-ne0 g c = root_parent _ _ c.args.self.now.document.prepared _ _ c.requires.row c.if-x-ne0.false
+pub returns-else-self-ne0 : goal.returns-else-self-ne0
+returns-else-self-ne0 g c =
+    root_parent _ _ c.args.self.now.document.prepared _ _ c.args.self.now.node c.if-self-ne0.false

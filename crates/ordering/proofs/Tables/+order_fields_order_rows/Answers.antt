@@ -1,15 +1,13 @@
 -- `order_fields` and `order_rows` meet their contracts: a measure, the row of the left, and the ways of Rows.antt and
 -- of Compared.antt. Assumes nothing.
 use Prim.Native.Nat.{◌<◌}
-use mathlib.Core.Path.{◌≡◌, sym, ap, ap₂, ◌∙◌}
+use mathlib.Core.Path.{◌≡◌, sym, ◌∙◌}
 use mathlib.Core.Bool.{false, ◌&&◌}
 use native.Mathlib.Omega.{arith}
 use Rattle.std.proofs.lemmas.Grind.{common_steps}
 use Rattle.terms.specs.Row.{table_of}
-use Rattle.terms.specs.Fields.{fields_of}
-use Rattle.terms.specs.code.RowTypes.{field_of, fields_in}
-use Rattle.ordering.specs.Order.{number_order}
-use Rattle.ordering.specs.code.FieldsCompared.{order_of, is_operand}
+use Rattle.terms.specs.code.RowTypes.{field_of}
+use Rattle.ordering.specs.code.FieldsCompared.{is_operand}
 use Rattle.ordering.proofs.Rows as ways
 use Rattle.ordering.proofs.Compared as law
 use Rattle.ordering.proofs.Tables.+order_fields_order_rows.Goals as goal
@@ -43,8 +41,7 @@ order_fields-returns t c =
     let none : (is_operand rs a.rows.0 f a.fields.0 && is_operand ss a.rows.1 f a.fields.1) ≡ false =
     grind (arith, common_steps) in
     record {
-      answer = ap order_of c.cmp.ensures ∙ law.numbers_compared c.number_of.result c.number_of-2.result
-          ∙ ap₂ number_order c.number_of.ensures c.number_of-2.ensures
+      answer = law.numbers_compared _ _ c.cmp.ensures c.number.ensures c.number-2.ensures
           ∙ ways.not_both rs a.rows.0 a.fields.0 ss a.rows.1 a.fields.1 f none;
       noted = c.requires;
     }
@@ -58,17 +55,10 @@ order_rows-returns-then-is_noted t c =
 pub order_rows-returns-then-is_ne : goal.order_rows-returns-then-is_ne
 order_rows-returns-then-is_ne t c =
     let a = c.args in
-    let rs = table_of a.self.left.now in
-    let ss = table_of a.self.right.now in
-    let left = ways.row_there rs c.row_at-x.ensures c.from.ensures in
-    let right = ways.row_there ss c.row_at-y.ensures c.from-2.ensures in
-    let kind = c.term_kind-kind.ensures in
-    let kinds =
-    ap order_of c.cmp-kinds.ensures ∙ law.numbers_compared c.term_kind-kind.result c.term_kind-other.result
-    ∙ ap₂ number_order kind c.term_kind-other.ensures in
     record {
-      answer = law.kinds_differ rs ss a.rows.0 a.rows.1 left right c.cmp-kinds.result kinds (sym c.is_ne.ensures ∙
-          c.if-is_ne.true);
+      answer = law.kinds_differ (table_of a.self.left.now) (table_of a.self.right.now) a.rows.0 a.rows.1
+          c.row_at-x.ensures c.from.ensures c.row_at-y.ensures c.from-2.ensures c.term_kind-kind.ensures
+          c.term_kind-other.ensures c.cmp-kinds.ensures c.is_ne.ensures c.if-is_ne.true;
       noted = c.requires;
     }
 
@@ -78,22 +68,13 @@ order_rows-order_fields-first-requires t c = (omega arith, c.requires)
 pub order_rows-returns-then-is_ne-2 : goal.order_rows-returns-then-is_ne-2
 order_rows-returns-then-is_ne-2 t c =
     let a = c.args in
-    let rs = table_of a.self.left.now in
-    let ss = table_of a.self.right.now in
-    let left = ways.row_there rs c.row_at-x.ensures c.from.ensures in
-    let right = ways.row_there ss c.row_at-y.ensures c.from-2.ensures in
-    let kind = c.term_kind-kind.ensures in
-    let kinds =
-    ap order_of c.cmp-kinds.ensures ∙ law.numbers_compared c.term_kind-kind.result c.term_kind-other.result
-    ∙ ap₂ number_order kind c.term_kind-other.ensures in
-    let same = sym c.is_ne.ensures ∙ c.if-is_ne.false in
-    let r = c.fields_of-a.result in
-    let fields = c.fields_of-a.ensures ∙ ap fields_of kind in
+    let whole =
+    law.by_fields (table_of a.self.left.now) (table_of a.self.right.now) a.rows.0 a.rows.1 c.row_at-x.ensures
+    c.from.ensures c.row_at-y.ensures c.from-2.ensures c.term_kind-kind.ensures c.term_kind-other.ensures
+    c.cmp-kinds.ensures c.is_ne.ensures c.if-is_ne.false c.fields_of-a.ensures in
     record {
-      answer = law.firsts_differ rs ss a.rows.0 a.rows.1 left right c.cmp-kinds.result kinds same
-          (fields_in r.0 r.1 r.2) fields
-          c.order_fields-first.result c.order_fields-first.ensures.answer (sym c.is_ne-2.ensures ∙
-          c.if-is_ne-2.true);
+      answer = law.first_decides whole c.order_fields-first.result c.order_fields-first.ensures.answer
+          (sym c.is_ne-2.ensures ∙ c.if-is_ne-2.true);
       noted = c.order_fields-first.ensures.noted;
     }
 
@@ -103,23 +84,14 @@ order_rows-order_fields-second-requires t c = (omega arith, c.order_fields-first
 pub order_rows-returns-then-is_ne-3 : goal.order_rows-returns-then-is_ne-3
 order_rows-returns-then-is_ne-3 t c =
     let a = c.args in
-    let rs = table_of a.self.left.now in
-    let ss = table_of a.self.right.now in
-    let left = ways.row_there rs c.row_at-x.ensures c.from.ensures in
-    let right = ways.row_there ss c.row_at-y.ensures c.from-2.ensures in
-    let kind = c.term_kind-kind.ensures in
-    let kinds =
-    ap order_of c.cmp-kinds.ensures ∙ law.numbers_compared c.term_kind-kind.result c.term_kind-other.result
-    ∙ ap₂ number_order kind c.term_kind-other.ensures in
-    let same = sym c.is_ne.ensures ∙ c.if-is_ne.false in
-    let r = c.fields_of-a.result in
-    let fields = c.fields_of-a.ensures ∙ ap fields_of kind in
+    let whole =
+    law.by_fields (table_of a.self.left.now) (table_of a.self.right.now) a.rows.0 a.rows.1 c.row_at-x.ensures
+    c.from.ensures c.row_at-y.ensures c.from-2.ensures c.term_kind-kind.ensures c.term_kind-other.ensures
+    c.cmp-kinds.ensures c.is_ne.ensures c.if-is_ne.false c.fields_of-a.ensures in
     record {
-      answer = law.seconds_differ rs ss a.rows.0 a.rows.1 left right c.cmp-kinds.result kinds same
-          (fields_in r.0 r.1 r.2) fields
-          c.order_fields-first.result c.order_fields-first.ensures.answer (sym c.is_ne-2.ensures ∙
-          c.if-is_ne-2.false) c.order_fields-second.result c.order_fields-second.ensures.answer (sym
-          c.is_ne-3.ensures ∙ c.if-is_ne-3.true);
+      answer = law.second_decides whole c.order_fields-first.result c.order_fields-first.ensures.answer
+          (sym c.is_ne-2.ensures ∙ c.if-is_ne-2.false) c.order_fields-second.result
+          c.order_fields-second.ensures.answer (sym c.is_ne-3.ensures ∙ c.if-is_ne-3.true);
       noted = c.order_fields-second.ensures.noted;
     }
 
@@ -129,54 +101,32 @@ order_rows-order_fields-third-requires t c = (omega arith, c.order_fields-second
 pub order_rows-returns-then-is_eq : goal.order_rows-returns-then-is_eq
 order_rows-returns-then-is_eq t c =
     let a = c.args in
-    let rs = table_of a.self.left.now in
-    let ss = table_of a.self.right.now in
-    let left = ways.row_there rs c.row_at-x.ensures c.from.ensures in
-    let right = ways.row_there ss c.row_at-y.ensures c.from-2.ensures in
-    let kind = c.term_kind-kind.ensures in
-    let kinds =
-    ap order_of c.cmp-kinds.ensures ∙ law.numbers_compared c.term_kind-kind.result c.term_kind-other.result
-    ∙ ap₂ number_order kind c.term_kind-other.ensures in
-    let same = sym c.is_ne.ensures ∙ c.if-is_ne.false in
-    let r = c.fields_of-a.result in
-    let fields = c.fields_of-a.ensures ∙ ap fields_of kind in
+    let whole =
+    law.by_fields (table_of a.self.left.now) (table_of a.self.right.now) a.rows.0 a.rows.1 c.row_at-x.ensures
+    c.from.ensures c.row_at-y.ensures c.from-2.ensures c.term_kind-kind.ensures c.term_kind-other.ensures
+    c.cmp-kinds.ensures c.is_ne.ensures c.if-is_ne.false c.fields_of-a.ensures in
+    let third =
+    law.third_decides whole c.order_fields-first.result c.order_fields-first.ensures.answer
+    (sym c.is_ne-2.ensures ∙ c.if-is_ne-2.false) c.order_fields-second.result c.order_fields-second.ensures.answer
+    (sym c.is_ne-3.ensures ∙ c.if-is_ne-3.false) c.order_fields-third.result c.order_fields-third.ensures.answer in
     record {
-      answer = law.thirds_decide rs ss a.rows.0 a.rows.1 left right c.cmp-kinds.result kinds same
-          (fields_in r.0 r.1 r.2) fields
-          c.order_fields-first.result c.order_fields-first.ensures.answer (sym c.is_ne-2.ensures ∙
-          c.if-is_ne-2.false) c.order_fields-second.result c.order_fields-second.ensures.answer (sym
-          c.is_ne-3.ensures ∙ c.if-is_ne-3.false) c.order_fields-third.result
-          c.order_fields-third.ensures.answer;
-      noted = law.all_equal rs ss a.rows.0 a.rows.1 left right
-          c.cmp-kinds.result kinds same (fields_in r.0 r.1 r.2) fields
-          c.order_fields-first.result
-          c.order_fields-first.ensures.answer (sym c.is_ne-2.ensures ∙ c.if-is_ne-2.false)
-          c.order_fields-second.result c.order_fields-second.ensures.answer (sym
-          c.is_ne-3.ensures ∙ c.if-is_ne-3.false) c.order_fields-third.result
-          c.order_fields-third.ensures.answer (sym c.is_eq.ensures ∙ c.if-is_eq.true) _
-          _ c.order_fields-third.ensures.noted c.note.ensures;
+      answer = third;
+      noted = law.pair_noted (table_of a.self.left.now) (table_of a.self.right.now) a.rows.0 a.rows.1
+          c.order_fields-third.result third (sym c.is_eq.ensures ∙ c.if-is_eq.true) _ _
+          c.order_fields-third.ensures.noted c.note.ensures;
     }
 
 pub order_rows-returns-else-is_eq : goal.order_rows-returns-else-is_eq
 order_rows-returns-else-is_eq t c =
     let a = c.args in
-    let rs = table_of a.self.left.now in
-    let ss = table_of a.self.right.now in
-    let left = ways.row_there rs c.row_at-x.ensures c.from.ensures in
-    let right = ways.row_there ss c.row_at-y.ensures c.from-2.ensures in
-    let kind = c.term_kind-kind.ensures in
-    let kinds =
-    ap order_of c.cmp-kinds.ensures ∙ law.numbers_compared c.term_kind-kind.result c.term_kind-other.result
-    ∙ ap₂ number_order kind c.term_kind-other.ensures in
-    let same = sym c.is_ne.ensures ∙ c.if-is_ne.false in
-    let r = c.fields_of-a.result in
-    let fields = c.fields_of-a.ensures ∙ ap fields_of kind in
+    let whole =
+    law.by_fields (table_of a.self.left.now) (table_of a.self.right.now) a.rows.0 a.rows.1 c.row_at-x.ensures
+    c.from.ensures c.row_at-y.ensures c.from-2.ensures c.term_kind-kind.ensures c.term_kind-other.ensures
+    c.cmp-kinds.ensures c.is_ne.ensures c.if-is_ne.false c.fields_of-a.ensures in
     record {
-      answer = law.thirds_decide rs ss a.rows.0 a.rows.1 left right c.cmp-kinds.result kinds same
-          (fields_in r.0 r.1 r.2) fields
-          c.order_fields-first.result c.order_fields-first.ensures.answer (sym c.is_ne-2.ensures ∙
-          c.if-is_ne-2.false) c.order_fields-second.result c.order_fields-second.ensures.answer (sym
-          c.is_ne-3.ensures ∙ c.if-is_ne-3.false) c.order_fields-third.result
-          c.order_fields-third.ensures.answer;
+      answer =
+          law.third_decides whole c.order_fields-first.result c.order_fields-first.ensures.answer
+          (sym c.is_ne-2.ensures ∙ c.if-is_ne-2.false) c.order_fields-second.result c.order_fields-second.ensures.answer
+          (sym c.is_ne-3.ensures ∙ c.if-is_ne-3.false) c.order_fields-third.result c.order_fields-third.ensures.answer;
       noted = c.order_fields-third.ensures.noted;
     }

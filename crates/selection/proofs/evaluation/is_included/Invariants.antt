@@ -3,6 +3,7 @@ use Prim.Native.Nat.{ℕ}
 use mathlib.Core.Path.{◌≡◌}
 use mathlib.Core.Bool.{Bool, not, ◌||◌}
 use mathlib.Core.List.{List}
+use lib.ListN.{length}
 use Rattle.common.specs.Bounded.{all_below}
 use Rattle.marking.specs.code.Added.{marked}
 use Rattle.selection.proofs.evaluation.is_included.Given as goal
@@ -10,5 +11,5 @@ use Rattle.selection.proofs.evaluation.is_included.Given as goal
 abbrev pub test : List Bool → List Bool → ℕ → Bool
 test a b y = not (marked a y) || marked b y
 
-abbrev pub invariant-loop-y : goal.invariant-loop-y
-invariant-loop-y l = l.included ≡ all_below l.y (test l.a l.b)
+abbrev pub invariant-loop-left : goal.invariant-loop-left
+invariant-loop-left l = l.included ≡ all_below (length l.yielded) (test l.a l.b)

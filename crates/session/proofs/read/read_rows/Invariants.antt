@@ -12,9 +12,9 @@ use Rattle.session.proofs.read.read_rows.Given as goal
 
 abbrev pub invariant-loop-at : goal.invariant-loop-at
 invariant-loop-at l = (l.line ≤ l.at) × (l.at ≤ length l.bytes)
-    × (rows_read row_step_answer (holding l.initial.held.numbers 0 fresh_session.steps 0) 2
+    × (rows_read row_step_answer (holding l.initial.rows.numbers 0 fresh_session.steps 0) 2
     (lines (drop l.start l.bytes))
-    ≡ rows_read row_step_answer (holding l.held.numbers l.held.count fresh_session.steps 0) l.line
+    ≡ rows_read row_step_answer (holding l.rows.numbers l.rows.count fresh_session.steps 0) l.line
     (lines (drop l.at l.bytes)))
 
 abbrev pub decreases-loop-at : goal.decreases-loop-at

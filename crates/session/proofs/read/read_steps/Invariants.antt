@@ -16,10 +16,11 @@ use Rattle.session.proofs.read.read_steps.Given as goal
 abbrev pub invariant-loop-at : goal.invariant-loop-at
 invariant-loop-at l = (l.m ≤ max_steps) × (length l.steps ≡ step_width * max_steps) × (l.line ≤ l.at)
     × (l.at ≤ length l.bytes)
-    × (steps_read row_step_answer (holding l.rows l.n l.initial.steps 0) l.first (lines (drop l.start l.bytes))
+    × (steps_read row_step_answer (holding l.rows.numbers l.rows.count l.initial.steps 0) l.fn.first.line
+    (lines (drop l.fn.first.at l.bytes))
     ≡ steps_read row_step_answer
-    (holding l.rows l.n l.steps l.m) l.line (lines (drop l.at l.bytes)))
-    × Noted (first_rows l.n l.rows) l.noted × (length l.noted ≡ max_rows)
+    (holding l.rows.numbers l.rows.count l.steps l.m) l.line (lines (drop l.at l.bytes)))
+    × Noted (first_rows l.rows.count l.rows.numbers) l.noted × (length l.noted ≡ max_rows)
 
 abbrev pub decreases-loop-at : goal.decreases-loop-at
 decreases-loop-at l = length l.bytes - l.at

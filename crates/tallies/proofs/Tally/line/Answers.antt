@@ -1,26 +1,27 @@
 -- `Tally::line` meets its contract. Assumes nothing.
-use mathlib.Core.Path.{◌≡◌}
+use Prim.Native.Nat.{◌+◌, ◌≤◌, ◌<◌}
+use mathlib.Core.Path.{◌≡◌, ap, ◌∙◌}
 use native.Mathlib.Omega.{arith}
-use lib.ListN.{length}
-use Rattle.rules.specs.Yields.{max_rule}
-use Rattle.tallies.proofs.Lined.{rule_line, total_line, no_line}
+use lib.ListN.{length, get_or}
 use borrow.Author.Rules.{rules}
+use Rattle.rules.specs.Yields.{max_rule}
+use Rattle.tallies.specs.Count.{entry}
+use Rattle.tallies.proofs.Lined.{rule_line, total_line}
 use Rattle.tallies.proofs.Tally.line.Goals as goal
 
-pub returns-then-k-lt-RULES : goal.returns-then-k-lt-RULES
-returns-then-k-lt-RULES c =
+pub returns-in-Some : goal.returns-in-Some
+returns-in-Some c =
     let t = c.args.self in
+    let k = c.args.k in
     let size : length t.uses ≡ max_rule = search rules in
-    rule_line t.uses t.total _ size c.if-k-lt-RULES.true
+    let there : k < length t.uses = search rules in
+    let its : c.in-Some.field-0.now ≡ get_or t.uses k 0 = search rules in
+    λ within. ap (entry (k + 1)) its ∙ rule_line t.uses t.total k size (omega arith) within
 
-pub returns-then-k-eq-RULES : goal.returns-then-k-eq-RULES
-returns-then-k-eq-RULES c =
+pub returns-in-None : goal.returns-in-None
+returns-in-None c =
     let t = c.args.self in
+    let k = c.args.k in
     let size : length t.uses ≡ max_rule = search rules in
-    total_line t.uses t.total _ size c.if-k-eq-RULES.true
-
-pub returns : goal.returns
-returns c =
-    let t = c.args.self in
-    let size : length t.uses ≡ max_rule = search rules in
-    no_line t.uses t.total c.args.k size (omega (arith, c.if-k-eq-RULES.false))
+    let past : length t.uses ≤ k = search rules in
+    total_line t.uses t.total k size (omega arith)

@@ -1,16 +1,20 @@
--- `pass` meets its contract: the test holds of each byte so far. Assumes nothing.
-use mathlib.Core.Path.{sym, ◌∙◌}
-use native.Mathlib.Omega.{arith}
-use Rattle.words.proofs.Scanned.{passed_up_to}
+-- `pass` meets its contract: the first byte that fails the test is at the first such place. Assumes nothing.
+use mathlib.Core.Bool.{not}
+use mathlib.Core.Path.{ap, ◌∙◌}
+use lib.ListN.{length}
+use Prim.Native.Nat.{◌+◌}
+use Rattle.std.specs.Prelude.{unwrap_or}
+use Rattle.std.proofs.Common.{◌≡◌, rules, position, tests}
+use Rattle.std.proofs.lemmas.Iterator.{YieldsList-from_slice}
+use Rattle.std.proofs.lemmas.Iterator.Search.{position_from_yields_List}
+use Rattle.words.proofs.Scanned.{passed_over}
 use Rattle.words.proofs.bytes.pass.Goals as goal
-
-pub returns-then-not-test : goal.returns-then-not-test
-returns-then-not-test g c = λ p gives.
-    passed_up_to p c.args.s.now c.args.at c.loop-i.i (omega arith) (omega arith)
-    (λ k h j. sym (gives _ _ (c.loop-i.invariant k h j)))
-    (λ _. sym (gives _ _ c.test.ensures) ∙ c.if-not-test.true)
 
 pub returns : goal.returns
 returns g c = λ p gives.
-    passed_up_to p c.args.s.now c.args.at _ c.requires.at_in_bounds (omega arith)
-    (λ k h j. sym (gives _ _ (c.loop-i.invariant k h (omega (arith, j))))) (λ h. absurd (omega (arith, h)))
+    let xs = c.rest-rest.result.now in
+    let first : c.position.result ≡ position (λ b. not (p b)) xs =
+    position_from_yields_List (λ b. not (p b)) _ _ c.position.result c.position.ensures.ran
+    (YieldsList-from_slice _ (search rules)) (λ x b q k. search (rules, tests)) in
+    passed_over p c.args.s.now c.args.at _ c.requires.at_in_bounds (rw (← c.rest-rest.ensures)
+    (ap (λ n. c.args.at + n) (c.unwrap_or.ensures ∙ ap (λ o. unwrap_or o (length xs)) first)))

@@ -1,15 +1,29 @@
 -- `pass_line` meets its contract. Assumes nothing.
+use mathlib.Core.Bool.{true}
 use native.Mathlib.Omega.{arith}
-use Rattle.words.proofs.Indexed.{left_more, left_ends, left_none}
+use Rattle.std.proofs.Common.{◌≡◌, rules, tests, drop}
+use Rattle.words.specs.code.Index.{ended}
+use Rattle.words.proofs.Indexed.{left_more, line_left, goes_on}
 use Rattle.words.proofs.index.pass_line.Goals as goal
 
-pub returns-then-byte-eq-NEWLINE : goal.returns-then-byte-eq-NEWLINE
-returns-then-byte-eq-NEWLINE c =
-    left_ends _ _ _ _ c.loop-i.invariant (omega arith) c.if-byte-eq-NEWLINE.true (omega arith)
+pub bounds-list-i : goal.bounds-list-i
+bounds-list-i c = omega (arith, (goes_on c.args.list.now c.loop-signed.i (search (rules, tests))).0)
 
-pub loop-i-preserved : goal.loop-i-preserved
-loop-i-preserved c =
-    rw c.signed_by-signed.ensures (left_more _ _ _ _ c.loop-i.invariant (omega arith) c.if-byte-eq-NEWLINE.false)
+pub overflow_add-i : goal.overflow_add-i
+overflow_add-i c = omega (arith, (goes_on c.args.list.now c.loop-signed.i (search (rules, tests))).0)
+
+pub loop-signed-smaller : goal.loop-signed-smaller
+loop-signed-smaller c = omega (arith, (goes_on c.args.list.now c.loop-signed.i (search (rules, tests))).0)
+
+pub loop-signed-preserved : goal.loop-signed-preserved
+loop-signed-preserved c =
+    let more = goes_on c.args.list.now c.loop-signed.i (search (rules, tests)) in (
+      rw c.signed_by-signed.ensures (left_more _ _ _ _ c.loop-signed.invariant.0 more.0 more.1),
+      omega arith,
+      omega (arith, more.0),
+    )
 
 pub returns : goal.returns
-returns c = left_none _ _ _ _ c.loop-i.invariant (omega arith) c.requires
+returns c =
+    let e : ended (drop c.loop-signed.i c.args.list.now) ≡ true = search (rules, tests) in
+    rw c.min.ensures (line_left _ _ _ _ c.loop-signed.invariant.0 e c.loop-signed.invariant.1 c.requires)

@@ -16,8 +16,8 @@ returns-then-n-gt-MAX_NODES c =
     let n : c.div_ceil-n.result ≡ lent_rows c.args.d.now = c.div_ceil-n.ensures ∙ rows_counted _ in
     too_many _ (λ e. c.if-n-eq0.false (omega arith)) (omega arith)
 
-pub first_bad_row-requires-clause-d_len_bound : goal.first_bad_row-requires-clause-d_len_bound
-first_bad_row-requires-clause-d_len_bound c = omega (arith, nodes_lent c.args.d.now)
+pub first_bad_row-requires : goal.first_bad_row-requires
+first_bad_row-requires c = omega (arith, nodes_lent c.args.d.now)
 
 pub overflow_cast-result-in-Some : goal.overflow_cast-result-in-Some
 overflow_cast-result-in-Some c =

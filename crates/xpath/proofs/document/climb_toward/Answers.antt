@@ -13,9 +13,6 @@ loop-at-init c = way_starts _ _ _ _ _
 pub parent_of-parent-requires : goal.parent_of-parent-requires
 parent_of-parent-requires c = let r = c.loop-at.invariant.room in omega arith
 
-pub shape_of-ends-then-at-parent : goal.shape_of-ends-then-at-parent
-shape_of-ends-then-at-parent c = c.loop-at.invariant.size
-
 pub returns-then-at-parent : goal.returns-then-at-parent
 returns-then-at-parent c =
     let u = c.parent_of-parent.ensures in

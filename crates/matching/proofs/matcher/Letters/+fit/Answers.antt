@@ -30,15 +30,15 @@ returns-else-suits_letter t c =
     (other_letter_way (table_of a.rows.now) (letter_number c.in-Letter.letter) a.v a.self.now c.suits_letter.ensures
     c.if-suits_letter.false)
 
-pub returns-then-not-is_row : goal.returns-then-not-is_row
+pub returns-in_default : goal.returns-in_default
 unfolding pattern_of
-returns-then-not-is_row t c =
+returns-in_default t c =
     let a = c.args in
     let w = c.in-Row.row.now in
     rw (
       c.in-Row.is,
       ← other_row_way (table_of a.rows.now) (row_number w.0) a.v (pattern_of w.1) (pattern_of w.2)
-          (pattern_of w.3) (matched a.self.now) c.is_row.ensures c.if-not-is_row.true,
+          (pattern_of w.3) (matched a.self.now) c.in_default.ensures,
     )
     (checked a.self.now false)
 
@@ -47,7 +47,7 @@ unfolding pattern_of
 returns-then-fit-2 t c =
     let a = c.args in
     let rs = table_of a.rows.now in
-    let row = c.row_at-held.result in
+    let row = c.in-Some.held in
     let m = matched a.self.now in
     let x = pattern_of c.in-Row.row.now.1 in
     let y = pattern_of c.in-Row.row.now.2 in
@@ -61,8 +61,7 @@ returns-then-fit-2 t c =
     ] in
     rw (
       c.in-Row.is,
-      ← row_way rs (row_number c.in-Row.row.now.0) a.v x y z m c.is_row.ensures c.if-not-is_row.false
-          c.from.ensures c.row_at-held.ensures,
+      ← row_way rs (row_number c.in-Row.row.now.0) a.v x y z m c.in-Some.ensures,
     )
     (goes_on (match_keeps rs z row.c) both c.if-fit-2.true c.fit-then-fit-2.ensures)
 
@@ -71,7 +70,7 @@ unfolding pattern_of
 returns-else-fit-2 t c =
     let a = c.args in
     let rs = table_of a.rows.now in
-    let row = c.row_at-held.result in
+    let row = c.in-Some.held in
     let m = matched a.self.now in
     let x = pattern_of c.in-Row.row.now.1 in
     let y = pattern_of c.in-Row.row.now.2 in
@@ -85,7 +84,6 @@ returns-else-fit-2 t c =
     ] in
     rw (
       c.in-Row.is,
-      ← row_way rs (row_number c.in-Row.row.now.0) a.v x y z m c.is_row.ensures c.if-not-is_row.false
-          c.from.ensures c.row_at-held.ensures,
+      ← row_way rs (row_number c.in-Row.row.now.0) a.v x y z m c.in-Some.ensures,
     )
     (stops (match_keeps rs z row.c) both c.if-fit-2.false)

@@ -8,9 +8,9 @@ pub returns : goal.returns
 unfolding view bundle_order_answer bundle_order term_steps
 returns c =
     rw (
-      ← c.held_rows-left.ensures,
-      ← c.held_steps-left_steps.ensures,
-      ← c.held_rows-right.ensures,
-      ← c.held_steps-right_steps.ensures,
+      ← c.held.ensures.0,
+      ← c.held.ensures.1,
+      ← c.held-2.ensures.0,
+      ← c.held-2.ensures.1,
     )
     c.bundle_order_on.ensures

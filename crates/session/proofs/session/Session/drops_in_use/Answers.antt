@@ -1,10 +1,9 @@
 -- `Session::drops_in_use` meets its contract: the counts of a point are those of its rows and steps. Assumes nothing.
-use mathlib.Core.Path.{sym, ap, ap₂, ◌∙◌}
+use mathlib.Core.Path.{ap, ap₂, ◌∙◌}
 use mathlib.Core.Bool.{not}
 use lib.ListN.{length}
 use Rattle.terms.specs.Row.{table_of}
 use Rattle.calls.specs.code.Tables.{steps_of, first_rows, first_steps}
-use Rattle.calls.proofs.Tables.{steps_lent}
 use Rattle.records.specs.Records.{all_kept}
 use Rattle.records.specs.code.Held.{records_in}
 use Rattle.session.proofs.PointsHeld.{rows_there, steps_there}
@@ -15,12 +14,12 @@ returns c =
     let a = c.args in
     let s = a.self in
     let told = c.point_named-point.ensures in
-    let rows = c.row_count-row_count.ensures
-    ∙ ap (λ xs. length (table_of xs)) c.first_rows-rows.ensures
-    ∙ ap (λ k. length (first_rows k s.rows)) c.from.ensures
+    let rows = c.row_count.ensures
+    ∙ ap (λ xs. length (table_of xs)) c.first-kept.ensures.0
+    ∙ ap (λ k. length (first_rows k s.rows)) c.from-n.ensures
     ∙ rows_there s a.name _ told in
-    let steps = sym (steps_lent c.first_steps-steps.result.now)
-    ∙ ap (λ xs. length (steps_of xs)) c.first_steps-steps.ensures
-    ∙ ap (λ k. length (first_steps k s.steps)) c.from-2.ensures
+    let steps = c.step_count.ensures
+    ∙ ap (λ xs. length (steps_of xs)) c.first-kept.ensures.1
+    ∙ ap (λ k. length (first_steps k s.steps)) c.from-m.ensures
     ∙ steps_there s a.name _ told in
     ap not (c.all_kept.ensures ∙ ap₂ (λ n m. all_kept n m (records_in a.records)) rows steps)

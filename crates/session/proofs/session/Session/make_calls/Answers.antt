@@ -4,25 +4,31 @@ use native.Mathlib.Omega.{arith}
 use Rattle.std.proofs.lemmas.Result.{err_from_is_err_and}
 use Rattle.calls.specs.Book.{answer}
 use Rattle.session.specs.code.Parts.{refused_by}
+use Rattle.lines.specs.Ascii.{ascii}
+use Rattle.bundles.specs.Bundle.{row_names}
+use Rattle.session.proofs.LineCalls.{is_row_names}
 use Rattle.session.proofs.ReadMade.{no_names, first_line, fresh_rows, rows_read_lem, steps_read_lem, fresh_with}
 use Rattle.session.proofs.session.Session.make_calls.Goals as goal
 
-pub returns-then-not-is_row_names : goal.returns-then-not-is_row_names
-returns-then-not-is_row_names c =
-    let no-first-names = sym c.if-not-is_row_names.ensures in
+pub returns-then-not-is_line : goal.returns-then-not-is_line
+unfolding row_names ascii
+returns-then-not-is_line c =
+    let no-first-names = sym (is_row_names _ _ c.if-not-is_line.ensures) in
     record {
       told = ap refused_by c.wrong_form.ensures ∙ no_names c.args.bytes.now no-first-names;
       bounds = tt;
     }
 
 pub read_rows-requires : goal.read_rows-requires
+unfolding row_names ascii
 read_rows-requires c =
-    let names = sym c.if-not-is_row_names.ensures in
+    let names = sym (is_row_names _ _ c.if-not-is_line.ensures) in
     (omega arith, first_line _ names, c.new-held.ensures.1)
 
 pub returns-in_err-ended : goal.returns-in_err-ended
+unfolding row_names ascii
 returns-in_err-ended c =
-    let names = sym c.if-not-is_row_names.ensures in
+    let names = sym (is_row_names _ _ c.if-not-is_line.ensures) in
     let p = err_from_is_err_and c.from_residual.result c.from_residual.ensures.1 in
     let m = c.in_err-ended.ensures in
     rw (p.1, p.2)
@@ -32,9 +38,10 @@ returns-in_err-ended c =
     })
 
 pub returns-in_err-m : goal.returns-in_err-m
+unfolding row_names ascii
 returns-in_err-m c =
     let bytes = c.args.bytes.now in
-    let names = sym c.if-not-is_row_names.ensures in
+    let names = sym (is_row_names _ _ c.if-not-is_line.ensures) in
     let rows = rows_read_lem bytes names _ _ _ (c.new-held.ensures.0 ∙ sym fresh_rows) _ c.in_ok-ended.ensures in
     let p = err_from_is_err_and c.from_residual-in_err-m.result c.from_residual-in_err-m.ensures.1 in
     let m = c.in_err-m.ensures in
@@ -45,9 +52,10 @@ returns-in_err-m c =
     })
 
 pub returns : goal.returns
+unfolding row_names ascii
 returns c =
     let bytes = c.args.bytes.now in
-    let names = sym c.if-not-is_row_names.ensures in
+    let names = sym (is_row_names _ _ c.if-not-is_line.ensures) in
     let fresh = c.requires in
     let rows = rows_read_lem bytes names _ _ _ (c.new-held.ensures.0 ∙ sym fresh_rows) _ c.in_ok-ended.ensures in
     let m = c.in_ok-m.ensures in

@@ -1,0 +1,6 @@
+-- `look` meets its contract. Assumes nothing.
+use Rattle.words.proofs.Listed.{LookMet}
+use Rattle.words.proofs.list.Search.look.Given as goal
+
+abbrev pub invariant-loop-k : goal.invariant-loop-k
+invariant-loop-k l = LookMet l.self.names.now l.self.word.bytes.now l.at l.k l.ends l.may
