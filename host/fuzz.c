@@ -97,18 +97,18 @@ static void check_rows(const struct document *document)
 {
     const struct node *nodes = document->nodes;
     assert(document->count >= 1 && document->count <= SPINEBRIAR_MOST_NODES);
-    assert(nodes[0].kind == 0 && nodes[0].parent == 0 && nodes[0].name == 0);
+    assert(nodes[0].kind == ROOT && nodes[0].parent == 0 && nodes[0].name == 0);
     for (size_t i = 1; i < document->count; i++) {
         size_t above = i - 1;
         while (above != nodes[i].parent && above != 0) {
             above = nodes[above].parent;
         }
-        bool named = nodes[i].kind == 1 || nodes[i].kind == 4 || nodes[i].kind == 5;
-        assert(above == nodes[i].parent && nodes[above].kind <= 1 && (nodes[i].name != 0) == named);
-        assert(nodes[i].kind >= 1 && nodes[i].kind <= 5);
-        if (nodes[i].kind == 5) {
-            bool follows = nodes[i - 1].kind == 5 && nodes[i - 1].parent == above;
-            assert(nodes[above].kind == 1 && (above == i - 1 || follows));
+        bool named = nodes[i].kind == ELEMENT || nodes[i].kind == INSTRUCTION || nodes[i].kind == ATTRIBUTE;
+        assert(above == nodes[i].parent && nodes[above].kind <= ELEMENT && (nodes[i].name != 0) == named);
+        assert(nodes[i].kind >= ELEMENT && nodes[i].kind <= ATTRIBUTE);
+        if (nodes[i].kind == ATTRIBUTE) {
+            bool follows = nodes[i - 1].kind == ATTRIBUTE && nodes[i - 1].parent == above;
+            assert(nodes[above].kind == ELEMENT && (above == i - 1 || follows));
         }
     }
 }

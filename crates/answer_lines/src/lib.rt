@@ -6,17 +6,19 @@ ghost use Rattle.std.specs.Prelude.{◌≡◌};
 use calls::Answer;
 use std::fmt;
 
-// The line of an answer, without its newline: the number, 0 or a refusal's, and the value.
+// The line of an answer, without its newline: the number, 0 or a refusal's, and the value. Two numbers and no Result:
+// both are printed, and `answer` of calls' specs/Book, which is believed, has them so.
 #[derive(Clone, Copy, Debug, PartialEq, Eq)]
 pub struct AnswerLine {
     pub number: u16,
     pub value: usize,
 }
 
-impl AnswerLine {
-    pub fn of<A: Answer + Copy>(answer: A) -> AnswerLine
-        ensures { (result.number ≡ (A.answer answer).number) × (result.value ≡ (A.answer answer).value) }
-    {
+impl<A: Answer + Copy> From<A> for AnswerLine {
+    ghost from_gives = { λ answer line. (line.number ≡ (A.answer answer).number)
+        × (line.value ≡ (A.answer answer).value) };
+
+    fn from(answer: A) -> AnswerLine {
         AnswerLine {
             number: answer.number(),
             value: answer.value(),

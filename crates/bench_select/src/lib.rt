@@ -1,4 +1,5 @@
-// Select, write, orders and the reading of a selector as text, for a benchmark in C, on what the caller lends.
+// Select, write, orders and the reading of a selector as text, for a benchmark in C, on what the caller lends, each
+// thing a parameter, as C has them.
 #![tactic(auto)]
 
 ghost use Rattle.std.specs.Prelude.{◌≡◌, [], length};

@@ -15,27 +15,28 @@ use Rattle.std.proofs.Common.{rules}
 use Rattle.std.proofs.lemmas.Fmt.{decimal-digits_value}
 use Rattle.std.proofs.lemmas.Str.Parse.{IsNumeralModel, numerals_by_fold}
 use Rattle.terms.specs.Row.{Row}
+use Rattle.common.specs.Lists.{all_of}
 use Rattle.lines.specs.Line.{newline, space, Line, line, in_first_line, lines, in_first_part, parts}
 use Rattle.lines.specs.Number.{digit0, max_number, is_digit, are_digits, is_decimal, append_digits}
 use Rattle.lines.specs.Number.{number_up_to, numbers_up_to, line_numbers, numbers_of}
 use Rattle.lines.specs.Written.{decimal, line_text}
 use Rattle.lines.proofs.Parts.{parts_some}
 use Rattle.calls.specs.Book.{Step}
-use Rattle.bundles.specs.Bundle.{row_of_numbers, step_of_numbers, row_of_line, step_of_line}
-use Rattle.terms.specs.Row.{row_numbers}
-use Rattle.calls.specs.Book.{step_numbers}
+use Rattle.bundles.specs.Bundle.{row_of_line, step_of_line}
+use Rattle.terms.specs.Row.{row_numbers, row_of_numbers}
+use Rattle.calls.specs.Book.{step_numbers, step_of_numbers}
 use Rattle.bundles.specs.Bundle.{row_text, step_text, rows_text, steps_text}
 use Rattle.bundles.proofs.Decimals.{decimal_written}
 
 -- the value of digits, as the library has it
 own : IsNumeralModel (λ ds. are_digits ds ≡ true) (append_digits 0)
-unfolding are_digits is_digit append_digits
+unfolding all_of is_digit append_digits
 own = numerals_by_fold _ (search rules) append_digits (search rules)
 
 -- digits, at least one, and none behind a 0 in front
 decimal_form : (w : List ℕ) → is_decimal w ≡ true
     → (are_digits w ≡ true) × (0 < length w) × (get_or w 0 0 ≡ digit0 → length w ≡ 1)
-unfolding is_decimal are_digits
+unfolding is_decimal all_of
 decimal_form [] e = absurd (false≢true e)
 decimal_form (x ∷ []) e = (rw e, omega arith, λ z. refl)
 decimal_form (x ∷ y ∷ xs) e =

@@ -1,12 +1,12 @@
 -- The text of a bundle: its names lines, its term lines and its step lines. Assumes nothing.
-use Rattle.std.specs.Prelude.{ℕ, List, [], ◌∷◌, ◌++◌, get_or}
+use Rattle.std.specs.Prelude.{ℕ, List, [], ◌∷◌, ◌++◌}
 use Rattle.std.proofs.Math.Option.{Option, map}
-use Rattle.terms.specs.Row.{Row, row, row_numbers}
+use Rattle.terms.specs.Row.{Row, row_numbers, row_of_numbers}
 use Rattle.lines.specs.Ascii.{ascii}
 use Rattle.lines.specs.Line.{newline, Line}
 use Rattle.lines.specs.Number.{numbers_of}
 use Rattle.lines.specs.Written.{line_text}
-use Rattle.calls.specs.Book.{Step, step, step_numbers}
+use Rattle.calls.specs.Book.{Step, step_numbers, step_of_numbers}
 use Rattle.calls.specs.code.Tables.{row_width, step_width}
 
 -- the names lines of document 01: the first stands before the term lines, the second before the step lines
@@ -15,13 +15,6 @@ row_names = ascii "kind a b c"
 
 unfoldable pub step_names : List ℕ
 step_names = ascii "rule left right first second"
-
--- the row of four numbers, and the step of five
-abbrev pub row_of_numbers : List ℕ → Row
-row_of_numbers ns = row (get_or ns 0 0) (get_or ns 1 0) (get_or ns 2 0) (get_or ns 3 0)
-
-abbrev pub step_of_numbers : List ℕ → Step
-step_of_numbers ns = step (get_or ns 0 0) (get_or ns 1 0) (get_or ns 2 0) (get_or ns 3 0) (get_or ns 4 0)
 
 -- the row of a term line, and the step of a step line; none where the line is of another form
 unfoldable pub row_of_line : Line → Option Row

@@ -1,23 +1,22 @@
 -- The points of a list of numbers, the place of a name, and numbers that are cleared. Assumes nothing.
 use Prim.Native.Nat.{ℕ, ◌+◌, ◌*◌, ◌/◌, ◌≤◌, min}
-use mathlib.Core.Path.{◌≡◌, refl, ap}
+use mathlib.Core.Path.{◌≡◌, refl, sym, ap, ◌∙◌}
 use mathlib.Core.Bool.{Bool, true, false, cond}
 use mathlib.Core.List.{List, [], ◌∷◌}
 use native.Mathlib.Omega.{arith}
 use lib.Dec.{eqb, leb}
 use lib.ListN.{length, get_or, take, drop, length-take, length-map}
-use Rattle.std.proofs.Common.{map, add_comm, position}
-use Rattle.terms.proofs.Find.{placed}
-use Rattle.std.specs.List.{position_or_len}
+use Rattle.std.specs.Prelude.{◌<◌, Option, Some, None}
+use Rattle.std.specs.List.{find, enumerate_from}
+use Rattle.std.proofs.Common.{map, add-one}
 use Rattle.std.proofs.lemmas.Bool.{le-leb}
 use Rattle.std.specs.Simd.{first_chunks}
 use Rattle.common.proofs.Chunks.{by_width, count_by_width}
-use Rattle.std.proofs.lemmas.List.Recursion.{is_position_or_len}
 use Rattle.calls.specs.Book.{max_points}
 use Rattle.calls.specs.declared.points.PointCounts.{PointCounts}
 use Rattle.calls.specs.PointCall.{place_of}
-use Rattle.calls.specs.code.Points.{counts_in, counts_of, counts_names, point_width, first_point_numbers}
-use Rattle.calls.specs.code.Points.{first_points, FoundIs}
+use Rattle.calls.specs.code.Points.{counts_in, counts_of, counts_names, no_counts, point_width, first_point_numbers}
+use Rattle.calls.specs.code.Points.{first_points, PointFound}
 
 -- a list has a first point where it has three numbers
 one_point : (xs : List ℕ)
@@ -34,14 +33,6 @@ points_lent xs = count_by_width 3 counts_in counts_of one_point (length xs / 3) 
 -- the points are the numbers three by three
 pub points_by_three : (n : ℕ) (xs : List ℕ) → n ≡ length xs / 3 → map counts_in (first_chunks 3 n xs) ≡ counts_of xs
 points_by_three n xs e = by_width 3 counts_in counts_of one_point n xs (omega arith) (omega arith)
-
--- the place of a name is that of the first point of that name
-pub place_counted : (ps : List (List ℕ)) (name : ℕ)
-    → place_of (counts_names (map counts_in ps)) name ≡ position_or_len (λ p. eqb (get_or p 0 0) name) ps
-unfolding place_of
-place_counted ps name =
-    is_position_or_len (λ ps. place_of (counts_names (map counts_in ps)) name) (λ p. eqb (get_or p 0 0) name) refl
-    (λ p ps. ap (cond (eqb (get_or p 0 0) name) 0) (add_comm _ 1)) ps
 
 -- the first points are no more than the limit
 pub few_points : (k : ℕ) (xs : List ℕ) → length (first_points k xs) ≤ max_points
@@ -61,12 +52,33 @@ place_le (x ∷ xs) n = by_test (eqb x n) (place_le xs n)
 pub names_count : (xs : List ℕ) → length (counts_names (counts_of xs)) ≡ length (counts_of xs)
 names_count xs = length-map (counts_of xs) (λ c. c.name)
 
--- the first of the points that pass the test of the name
-pub place_found : (ps : List (List ℕ)) (name : ℕ)
-    → FoundIs (position (λ p. eqb (get_or p 0 0) name) ps) (place_of (counts_names (map counts_in ps)) name)
-    (length (map counts_in ps))
-place_found ps name =
-    let held : List PointCounts = map counts_in ps in
-    rw (length-map ps counts_in, ← place_counted ps name)
-    (placed (place_of (counts_names held) name) (length ps)
-    (omega (arith, place_le (counts_names held) name, length-map held (λ c. c.name), length-map ps counts_in)))
+-- what a search for a point gives whose first one has the place n
+abbrev FoundFrom : (n : ℕ) → Option (ℕ × PointCounts) → List PointCounts → (place : ℕ) → Type 0
+FoundFrom n None cs place = place ≡ length cs
+FoundFrom n (Some found) cs place = (found.0 ≡ n + place) × (found.1 ≡ get_or cs place no_counts) × (place < length cs)
+
+found_from : (name n : ℕ) (cs : List PointCounts)
+    → FoundFrom n (find (λ p. eqb p.1.name name) (enumerate_from n cs)) cs (place_of (counts_names cs) name)
+unfolding place_of
+found_from name n [] = refl
+found_from name n (c ∷ cs) =
+    by_test (eqb c.name name) (find (λ p. eqb p.1.name name) (enumerate_from (n + 1) cs)) (found_from name (n + 1) cs)
+  where
+    by_test : (b : Bool) (o : Option (ℕ × PointCounts)) → FoundFrom (n + 1) o cs (place_of (counts_names cs) name)
+        → FoundFrom n (cond b (Some (n, c)) o) (c ∷ cs) (cond b 0 (place_of (counts_names cs) name + 1))
+    by_test true o h = (omega arith, refl, omega arith)
+    by_test false None h = omega (arith, h)
+    by_test false (Some found) h = (
+      omega (arith, h.0),
+      h.1 ∙ sym (ap (λ i. get_or (c ∷ cs) i no_counts) (add-one (place_of (counts_names cs) name))),
+      omega (arith, h.2),
+    )
+
+-- the first of the points with their places whose name it is
+pub point_found : (cs : List PointCounts) (name : ℕ)
+    → PointFound (find (λ p. eqb p.1.name name) (enumerate_from 0 cs)) cs name
+point_found cs name = by_case (find (λ p. eqb p.1.name name) (enumerate_from 0 cs)) (found_from name 0 cs)
+  where
+    by_case : (o : Option (ℕ × PointCounts)) → FoundFrom 0 o cs (place_of (counts_names cs) name) → PointFound o cs name
+    by_case None h = h
+    by_case (Some found) h = (omega (arith, h.0), h.1, omega (arith, h.0, h.2))

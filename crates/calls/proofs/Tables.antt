@@ -13,8 +13,8 @@ use Rattle.std.specs.Simd.{first_chunks}
 use Rattle.common.proofs.Chunks.{by_width, count_by_width}
 use Rattle.terms.specs.Row.{table_of, max_rows}
 use Rattle.terms.proofs.LentRows.{rows_lent}
-use Rattle.calls.specs.Book.{max_steps}
-use Rattle.calls.specs.code.Tables.{row_width, step_width, step_in, steps_of, first_row_numbers, first_step_numbers}
+use Rattle.calls.specs.Book.{step_of_numbers, max_steps}
+use Rattle.calls.specs.code.Tables.{row_width, step_width, steps_of, first_row_numbers, first_step_numbers}
 
 -- the first of the rows that a session has room for
 module _ (xs : List ℕ) (n : ℕ) (few : n ≤ max_rows) (size : length xs ≡ row_width * max_rows) where
@@ -34,7 +34,8 @@ few_rows n xs ys e =
     rw e (omega (arith, rows_lent (first_row_numbers n xs)))
 
 -- a list has a first step where it has five numbers
-one_step : (xs : List ℕ) → steps_of xs ≡ cond (leb 5 (length xs)) (step_in (take 5 xs) ∷ steps_of (drop 5 xs)) []
+one_step : (xs : List ℕ) → steps_of xs
+    ≡ cond (leb 5 (length xs)) (step_of_numbers (take 5 xs) ∷ steps_of (drop 5 xs)) []
 unfolding steps_of
 one_step [] = refl
 one_step (k ∷ []) = refl
@@ -44,11 +45,11 @@ one_step (k ∷ l ∷ r ∷ i ∷ []) = refl
 one_step (k ∷ l ∷ r ∷ i ∷ j ∷ xs) = rw (le-leb 5 (length (k ∷ l ∷ r ∷ i ∷ j ∷ xs)) (omega arith))
 
 pub steps_lent : (xs : List ℕ) → length (steps_of xs) ≡ length xs / 5
-steps_lent xs = count_by_width 5 step_in steps_of one_step (length xs / 5) xs (omega arith) (omega arith)
+steps_lent xs = count_by_width 5 step_of_numbers steps_of one_step (length xs / 5) xs (omega arith) (omega arith)
 
 -- the steps are the numbers five by five
-pub steps_by_five : (n : ℕ) (xs : List ℕ) → n ≡ length xs / 5 → map step_in (first_chunks 5 n xs) ≡ steps_of xs
-steps_by_five n xs e = by_width 5 step_in steps_of one_step n xs (omega arith) (omega arith)
+pub steps_by_five : (n : ℕ) (xs : List ℕ) → n ≡ length xs / 5 → map step_of_numbers (first_chunks 5 n xs) ≡ steps_of xs
+steps_by_five n xs e = by_width 5 step_of_numbers steps_of one_step n xs (omega arith) (omega arith)
 
 -- the first of the steps that a session has room for
 module _ (xs : List ℕ) (n : ℕ) (few : n ≤ max_steps) (size : length xs ≡ step_width * max_steps) where

@@ -1,5 +1,5 @@
 -- The plain book of document 01: a list of rows and a list of steps; document 02 gives it points. Assumes nothing.
-use Rattle.std.specs.Prelude.{ℕ, Bool, List, [], ◌∷◌, eqb}
+use Rattle.std.specs.Prelude.{ℕ, Bool, ◌≡◌, List, [], ◌∷◌, eqb, get_or}
 use Rattle.terms.specs.Row.{Row}
 
 -- a step of document 01: `rule left right first second`
@@ -16,6 +16,10 @@ step n l r i j = record { rule = n; left = l; right = r; first = i; second = j }
 -- the numbers of a step, in order
 abbrev pub step_numbers : Step → List ℕ
 step_numbers p = p.rule ∷ p.left ∷ p.right ∷ p.first ∷ p.second ∷ []
+
+-- the step of five numbers
+abbrev pub step_of_numbers : List ℕ → Step
+step_of_numbers ns = step (get_or ns 0 0) (get_or ns 1 0) (get_or ns 2 0) (get_or ns 3 0) (get_or ns 4 0)
 
 abbrev pub no_step : Step
 no_step = step 0 0 0 0 0
@@ -64,3 +68,7 @@ answer n v = record { number = n; value = v }
 
 abbrev pub accepted : Answer → Bool
 accepted t = eqb t.number 0
+
+-- the same, as a statement
+abbrev pub IsAccepted : Answer → Type 0
+IsAccepted t = t.number ≡ 0

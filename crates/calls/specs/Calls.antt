@@ -1,8 +1,9 @@
 -- The calls of a list, and the plain book that is fed them. Assumes nothing.
 use Rattle.std.specs.Prelude.{ℕ, List}
+use Rattle.common.specs.Lists.{Every}
 use Rattle.terms.specs.Row.{Row}
 use Rattle.grammar.specs.Bytes.{Bytes}
-use Rattle.calls.specs.Book.{Step, Book, empty_book, Answer}
+use Rattle.calls.specs.Book.{Step, Book, empty_book, Answer, IsAccepted}
 use Rattle.calls.specs.TermCall.{term_answer, term_book}
 use Rattle.calls.specs.StepCall.{step_answer, step_book}
 use Rattle.calls.specs.TextCall.{text_answer, text_book}
@@ -40,6 +41,9 @@ plain_book = record { answer = book_answer; with = book_with }
 -- what is seen of a call: its answer, and the rows, steps and points held after it
 abbrev pub CallSeen : Type 0
 CallSeen = Seen Book
+
+abbrev pub AllAccepted : List CallSeen → Type 0
+AllAccepted os = Every (λ (o : CallSeen). IsAccepted o.answer) os
 
 -- what is seen of calls made in order on a fresh book, and the book after them
 abbrev pub book_seen : List Call → List CallSeen

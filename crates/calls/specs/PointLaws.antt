@@ -1,7 +1,7 @@
 -- What a return restores. Assumes nothing.
 use Rattle.std.specs.Prelude.{ℕ, ◌<◌, ◌≡◌, List, ◌∷◌, length}
 use Rattle.common.specs.Lists.{Every}
-use Rattle.calls.specs.Book.{Book, answer}
+use Rattle.calls.specs.Book.{Book, answer, IsAccepted}
 use Rattle.calls.specs.PointCall.{point_names, place_of}
 use Rattle.calls.specs.Runs.{next, final}
 use Rattle.calls.specs.Calls.{Call, term, step, text, point, return, book_answer, plain_book}
@@ -18,6 +18,6 @@ KeepsPoints names (return n) = ¬ (place_of names n < length names)
 -- accepted, and the book is the one that setting the point left
 abbrev pub ReturnRestores : Type 0
 ReturnRestores = (b : Book) (n : ℕ) (cs : List Call)
-    → (book_answer b (point n)).number ≡ 0 → Every (KeepsPoints (point_names b.points)) cs
+    → IsAccepted (book_answer b (point n)) → Every (KeepsPoints (point_names b.points)) cs
     → (book_answer (final plain_book b (point n ∷ cs)) (return n) ≡ answer 0 0)
     × (next plain_book (final plain_book b (point n ∷ cs)) (return n) ≡ next plain_book b (point n))

@@ -7,6 +7,7 @@ use Rattle.xpath.specs.OneName.{LentSameButName}
 use Rattle.terms.specs.Row.{Row, row_at}
 use Rattle.terms.specs.Terms.{path_at}
 use Rattle.common.specs.Refusals.{limit_passed}
+use Rattle.calls.specs.Book.{IsAccepted}
 use Rattle.calls.specs.code.Answers.{NumberOrRefusal, answer_of}
 use Rattle.calls.specs.Promises.{SelectMade}
 
@@ -23,6 +24,6 @@ abbrev pub MarksSameElsewhere : Type 0
 MarksSameElsewhere = (rs : List Row) (row x : ℕ) → (row_at rs row).kind ≡ step_row
     → (m : ℕ) (xs xs' : List ℕ) → LentSameButName m xs xs'
     → (limit limit' : ℕ) (buffer buffer' left left' : List ℕ) (t t' : NumberOrRefusal)
-    → SelectMade rs row xs x limit buffer t left → (answer_of t).number ≡ 0
-    → SelectMade rs row xs' x limit' buffer' t' left' → (answer_of t').number ≡ 0
+    → SelectMade rs row xs x limit buffer t left → IsAccepted (answer_of t)
+    → SelectMade rs row xs' x limit' buffer' t' left' → IsAccepted (answer_of t')
     → (y : ℕ) → y < length (document_of xs) → ¬ (y ≡ m) → get_or left y 0 ≡ get_or left' y 0

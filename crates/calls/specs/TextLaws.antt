@@ -1,6 +1,5 @@
 -- What is known of text calls on books that calls lead to. Assumes nothing.
 use Rattle.std.specs.Prelude.{ℕ, ◌≡◌, List, map, ◌↔◌, length, get_or, drop}
-use Rattle.common.specs.Lists.{Every}
 use Rattle.terms.specs.Row.{Row}
 use Rattle.terms.specs.Nesting.{nestings}
 use Rattle.terms.specs.Terms.{of_path, term_at}
@@ -9,10 +8,10 @@ use Rattle.grammar.specs.Words.{number_of}
 use Rattle.grammar.specs.Grammar.{Union, Spells}
 use Rattle.grammar.specs.Denotes.{union_of, nest_path}
 use Rattle.grammar.specs.Answer.{reply, Answers}
-use Rattle.calls.specs.Book.{Book}
+use Rattle.calls.specs.Book.{Book, IsAccepted}
 use Rattle.calls.specs.TextCall.{text_reply, text_answer, text_book}
 use Rattle.calls.specs.Runs.{shown, final}
-use Rattle.calls.specs.Calls.{term, CallSeen, plain_book, Reachable}
+use Rattle.calls.specs.Calls.{term, plain_book, AllAccepted, Reachable}
 
 -- the reply is the one that the definition has
 abbrev pub AnswersAsDefined : Type 0
@@ -23,24 +22,21 @@ AnswersAsDefined = (names t : Bytes) (rs : List Row) (n v : ℕ) (ss : List Row)
 unfoldable pub new_rows : Book → (names t : Bytes) → List Row
 new_rows b names t = drop (length b.rows) (text_reply names t b.rows).rows
 
-abbrev Accepted : CallSeen → Type 0
-Accepted o = o.answer.number ≡ 0
-
 -- an accepted text call does what term calls of its new rows do, in their order, which are all accepted
 abbrev pub AsTermCalls : Type 0
-AsTermCalls = (b : Book) → Reachable b → (names t : Bytes) → (text_answer b.rows names t).number ≡ 0
-    → Every Accepted (shown plain_book b (map term (new_rows b names t)))
+AsTermCalls = (b : Book) → Reachable b → (names t : Bytes) → IsAccepted (text_answer b.rows names t)
+    → AllAccepted (shown plain_book b (map term (new_rows b names t)))
     × (final plain_book b (map term (new_rows b names t)) ≡ text_book b names t)
 
 -- the row that it answers has the term of the text's tree
 abbrev pub GivesItsTerm : Type 0
-GivesItsTerm = (b : Book) → Reachable b → (names t : Bytes) → (text_answer b.rows names t).number ≡ 0
+GivesItsTerm = (b : Book) → Reachable b → (names t : Bytes) → IsAccepted (text_answer b.rows names t)
     → (u : Union) → Spells t u
     → term_at (text_book b names t).rows (text_answer b.rows names t).value ≡ of_path (union_of (number_of names) u)
 
 -- and its nesting as a row is that of the term by which the text was judged
 abbrev pub GivesItsNesting : Type 0
-GivesItsNesting = (b : Book) → Reachable b → (names t : Bytes) → (text_answer b.rows names t).number ≡ 0
+GivesItsNesting = (b : Book) → Reachable b → (names t : Bytes) → IsAccepted (text_answer b.rows names t)
     → (u : Union) → Spells t u
     → get_or (nestings (text_book b names t).rows) (text_answer b.rows names t).value 0
     ≡ nest_path (union_of (number_of names) u)

@@ -1,5 +1,5 @@
-// What the calls on lent rows, steps and points have in common: their answers, steps and points, and the first rows and
-// steps of a table. Each call is judged in a crate of its own.
+// What the calls on lent rows, steps and points have in common: their answers, steps and points, and the first rows,
+// steps and points of a table. Each call is judged in a crate of its own.
 // Rows, steps and points are lent as numbers, and not as slices of structs: of any numbers, as C lends them, a call
 // answers, and an incomplete last row or step is none.
 #![tactic(auto)]
@@ -10,6 +10,7 @@ mod points;
 mod step;
 
 ghost use Rattle.std.specs.Prelude.{◌≡◌, take};
+ghost use Rattle.calls.specs.code.Points.{first_point_numbers};
 ghost use Rattle.calls.specs.code.Tables.{first_row_numbers, first_step_numbers};
 
 pub use answer::{Answer, LineRefusal, Value};
@@ -24,8 +25,8 @@ pub fn front(numbers: &[u16], count: usize) -> &[u16]
     numbers.get(..count).unwrap_or(numbers)
 }
 
-// The numbers of the first n rows. By name for rows and steps: a function of any width and limit would have both at
-// each call.
+// The numbers of the first n rows. By name for rows, steps and points: a function of any width and limit would have
+// both at each call.
 pub fn first_rows(rows: &[u16], n: usize) -> &[u16]
     ensures { result.now ≡ first_row_numbers n rows.now }
 {
@@ -37,4 +38,11 @@ pub fn first_steps(steps: &[u16], m: usize) -> &[u16]
     ensures { result.now ≡ first_step_numbers m steps.now }
 {
     front(steps, STEP_WIDTH * m.min(MAX_STEPS))
+}
+
+// The numbers of the first k points.
+pub fn first_points(points: &[u16], k: usize) -> &[u16]
+    ensures { result.now ≡ first_point_numbers k points.now }
+{
+    front(points, POINT_WIDTH * k.min(MAX_POINTS))
 }

@@ -1,10 +1,10 @@
 // Steps on lent numbers, five a step.
 ghost use Rattle.std.specs.Prelude.{◌≡◌, ◌-◌, map, length};
 ghost use Rattle.matching.specs.code.MatchTypes.{sides_in};
-ghost use Rattle.calls.specs.Book.{step_numbers};
+ghost use Rattle.calls.specs.Book.{step_numbers, step_of_numbers};
 ghost use Rattle.calls.specs.StepCall.{step_numbered};
 ghost use Rattle.calls.specs.code.Answers.{step_of};
-ghost use Rattle.calls.specs.code.Tables.{step_in, steps_of, StepIs};
+ghost use Rattle.calls.specs.code.Tables.{steps_of, StepIs};
 ghost use Rattle.calls.specs.Promises.{sides_of};
 
 use matching::Sides;
@@ -25,7 +25,7 @@ pub struct Step {
 }
 
 impl From<[u16; STEP_WIDTH]> for Step {
-    ghost from_gives = { λ numbers step. step_of step ≡ step_in numbers };
+    ghost from_gives = { λ numbers step. step_of step ≡ step_of_numbers numbers };
 
     fn from([rule, left, right, first, second]: [u16; STEP_WIDTH]) -> Step {
         Step {
@@ -55,7 +55,7 @@ pub fn step_count(steps: &[u16]) -> usize
 
 // The steps, each as its numbers. `as_chunks` is what rows, steps and points share.
 pub fn whole_steps(steps: &[u16]) -> &[[u16; STEP_WIDTH]]
-    ensures { map step_in result.now ≡ steps_of steps.now }
+    ensures { map step_of_numbers result.now ≡ steps_of steps.now }
 {
     steps.as_chunks().0
 }
@@ -71,7 +71,8 @@ pub fn step_numbered(steps: &[u16], i: u16) -> Option<Step>
 }
 
 // The rows of step i, counted from 1, and of 0 those of step 1; zeros where there is no such step: a rule doesn't look
-// at a premise that it lacks.
+// at a premise that it lacks. No derived Default of Sides: as a default the zeros would look like rows 0 and 0, which a
+// step may have; here they say that there is no step.
 #[tactic(auto, unfolding(crate::specs::Promises::sides_of))]
 pub fn sides_of(steps: &[u16], i: u16) -> Sides
     ensures { sides_in result ≡ sides_of (step_numbered (steps_of steps.now) i) }

@@ -1,6 +1,7 @@
 pub mod Reflect
 pub mod Tests
 pub mod Lent
+pub mod Errors
 pub mod Search
 pub mod Entries
 pub mod Refusals

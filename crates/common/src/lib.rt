@@ -1,6 +1,9 @@
 // What every crate uses: the papers' kinds, axes, tests and refusals, each with its number, and limits.
 #![tactic(auto)]
 
+// Of axes, kinds and tests. Each enum's two conversions are written out: `rt ci` refuses an `impl` that a macro of this
+// repository writes. The constants are the enums' numbers: patterns of `try_from`, entries of tables, and what a number
+// that is lent is compared with once, where a conversion before it would be no plainer.
 pub mod axis;
 pub mod node_kind;
 pub mod node_test;
@@ -19,6 +22,7 @@ pub const MAX_BYTES: usize = 65536;
 pub const MAX_NUMBER: usize = u16::MAX as usize;
 
 // Record n, counted from 0, of lent numbers of which each W are a record, becomes `values`.
+#[tactic(auto, using(crate::proofs::Records::copied))]
 pub fn put_record<const W: usize>(numbers: &mut [u16], n: usize, values: [u16; W])
     requires { W * n + W ≤ length numbers.old }
     ensures { numbers.new ≡ sets numbers.old (W * n) values.entry }

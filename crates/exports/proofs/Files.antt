@@ -9,19 +9,17 @@ use lib.Dec.{eqb, leb}
 use lib.ListN.{length, take, drop}
 use lib.Seq.{take_at}
 use borrow.Author.Tests.{eqb-true, eqb-false}
-use Rattle.common.specs.Lists.{Every}
 use Rattle.lines.specs.Line.{Line, lines}
 use Rattle.grammar.specs.Bytes.{Bytes}
 use Rattle.calls.specs.Book.{Answer, answer, accepted}
 use Rattle.common.specs.Refusals.{short_buffer}
-use Rattle.calls.specs.Calls.{Call, CallSeen}
+use Rattle.calls.specs.Calls.{Call, CallSeen, AllAccepted}
 use Rattle.calls.specs.Runs.{next, done, then, seen}
 use Rattle.calls.proofs.Runs.{made}
 use Rattle.session.specs.declared.session.Session.{Session}
 use Rattle.session.specs.View.{view, fresh_session}
 use Rattle.session.specs.Promises.{session_answer, session, CallsMade}
 use Rattle.session.specs.Reading.{Reading, refused_at, reading}
-use Rattle.session.specs.ReadDemand.{IsAccepted}
 use Rattle.session.specs.WriteCall.{session_text, write_answer, write_buffer}
 use Rattle.filing.specs.Filing.{Action, lends, makes, line_action, line_number, line_session, line_names, lines_filed}
 use Rattle.filing.specs.Filing.{filed}
@@ -35,7 +33,7 @@ use Rattle.exports.specs.FileDemand.{FileRelation, Filed, FileDemand}
 record AllMade (s : Session) (cs : List Call) (t : Session) : Type 0 where
   pub shown : List CallSeen
   pub run : CallsMade s cs shown t
-  pub taken : Every IsAccepted shown
+  pub taken : AllAccepted shown
 
 -- a line's call before others
 by_action : (s : Session) (o : Option Action) (cs : List Call) (t : Session) → line_number s o ≡ 0

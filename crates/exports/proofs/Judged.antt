@@ -8,6 +8,7 @@ use lib.ListN.{length}
 use borrow.Author.Tests.{eq-eqb, ne_eqb}
 use Rattle.std.specs.Prelude.{Option, Some, None, Ok, Err, is_ok, ok_or}
 use Rattle.common.proofs.Refusals.{refusal_some}
+use Rattle.common.proofs.Results.{Mapped, mapped_ok, mapped_err}
 use Rattle.common.specs.declared.refusal.Refusal.{Refusal}
 use Rattle.common.specs.declared.refusal.Refusal.TheVariants.{NotCovered}
 use Rattle.terms.specs.code.RowTypes.{PlaceIs}
@@ -17,7 +18,6 @@ use Rattle.calls.specs.Calls.{Call, text}
 use Rattle.calls.specs.Promises.{SelectMade}
 use Rattle.calls.specs.SelectCall.{select_answer, select_buffer}
 use Rattle.calls.specs.code.Answers.{NumberOrRefusal, answer_of, refusal_answer, line_answer}
-use Rattle.calls.specs.declared.answer.LineRefusal.{LineRefusal}
 use Rattle.calls.proofs.Accepted.{if_accepted, if_refused}
 use Rattle.replacing.specs.Covered.{step_saying}
 use Rattle.session.specs.declared.session.Session.{Session}
@@ -29,7 +29,8 @@ use Rattle.session.specs.ReadCall.{read_answer_of, ReadMet}
 use Rattle.exports.specs.ClaimCall.{claimed, the_claim, the_bundle, old_selector, new_selector}
 use Rattle.exports.specs.ClaimCall.{said_answer, new_claimed, old_claimed, claim_answer}
 use Rattle.exports.specs.code.ClaimTypes.{claimed_of}
-use Rattle.exports.specs.declared.claim.ClaimRefusal.TheVariants.{Claim}
+use Rattle.exports.specs.declared.claim.ClaimRefusal.{ClaimRefusal}
+use Rattle.exports.specs.declared.claim.ClaimRefusal.TheVariants.{Bundle, OldSelector, NewSelector, Claim}
 use Rattle.exports.specs.TextSelect.{read_answer, read_rows, text_select_answer, text_select_buffer, TextSelectMade}
 
 -- a call c on s that is answered so and leaves u
@@ -53,50 +54,68 @@ module _ (s : Session) (c : Call) (r : NumberOrRefusal) (u : Session) (m : Met s
       ∙ if_accepted (answer_of (Ok i)) (session_answer s c) told (F (session_with s c) (session_answer s c).value) y
       refl
 
-module _ (s : Session) (names t : Bytes) (r : NumberOrRefusal) (u : Session) (m : Met s (text names t) (answer_of r) u)
-  where
-    pub new_refused : (old : ℕ) (k : Refusal) → r ≡ Err k
-        → claimed new_selector (refusal_answer k) ≡ new_claimed s names old t
-    unfolding new_claimed
-    new_refused old = after_refused s (text names t) r u m (claimed new_selector) _
-
-    pub new_accepted : (old i : ℕ) → r ≡ Ok i
-        → claimed the_claim (said_answer (view u) old i) ≡ new_claimed s names old t
-    unfolding new_claimed
-    new_accepted old = after_accepted s (text names t) r u m (λ z i. claimed the_claim (said_answer (view z) old i)) _
-
-    pub old_refused : (new : Bytes) (k : Refusal) → r ≡ Err k
-        → claimed old_selector (refusal_answer k) ≡ old_claimed s names t new
-    unfolding old_claimed
-    old_refused new = after_refused s (text names t) r u m (claimed old_selector) _
-
-    pub old_accepted : (new : Bytes) (i : ℕ) → r ≡ Ok i → new_claimed u names i new ≡ old_claimed s names t new
-    unfolding old_claimed
-    old_accepted new = after_accepted s (text names t) r u m (λ z i. new_claimed z names i new) _
-
--- a bundle that is read with the result t
-module _ (bundle : Bytes) (t : ReadResult) (m : ReadMet bundle t) (names old new : Bytes) where
-  pub bundle_refused : (e : LineRefusal) → t.answer ≡ Err e
-      → claimed the_bundle (line_answer e) ≡ claim_answer bundle names old new
-  unfolding claim_answer
-  bundle_refused e q =
-      let refused : accepted (reading bundle).answer ≡ false = sym m.variant ∙ ap is_ok q in
-      let told : line_answer e ≡ (reading bundle).answer = sym (ap read_answer_of q) ∙ m.answer in
-      ap (claimed the_bundle) told ∙ rw refused
-
-  pub bundle_accepted : (n : ℕ) → t.answer ≡ Ok n
-      → old_claimed t.session names old new ≡ claim_answer bundle names old new
-  unfolding claim_answer
-  bundle_accepted n q =
-      let taken : accepted (reading bundle).answer ≡ true = sym m.variant ∙ ap is_ok q in
-      ap (λ (z : Session). old_claimed z names old new) m.session ∙ rw taken
-
 -- the step that says so, or none
-pub step_told : (b : Book) (old new : ℕ) (o : Option ℕ) → PlaceIs o (step_saying b old new)
+step_told : (b : Book) (old new : ℕ) (o : Option ℕ) → PlaceIs o (step_saying b old new)
     → claimed_of (ok_or o (Claim (NotCovered 1))) ≡ claimed the_claim (said_answer b old new)
 unfolding said_answer
 step_told b old new (Some i) is = rw (is.0, ne_eqb i 0 (λ e. omega (arith, is.1)))
 step_told b old new None is = rw (eq-eqb (step_saying b old new) 0 is)
+
+-- a claim, call by call: the bundle is read with the result t
+module _ (bundle names old new : Bytes) (t : ReadResult) (m : ReadMet bundle t) where
+  pub bundle_refused : (d : ClaimRefusal) → Mapped Bundle t.answer (Err d)
+      → claimed_of (Err d) ≡ claim_answer bundle names old new
+  unfolding claim_answer
+  bundle_refused d is =
+      let (e, q, gives) = mapped_err Bundle t.answer d is in
+      let refused : accepted (reading bundle).answer ≡ false = sym m.variant ∙ ap is_ok q in
+      let told : line_answer e ≡ (reading bundle).answer = sym (ap read_answer_of q) ∙ m.answer in
+      rw gives (ap (claimed the_bundle) told ∙ rw refused)
+
+  -- it is accepted, and the old selector is asked
+  module _ (n : ℕ) (read : Mapped Bundle t.answer (Ok n)) (r : NumberOrRefusal) (u : Session)
+      (first : Met t.session (text names old) (answer_of r) u) where
+    bundle_accepted : old_claimed t.session names old new ≡ claim_answer bundle names old new
+    unfolding claim_answer
+    bundle_accepted =
+        let taken : accepted (reading bundle).answer ≡ true =
+        sym m.variant ∙ ap is_ok (mapped_ok Bundle t.answer n read) in
+        ap (λ (z : Session). old_claimed z names old new) m.session ∙ rw taken
+
+    pub old_refused : (d : ClaimRefusal) → Mapped OldSelector r (Err d)
+        → claimed_of (Err d) ≡ claim_answer bundle names old new
+    unfolding old_claimed
+    old_refused d is =
+        let (k, q, gives) = mapped_err OldSelector r d is in
+        rw gives (after_refused t.session (text names old) r u first (claimed old_selector) _ k q ∙ bundle_accepted)
+
+    -- it is accepted, and the new selector is asked
+    module _ (i : ℕ) (left : Mapped OldSelector r (Ok i)) (q : NumberOrRefusal) (v : Session)
+        (second : Met u (text names new) (answer_of q) v) where
+      old_accepted : new_claimed u names i new ≡ claim_answer bundle names old new
+      unfolding old_claimed
+      old_accepted =
+          after_accepted t.session (text names old) r u first (λ z k. new_claimed z names k new) _ i
+          (mapped_ok OldSelector r i left)
+          ∙ bundle_accepted
+
+      pub new_refused : (d : ClaimRefusal) → Mapped NewSelector q (Err d)
+          → claimed_of (Err d) ≡ claim_answer bundle names old new
+      unfolding new_claimed
+      new_refused d is =
+          let (k, same, gives) = mapped_err NewSelector q d is in
+          rw gives (after_refused u (text names new) q v second (claimed new_selector) _ k same ∙ old_accepted)
+
+      -- it is accepted, and the claim is answered
+      pub claim_told : (j : ℕ) → Mapped NewSelector q (Ok j) → (o : Option ℕ)
+          → PlaceIs o (step_saying (view v) i j)
+          → claimed_of (ok_or o (Claim (NotCovered 1))) ≡ claim_answer bundle names old new
+      unfolding new_claimed
+      claim_told j right o is =
+          step_told (view v) i j o is
+          ∙ after_accepted u (text names new) q v second (λ z k. claimed the_claim (said_answer (view z) i k)) _ j
+          (mapped_ok NewSelector q j right)
+          ∙ old_accepted
 
 -- a select after the text call on a fresh session
 module _ (names t : Bytes) (xs : List ℕ) (x limit : ℕ) (buffer : List ℕ) (s : Session) (fresh : s ≡ fresh_session)

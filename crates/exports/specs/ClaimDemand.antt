@@ -7,7 +7,7 @@ use Rattle.grammar.specs.Bytes.{Bytes}
 use Rattle.grammar.specs.Words.{number_of}
 use Rattle.grammar.specs.Grammar.{Union, Spells}
 use Rattle.grammar.specs.Denotes.{union_of}
-use Rattle.calls.specs.Book.{Answer, answer}
+use Rattle.calls.specs.Book.{Answer, answer, IsAccepted}
 use Rattle.common.specs.Refusals.{not_covered}
 use Rattle.calls.specs.Calls.{text}
 use Rattle.replacing.specs.NoneLost.{StepSays}
@@ -32,22 +32,22 @@ IsContained p q = (d : Document) → T (well_formed d) → (x : ℕ) → x < len
 
 pub record ClaimDemand (Claims : ClaimRelation) : Type 0 where
   -- the number 0 is answered of the claim itself alone, and of that nothing but 0 and 26
-  pub whose : (bundle names old new : Bytes) (c : Claimed) → Claims bundle names old new c → c.answer.number ≡ 0
+  pub whose : (bundle names old new : Bytes) (c : Claimed) → Claims bundle names old new c → IsAccepted c.answer
       → c.part ≡ the_claim
   pub either : (bundle names old new : Bytes) (a : Answer) → Claims bundle names old new (claimed the_claim a)
-      → (a.number ≡ 0) ⊎ (a ≡ answer not_covered 1)
+      → IsAccepted a ⊎ (a ≡ answer not_covered 1)
   -- what is answered of the bundle is the refusal that read gives it; what is answered of a selector, that of its text
   -- call, on the bundle's session for the old one and with the old one's rows for the new one
   pub of_bundle : (bundle names old new : Bytes) (a : Answer) → Claims bundle names old new (claimed the_bundle a)
-      → (a ≡ (reading bundle).answer) × (¬ (a.number ≡ 0))
+      → (a ≡ (reading bundle).answer) × (¬ IsAccepted a)
   pub of_old : (bundle names old new : Bytes) (a : Answer) → Claims bundle names old new (claimed old_selector a)
-      → (a ≡ session_answer (reading bundle).session (text names old)) × (¬ (a.number ≡ 0))
+      → (a ≡ session_answer (reading bundle).session (text names old)) × (¬ IsAccepted a)
   pub of_new : (bundle names old new : Bytes) (a : Answer) → Claims bundle names old new (claimed new_selector a)
       → (a ≡ session_answer (session_with (reading bundle).session (text names old)) (text names new))
-      × (¬ (a.number ≡ 0))
+      × (¬ IsAccepted a)
   -- what is answered of the claim itself is answered of an accepted bundle and of two selectors
   pub asked : (bundle names old new : Bytes) (a : Answer) → Claims bundle names old new (claimed the_claim a)
-      → ((reading bundle).answer.number ≡ 0) × (u : Union) × (v : Union) × Spells old u × Spells new v
+      → IsAccepted (reading bundle).answer × (u : Union) × (v : Union) × Spells old u × Spells new v
   -- yes: the step of that number says that the old selector is contained in the new one, and so it is
   pub yes : (bundle names old new : Bytes) (i : ℕ) → Claims bundle names old new (claimed the_claim (answer 0 i))
       → (u v : Union) → Spells old u → Spells new v

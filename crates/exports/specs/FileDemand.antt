@@ -1,15 +1,13 @@
 -- What filing a script means. Assumes nothing.
 use Rattle.std.specs.Prelude.{◌≡◌, List, length, take}
 use Rattle.grammar.specs.Bytes.{Bytes}
-use Rattle.calls.specs.Book.{Answer, answer}
-use Rattle.calls.specs.Calls.{CallSeen}
-use Rattle.common.specs.Lists.{Every}
+use Rattle.calls.specs.Book.{Answer, answer, IsAccepted}
+use Rattle.calls.specs.Calls.{CallSeen, AllAccepted}
 use Rattle.session.specs.declared.session.Session.{Session}
 use Rattle.session.specs.View.{view, fresh_session}
 use Rattle.session.specs.Promises.{CallsMade}
 use Rattle.session.specs.Reading.{reading}
 use Rattle.session.specs.SessionLaws.{without_points}
-use Rattle.session.specs.ReadDemand.{IsAccepted}
 use Rattle.session.specs.WriteCall.{session_text}
 use Rattle.filing.specs.Filing.{calls_in}
 
@@ -23,7 +21,7 @@ pub record Filed (script bundle : Bytes) : Type 0 where
   pub seen : List CallSeen
   pub session : Session
   pub made : CallsMade fresh_session (calls_in script) seen session
-  pub all_accepted : Every IsAccepted seen
+  pub all_accepted : AllAccepted seen
   pub bundle_is : bundle ≡ session_text session
   pub read_back : reading bundle ≡ record {
     answer = answer 0 (length (view session).steps);
@@ -31,8 +29,8 @@ pub record Filed (script bundle : Bytes) : Type 0 where
   }
 
 pub record FileDemand (Files : FileRelation) : Type 0 where
-  pub accepted : (script buffer left : Bytes) (a : Answer) → Files script buffer a left → a.number ≡ 0
+  pub accepted : (script buffer left : Bytes) (a : Answer) → Files script buffer a left → IsAccepted a
       → Filed script (take a.value left)
   -- a refused one leaves the buffer
-  pub refused : (script buffer left : Bytes) (a : Answer) → Files script buffer a left → ¬ (a.number ≡ 0)
+  pub refused : (script buffer left : Bytes) (a : Answer) → Files script buffer a left → ¬ IsAccepted a
       → left ≡ buffer

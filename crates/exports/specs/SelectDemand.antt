@@ -6,7 +6,7 @@ use Rattle.grammar.specs.Bytes.{Bytes}
 use Rattle.grammar.specs.Words.{number_of}
 use Rattle.grammar.specs.Grammar.{Union, Spells}
 use Rattle.grammar.specs.Denotes.{union_of}
-use Rattle.calls.specs.Book.{Answer}
+use Rattle.calls.specs.Book.{Answer, IsAccepted}
 
 -- what may be said of such a select: the names, the text, the lent numbers, the context node, the limit, the buffer,
 -- the answer, and the bytes that it leaves
@@ -27,7 +27,7 @@ pub record TextSelected (names t : Bytes) (xs : List ℕ) (x : ℕ) (buffer left
 
 pub record SelectDemand (Selects : TextSelectRelation) : Type 0 where
   pub accepted : (names t : Bytes) (xs : List ℕ) (x limit : ℕ) (buffer left : List ℕ) (a : Answer)
-      → Selects names t xs x limit buffer a left → a.number ≡ 0 → TextSelected names t xs x buffer left
+      → Selects names t xs x limit buffer a left → IsAccepted a → TextSelected names t xs x buffer left
   -- a refused one leaves the buffer
   pub refused : (names t : Bytes) (xs : List ℕ) (x limit : ℕ) (buffer left : List ℕ) (a : Answer)
-      → Selects names t xs x limit buffer a left → ¬ (a.number ≡ 0) → left ≡ buffer
+      → Selects names t xs x limit buffer a left → ¬ IsAccepted a → left ≡ buffer

@@ -32,6 +32,7 @@ impl ClaimRefusal {
     }
 }
 
+// Twice the same match: the trait asks number and value apart.
 impl Answer for ClaimRefusal {
     ghost answer = { claim_refusal_answer };
 

@@ -1,5 +1,5 @@
 // What a host in C calls, by the archive of crate exports_c: the number of each answer is the result, and values go
-// into what it lends.
+// into what it lends. Parameters are those of the host's calls, here and in each module.
 #![tactic(auto)]
 
 mod claim;

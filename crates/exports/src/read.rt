@@ -7,14 +7,14 @@ use crate::tell::tell;
 use calls::Answer;
 use session::Session;
 
-// The number of the answer to a bundle's bytes.
+// The number of the answer to a bundle's bytes. Beside `spinebriar_read_line`, since C has both by name.
 pub fn spinebriar_read(bytes: &[u8]) -> u16
     ensures { result ≡ (reading bytes.now).answer.number }
 {
     Session::read(bytes).answer.number()
 }
 
-// The same, with the answer's value: the number of steps held, or the refused line.
+// The same, with the answer's value: the number of steps held, or the refused line. Two functions, as C has both names.
 pub fn spinebriar_read_line(bytes: &[u8], value: &mut usize) -> u16
     ensures { answer result value.new ≡ (reading bytes.now).answer }
 {

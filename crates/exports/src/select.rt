@@ -7,8 +7,7 @@ use crate::tell::tell;
 use common::Refusal;
 use session::Session;
 
-// Marks the nodes that the selector selects, as `Session::select` does. As many parameters as the host's call has, but
-// for the value.
+// Marks the nodes that the selector selects, as `Session::select` does.
 fn select_text(
     names: &[u8],
     selector: &[u8],
@@ -26,7 +25,7 @@ fn select_text(
     read.session.select(row, document, context, limit, marks)
 }
 
-// The number of the answer and its value. As many parameters as the host's call has.
+// The number of the answer and its value.
 pub fn spinebriar_select(
     names: &[u8],
     selector: &[u8],

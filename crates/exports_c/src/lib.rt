@@ -1,5 +1,5 @@
-// The archive for a host in C: each call is that of crate exports, with its name and its clauses. They stand twice,
-// since no crate can depend on a static library, and theorems speaks of the calls.
+// The archive for a host in C: each call is that of crate exports, with its name, its clauses and its parameters. They
+// stand twice, since no crate can depend on a static library, and theorems speaks of the calls.
 #![tactic(auto)]
 
 ghost use Rattle.std.specs.Prelude.{◌≡◌};
@@ -26,7 +26,7 @@ pub extern "C" fn spinebriar_read_line(bytes: &[u8], value: &mut usize) -> u16
 }
 
 // Whether an accepted bundle has a step that says that the old selector is contained in the new one: the number of the
-// answer, its value, and what it is about.
+// answer, its value, and what it is about. Its parameters are those of the host's call.
 #[unsafe(no_mangle)]
 pub extern "C" fn spinebriar_claim(
     bundle: &[u8],

@@ -3,11 +3,10 @@
 use Rattle.std.specs.Prelude.{ℕ, ◌+◌, ◌≡◌, cond, List, [], ◌∷◌, ◌++◌, eqb, leb, length, get_or}
 use Rattle.std.proofs.Math.Option.{Option, none, some, Option-elim}
 use Rattle.common.specs.Limits.{max_bytes}
-use Rattle.terms.specs.Row.{row}
+use Rattle.terms.specs.Row.{row_of_numbers}
 use Rattle.lines.specs.Line.{Line, lines, parts_read}
 use Rattle.grammar.specs.Bytes.{Bytes}
-use Rattle.calls.specs.Book as book
-use Rattle.calls.specs.Book.{Answer, answer, accepted}
+use Rattle.calls.specs.Book.{Answer, answer, accepted, step_of_numbers}
 use Rattle.common.specs.Refusals.{wrong_form}
 use Rattle.calls.specs.Runs.{next}
 use Rattle.calls.specs.Calls.{Call, term, step, text, point, return}
@@ -34,9 +33,8 @@ lending names = cond (leb (length names) max_bytes) (some (lends names)) none
 
 -- what a word, its numbers and the rest of its line do, with the names lent before it; nothing with the other words
 abbrev pub action_of : Word → (numbers : List ℕ) (names rest : Bytes) → Option Action
-action_of Term ns names rest = some (makes (term (row (get_or ns 0 0) (get_or ns 1 0) (get_or ns 2 0) (get_or ns 3 0))))
-action_of Step ns names rest =
-    some (makes (step (book.step (get_or ns 0 0) (get_or ns 1 0) (get_or ns 2 0) (get_or ns 3 0) (get_or ns 4 0))))
+action_of Term ns names rest = some (makes (term (row_of_numbers ns)))
+action_of Step ns names rest = some (makes (step (step_of_numbers ns)))
 action_of Select ns names rest = none
 action_of Document ns names rest = none
 action_of Fresh ns names rest = none

@@ -3,9 +3,8 @@
 
 mod lent_names;
 
-ghost use Rattle.std.specs.Prelude.{◌≡◌, [], length};
+ghost use Rattle.std.specs.Prelude.{◌≡◌, []};
 ghost use Rattle.std.proofs.Math.Option.{some};
-ghost use Rattle.common.specs.Limits.{max_bytes};
 ghost use Rattle.lines.specs.Line.{lines};
 ghost use Rattle.calls.specs.Calls.{Call};
 ghost use Rattle.calls.specs.code.Answers.{answer_with};
@@ -29,7 +28,7 @@ pub enum FileRefusal {
     Write(Refusal),
 }
 
-// The refused line as its value, or the length needed.
+// The refused line as its value, or the length needed. Twice the same match: the trait asks number and value apart.
 impl Answer for FileRefusal {
     ghost answer = { file_refusal_answer };
 
@@ -71,13 +70,6 @@ struct Filed<'a> {
     names: LentNames<'a>,
 }
 
-// Room for a list of names. Fixed memory without a heap, and no ArrayVec: the line at script's `put_names`.
-fn no_bytes() -> [u8; common::MAX_BYTES]
-    ensures { length result ≡ max_bytes }
-{
-    [0u8; common::MAX_BYTES]
-}
-
 impl<'a> Filed<'a> {
     fn new() -> Filed<'a>
         ensures { (result.session ≡ fresh_session) × (result.names.bytes.now ≡ []) }
@@ -116,7 +108,8 @@ impl<'a> Filed<'a> {
     fn text(self, rest: &[u8]) -> Result<Filed<'a>, Refusal>
         ensures { ActionDone self.entry (some (makes (Call.text (lent_by self.entry) rest.now))) result }
     {
-        let mut list = no_bytes();
+        // Fixed memory without a heap. A plain array: `script::put_names` writes into a lent buffer.
+        let mut list = [0u8; common::MAX_BYTES];
         let size = script::put_names(self.names.bytes, &mut list);
         self.called(self.session.text(&list[..size], rest))
     }

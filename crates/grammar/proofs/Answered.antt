@@ -7,7 +7,8 @@ use mathlib.Core.Option.{Option, none, some}
 use Rattle.std.proofs.lemmas.Bool.{le-leb, leb-false, lt-leb}
 use lib.Dec.{leb, leb→le}
 use lib.ListN.{length}
-use Rattle.terms.specs.Row.{Row}
+use Rattle.terms.specs.Row.{Row, max_rows}
+use Rattle.terms.specs.Nesting.{max_nesting}
 use Rattle.grammar.specs.Bytes.{Bytes}
 use Rattle.grammar.specs.Words.{number_of}
 use Rattle.grammar.specs.Grammar.{Union, Spells}
@@ -29,20 +30,20 @@ only list t rs n v r (outside {k = k} h) = go (run t initial) refl
     go (good y) e = absurd (h.outside y.tree (sound_run t y e))
 only list t rs n v r (unnumbered {u = u} s e) = rw (complete_run t u s, e) refl
 only list t rs n v r (deep {u = u} s e h) =
-    rw (complete_run t u s, e, lt-leb (nest_path (union_of (number_of list) u)) 32 h) refl
+    rw (complete_run t u s, e, lt-leb (nest_path (union_of (number_of list) u)) max_nesting h) refl
 only list t rs n v r (full {u = u} s e h i) =
     rw (
       complete_run t u s,
       e,
-      le-leb (nest_path (union_of (number_of list) u)) 32 h,
-      lt-leb (length (put_path (union_of (number_of list) u) rs).rows) 1024 i,
+      le-leb (nest_path (union_of (number_of list) u)) max_nesting h,
+      lt-leb (length (put_path (union_of (number_of list) u) rs).rows) max_rows i,
     ) refl
 only list t rs n v r (held u s e h i) =
     rw (
       complete_run t u s,
       e,
-      le-leb (nest_path (union_of (number_of list) u)) 32 h,
-      le-leb (length (put_path (union_of (number_of list) u) rs).rows) 1024 i,
+      le-leb (nest_path (union_of (number_of list) u)) max_nesting h,
+      le-leb (length (put_path (union_of (number_of list) u) rs).rows) max_rows i,
     ) refl
 
 abbrev pub Is : Bytes → Bytes → List Row → Reply → Type 0
@@ -50,13 +51,14 @@ Is list t rs a = Answers list t rs a.number a.value a.rows
 
 limited : (list t : Bytes) (rs : List Row) (u : Union) → Spells t u → unlisted (number_of list) (union_names u 0) ≡ none
     → (b c : Bool)
-    → leb (nest_path (union_of (number_of list) u)) 32 ≡ b
-    → leb (length (put_path (union_of (number_of list) u) rs).rows) 1024 ≡ c
+    → leb (nest_path (union_of (number_of list) u)) max_nesting ≡ b
+    → leb (length (put_path (union_of (number_of list) u) rs).rows) max_rows ≡ c
     → Is list t rs (term_answer (union_of (number_of list) u) rs)
 unfolding term_answer
-limited list t rs u s e false c h i = rw h (deep s e (leb-false _ 32 h))
-limited list t rs u s e true false h i = rw (h, i) (full s e (leb→le _ 32 (so _ h)) (leb-false _ 1024 i))
-limited list t rs u s e true true h i = rw (h, i) (held u s e (leb→le _ 32 (so _ h)) (leb→le _ 1024 (so _ i)))
+limited list t rs u s e false c h i = rw h (deep s e (leb-false _ max_nesting h))
+limited list t rs u s e true false h i = rw (h, i) (full s e (leb→le _ max_nesting (so _ h)) (leb-false _ max_rows i))
+limited list t rs u s e true true h i =
+    rw (h, i) (held u s e (leb→le _ max_nesting (so _ h)) (leb→le _ max_rows (so _ i)))
 
 named : (list t : Bytes) (rs : List Row) (u : Union) → Spells t u → (k : Option ℕ)
     → unlisted (number_of list) (union_names u 0) ≡ k → Is list t rs (names_answer k (union_of (number_of list) u) rs)

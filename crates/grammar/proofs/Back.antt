@@ -8,7 +8,8 @@ use Rattle.std.proofs.lemmas.Bool.{and_from, and_parts, eqb-true, false≢true, 
 use lib.Dec.{eqb, ltb}
 use Rattle.lines.specs.Ascii.{ascii}
 use Rattle.lines.specs.Line.{same_bytes}
-use Rattle.grammar.specs.Bytes.{Bytes, is_space, is_start, is_name, is_quote, every, is_word, nonempty}
+use Rattle.common.specs.Lists.{all_of}
+use Rattle.grammar.specs.Bytes.{Bytes, is_space, is_start, is_name, is_quote, is_word, nonempty}
 use Rattle.grammar.specs.Bytes.{apart, not_word, true_word, false_word}
 use Rattle.grammar.specs.Words.{is_axis, is_type, instruction_word}
 use Rattle.grammar.specs.Grammar.{Axis, implied, attribute, axis, any, called, kind, target, LocationStep}
@@ -176,22 +177,22 @@ FineState (closed x p u w) = FineOpen x × FinePend p (room_of x) × ClearPend p
 FineState (keyword x p u w k) = FineOpen x × FinePend p (room_of x) × ClearPend p (spell_unary u)
     × FineUnary u (room_of x) × Spaces w × (may_follow (last_unary u) w ≡ true)
 
--- what a next state has to be, if there is one
-abbrev pub Read : Bytes → Next → Type 0
-Read t none = Unit {0}
-Read t (some st) = (told st ≡ t) × FineState st
+-- a next state, if there is one, tells t and is fine
+abbrev pub FineTold : Bytes → Next → Type 0
+FineTold t none = Unit {0}
+FineTold t (some st) = (told st ≡ t) × FineState st
 
-pub snoc : (p : ℕ → Bool) (w : Bytes) (b : ℕ) → every p w ≡ true → p b ≡ true → every p (w ++ (b ∷ [])) ≡ true
-unfolding every
+pub snoc : (p : ℕ → Bool) (w : Bytes) (b : ℕ) → all_of p w ≡ true → p b ≡ true → all_of p (w ++ (b ∷ [])) ≡ true
+unfolding all_of
 snoc p [] b h e = rw e
 snoc p (c ∷ w) b h e = let u =
-    and_parts (p c) (every p w) h in and_from (p c) (every p (w ++ (b ∷ []))) u.0 (snoc p w b u.1 e)
+    and_parts (p c) (all_of p w) h in and_from (p c) (all_of p (w ++ (b ∷ []))) u.0 (snoc p w b u.1 e)
 
 word_snoc : (w : Bytes) (b : ℕ) → is_word w ≡ true → is_name b ≡ true → is_word (w ++ (b ∷ [])) ≡ true
 unfolding is_word
 word_snoc [] b h e = absurd (false≢true h)
 word_snoc (c ∷ w) b h e = let u =
-    and_parts (is_start c) (every is_name w) h in and_from (is_start c) (every is_name (w ++ (b ∷ []))) u.0
+    and_parts (is_start c) (all_of is_name w) h in and_from (is_start c) (all_of is_name (w ++ (b ∷ []))) u.0
     (snoc is_name w b u.1 e)
 
 full : (w : Bytes) (b : ℕ) → nonempty (w ++ (b ∷ [])) ≡ true
@@ -392,10 +393,10 @@ clear_group : (p : Pend) (w t : Bytes) → ClearPend p (w ++ (40 ∷ [])) → Cl
 clear_group p w t h = rw append_assoc at (more_pend p (w ++ (40 ∷ [])) t h)
 
 shut_read : (x : Open) (e : Or) (w : Bytes) (b : ℕ) (t : Bytes) → told_open x ++ (spell_or e ++ (w ++ (b ∷ []))) ≡ t
-    → FineOpen x → FineOr e (room_of x) → Spaces w → Read t (shut x e w b)
-unfolding shut told before told_open room_of last_step last_unary may_follow every
+    → FineOpen x → FineOr e (room_of x) → Spaces w → FineTold t (shut x e w b)
+unfolding shut told before told_open room_of last_step last_unary may_follow all_of
 shut_read (bracket c g l s v) e w b t h f he hw =
-    branch (Read t) (eqb b 93) _ _
+    branch (FineTold t) (eqb b 93) _ _
     (λ i. (
       rw spell_filter (sym (list_filter (told_ctx c) (told_alt g) (told_lead l) (spell_step s) v (spell_or e) w)
           ∙ (rw (eqb-true b 93 i) at h)),
@@ -409,7 +410,7 @@ shut_read (bracket c g l s v) e w b t h f he hw =
     ))
     (λ _. tt)
 shut_read (negate x p v u) e w b t h f he hw =
-    branch (Read t) (eqb b 41) _ _
+    branch (FineTold t) (eqb b 41) _ _
     (λ i. (
       rw spell_negation (sym (list_negation (told_open x) (told_pend p) v u (spell_or e) w)
           ∙ (rw (eqb-true b 41 i) at h)),
@@ -417,7 +418,7 @@ shut_read (negate x p v u) e w b t h f he hw =
     ))
     (λ _. tt)
 shut_read (grouped x p v) e w b t h f he hw =
-    branch (Read t) (eqb b 41) _ _
+    branch (FineTold t) (eqb b 41) _ _
     (λ i. (
       rw spell_group (sym (list_group (told_open x) (told_pend p) v (spell_or e) w) ∙ (rw (eqb-true b 41 i) at h)),
       (f.0, f.1, rw spell_group (clear_group p v _ f.2), (f.3, f.4, he, hw), refl, refl),
@@ -427,17 +428,17 @@ shut_read (grouped x p v) e w b t h f he hw =
 unary_read : (x : Open) (p : Pend) (u : Unary) (w : Bytes) (b : ℕ) (t : Bytes)
     → told_open x ++ (told_pend p ++ (spell_unary u ++ (w ++ (b ∷ [])))) ≡ t
     → FineOpen x → FinePend p (room_of x) → ClearPend p (spell_unary u) → FineUnary u (room_of x) → Spaces w
-    → Gap (last_unary u) w b → Read t (unary_byte x p u w b)
+    → Gap (last_unary u) w b → FineTold t (unary_byte x p u w b)
 unfolding unary_byte told told_word
 unary_read x p u w b t h fx fp fc fu fw g =
-    branch (Read t) (eqb b 97) _ _ (λ i. (rw (eqb-true b 97 i) at h, (fx, fp, fc, fu, fw, g.0 i)))
-    (λ _. branch (Read t) (eqb b 111) _ _ (λ i. (rw (eqb-true b 111 i) at h, (fx, fp, fc, fu, fw, g.1 i)))
+    branch (FineTold t) (eqb b 97) _ _ (λ i. (rw (eqb-true b 97 i) at h, (fx, fp, fc, fu, fw, g.0 i)))
+    (λ _. branch (FineTold t) (eqb b 111) _ _ (λ i. (rw (eqb-true b 111 i) at h, (fx, fp, fc, fu, fw, g.1 i)))
     (λ _. shut_read x (or_to p u) w b t (rw (or_told p u, append_assoc) h) fx (or_fine p u (room_of x) fp fu fc) fw))
 
 union_read : (c : Ctx) (u : Union) (w : Bytes) (b : ℕ) (t : Bytes) → told_ctx c ++ (spell_union u ++ (w ++ (b ∷ [])))
     ≡ t
     → FineCtx c → ClearCtx c (spell_union u) → FineUnion u (room c) → Spaces w → Gap (last_union u) w b
-    → Read t (union_byte c u w b)
+    → FineTold t (union_byte c u w b)
 unfolding union_byte told_ctx spell_unary last_unary room
 union_read top u w b t h fc fl fu fw g = tt
 union_read (inside x p) u w b t h fc fl fu fw g =
@@ -461,12 +462,12 @@ bar_clear c g p w h =
 path_read : (c : Ctx) (g : Alt) (p : Path) (w : Bytes) (b : ℕ) (t : Bytes)
     → told_ctx c ++ (told_alt g ++ (spell_path p ++ (w ++ (b ∷ [])))) ≡ t
     → FineCtx c → FineAlt g (room c) → ClearCtx c (told_alt g ++ spell_path p) → FinePath p (room c) → Spaces w
-    → Gap (last_path p) w b → Read t (path_byte c g p w b)
-unfolding path_byte told before told_lead told_prefix every
+    → Gap (last_path p) w b → FineTold t (path_byte c g p w b)
+unfolding path_byte told before told_lead told_prefix all_of
 path_read c g p w b t h fc fg fl fp fw k =
     let f : FineUnion (join_alt g p) (room c) = alt_fine g p (room c) fg fp in
     let l : ClearCtx c (spell_union (join_alt g p)) = rw alt_told fl in
-    branch (Read t) (eqb b 124) _ _
+    branch (FineTold t) (eqb b 124) _ _
     (λ i. (
       bar_list (told_ctx c) (told_alt g) (spell_path p) w (told_alt (more (join_alt g p) w)) t (bar_told g p w)
           (rw (eqb-true b 124 i) at h),
@@ -474,20 +475,20 @@ path_read c g p w b t h fc fg fl fp fw k =
     ))
     (λ _. union_read c (join_alt g p) w b t (rw (alt_told, append_assoc) h) fc l f fw (rw alt_last k))
 
-enter_read : (t : Bytes) (x : Open) → told_open x ≡ t → FineOpen x → Read t (some (enter x))
-unfolding told before told_ctx told_alt told_pend told_left told_lead told_prefix every
+enter_read : (t : Bytes) (x : Open) → told_open x ≡ t → FineOpen x → FineTold t (some (enter x))
+unfolding told before told_ctx told_alt told_pend told_left told_lead told_prefix all_of
 enter_read t x h f = (simp append-nil h, (((f, tt), tt, tt), tt, refl))
 
 operand_list : (x p w t : Bytes) → ((x ++ p) ++ []) ++ w ≡ t → x ++ (p ++ w) ≡ t
 operand_list x p w t h = simp (append_assoc, append-nil) at h
 
 group_read : (c : Ctx) (g : Alt) (w : Bytes) (b : ℕ) (t : Bytes) → before c g begin ++ (w ++ (b ∷ [])) ≡ t → FineCtx c
-    → Clr c g begin (w ++ (b ∷ [])) → Spaces w → Read t (group_byte c g w b)
+    → Clr c g begin (w ++ (b ∷ [])) → Spaces w → FineTold t (group_byte c g w b)
 unfolding group_byte before told_ctx told_alt told_lead told_prefix told_open
 group_read top g w b t h fc fl fw = tt
 group_read (inside x p) (more u v) w b t h fc fl fw = tt
 group_read (inside x p) first w b t h fc fl fw =
-    branch (Read t) (eqb b 40 && ltb 0 (room_of x)) _ _
+    branch (FineTold t) (eqb b 40 && ltb 0 (room_of x)) _ _
     (λ i. let u = and_parts (eqb b 40) (ltb 0 (room_of x)) i in
     enter_read t (grouped x p w)
     (rw (eqb-true b 40 u.0) at (operand_list (told_open x) (told_pend p) (w ++ (b ∷ [])) t h))
@@ -513,7 +514,7 @@ root_list c g v w t h = simp append_assoc (simp append_assoc at h)
 
 root_read : (c : Ctx) (g : Alt) (v w : Bytes) (b : ℕ) (t : Bytes) → before c g (start (at_root v)) ++ (w ++ (b ∷ []))
     ≡ t → FineAt c g (start (at_root v)) → Clr c g (start (at_root v)) (w ++ (b ∷ [])) → Spaces w → is_start b ≡ false
-    → Read t (path_byte c g (root v) w b)
+    → FineTold t (path_byte c g (root v) w b)
 unfolding before told_lead told_prefix spell_path
 root_read c g v w b t h fa fl fw e =
     path_read c g (root v) w b t (root_list (told_ctx c) (told_alt g) v (w ++ (b ∷ [])) t h) fa.0 fa.1
@@ -521,10 +522,10 @@ root_read c g v w b t h fa fl fw e =
     fa.2 fw (gap_start (last_path (root v)) w b e)
 
 lead_read : (c : Ctx) (g : Alt) (l : Lead) (w : Bytes) (b : ℕ) (t : Bytes) → before c g l ++ (w ++ (b ∷ [])) ≡ t
-    → FineAt c g l → Clr c g l (w ++ (b ∷ [])) → Spaces w → is_start b ≡ false → Read t (lead_byte c g l w b)
+    → FineAt c g l → Clr c g l (w ++ (b ∷ [])) → Spaces w → is_start b ≡ false → FineTold t (lead_byte c g l w b)
 unfolding lead_byte told
 lead_read c g (start bare) w b t h fa fl fw e =
-    branch (Read t) (eqb b 47) _ _ (λ i. (rw (eqb-true b 47 i) at h, (fa, rw (eqb-true b 47 i) at fl, fw)))
+    branch (FineTold t) (eqb b 47) _ _ (λ i. (rw (eqb-true b 47 i) at h, (fa, rw (eqb-true b 47 i) at fl, fw)))
     (λ _. group_read c g w b t h fa.0 fl fw)
 lead_read c g (start (at_root v)) w b t h fa fl fw e = root_read c g v w b t h fa fl fw e
 lead_read c g (start (at_any v)) w b t h fa fl fw e = tt
@@ -532,22 +533,22 @@ lead_read c g (after1 x r v) w b t h fa fl fw e = tt
 lead_read c g (after2 x r v) w b t h fa fl fw e = tt
 
 need_read : (c : Ctx) (g : Alt) (l : Lead) (w : Bytes) (b : ℕ) (t : Bytes) → before c g l ++ (w ++ (b ∷ [])) ≡ t
-    → FineAt c g l → Clr c g l (w ++ (b ∷ [])) → Spaces w → Read t (need_byte c g l w b)
-unfolding need_byte told is_word every spell_axis spell_step spell_test last_step last_test may_follow
+    → FineAt c g l → Clr c g l (w ++ (b ∷ [])) → Spaces w → FineTold t (need_byte c g l w b)
+unfolding need_byte told is_word all_of spell_axis spell_step spell_test last_step last_test may_follow
 need_read c g l w b t h fa fl fw =
-    branch (Read t) (is_start b) _ _ (λ i. (h, (fa, fl, tt, fw, rw i)))
-    (λ n. branch (Read t) (is_space b) _ _ (λ i. (h, (fa, fl, snoc is_space w b fw i)))
-    (λ _. branch (Read t) (eqb b 42) _ _
+    branch (FineTold t) (is_start b) _ _ (λ i. (h, (fa, fl, tt, fw, rw i)))
+    (λ n. branch (FineTold t) (is_space b) _ _ (λ i. (h, (fa, fl, snoc is_space w b fw i)))
+    (λ _. branch (FineTold t) (eqb b 42) _ _
     (λ i. (
       rw (append-nil (w ++ (42 ∷ []))) (rw (eqb-true b 42 i) at h),
       (fa, rw (eqb-true b 42 i) at fl, (tt, fw), refl, refl),
     ))
-    (λ _. branch (Read t) (eqb b 64) _ _
+    (λ _. branch (FineTold t) (eqb b 64) _ _
     (λ i. (
       rw (append-nil (w ++ (64 ∷ []))) (rw (eqb-true b 64 i) at h),
       (fa, rw (append-nil (w ++ (64 ∷ []))) (rw (eqb-true b 64 i) at fl), fw, refl),
     ))
-    (λ _. branch (Read t) (eqb b 46) _ _ (λ i. (rw (eqb-true b 46 i) at h, (fa, rw (eqb-true b 46 i) at fl, fw)))
+    (λ _. branch (FineTold t) (eqb b 46) _ _ (λ i. (rw (eqb-true b 46 i) at h, (fa, rw (eqb-true b 46 i) at fl, fw)))
     (λ _. lead_read c g l w b t h fa fl fw n)))))
 
 -- a slash after a path's steps
@@ -581,20 +582,20 @@ may_more (filter s v e u) w b = refl
 call_read : (c : Ctx) (g : Alt) (l : Lead) (a : Axis) (w n v t : Bytes)
     → before c g l ++ (spell_axis a ++ (w ++ (n ++ (v ++ (40 ∷ []))))) ≡ t → FineAt c g l
     → Clr c g l (spell_axis a ++ (w ++ n)) → Spaces w → Spaces v
-    → Read t (call_byte c g l a w n v)
-unfolding call_byte before told_ctx told_alt told_lead told_prefix told_open spell_axis told spell_bool every ascii
+    → FineTold t (call_byte c g l a w n v)
+unfolding call_byte before told_ctx told_alt told_lead told_prefix told_open spell_axis told spell_bool all_of ascii
 call_read (inside x p) first (start bare) implied w n v t h fa fl fw fv =
     let k = operand_list (told_open x) (told_pend p) (w ++ (n ++ (v ++ (40 ∷ [])))) t h in
-    branch (Read t) (same_bytes n not_word) _ _
-    (λ i. branch (Read t) (ltb 0 (room_of x)) _ _
+    branch (FineTold t) (same_bytes n not_word) _ _
+    (λ i. branch (FineTold t) (ltb 0 (room_of x)) _ _
     (λ j. enter_read t (negate x p w v) (rw (same_bytes_lem n not_word i) at k)
     (fa.0.0, fa.0.1, rw (same_bytes_lem n not_word i) at fl, fw, fv, ltb-true 0 (room_of x) j)) (λ _. tt))
-    (λ _. branch (Read t) (same_bytes n true_word) _ _
+    (λ _. branch (FineTold t) (same_bytes n true_word) _ _
     (λ i. (
       rw (same_bytes_lem n true_word i) at k,
       (fa.0.0, fa.0.1, rw (same_bytes_lem n true_word i) at fl, fw, fv, refl),
     ))
-    (λ _. branch (Read t) (same_bytes n false_word) _ _
+    (λ _. branch (FineTold t) (same_bytes n false_word) _ _
     (λ i. (
       rw (same_bytes_lem n false_word i) at k,
       (fa.0.0, fa.0.1, rw (same_bytes_lem n false_word i) at fl, fw, fv, refl),
@@ -615,10 +616,10 @@ paren_list k a w n v t b h = simp append_assoc at h
 
 paren_read : (c : Ctx) (g : Alt) (l : Lead) (s : LocationStep) (v t : Bytes)
     → before c g l ++ (spell_step s ++ (v ++ (40 ∷ []))) ≡ t → FineAt c g l → Clr c g l (spell_step s)
-    → FineStep s (room c) → Spaces v → Read t (paren_byte_next c g l s v)
-unfolding paren_byte_next spell_step spell_test told every
+    → FineStep s (room c) → Spaces v → FineTold t (paren_byte_next c g l s v)
+unfolding paren_byte_next spell_step spell_test told all_of
 paren_read c g l (test a (called w n)) v t h fa fl fs fv =
-    branch (Read t) (is_type n) _ _
+    branch (FineTold t) (is_type n) _ _
     (λ i. (paren_list (before c g l) (spell_axis a) w n v t 40 h, (fa, fl, fs.0, fs.1.0, i, fv, refl)))
     (λ _. call_read c g l a w n v t (paren_list (before c g l) (spell_axis a) w n v t 40 h) fa fl fs.1.0 fv)
 paren_read c g l (test a (any w)) v t h fa fl fs fv = tt
@@ -630,10 +631,10 @@ paren_read c g l (filter s w e u) v t h fa fl fs fv = tt
 
 colon_read : (c : Ctx) (g : Alt) (l : Lead) (s : LocationStep) (v t : Bytes)
     → before c g l ++ (spell_step s ++ (v ++ (58 ∷ []))) ≡ t → FineAt c g l → Clr c g l (spell_step s)
-    → FineStep s (room c) → Spaces v → Read t (colon_byte_next c g l s v)
+    → FineStep s (room c) → Spaces v → FineTold t (colon_byte_next c g l s v)
 unfolding colon_byte_next spell_step spell_test spell_axis told
 colon_read c g l (test implied (called w n)) v t h fa fl fs fv =
-    branch (Read t) (is_axis n) _ _ (λ i. (paren_list (before c g l) [] w n v t 58 h, (fa, fl, fs.1.0, i, fv)))
+    branch (FineTold t) (is_axis n) _ _ (λ i. (paren_list (before c g l) [] w n v t 58 h, (fa, fl, fs.1.0, i, fv)))
     (λ _. tt)
 colon_read c g l (test implied (any w)) v t h fa fl fs fv = tt
 colon_read c g l (test implied (kind w n y u)) v t h fa fl fs fv = tt
@@ -656,11 +657,11 @@ path_clear c g l s p e h = rw e (rw append_assoc at h)
 after_read : (c : Ctx) (g : Alt) (l : Lead) (s : LocationStep) (w : Bytes) (b : ℕ) (t : Bytes)
     → before c g l ++ (spell_step s ++ (w ++ (b ∷ []))) ≡ t → FineAt c g l → Clr c g l (spell_step s)
     → FineStep s (room c) → Spaces w
-    → Gap (last_step s) w b → Read t (after_byte c g l s w b)
+    → Gap (last_step s) w b → FineTold t (after_byte c g l s w b)
 unfolding after_byte told told_open before told_lead
 after_read c g l s w b t h fa fl fs fw k =
-    branch (Read t) (is_space b) _ _ (λ i. (h, (fa, fl, fs, snoc is_space w b fw i, may_more s w b)))
-    (λ _. branch (Read t) (eqb b 47) _ _
+    branch (FineTold t) (is_space b) _ _ (λ i. (h, (fa, fl, fs, snoc is_space w b fw i, may_more s w b)))
+    (λ _. branch (FineTold t) (eqb b 47) _ _
     (λ i. (
       slash_list (told_ctx c) (told_alt g) (told_prefix (prefix_of l)) (spell_rel (join l s)) (told_lead l)
           (spell_step s)
@@ -672,14 +673,14 @@ after_read c g l s w b t h fa fl fs fw k =
         fw,
       ),
     ))
-    (λ _. branch (Read t) (eqb b 91) _ _
-    (λ i. branch (Read t) (takes_predicate s && ltb 0 (room c)) _ _
+    (λ _. branch (FineTold t) (eqb b 91) _ _
+    (λ i. branch (FineTold t) (takes_predicate s && ltb 0 (room c)) _ _
     (λ j. let u = and_parts (takes_predicate s) (ltb 0 (room c)) j in
     enter_read t (bracket c g l s w)
     (rw (eqb-true b 91 i) at (flat_list (told_ctx c) (told_alt g) (told_lead l) (spell_step s) (w ++ (b ∷ [])) t h))
     (fa.0, fa.1, fa.2, fl, fs, u.0, fw, ltb-true 0 (room c) u.1)) (λ _. tt))
-    (λ _. branch (Read t) (eqb b 40) _ _ (λ i. paren_read c g l s w t (rw (eqb-true b 40 i) at h) fa fl fs fw)
-    (λ _. branch (Read t) (eqb b 58) _ _ (λ i. colon_read c g l s w t (rw (eqb-true b 58 i) at h) fa fl fs fw)
+    (λ _. branch (FineTold t) (eqb b 40) _ _ (λ i. paren_read c g l s w t (rw (eqb-true b 40 i) at h) fa fl fs fw)
+    (λ _. branch (FineTold t) (eqb b 58) _ _ (λ i. colon_read c g l s w t (rw (eqb-true b 58 i) at h) fa fl fs fw)
     (λ _. path_read c g (path_to l s) w b t
     (path_list (told_ctx c) (told_alt g) (told_lead l) (spell_step s) (spell_path (path_to l s)) (w ++ (b ∷ [])) t
     (path_told l s) h) fa.0 fa.1
@@ -700,14 +701,14 @@ eight x c p u w k b e = rw e (simp (append_assoc, append-nil))
 
 word_read : (x : Open) (p : Pend) (u : Unary) (w : Bytes) (k : Keyword) (b : ℕ) (t : Bytes)
     → told_open x ++ (told_pend p ++ (spell_unary u ++ (w ++ (told_word k ++ (b ∷ []))))) ≡ t
-    → FineState (keyword x p u w k) → Read t (keyword_byte x p u w k b)
+    → FineState (keyword x p u w k) → FineTold t (keyword_byte x p u w k b)
 unfolding keyword_byte told before told_word told_alt told_lead told_prefix told_ctx told_pend told_left room apart
-    every
-word_read x p u w k_a b t h f = branch (Read t) (eqb b 110) _ _ (λ i. (rw (eqb-true b 110 i) at h, f)) (λ _. tt)
-word_read x p u w k_an b t h f = branch (Read t) (eqb b 100) _ _ (λ i. (rw (eqb-true b 100 i) at h, f)) (λ _. tt)
-word_read x p u w k_o b t h f = branch (Read t) (eqb b 114) _ _ (λ i. (rw (eqb-true b 114 i) at h, f)) (λ _. tt)
+    all_of
+word_read x p u w k_a b t h f = branch (FineTold t) (eqb b 110) _ _ (λ i. (rw (eqb-true b 110 i) at h, f)) (λ _. tt)
+word_read x p u w k_an b t h f = branch (FineTold t) (eqb b 100) _ _ (λ i. (rw (eqb-true b 100 i) at h, f)) (λ _. tt)
+word_read x p u w k_o b t h f = branch (FineTold t) (eqb b 114) _ _ (λ i. (rw (eqb-true b 114 i) at h, f)) (λ _. tt)
 word_read x p u w k_and b t h f =
-    branch (Read t) (is_name b) _ _ (λ _. tt)
+    branch (FineTold t) (is_name b) _ _ (λ _. tt)
     (λ i. need_read (inside x (both (left_of p) (and_to p u) w)) first begin [] b t
     (seven (told_open x) (told_left (left_of p)) (spell_and (and_to p u)) (told_pend p) (spell_unary u) w
     (97 ∷ 110 ∷ 100 ∷ []) (b ∷ []) (and_told p u) ∙ h) (
@@ -717,7 +718,7 @@ word_read x p u w k_and b t h f =
     )
     (rw i, left_clear p u f.2) refl)
 word_read x p u w k_or b t h f =
-    branch (Read t) (is_name b) _ _ (λ _. tt)
+    branch (FineTold t) (is_name b) _ _ (λ _. tt)
     (λ i. need_read (inside x (plain (either (or_to p u) w))) first begin [] b t
     (eight (told_open x) (spell_or (or_to p u)) (told_pend p) (spell_unary u) w (111 ∷ 114 ∷ []) (b ∷ []) (or_told p u)
     ∙ h)
@@ -765,7 +766,7 @@ constant_clear : (p : Pend) (w n t : Bytes) → ClearPend p (w ++ n) → ClearPe
 constant_clear p w n t h = subst (λ (t : Bytes). ClearPend p t) (append_assoc w n t) (more_pend p (w ++ n) t h)
 
 one_word : (b : ℕ) → is_start b ≡ true → is_word (b ∷ []) ≡ true
-unfolding is_word every
+unfolding is_word all_of
 one_word b h = rw h refl
 
 may_other : (k : Last) (w : Bytes) → k ≡ other → may_follow k w ≡ true
@@ -773,14 +774,14 @@ unfolding may_follow
 may_other k w h = rw h refl
 
 -- each byte read
-pub step_read : (st : State) (b : ℕ) → FineState st → Read (told st ++ (b ∷ [])) (step st b)
+pub step_read : (st : State) (b : ℕ) → FineState st → FineTold (told st ++ (b ∷ [])) (step st b)
 unfolding step told before told_lead told_prefix spell_step spell_axis spell_test last_step last_test last_unary
     may_follow
-    every
+    all_of
 step_read (need c g l w) b f =
     need_read c g l w b _ (simp append_assoc) f.0 (more_clr c g l w (b ∷ []) f.1) f.2
 step_read (root1 c g w) b f =
-    branch (Read _) (eqb b 47) _ _
+    branch (FineTold _) (eqb b 47) _ _
     (λ i. (
       rw (eqb-true b 47 i) (simp (append_assoc, append-nil)),
       ((f.0.0, f.0.1, f.2), any_clear c (told_alt g) w f.1, refl),
@@ -788,7 +789,7 @@ step_read (root1 c g w) b f =
     (λ _. need_read c g (start (at_root w)) [] b _ (simp (append_assoc, append-nil))
     (f.0.0, f.0.1, f.2) (root_clear c (told_alt g) w (b ∷ []) f.1) refl)
 step_read (slash1 c g x r w) b f =
-    branch (Read _) (eqb b 47) _ _
+    branch (FineTold _) (eqb b 47) _ _
     (λ i. (
       rw (eqb-true b 47 i) (simp (append_assoc, append-nil)),
       (
@@ -802,12 +803,12 @@ step_read (slash1 c g x r w) b f =
     (f.0.0, f.0.1, (f.0.2, f.2, f.3))
     (steps_clear c (told_alt g) (told_prefix x) (spell_rel r) (w ++ (47 ∷ [])) (b ∷ []) f.1) refl)
 step_read (dot1 c g l w) b f =
-    branch (Read _) (eqb b 46) _ _
+    branch (FineTold _) (eqb b 46) _ _
     (λ i. (rw (eqb-true b 46 i) (simp (append_assoc, append-nil)), (f.0, clr_dots c g l w f.1, f.2, refl, refl)))
     (λ _. after_read c g l (dot w) [] b _ (simp append_assoc) f.0 f.1 f.2 refl
     (gap_may other [] b refl))
 step_read (name c g l a w n) b f =
-    branch (Read _) (is_name b) _ _
+    branch (FineTold _) (is_name b) _ _
     (λ i. (
       simp append_assoc,
       (f.0, clr_name c g l (spell_axis a) w n (b ∷ []) f.1, f.2, f.3, word_snoc n b f.4 i),
@@ -815,67 +816,67 @@ step_read (name c g l a w n) b f =
     (λ i. after_read c g l (test a (called w n)) [] b _ (simp append_assoc) f.0
     f.1 (f.2, (f.3, f.4)) refl (gap_name word [] b i))
 step_read (colon c g l w n v) b f =
-    branch (Read _) (eqb b 58) _ _
+    branch (FineTold _) (eqb b 58) _ _
     (λ i. (
       rw (eqb-true b 58 i) (simp (append_assoc, append-nil)),
       (f.0, colon_clear c g l w n v f.1, (f.2, f.3, f.4), refl),
     )) (λ _. tt)
 step_read (testing c g l a w) b f =
-    branch (Read _) (is_start b) _ _
+    branch (FineTold _) (is_start b) _ _
     (λ i. (
       simp append_assoc,
       (f.0, clr_test c g l (spell_axis a) w (b ∷ []) f.1, f.2, f.3, one_word b i),
     ))
-    (λ _. branch (Read _) (is_space b) _ _
+    (λ _. branch (FineTold _) (is_space b) _ _
     (λ i. (
       simp append_assoc,
       (f.0, clr_test c g l (spell_axis a) w (b ∷ []) f.1, f.2, snoc is_space w b f.3 i),
     ))
-    (λ _. branch (Read _) (eqb b 42) _ _
+    (λ _. branch (FineTold _) (eqb b 42) _ _
     (λ i. (
       rw (eqb-true b 42 i) (simp (append_assoc, append-nil)),
       (f.0, clr_test c g l (spell_axis a) w (42 ∷ []) f.1, (f.2, f.3), refl, refl),
     )) (λ _. tt)))
 step_read (type_open c g l a w n v u) b f =
-    branch (Read _) (is_space b) _ _
+    branch (FineTold _) (is_space b) _ _
     (λ i. (
       simp append_assoc,
       (f.0, f.1, f.2, f.3, f.4, f.5, snoc is_space u b f.6 i),
     ))
-    (λ _. branch (Read _) (eqb b 41) _ _
+    (λ _. branch (FineTold _) (eqb b 41) _ _
     (λ i. (
       rw (eqb-true b 41 i) (simp (append_assoc, append-nil)),
       (f.0, clr_name c g l (spell_axis a) w n _ f.1, (f.2, (f.3, f.4, f.5, f.6)), refl, refl),
     ))
-    (λ _. branch (Read _) (is_quote b && same_bytes n instruction_word) _ _
+    (λ _. branch (FineTold _) (is_quote b && same_bytes n instruction_word) _ _
     (λ i. let z = and_parts (is_quote b) (same_bytes n instruction_word) i in (
       rw (← same_bytes_lem n instruction_word z.1) (simp append_assoc),
       (f.0, rw (same_bytes_lem n instruction_word z.1) at f.1, f.2, f.3, f.5, f.6, z.0),
     )) (λ _. tt)))
 step_read (quote c g l a w v u q) b f =
-    branch (Read _) (is_start b) _ _
+    branch (FineTold _) (is_start b) _ _
     (λ i. (
       simp append_assoc,
       (f.0, f.1, f.2, f.3, f.4, f.5, f.6, one_word b i),
     )) (λ _. tt)
 step_read (quoted c g l a w v u q m) b f =
-    branch (Read _) (is_name b) _ _
+    branch (FineTold _) (is_name b) _ _
     (λ i. (
       simp append_assoc,
       (f.0, f.1, f.2, f.3, f.4, f.5, f.6, word_snoc m b f.7 i),
     ))
-    (λ _. branch (Read _) (eqb b q) _ _
+    (λ _. branch (FineTold _) (eqb b q) _ _
     (λ i. (
       rw (eqb-true b q i) (simp append_assoc),
       (f.0, f.1, f.2, f.3, f.4, f.5, f.6, f.7, refl),
     )) (λ _. tt))
 step_read (unquoted c g l a w v u q m y) b f =
-    branch (Read _) (is_space b) _ _
+    branch (FineTold _) (is_space b) _ _
     (λ i. (
       simp append_assoc,
       (f.0, f.1, f.2, f.3, f.4, f.5, f.6, f.7, snoc is_space y b f.8 i),
     ))
-    (λ _. branch (Read _) (eqb b 41) _ _
+    (λ _. branch (FineTold _) (eqb b 41) _ _
     (λ i. (
       rw (eqb-true b 41 i) (simp (append_assoc, append-nil)),
       (
@@ -889,18 +890,18 @@ step_read (unquoted c g l a w v u q m y) b f =
 step_read (after c g l s w) b f =
     after_read c g l s w b _ (simp append_assoc) f.0 f.1 f.2 f.3 (gap_may (last_step s) w b f.4)
 step_read (const_open x p k w v u) b f =
-    branch (Read _) (is_space b) _ _
+    branch (FineTold _) (is_space b) _ _
     (λ i. (
       simp append_assoc,
       (f.0, f.1, f.2, f.3, f.4, snoc is_space u b f.5 i),
     ))
-    (λ _. branch (Read _) (eqb b 41) _ _
+    (λ _. branch (FineTold _) (eqb b 41) _ _
     (λ i. (
       rw (eqb-true b 41 i) (simp (append_assoc, append-nil)),
       (f.0, f.1, constant_clear p w (spell_bool k) _ f.2, (f.3, f.4, f.5), refl, refl),
     )) (λ _. tt))
 step_read (closed x p u w) b f =
-    branch (Read _) (is_space b) _ _
+    branch (FineTold _) (is_space b) _ _
     (λ i. (
       simp append_assoc,
       (f.0, f.1, f.2, f.3, snoc is_space w b f.4 i, f.5),

@@ -8,7 +8,8 @@ use mathlib.Core.Logic.{⊎_elim}
 use native.Mathlib.Omega.{arith}
 use Rattle.std.proofs.lemmas.Bool.{and_parts, eqb-true, or_cases}
 use lib.Dec.{T, eqb}
-use Rattle.grammar.specs.Bytes.{Bytes, is_space, is_start, is_name, every}
+use Rattle.common.specs.Lists.{all_of}
+use Rattle.grammar.specs.Bytes.{Bytes, is_space, is_start, is_name}
 use Rattle.grammar.specs.code.Reader.{State, Next, step, walk, follow}
 
 pub so : (b : Bool) → b ≡ true → T b
@@ -71,10 +72,10 @@ walk_join (b ∷ s) t st x y e f = go (step st b) refl (λ v h. walk_join s t v 
 -- bytes that a state only collects
 module _ (p : ℕ → Bool) (f : Bytes → State)
     (h : (w : Bytes) (c : ℕ) → p c ≡ true → step (f w) c ≡ some (f (w ++ (c ∷ [])))) where
-  pub collect : (v : Bytes) (w : Bytes) (t : Bytes) → every p v ≡ true → walk (v ++ t) (f w) ≡ walk t (f (w ++ v))
-  unfolding every
+  pub collect : (v : Bytes) (w : Bytes) (t : Bytes) → all_of p v ≡ true → walk (v ++ t) (f w) ≡ walk t (f (w ++ v))
+  unfolding all_of
   collect [] w t e = rw append-nil refl
   collect (c ∷ v) w t e =
-      let u = and_parts (p c) (every p v) e in
+      let u = and_parts (p c) (all_of p v) e in
       walk_byte (f w) (f (w ++ (c ∷ []))) _ c (v ++ t) (h w c u.0)
       (collect v (w ++ (c ∷ [])) t u.1 ∙ rw append_assoc refl)

@@ -9,7 +9,8 @@ use Rattle.std.proofs.lemmas.Bool.{and_from, and_parts, eqb-true, false≢true, 
 use lib.Dec.{eqb, ltb}
 use Rattle.lines.specs.Ascii.{ascii}
 use Rattle.lines.specs.Line.{same_bytes}
-use Rattle.grammar.specs.Bytes.{Bytes, is_space, is_start, is_name, is_quote, every, is_word, nonempty}
+use Rattle.common.specs.Lists.{all_of}
+use Rattle.grammar.specs.Bytes.{Bytes, is_space, is_start, is_name, is_quote, is_word, nonempty}
 use Rattle.grammar.specs.Bytes.{apart, not_word, true_word, false_word}
 use Rattle.grammar.specs.Words.{find, next, axes, types, is_some, is_axis, is_type, instruction_word}
 use Rattle.grammar.specs.Grammar.{Axis, implied, attribute, axis, Test, any, called, kind, target, LocationStep}
@@ -111,7 +112,7 @@ unquoted_spaces : (c : Ctx) (g : Alt) (l : Lead) (a : Axis) (w v u : Bytes) (q :
 unfolding step
 unquoted_spaces c g l a w v u q m y t h = collect is_space (unquoted c g l a w v u q m) (λ x b e. rw e) y [] t h
 
-quoted_bytes : (c : Ctx) (g : Alt) (l : Lead) (a : Axis) (w v u : Bytes) (q : ℕ) (n m t : Bytes) → every is_name m
+quoted_bytes : (c : Ctx) (g : Alt) (l : Lead) (a : Axis) (w v u : Bytes) (q : ℕ) (n m t : Bytes) → all_of is_name m
     ≡ true → walk (m ++ t) (quoted c g l a w v u q n) ≡ walk t (quoted c g l a w v u q (n ++ m))
 unfolding step
 quoted_bytes c g l a w v u q n m t h = collect is_name (quoted c g l a w v u q) (λ x b e. rw e) m n t h
@@ -136,7 +137,7 @@ quote_close q h = quote_cases (λ c. eqb c 41 ≡ false) q h refl refl
 pub quote_self : (q : ℕ) → is_quote q ≡ true → eqb q q ≡ true
 quote_self q h = quote_cases (λ c. eqb c c ≡ true) q h refl refl
 
-name_bytes : (c : Ctx) (g : Alt) (l : Lead) (a : Axis) (w n v t : Bytes) → every is_name v ≡ true
+name_bytes : (c : Ctx) (g : Alt) (l : Lead) (a : Axis) (w n v t : Bytes) → all_of is_name v ≡ true
     → walk (v ++ t) (name c g l a w n) ≡ walk t (name c g l a w (n ++ v))
 unfolding step
 name_bytes c g l a w n v t h = collect is_name (name c g l a w) (λ u b e. rw e) v n t h
@@ -147,7 +148,7 @@ need_name : (c : Ctx) (g : Alt) (l : Lead) (w n t : Bytes) → Spaces w → is_w
 unfolding is_word step need_byte
 need_name c g l w [] t h i = absurd (false≢true i)
 need_name c g l w (b ∷ n) t h i =
-    let u = and_parts (is_start b) (every is_name n) i in
+    let u = and_parts (is_start b) (all_of is_name n) i in
     need_spaces c g l w (b ∷ (n ++ t)) h
     ∙ walk_byte (need c g l w) (name c g l implied w (b ∷ [])) _ b (n ++ t) (rw u.0)
     (name_bytes c g l implied w (b ∷ []) n t u.1)
@@ -157,7 +158,7 @@ testing_name : (c : Ctx) (g : Alt) (l : Lead) (a : Axis) (w n t : Bytes) → Spa
 unfolding is_word step
 testing_name c g l a w [] t h i = absurd (false≢true i)
 testing_name c g l a w (b ∷ n) t h i =
-    let u = and_parts (is_start b) (every is_name n) i in
+    let u = and_parts (is_start b) (all_of is_name n) i in
     testing_spaces c g l a w (b ∷ (n ++ t)) h
     ∙ walk_byte (testing c g l a w) (name c g l a w (b ∷ [])) _ b (n ++ t) (rw u.0)
     (name_bytes c g l a w (b ∷ []) n t u.1)
@@ -182,7 +183,7 @@ free false h = refl
 step_then : (c : Ctx) (g : Alt) (l : Lead) (s : LocationStep) (w : Bytes) (b : ℕ) (t : Bytes) (y : Next) → Spaces w
     → (not (touches s b) || nonempty w) ≡ true
     → follow (after_byte c g l s w b) none (λ x. walk t x) ≡ y → walk (w ++ (b ∷ t)) (end_step c g l s) ≡ y
-unfolding touches nonempty end_step step every after_byte
+unfolding touches nonempty end_step step all_of after_byte
 step_then c g l (dots v) w b t y h i j = after_spaces c g l (dots v) [] w (b ∷ t) h ∙ walk_next _ _ _ b t refl j
 step_then c g l (test a (any v)) w b t y h i j = after_spaces c g l (test a (any v)) [] w (b ∷ t) h
     ∙ walk_next _ _ _ b t refl j
@@ -195,13 +196,13 @@ step_then c g l (filter s v e u) w b t y h i j = after_spaces c g l (filter s v 
 step_then c g l (dot v) [] b t y h i j =
     walk_next (dot1 c g l v) (after_byte c g l (dot v) [] b) y b t (rw (free (eqb b 46) i)) j
 step_then c g l (dot v) (d ∷ w) b t y h i j =
-    let u = and_parts (is_space d) (every is_space w) h in
+    let u = and_parts (is_space d) (all_of is_space w) h in
     walk_byte (dot1 c g l v) (after c g l (dot v) (d ∷ [])) y d (w ++ (b ∷ t)) (rw (space_dot d u.0, u.0))
     (after_spaces c g l (dot v) (d ∷ []) w (b ∷ t) u.1 ∙ walk_next _ _ _ b t refl j)
 step_then c g l (test a (called v n)) [] b t y h i j =
     walk_next (name c g l a v n) (after_byte c g l (test a (called v n)) [] b) y b t (rw (free (is_name b) i)) j
 step_then c g l (test a (called v n)) (d ∷ w) b t y h i j =
-    let u = and_parts (is_space d) (every is_space w) h in
+    let u = and_parts (is_space d) (all_of is_space w) h in
     walk_byte (name c g l a v n) (after c g l (test a (called v n)) (d ∷ [])) y d (w ++ (b ∷ t))
     (rw (space_name d u.0, u.0))
     (after_spaces c g l (test a (called v n)) (d ∷ []) w (b ∷ t) u.1 ∙ walk_next _ _ _ b t refl j)
@@ -281,11 +282,11 @@ root_spaces c g v w u t h = collect is_space (need c g (start (at_root v))) (λ 
 
 root_then : (c : Ctx) (g : Alt) (v w : Bytes) (b : ℕ) (t : Bytes) (y : Next) → Mark b → Spaces w → is_name b ≡ false
     → follow (path_byte c g (root v) w b) none (λ x. walk t x) ≡ y → walk (w ++ (b ∷ t)) (root1 c g v) ≡ y
-unfolding step need_byte lead_byte every
+unfolding step need_byte lead_byte all_of
 root_then c g v [] b t y m h f j =
     walk_next (root1 c g v) _ y b t (rw (m.slash, name_start b f, m.space, m.star, m.at, m.dot) refl) j
 root_then c g v (d ∷ w) b t y m h f j =
-    let u = and_parts (is_space d) (every is_space w) h in
+    let u = and_parts (is_space d) (all_of is_space w) h in
     walk_byte (root1 c g v) (need c g (start (at_root v)) (d ∷ [])) y d (w ++ (b ∷ t))
     (rw (space_slash d u.0, space_start d u.0, u.0) refl)
     (root_spaces c g v (d ∷ []) w (b ∷ t) u.1
@@ -493,11 +494,11 @@ found_word n (m ∷ ms) h e = go (same_bytes n m) refl (found_word n ms (and_par
     go false i k = k (some_next (find n ms) (rw i at e))
 
 axis_word : (n : Bytes) → is_axis n ≡ true → is_word n ≡ true
-unfolding all_words axes is_word is_start is_name every
+unfolding all_words axes is_word is_start is_name all_of
 axis_word n h = found_word n axes refl h
 
 type_word : (n : Bytes) → is_type n ≡ true → is_word n ≡ true
-unfolding all_words types is_word is_start is_name every
+unfolding all_words types is_word is_start is_name all_of
 type_word n h = found_word n types refl h
 
 -- tests
@@ -516,7 +517,7 @@ module _ (c : Ctx) (g : Alt) (l : Lead) where
   unfolding is_word step is_space walk follow
   quoted_target a w v u q [] y h i k = absurd (false≢true i)
   quoted_target a w v u q (b ∷ m) y h i k =
-      let z = and_parts (is_start b) (every is_name m) i in
+      let z = and_parts (is_start b) (all_of is_name m) i in
       walk_byte (quote c g l a w v u q) (quoted c g l a w v u q (b ∷ [])) _ b (m ++ (q ∷ (y ++ (41 ∷ []))))
       (rw z.0)
       (quoted_bytes c g l a w v u q (b ∷ []) m (q ∷ (y ++ (41 ∷ []))) z.1
@@ -525,7 +526,7 @@ module _ (c : Ctx) (g : Alt) (l : Lead) where
       (unquoted_spaces c g l a w v u q (b ∷ m) y (41 ∷ []) k))
 
   instruction_word_lem : is_word instruction_word ≡ true
-  unfolding is_word is_start is_name every instruction_word
+  unfolding is_word is_start is_name all_of instruction_word
   instruction_word_lem = refl
 
   test_target : (a : Axis) (w v u : Bytes) (q : ℕ) (m y : Bytes) → Spaces v → Spaces u → is_quote q ≡ true → is_word m
@@ -583,9 +584,9 @@ leads_more [] t h = absurd (false≢true h)
 leads_more (b ∷ s) t h = h
 
 leads_spaces : (w t : Bytes) → Spaces w → leads t ≡ true → leads (w ++ t) ≡ true
-unfolding leads every
+unfolding leads all_of
 leads_spaces [] t h i = i
-leads_spaces (b ∷ w) t h i = rw (space_slash b (and_parts (is_space b) (every is_space w) h).0) refl
+leads_spaces (b ∷ w) t h i = rw (space_slash b (and_parts (is_space b) (all_of is_space w) h).0) refl
 
 start_slash : (b : ℕ) → is_start b ≡ true → eqb b 47 ≡ false
 unfolding is_start
@@ -598,7 +599,7 @@ start_slash b h = go (eqb b 47) refl
 leads_word : (n : Bytes) → is_word n ≡ true → leads n ≡ true
 unfolding leads is_word
 leads_word [] h = absurd (false≢true h)
-leads_word (b ∷ n) h = rw (start_slash b (and_parts (is_start b) (every is_name n) h).0) refl
+leads_word (b ∷ n) h = rw (start_slash b (and_parts (is_start b) (all_of is_name n) h).0) refl
 
 instruction_leads : (t : Bytes) → leads (instruction_word ++ t) ≡ true
 unfolding leads instruction_word

@@ -6,6 +6,7 @@ use mathlib.Core.List.{List, [], ◌∷◌, ◌++◌, append_assoc, append-nil}
 use native.Mathlib.Omega.{arith}
 use lib.Dec.{ltb}
 use lib.ListN.{length}
+use Rattle.common.specs.RowKinds.{void_row, root_row, step_row, true_row, false_row}
 use Rattle.xpath.specs.Term as term
 use Rattle.terms.specs.Row.{Row, row, find, max_rows}
 use Rattle.grammar.specs.Bytes.{Bytes}
@@ -40,9 +41,9 @@ mutual
   unfolding put_path put_qual
 
   pub path_longer : (p : term.Path) (rs : List Row) → Longer rs (put_path p rs).rows
-  path_longer term.Void rs = put_longer rs (row 0 0 0 0)
-  path_longer term.Root rs = put_longer rs (row 1 0 0 0)
-  path_longer (term.AxisStep a t c) rs = put_longer rs (row 2 a t c)
+  path_longer term.Void rs = put_longer rs (row void_row 0 0 0)
+  path_longer term.Root rs = put_longer rs (row root_row 0 0 0)
+  path_longer (term.AxisStep a t c) rs = put_longer rs (row step_row a t c)
   path_longer (term.Union p q) rs =
       row_longer rs _ _ _ (path_longer p rs) (path_longer q (put_path p rs).rows)
   path_longer (term.Composition p q) rs =
@@ -51,8 +52,8 @@ mutual
       row_longer rs _ _ _ (path_longer p rs) (qualifier_longer f (put_path p rs).rows)
 
   pub qualifier_longer : (f : term.Qualifier) (rs : List Row) → Longer rs (put_qual f rs).rows
-  qualifier_longer term.True rs = put_longer rs (row 6 0 0 0)
-  qualifier_longer term.False rs = put_longer rs (row 7 0 0 0)
+  qualifier_longer term.True rs = put_longer rs (row true_row 0 0 0)
+  qualifier_longer term.False rs = put_longer rs (row false_row 0 0 0)
   qualifier_longer (term.Not f) rs = then_longer rs _ _ (qualifier_longer f rs) (put_longer (put_qual f rs).rows _)
   qualifier_longer (term.And f g) rs =
       row_longer rs _ _ _ (qualifier_longer f rs) (qualifier_longer g (put_qual f rs).rows)

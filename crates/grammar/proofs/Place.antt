@@ -7,7 +7,8 @@ use mathlib.Core.List.{[], ◌∷◌, ◌++◌, append_assoc, append-nil}
 use mathlib.Core.Option.{Option, none, some}
 use native.Mathlib.Omega.{arith}
 use Rattle.std.proofs.lemmas.Bool.{and_parts}
-use Rattle.grammar.specs.Bytes.{Bytes, is_space, is_start, is_name, is_quote, every}
+use Rattle.common.specs.Lists.{all_of}
+use Rattle.grammar.specs.Bytes.{Bytes, is_space, is_start, is_name, is_quote}
 use Rattle.grammar.specs.Grammar.{Axis, implied, axis, any, called, kind, target, LocationStep}
 use Rattle.grammar.specs.Grammar.{dot, dots, test, filter, Rel, one, slash, slashes, Path, relative, root}
 use Rattle.grammar.specs.Grammar.{rooted, anywhere, Union, single, union, Unary, paths, group, negation}
@@ -205,7 +206,7 @@ top_step g l s w t hg hl hs hw e =
     (e ∙ step_list (told_alt g) (told_lead l) (spell_step s) w (spell_path (path_to l s)) (path_told l s))
 
 pub finish_spells : (st : State) (y : Text) → finish st ≡ some y → FineState st → Spells (told st) y.tree
-unfolding finish at_top lead_end told before told_ctx room spell_step spell_test every spell_path told_lead told_prefix
+unfolding finish at_top lead_end told before told_ctx room spell_step spell_test all_of spell_path told_lead told_prefix
 finish_spells (after top g l s w) y e f =
     let z : text_of (join_alt g (path_to l s)) w ≡ y = cc in
     rw (← z) (top_step g l s w _ f.0.1 f.0.2 f.2 f.3 refl)
@@ -247,7 +248,7 @@ finish_spells (keyword x p u w k) y e f = absurd (no_text y e)
 -- a text of the grammar is accepted with its tree
 end_step_lem : (g : Alt) (l : Lead) (s : LocationStep) (w : Bytes) → Spaces w
     → Ended w (end_step top g l s) (text_of (join_alt g (path_to l s)) w)
-unfolding end_step walk finish at_top every step after_byte
+unfolding end_step walk finish at_top all_of step after_byte
 end_step_lem g l (dots v) w h =
     record {
       last = after top g l (dots v) w;
@@ -280,7 +281,7 @@ end_step_lem g l (filter s v e u) w h =
     }
 end_step_lem g l (dot v) [] h = record { last = dot1 top g l v; walks = refl; ends = refl }
 end_step_lem g l (dot v) (c ∷ w) h =
-    let u = and_parts (is_space c) (every is_space w) h in
+    let u = and_parts (is_space c) (all_of is_space w) h in
     record {
       last = after top g l (dot v) (c ∷ w);
       walks = walk_byte (dot1 top g l v) (after top g l (dot v) (c ∷ [])) _ c w (rw (space_dot c u.0, u.0))
@@ -289,7 +290,7 @@ end_step_lem g l (dot v) (c ∷ w) h =
     }
 end_step_lem g l (test a (called v n)) [] h = record { last = name top g l a v n; walks = refl; ends = refl }
 end_step_lem g l (test a (called v n)) (c ∷ w) h =
-    let u = and_parts (is_space c) (every is_space w) h in
+    let u = and_parts (is_space c) (all_of is_space w) h in
     record {
       last = after top g l (test a (called v n)) (c ∷ w);
       walks = walk_byte (name top g l a v n) (after top g l (test a (called v n)) (c ∷ [])) _ c w
@@ -299,10 +300,10 @@ end_step_lem g l (test a (called v n)) (c ∷ w) h =
     }
 
 end_root : (g : Alt) (v w : Bytes) → Spaces w → Ended w (root1 top g v) (text_of (join_alt g (root v)) w)
-unfolding walk finish at_top lead_end every step need_byte
+unfolding walk finish at_top lead_end all_of step need_byte
 end_root g v [] h = record { last = root1 top g v; walks = refl; ends = refl }
 end_root g v (c ∷ w) h =
-    let u = and_parts (is_space c) (every is_space w) h in
+    let u = and_parts (is_space c) (all_of is_space w) h in
     record {
       last = need top g (start (at_root v)) (c ∷ w);
       walks = walk_byte (root1 top g v) (need top g (start (at_root v)) (c ∷ [])) _ c w
@@ -402,7 +403,7 @@ ran (b ∷ t) st = go (step st b) refl (λ v. ran t v)
     go (some v) e k = more_ran b t st v e (run t v) (k v)
 
 initial_fine : FineState initial
-unfolding every
+unfolding all_of
 initial_fine = ((tt, tt, tt), tt, refl)
 
 pub told_walk : (t : Bytes) (x : State) → walk t initial ≡ some x → (told x ≡ t) × FineState x

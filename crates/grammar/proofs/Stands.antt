@@ -12,6 +12,8 @@ use lib.ListN.{length, get_or, take, length-append}
 use lib.Seq.{get_or_at, get_or-take, take-append_seam}
 use mir.Facts.{yes_and, yes_ltb, yes_leb, yes_eqb}
 use Rattle.lines.specs.Number.{max_number}
+use Rattle.common.specs.RowKinds.{void_row, root_row, step_row, union_row, composition_row, filter_row, true_row}
+use Rattle.common.specs.RowKinds.{false_row, not_row, and_row, or_row, inclusion_row}
 use Rattle.xpath.specs.Term as term
 use Rattle.terms.specs.Row.{Row, row, no_row, row_at, same_row, find}
 use Rattle.terms.specs.Fields.{Field, unused, axis, test, name, path, qualifier, fields_of, max_kind, is_path}
@@ -183,7 +185,7 @@ well_formed_lem rs k x y z h a b c n =
 
 -- the row of a step is well formed after any rows, and its name has 16 bits
 abbrev pub StepFits : (a t c : ℕ) → Type 0
-StepFits a t c = ((rs : List Row) → T (is_well_formed rs (row 2 a t c))) × (c ≤ max_number)
+StepFits a t c = ((rs : List Row) → T (is_well_formed rs (row step_row a t c))) × (c ≤ max_number)
 
 -- so are those of all steps of a term
 abbrev mutual
@@ -237,21 +239,23 @@ mutual
   pub path_stands : (p : term.Path) (rs : List Row) → Built rs → PathFits p → nest_path p ≤ max_nesting
       → PathStands p rs
   path_stands term.Void rs b h l =
-      leaf_stands rs 0 (of_path term.Void) b (well_formed_lem rs 0 0 0 0 (omega arith) refl refl refl (omega arith))
+      leaf_stands rs void_row (of_path term.Void) b
+      (well_formed_lem rs void_row 0 0 0 (omega arith) refl refl refl (omega arith))
       refl
       refl
   path_stands term.Root rs b h l =
-      leaf_stands rs 1 (of_path term.Root) b (well_formed_lem rs 1 0 0 0 (omega arith) refl refl refl (omega arith))
+      leaf_stands rs root_row (of_path term.Root) b
+      (well_formed_lem rs root_row 0 0 0 (omega arith) refl refl refl (omega arith))
       refl
       refl
   path_stands (term.AxisStep a t c) rs b h l =
-      let s = row_stands rs (row 2 a t c) b (h.0 rs) in
+      let s = row_stands rs (row step_row a t c) b (h.0 rs) in
       record { built = s.built; held = s.held; term = s.term; nest = s.nest }
   path_stands (term.Union p q) rs b h l =
       let x = path_stands p rs b h.0 (omega arith) in
       let y = path_stands q (put_path p rs).rows x.built h.1 (omega arith) in
       let z = stands_on x (path_longer q (put_path p rs).rows) y.built in
-      over_stands _ 3 _ _ (nest_path p) (nest_path q) (of_path p) (of_path q) (of_path (term.Union p q)) z y
+      over_stands _ union_row _ _ (nest_path p) (nest_path q) (of_path p) (of_path q) (of_path (term.Union p q)) z y
       (omega arith)
       (is_held_path z) (is_held_path y) refl (omega (arith, z.nest, y.nest)) (omega arith)
       (rw (z.term, y.term) refl)
@@ -259,33 +263,35 @@ mutual
       let x = path_stands p rs b h.0 (omega arith) in
       let y = path_stands q (put_path p rs).rows x.built h.1 (omega arith) in
       let z = stands_on x (path_longer q (put_path p rs).rows) y.built in
-      over_stands _ 4 _ _ (nest_path p) (nest_path q) (of_path p) (of_path q) (of_path (term.Composition p q)) z y
+      over_stands _ composition_row _ _ (nest_path p) (nest_path q) (of_path p) (of_path q)
+      (of_path (term.Composition p q)) z y
       (omega arith) (is_held_path z) (is_held_path y) refl (omega (arith, z.nest, y.nest)) (omega arith)
       (rw (z.term, y.term) refl)
   path_stands (term.Filter p f) rs b h l =
       let x = path_stands p rs b h.0 (omega arith) in
       let y = qualifier_stands f (put_path p rs).rows x.built h.1 (omega arith) in
       let z = stands_on x (qualifier_longer f (put_path p rs).rows) y.built in
-      over_stands _ 5 _ _ (nest_path p) (nest_qual f) (of_path p) (of_qualifier f) (of_path (term.Filter p f)) z y
+      over_stands _ filter_row _ _ (nest_path p) (nest_qual f) (of_path p) (of_qualifier f)
+      (of_path (term.Filter p f)) z y
       (omega arith) (is_held_path z) (is_held_qualifier y) refl (omega (arith, z.nest, y.nest)) (omega arith)
       (rw (z.term, y.term) refl)
 
   pub qualifier_stands : (f : term.Qualifier) (rs : List Row) → Built rs → QualifierFits f → nest_qual f ≤ max_nesting
       → QualifierStands f rs
   qualifier_stands term.True rs b h l =
-      leaf_stands rs 6 (of_qualifier term.True) b
-      (well_formed_lem rs 6 0 0 0 (omega arith) refl refl refl (omega arith))
+      leaf_stands rs true_row (of_qualifier term.True) b
+      (well_formed_lem rs true_row 0 0 0 (omega arith) refl refl refl (omega arith))
       refl
       refl
   qualifier_stands term.False rs b h l =
-      leaf_stands rs 7 (of_qualifier term.False) b
-      (well_formed_lem rs 7 0 0 0 (omega arith) refl refl refl (omega arith))
+      leaf_stands rs false_row (of_qualifier term.False) b
+      (well_formed_lem rs false_row 0 0 0 (omega arith) refl refl refl (omega arith))
       refl
       refl
   qualifier_stands (term.Not f) rs b h l =
       let x = qualifier_stands f rs b h (omega arith) in
-      let ok = well_formed_lem _ 8 _ 0 0 (omega arith) (is_held_qualifier x) refl refl (omega (arith, x.nest)) in
-      let s = row_stands (put_qual f rs).rows (row 8 (put_qual f rs).at 0 0) x.built ok in
+      let ok = well_formed_lem _ not_row _ 0 0 (omega arith) (is_held_qualifier x) refl refl (omega (arith, x.nest)) in
+      let s = row_stands (put_qual f rs).rows (row not_row (put_qual f rs).at 0 0) x.built ok in
       record {
         built = s.built;
         held = s.held;
@@ -296,7 +302,8 @@ mutual
       let x = qualifier_stands f rs b h.0 (omega arith) in
       let y = qualifier_stands g (put_qual f rs).rows x.built h.1 (omega arith) in
       let z = stands_on x (qualifier_longer g (put_qual f rs).rows) y.built in
-      over_stands _ 9 _ _ (nest_qual f) (nest_qual g) (of_qualifier f) (of_qualifier g) (of_qualifier (term.And f g))
+      over_stands _ and_row _ _ (nest_qual f) (nest_qual g) (of_qualifier f) (of_qualifier g)
+      (of_qualifier (term.And f g))
       z y
       (omega arith) (is_held_qualifier z) (is_held_qualifier y) refl (omega (arith, z.nest, y.nest)) (omega arith)
       (rw (z.term, y.term) refl)
@@ -304,7 +311,8 @@ mutual
       let x = qualifier_stands f rs b h.0 (omega arith) in
       let y = qualifier_stands g (put_qual f rs).rows x.built h.1 (omega arith) in
       let z = stands_on x (qualifier_longer g (put_qual f rs).rows) y.built in
-      over_stands _ 10 _ _ (nest_qual f) (nest_qual g) (of_qualifier f) (of_qualifier g) (of_qualifier (term.Or f g))
+      over_stands _ or_row _ _ (nest_qual f) (nest_qual g) (of_qualifier f) (of_qualifier g)
+      (of_qualifier (term.Or f g))
       z y
       (omega arith) (is_held_qualifier z) (is_held_qualifier y) refl (omega (arith, z.nest, y.nest)) (omega arith)
       (rw (z.term, y.term) refl)
@@ -312,7 +320,8 @@ mutual
       let x = path_stands p rs b h.0 (omega arith) in
       let y = path_stands q (put_path p rs).rows x.built h.1 (omega arith) in
       let z = stands_on x (path_longer q (put_path p rs).rows) y.built in
-      over_stands _ 11 _ _ (nest_path p) (nest_path q) (of_path p) (of_path q) (of_qualifier (term.In p q)) z y
+      over_stands _ inclusion_row _ _ (nest_path p) (nest_path q) (of_path p) (of_path q)
+      (of_qualifier (term.In p q)) z y
       (omega arith)
       (is_held_path z) (is_held_path y) refl (omega (arith, z.nest, y.nest)) (omega arith)
       (rw (z.term, y.term) refl)

@@ -1,6 +1,7 @@
 -- Bytes of a text: whitespace (XPath 1.0, clause 3.7, ExprWhitespace) and names as T-06 restricts them. Assumes
 -- nothing.
 use Rattle.std.specs.Prelude.{ℕ, Bool, true, false, not, ◌&&◌, ◌||◌, List, [], ◌∷◌, eqb, leb}
+use Rattle.common.specs.Lists.{all_of}
 use Rattle.lines.specs.Ascii.{ascii}
 use Rattle.lines.specs.Line.{newline, space}
 use Rattle.lines.specs.Number.{digit0, digit9}
@@ -96,13 +97,9 @@ is_quote b = eqb b quote_byte || eqb b double_quote_byte
 unfoldable pub is_name : ℕ → Bool
 is_name b = is_start b || ((leb digit0 b && leb b digit9) || (eqb b hyphen_byte || eqb b dot_byte))
 
-unfoldable pub every : (ℕ → Bool) → Bytes → Bool
-every p [] = true
-every p (b ∷ t) = p b && every p t
-
 unfoldable pub is_word : Bytes → Bool
 is_word [] = false
-is_word (b ∷ t) = is_start b && every is_name t
+is_word (b ∷ t) = is_start b && all_of is_name t
 
 unfoldable pub nonempty : Bytes → Bool
 nonempty [] = false

@@ -1,7 +1,8 @@
 -- T-06's grammar: XPath 1.0 cut down. A constructor is a production; a tree keeps the whitespace before each of its
 -- tokens, so `spell..` is the very text. Bytes are w whitespace, n a name. Assumes nothing.
 use Rattle.std.specs.Prelude.{ℕ, suc, ◌<◌, ◌≤◌, ◌-◌, ◌≡◌, Bool, true, false, [], ◌∷◌, ◌++◌, length, take}
-use Rattle.grammar.specs.Bytes.{Bytes, is_space, is_quote, every, is_word, nonempty, apart, not_word}
+use Rattle.common.specs.Lists.{all_of}
+use Rattle.grammar.specs.Bytes.{Bytes, is_space, is_quote, is_word, nonempty, apart, not_word}
 use Rattle.grammar.specs.Bytes.{true_word, false_word}
 use Rattle.grammar.specs.Bytes.{open_byte, close_byte, star_byte, dot_byte, slash_byte, colon_byte, at_byte}
 use Rattle.grammar.specs.Bytes.{open_bracket, close_bracket, bar_byte, letter_a, letter_d, letter_n}
@@ -174,7 +175,7 @@ takes_predicate (test a t) = true
 takes_predicate (filter s w e v) = true
 
 abbrev pub Spaces : Bytes → Type 0
-Spaces w = every is_space w ≡ true
+Spaces w = all_of is_space w ≡ true
 
 abbrev pub FineAxis : Axis → Type 0
 FineAxis implied = Unit {0}

@@ -1,7 +1,7 @@
 -- One law for each way through the functions that read a step's head. Assumes nothing.
 use Prim.Native.Nat.{ℕ, zero, suc, ◌+◌, ◌-◌, ◌<◌, ◌≤◌}
 use mathlib.Core.Path.{◌≡◌, refl, sym, ap, ◌∙◌, subst}
-use mathlib.Core.Bool.{Bool, true, false, cond, ◌&&◌, ◌||◌}
+use mathlib.Core.Bool.{Bool, true, false, cond, ◌&&◌, ◌||◌, and-false}
 use mathlib.Core.List.{List, [], ◌∷◌, ◌++◌, append_assoc}
 use mathlib.Core.Option.{Option, none, some}
 use native.Mathlib.Omega.{arith}
@@ -19,7 +19,8 @@ use Rattle.common.specs.declared.node_test.NodeTest.TheVariants as Tests
 use Rattle.xpath.specs.Term as term
 use Rattle.lines.specs.Ascii.{ascii}
 use Rattle.lines.specs.Line.{same_bytes}
-use Rattle.grammar.specs.Bytes.{Bytes, is_space, is_start, is_name, is_quote, every, is_word, not_word}
+use Rattle.common.specs.Lists.{all_of}
+use Rattle.grammar.specs.Bytes.{Bytes, is_space, is_start, is_name, is_quote, is_word, not_word}
 use Rattle.grammar.specs.Bytes.{true_word, false_word}
 use Rattle.grammar.specs.Words.{find, next, types, axes, is_some, or_zero, is_type, type_code, is_axis, axis_code}
 use Rattle.grammar.specs.Words.{instruction_word, number_of}
@@ -422,12 +423,8 @@ module _ (s list : Bytes) (at : ℕ) (ax : CodeAxis) (t : NodeTest) (inner : ℕ
             (rw (q.stops, ne_eqb (byte_at s inner) 41 b, f n i j) refl) refl;
       }
 
-  and_no : (x : Bool) → (x && false) ≡ false
-  and_no true = refl
-  and_no false = refl
-
   pub type_plain : (byte_at s inner ≡ 41 → ⊥) → (t ≡ Tests.Instruction → ⊥) → TypeMet s list at ax t (Err inner)
-  type_plain b f = type_fails b (λ n i j. rw (not_instruction n t j f) (and_no (is_quote (byte_at s inner))))
+  type_plain b f = type_fails b (λ n i j. rw (not_instruction n t j f) (and-false (is_quote (byte_at s inner))))
 
   pub type_unquoted : (byte_at s inner ≡ 41 → ⊥) → is_quote (byte_at s inner) ≡ false
       → TypeMet s list at ax t (Err inner)
@@ -954,30 +951,30 @@ head_dot s list at h m = record { between = m.between; read = m.read list; faile
 
 -- the longest run of bytes that pass a test is one
 module _ (p : ℕ → Bool) where
-  pub same_split : (x r y q : Bytes) → every p x ≡ true → every p y ≡ true → p (get_or r 0 0) ≡ false
+  pub same_split : (x r y q : Bytes) → all_of p x ≡ true → all_of p y ≡ true → p (get_or r 0 0) ≡ false
       → p (get_or q 0 0)
       ≡ false → x ++ r ≡ y ++ q → (x ≡ y) × (r ≡ q)
-  unfolding every
+  unfolding all_of
   same_split [] r [] q h i j k e = (refl, e)
   same_split [] r (b ∷ y) q h i j k e =
-      yes_no (sym (and_parts (p b) (every p y) i).0 ∙ ap (λ (t : Bytes). p (get_or t 0 0)) (sym e) ∙ j)
+      yes_no (sym (and_parts (p b) (all_of p y) i).0 ∙ ap (λ (t : Bytes). p (get_or t 0 0)) (sym e) ∙ j)
   same_split (a ∷ x) r [] q h i j k e =
-      yes_no (sym (and_parts (p a) (every p x) h).0 ∙ ap (λ (t : Bytes). p (get_or t 0 0)) e ∙ k)
+      yes_no (sym (and_parts (p a) (all_of p x) h).0 ∙ ap (λ (t : Bytes). p (get_or t 0 0)) e ∙ k)
   same_split (a ∷ x) r (b ∷ y) q h i j k e =
       let f : a ≡ b = ap (λ (t : Bytes). get_or t 0 0) e in
       let g : x ++ r ≡ y ++ q = ap (λ (t : Bytes). drop 1 t) e in
-      let z = same_split x r y q (and_parts (p a) (every p x) h).1 (and_parts (p b) (every p y) i).1 j k g in
+      let z = same_split x r y q (and_parts (p a) (all_of p x) h).1 (and_parts (p b) (all_of p y) i).1 j k g in
       ((λ u. f u ∷ z.0 u), z.1)
 
 word_first : (n t : Bytes) → is_word n ≡ true → is_start (get_or (n ++ t) 0 0) ≡ true
 unfolding is_word
 word_first [] t h = no h
-word_first (b ∷ n) t h = (and_parts (is_start b) (every is_name n) h).0
+word_first (b ∷ n) t h = (and_parts (is_start b) (all_of is_name n) h).0
 
 after_spaces_name : (v t : Bytes) → Spaces v → is_name (get_or (v ++ (40 ∷ t)) 0 0) ≡ false
-unfolding every is_name is_start
+unfolding all_of is_name is_start
 after_spaces_name [] t h = refl
-after_spaces_name (b ∷ v) t h = space_name b (and_parts (is_space b) (every is_space v) h).0
+after_spaces_name (b ∷ v) t h = space_name b (and_parts (is_space b) (all_of is_space v) h).0
 
 -- opened_by: the first word of the table that it is
 pub opened : (a b c : Bool) → unwrap_or (cond a (Some Opening.Not) (cond b (Some Opening.True)

@@ -10,7 +10,8 @@ use native.Mathlib.Numerals.{add-one}
 use Rattle.std.proofs.lemmas.Bool.{and_parts}
 use lib.ListN.{length, get_or, drop, length-drop, length-append, drop_of_length-le}
 use lib.Seq.{drop-cons, take_at}
-use Rattle.grammar.specs.Bytes.{Bytes, is_space, is_start, is_name, every, is_word}
+use Rattle.common.specs.Lists.{all_of}
+use Rattle.grammar.specs.Bytes.{Bytes, is_space, is_start, is_name, is_word}
 use Rattle.grammar.specs.Grammar.{Axis, called, LocationStep, test}
 use Rattle.grammar.specs.code.Reader.{State, need, name, testing, type_open, quoted, unquoted, after}
 use Rattle.grammar.specs.code.Reader.{closed, Ctx, Open, Pend, Alt, Lead, step, follow}
@@ -47,11 +48,11 @@ on_stop s at st h e f = go (dec_lt at (length s))
 
 module _ (p : ℕ → Bool) (f : Bytes → State)
     (h : (w : Bytes) (c : ℕ) → p c ≡ true → step (f w) c ≡ some (f (w ++ (c ∷ [])))) where
-  run_collect : (v : Bytes) (w : Bytes) (t : Bytes) → every p v ≡ true → run (v ++ t) (f w) ≡ run t (f (w ++ v))
-  unfolding every run follow
+  run_collect : (v : Bytes) (w : Bytes) (t : Bytes) → all_of p v ≡ true → run (v ++ t) (f w) ≡ run t (f (w ++ v))
+  unfolding all_of run follow
   run_collect [] w t e = rw append-nil refl
   run_collect (c ∷ v) w t e =
-      let u = and_parts (p c) (every p v) e in
+      let u = and_parts (p c) (all_of p v) e in
       rw (h w c u.0) (run_collect v (w ++ (c ∷ [])) t u.1 ∙ rw append_assoc refl)
 
   pub over : (s : Bytes) (at to : ℕ) (q : Passed p s at to) (w : Bytes) → run (drop at s) (f w)

@@ -13,7 +13,8 @@ use common::node_test::NodeTest;
 use words::bytes::{byte_at, is_start, name_end, skip};
 use words::{Names, Word};
 
-// The name of a step: its number in the list, or, where it is not listed, its place in the text.
+// The name of a step: its number in the list, or, where it is not listed, its place in the text. No Option of a Result:
+// the row's number is asked of all three cases, and the place of one.
 #[derive(Clone, Copy)]
 pub enum StepName {
     Unnamed,
@@ -22,7 +23,7 @@ pub enum StepName {
 }
 
 impl StepName {
-    // Its number in the step's row: 0 where the list gives none.
+    // Its number in the step's row, which has one for every step: 0 where the list gives none.
     pub fn number(self) -> u16
         ensures { result ≡ name_number self }
     {
@@ -44,7 +45,7 @@ impl StepName {
 }
 
 // A step without its predicates: `at` is the first place after it that has no whitespace. `filters`: predicates may
-// follow.
+// follow; no other part of the head hangs on it.
 #[derive(Clone, Copy)]
 pub struct Head {
     pub at: usize,
@@ -64,8 +65,8 @@ pub enum Opens {
     False,
 }
 
-// How it begins, and the place of its `(`; of paths, where they begin. The place is no part of each kind: the kinds
-// alone stand in the table of words below, and tell which row is put for an expression.
+// How it begins, and the place of its `(`; of paths, some place in the text. The place is no part of each kind: the
+// kinds alone stand in the table of words below, and tell which row is put for an expression.
 #[derive(Clone, Copy)]
 pub struct Operand {
     pub opens: Opens,
@@ -102,6 +103,7 @@ fn is_quote(b: u8) -> bool
 }
 
 // The name that begins at `at`.
+#[tactic(auto, using(crate::proofs::Headed::start_there))]
 fn name_from(s: &[u8], at: usize) -> NameRead
     requires { is_start (byte_at s.now at) ≡ true }
     ensures { (result.start ≡ at) × NameAt s.now result.start result.end result.after }
@@ -127,7 +129,8 @@ fn dot_head(s: &[u8], at: usize) -> Head
     plain_head(skip(s, next), Axis::Itself, NodeTest::Node, false)
 }
 
-// A selector as text, and the list of its names.
+// A selector as text, and the list of its names. That a place is within the text is a clause of the methods: a place
+// with that fact would name the text that it is of, and each caller would prove it there just as here.
 #[derive(Clone, Copy)]
 pub struct Selector<'a> {
     pub s: &'a [u8],
@@ -135,7 +138,8 @@ pub struct Selector<'a> {
 }
 
 impl Selector<'_> {
-    // A head with the name that stands from `from` up to `to`.
+    // A head with the name that stands from `from` up to `to`. These are no `NameRead`: behind the name of a target
+    // stands no whitespace, but its quote.
     fn named_head(self, from: usize, to: usize, at: usize, axis: Axis, test: NodeTest) -> Head
         requires from_le_to { (from ≤ to) × (to ≤ length self.s.now) }
         requires to_value { is_word (part self.s.now from to) ≡ true }
@@ -157,6 +161,7 @@ impl Selector<'_> {
     }
 
     // What follows the quote at `at` of an instruction's target.
+    #[tactic(auto, using(crate::proofs::Headed::start_there, crate::proofs::Headed::quote_there))]
     fn target_head(self, at: usize, axis: Axis) -> Result<Head, usize>
         requires at_value { is_quote (byte_at self.s.now at) ≡ true }
         ensures { TargetMet self.entry.s.now self.entry.names.list.now at axis result }
@@ -292,7 +297,8 @@ fn opened_by(word: &[u8]) -> Opens
 // How the operand that begins at `at` begins, where no whitespace is.
 pub fn operand_at(s: &[u8], at: usize) -> Operand
     requires { at ≤ length s.now }
-    ensures { OperandMet s.now at result.opens result.paren }
+    ensures operand { OperandMet s.now at result.opens result.paren }
+    ensures paren_in_bounds { result.paren ≤ length s.now }
 {
     let paths = Operand {
         opens: Opens::Paths,

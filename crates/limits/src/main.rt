@@ -2,7 +2,8 @@
 // what the calls answer, `NUMBER VALUE` a line, in pairs: the last call within the limit, and the one beyond it.
 #![tactic(auto)]
 
-ghost use Rattle.std.specs.Prelude.{◌≡◌, ◌+◌, ◌≤◌, ◌<◌, length};
+ghost use Rattle.common.specs.Limits.{max_number};
+ghost use Rattle.std.specs.Prelude.{◌≡◌, ◌≤◌, ◌<◌, length};
 ghost use Rattle.script_words.specs.Words.{max_numbers};
 
 use answer_lines::AnswerLine;
@@ -32,7 +33,7 @@ const ROOT: Row = Row {
 
 // What can't be printed is left out, here and below: the calls are made all the same.
 fn print<A: Answer + Copy>(rt: &impl Print, answer: A) {
-    let _ = println!(rt; "{}", AnswerLine::of(answer));
+    let _ = println!(rt; "{}", AnswerLine::from(answer));
 }
 
 // Rows, steps, nesting, nodes, points.
@@ -54,7 +55,7 @@ fn pass_limit<A: Answer + Copy, F: Fn(Session, u16) -> Answered<A>>(
     limit: u16,
     call: F,
 )
-    requires { (limit + 1 < 65536) × F.IsAlwaysCallable call }
+    requires { (limit < max_number) × F.IsAlwaysCallable call }
 {
     let s = (1..limit).fold(start, |s, i| call(s, i).session);
     let last = call(s, limit);
@@ -65,14 +66,14 @@ fn pass_limit<A: Answer + Copy, F: Fn(Session, u16) -> Answered<A>>(
 // The deepest nesting: true, and each row `not` of the one before, so that row i + 1 nests i + 2 deep.
 fn nesting(rt: &impl Print) {
     let s = Session::new()
-        .term(Row::from([RowKind::True as u16, 0, 0, 0]))
+        .term(Row::from([RowKind::True.into(), 0, 0, 0]))
         .session;
-    let s = s.term(Row::from([RowKind::Not as u16, 0, 0, 0])).session;
+    let s = s.term(Row::from([RowKind::Not.into(), 0, 0, 0])).session;
     pass_limit(
         rt,
         s,
         Session::NESTING - 2,
-        |s, i| s.term(Row::from([RowKind::Not as u16, i, 0, 0])),
+        |s, i| s.term(Row::from([RowKind::Not.into(), i, 0, 0])),
     )
 }
 
@@ -83,9 +84,9 @@ fn rows(rt: &impl Print) {
         Session::new(),
         ROWS,
         |s, i| s.term(Row::from([
-            RowKind::Step as u16,
-            Axis::Child as u16,
-            NodeTest::Name as u16,
+            RowKind::Step.into(),
+            Axis::Child.into(),
+            NodeTest::Name.into(),
             i,
         ])),
     )
@@ -102,31 +103,31 @@ fn steps(rt: &impl Print) {
     )
 }
 
-// The root, and texts under it: the first n rows of it are a document of n nodes.
-fn texts() -> [u16; script_words::MAX_NUMBERS]
-    ensures { max_numbers ≡ length result }
-{
-    let mut d = [0u16; script_words::MAX_NUMBERS];
+// The numbers of the largest document, and of one with a node more.
+const LARGEST: usize = xpath::NODE_WIDTH * Session::NODES;
+
+const TOO_LARGE: usize = script_words::MAX_NUMBERS;
+
+// The document of N numbers: the root, and texts under it.
+fn texts<const N: usize>() -> [u16; N] {
+    let mut d = [0u16; N];
     for node in d.chunks_exact_mut(xpath::NODE_WIDTH).skip(1) {
-        node[0] = NodeKind::Text as u16;
+        node[0] = NodeKind::Text.into();
     }
     d
 }
 
-// Selects from the root of the document that the first numbers of `texts` are, as many as `size` says.
-fn print_select(rt: &impl Print, s: Session, row: u16, size: usize, limit: u32)
-    requires { size ≤ max_numbers }
-{
-    let d = texts();
+// Selects from the document's root.
+fn print_select(rt: &impl Print, s: Session, row: u16, document: &[u16], limit: u32) {
     let mut marks = [7u8; Session::NODES];
-    print(rt, s.select(row, &d[..size], 0, limit, &mut marks));
+    print(rt, s.select(row, document, 0, limit, &mut marks));
 }
 
 // All nodes and one more.
 fn nodes(rt: &impl Print) {
     let s = Session::new().term(ROOT).session;
-    print_select(rt, s, 0, xpath::NODE_WIDTH * Session::NODES, 1);
-    print_select(rt, s, 0, script_words::MAX_NUMBERS, 1);
+    print_select(rt, s, 0, &texts::<LARGEST>(), 1);
+    print_select(rt, s, 0, &texts::<TOO_LARGE>(), 1);
 }
 
 // The visits of descendant::node()/descendant::node() from the root of a document of texts, with as many nodes as there
@@ -136,17 +137,18 @@ const VISITS: u32 = Session::NODES as u32 + 1;
 // The limit met, and one too few.
 fn visits(rt: &impl Print) {
     let path = Session::new().term(Row::from([
-        RowKind::Step as u16,
-        Axis::Descendant as u16,
-        NodeTest::Node as u16,
+        RowKind::Step.into(),
+        Axis::Descendant.into(),
+        NodeTest::Node.into(),
         0,
     ]));
     let s = path
         .session
-        .term(Row::from([RowKind::Composition as u16, 0, 0, 0]))
+        .term(Row::from([RowKind::Composition.into(), 0, 0, 0]))
         .session;
-    print_select(rt, s, 1, xpath::NODE_WIDTH * Session::NODES, VISITS);
-    print_select(rt, s, 1, xpath::NODE_WIDTH * Session::NODES, VISITS - 1);
+    let document = texts::<LARGEST>();
+    print_select(rt, s, 1, &document, VISITS);
+    print_select(rt, s, 1, &document, VISITS - 1);
 }
 
 // All points.

@@ -1,7 +1,6 @@
 pub mod Cutting
 pub mod Scan
 pub mod Parts
-pub mod Filled
 pub mod LineRead
 pub mod Start
 pub mod Written

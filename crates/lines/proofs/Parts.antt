@@ -12,6 +12,7 @@ use Rattle.std.proofs.lemmas.Bool.{and_parts}
 use lib.Dec.{leb, eqb}
 use lib.ListN.{drop}
 use borrow.Author.Tests.{ne_eqb}
+use Rattle.common.specs.Lists.{all_of}
 use Rattle.lines.specs.Line.{newline, space, Line, lines, parts}
 use Rattle.lines.specs.Number.{digit0, is_digit, are_digits, is_decimal, append_digits, number_up_to}
 use Rattle.lines.specs.code.NumbersRead.{number_before, number_cut, NumberMet, first_parts}
@@ -114,7 +115,7 @@ first_mapped f z mapped read h (l ∷ ls) = by_end l.ended
     by_end false = sym z
 
 decimal_digits : (w : List ℕ) → is_decimal w ≡ true → are_digits w ≡ true
-unfolding is_decimal are_digits
+unfolding is_decimal all_of
 decimal_digits [] e = refl
 decimal_digits (x ∷ []) e = rw e
 decimal_digits (x ∷ y ∷ w) e =
@@ -122,7 +123,7 @@ decimal_digits (x ∷ y ∷ w) e =
     rw (and_parts (is_digit x) (not (eqb x digit0)) start).0 rest
 
 digits_free : (e : ℕ) → is_digit e ≡ false → (w : List ℕ) → are_digits w ≡ true → Free e w
-unfolding are_digits
+unfolding all_of
 digits_free e n [] d = tt
 digits_free e n (x ∷ w) d =
     let b = and_parts (is_digit x) (are_digits w) d in

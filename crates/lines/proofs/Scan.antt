@@ -12,9 +12,10 @@ use lib.ListN.{length, get_or, drop, length-drop, drop_of_length-le}
 use lib.Seq.{drop-cons, drop-drop}
 use borrow.Author.Tests.{eqb-true, eqb-false, ne_eqb, eq-eqb, le-leb, lt-leb, leb-true, leb-false, lt-ltb, le-ltb}
 use borrow.Author.Tests.{ltb-true}
+use Rattle.common.specs.Lists.{all_of}
 use Rattle.lines.specs.Number.{digit0, digit9, is_digit, are_digits, is_decimal, append_digit, append_digits}
 use Rattle.lines.specs.Number.{number_up_to}
-use Rattle.lines.specs.code.NumbersRead.{up_to, first_digit, one_more, Cut, bytes_before, cut, NumberCut}
+use Rattle.lines.specs.code.NumbersRead.{first_digit, one_more, Cut, bytes_before, cut, NumberCut}
 use Rattle.lines.specs.code.NumbersRead.{number_before, number_cut}
 
 -- the number that the byte `end` ends, where n is read already
@@ -39,7 +40,7 @@ digits_grow [] n = omega arith
 digits_grow (x ∷ w) n = let h = digits_grow w (append_digit n x) in omega arith
 
 follow_positive : (w : List ℕ) (n : ℕ) → 0 < n → may_follow n w ≡ are_digits w
-unfolding are_digits
+unfolding all_of
 follow_positive [] n h = refl
 follow_positive (x ∷ w) n h = rw (lt-ltb 0 n h)
 
@@ -54,12 +55,12 @@ none_above most n w r b h =
 module _ (most n x : ℕ) (c : Cut) where
   taken : 0 < n → is_digit x ≡ true → read_behind most (append_digit n x) c ≡ read_behind most n
       (bytes_before (x ∷ c.bytes) c.rest)
-  unfolding are_digits append_digits
+  unfolding all_of append_digits
   taken h d = rw (follow_positive c.bytes (append_digit n x) (omega arith), lt-ltb 0 n h, d)
 
   refused : (a d f : Bool) → ltb 0 n ≡ a → is_digit x ≡ d → leb (append_digit n x) most ≡ f → (a && d && f) ≡ false
       → none ≡ read_behind most n (bytes_before (x ∷ c.bytes) c.rest)
-  unfolding are_digits append_digits
+  unfolding all_of append_digits
   refused false d f s t u e = rw s
   refused true false f s t u e = rw (s, t)
   refused true true true s t u e = absurd (false≢true (sym e))
@@ -202,34 +203,6 @@ scan_first most end x xs = by_end (eqb x end)
         (λ n. scan most end n xs)
     by_end true = refl
     by_end false = by_cut (is_digit x) refl (cut end xs) ∙ by_digit (is_digit x)
-
--- a first digit, as the code judges it
-module _ (most end x : ℕ) where
-  pub first_ends : x ≡ end → none ≡ first_digit most end x
-  unfolding first_digit
-  first_ends e = rw (eq-eqb x end e)
-
-  pub first_no_digit : ¬ (x ≡ end) → is_digit x ≡ false → none ≡ first_digit most end x
-  unfolding first_digit
-  first_no_digit f d = rw (ne_eqb x end f, d)
-
-  pub first_is_digit : ¬ (x ≡ end) → is_digit x ≡ true → up_to most (x - digit0) ≡ first_digit most end x
-  unfolding first_digit up_to
-  first_is_digit f d = rw (ne_eqb x end f, d)
-
--- one digit more, as the code judges it
-module _ (most n x : ℕ) where
-  pub behind_zero : n ≡ 0 → none ≡ one_more most n x
-  unfolding one_more
-  behind_zero e = rw e
-
-  pub behind_no_digit : is_digit x ≡ false → none ≡ one_more most n x
-  unfolding one_more
-  behind_no_digit d = rw (d, and-false (ltb 0 n))
-
-  pub behind_digit : ¬ (n ≡ 0) → is_digit x ≡ true → up_to most (append_digit n x) ≡ one_more most n x
-  unfolding one_more up_to
-  behind_digit h d = rw (lt-ltb 0 n (omega arith), d)
 
 pub nothing_there : (most end : ℕ) (xs : List ℕ) → length xs ≡ 0 → none ≡ number_cut most end xs
 unfolding number_cut cut Option-elim

@@ -8,6 +8,7 @@ use native.Mathlib.Omega.{arith}
 use lib.Dec.{ltb}
 use lib.ListN.{length, drop, replicate}
 use borrow.Author.Tests.{le-leb, ltb-true, ltb-false, ne_eqb}
+use Rattle.common.specs.Lists.{all_of}
 use Rattle.lines.specs.Line.{newline, space, lines}
 use Rattle.lines.specs.Number.{digit0, digit9, max_number, is_digit, are_digits, is_decimal, append_digit}
 use Rattle.lines.specs.Number.{append_digits, number_up_to}
@@ -20,7 +21,7 @@ unfolding is_digit
 digit_is x h k = rw (le-leb digit0 x h, le-leb x digit9 k)
 
 digits_append : (xs ys : List ℕ) → are_digits xs ≡ true → are_digits ys ≡ true → are_digits (xs ++ ys) ≡ true
-unfolding are_digits
+unfolding all_of
 digits_append [] ys a b = b
 digits_append (x ∷ xs) ys a b = by_test (is_digit x) a (λ e. digits_append xs ys e b)
   where
@@ -46,7 +47,7 @@ record Decimal (n : ℕ) (w : List ℕ) : Type 0 where
   pub single : n ≡ 0 → others ≡ []
 
 decimals : (k n : ℕ) → n < k → Decimal n (digits_of k n)
-unfolding digits_of append_digits are_digits
+unfolding digits_of append_digits all_of
 decimals zero n h = absurd (omega arith)
 decimals (suc k) n h = by_test (ltb n 10) refl (decimals k (n / 10))
   where

@@ -1,7 +1,8 @@
 -- Numbers in base ten, and lines of them. Assumes nothing.
-use Rattle.std.specs.Prelude.{ℕ, ◌+◌, ◌-◌, ◌*◌, Bool, true, false, cond, not, ◌&&◌, List, [], ◌∷◌, leb, eqb, replicate}
+use Rattle.std.specs.Prelude.{ℕ, ◌+◌, ◌-◌, ◌*◌, Bool, false, cond, not, ◌&&◌, List, [], ◌∷◌, leb, eqb, replicate}
 use Rattle.std.proofs.Math.Option.{Option, none, some, Option-elim}
 pub use Rattle.common.specs.Limits.{max_number}
+use Rattle.common.specs.Lists.{all_of}
 use Rattle.lines.specs.Line.{Line, parts_read}
 
 abbrev pub digit0 : ℕ
@@ -13,9 +14,8 @@ digit9 = 57
 unfoldable pub is_digit : ℕ → Bool
 is_digit x = leb digit0 x && leb x digit9
 
-unfoldable pub are_digits : List ℕ → Bool
-are_digits [] = true
-are_digits (x ∷ xs) = is_digit x && are_digits xs
+abbrev pub are_digits : List ℕ → Bool
+are_digits xs = all_of is_digit xs
 
 -- one digit, or several of which the first is not 0
 unfoldable pub is_decimal : List ℕ → Bool

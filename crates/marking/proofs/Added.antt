@@ -35,6 +35,20 @@ pub nothing_added : {M : Type 0} {n : ℕ} {mark : M} {old : List M} (s : ℕ �
     ((y : ℕ) → y < n → s y ≡ false) → Added n mark old old s
 nothing_added s e = record { size = refl; marks = λ z y h. rw (e y h) }
 
+-- one walk after the other
+pub added_twice : {M : Type 0} {n : ℕ} {mark : M} {old mid new : List M} (s t u : ℕ → Bool) → Added n mark old mid s →
+    Added n mark mid new t → ((y : ℕ) → y < n → u y ≡ (s y || t y)) → Added n mark old new u
+added_twice {M = M} {mark = mark} {old = old} s t u a b e =
+    record {
+      size = b.size ∙ a.size;
+      marks = λ z y h. b.marks z y h ∙ rw (a.marks z y h, e y h) (twice (s y) (t y) (get_or old y z));
+    }
+  where
+    twice : (b c : Bool) (v : M) → cond c mark (cond b mark v) ≡ cond (b || c) mark v
+    twice true true v = refl
+    twice true false v = refl
+    twice false c v = refl
+
 -- marks that are numbers, where 1 is the mark: those that are 1 are those that were, and those of the set
 pub ones_added : {n : ℕ} {old new : List ℕ} {s : ℕ → Bool} → Added n 1 old new s →
     (y : ℕ) → y < n → eqb (get_or new y 0) 1 ≡ (eqb (get_or old y 0) 1 || s y)
@@ -94,13 +108,13 @@ module _ {M : Type 0} {n : ℕ} {mark : M} {old new : List M} (f : ℕ → Bool)
       go (inr p) (inl q) = let z : f y ≡ false = g y m (omega (arith, ne)) p in rw (z, and-false, and-false)
       go (inr p) (inr q) = rw (lt-leb e y q, lt-leb k y p)
 
-  pub down_marked : e < length new → f e ≡ true → Added n mark old (set new e mark) (from_on e f)
-  down_marked m t = added_set (from_on e f) e u m (rw (le-leb e e (omega arith), t)) same_above
-
-  pub down_left : f e ≡ false → Added n mark old new (from_on e f)
-  down_left t =
-      added_cong (from_on e f) u (λ y m. ⊎_elim (λ q. let z : f y ≡ false = ap f q ∙ t in rw (z, and-false, and-false))
-      (λ ne. same_above y m ne) (eq_or_ne y e))
+  -- node e is marked, if it is in f
+  pub down_on : {newer : List M} (s : ℕ → Bool) → Added n mark new newer s → s e ≡ f e →
+      ((y : ℕ) → y ≢ e → s y ≡ false) → Added n mark old newer (from_on e f)
+  down_on s a t ne =
+      added_twice (from_on k f) s (from_on e f) u a
+      (λ y m. ⊎_elim (λ q. rw (q, t, le-leb e e (omega arith), lt-leb k e l))
+      (λ q. rw (ne y q, or-false) (same_above y m q)) (eq_or_ne y e))
 
 -- a loop that goes down starts where there is nothing of f, and ends at 0
 pub down_start : {M : Type 0} {n : ℕ} {mark : M} {old : List M} (f : ℕ → Bool) (k : ℕ) →

@@ -1,7 +1,7 @@
 -- Each axis by the walk that marks it, on a well-formed document. Assumes nothing.
 use Prim.Native.Nat.{ℕ, suc, ◌+◌, ◌≤◌, ◌<◌}
-use mathlib.Core.Path.{◌≡◌, refl, sym, ◌∙◌}
-use mathlib.Core.Bool.{Bool, true, false, cond, not, ◌&&◌, ◌||◌, and_assoc, and-or_distrib_right}
+use mathlib.Core.Path.{◌≡◌, sym, ◌∙◌}
+use mathlib.Core.Bool.{Bool, true, false, not, ◌&&◌, ◌||◌, and_assoc, and-or_distrib_right}
 use mathlib.Core.List.{List}
 use mathlib.Core.Logic.{◌↔◌, inl, inr, ⊎_elim}
 use native.Mathlib.Omega.{arith}
@@ -10,6 +10,9 @@ use lib.Dec.{T, ltb, leb, eqb}
 use lib.ListN.{length, get_or}
 use borrow.Author.Tests.{ne_eqb}
 use native.Mathlib.Nat.{pos_of_ne-zero}
+use Rattle.common.specs.Axes.{self, child, parent, descendant, ancestor, descendant_or_self, ancestor_or_self}
+use Rattle.common.specs.Axes.{following_sibling, preceding_sibling, following, preceding, attribute}
+use Rattle.common.specs.NodeKinds.{attribute_kind}
 use Rattle.xpath.specs.Document.{Document, kind_at, parent_at, is_attribute, is_child, is_ancestor, are_siblings}
 use Rattle.xpath.specs.Axis.{on_axis}
 use Rattle.xpath.specs.code.Ends.{Prepared}
@@ -20,31 +23,17 @@ use Rattle.xpath.proofs.Tree.{parent_smaller}
 use Rattle.xpath.proofs.Facts.{NoAttribute, OnAxis, on_axis_iff}
 use Rattle.xpath.proofs.Axes.{past_last_axis}
 use Rattle.marking.specs.code.Added.{Added, may_hold, ChildrenFrom}
-use Rattle.marking.proofs.Added.{between, added_cong, nothing_added}
+use Rattle.marking.proofs.Added.{between, added_cong, added_twice, nothing_added}
 use Rattle.marking.proofs.Walks.{at_end, below_end, past_end, next_within, next_is_child}
 
--- one walk after the other
-pub added_twice : {M : Type 0} {n : ℕ} {mark : M} {old mid new : List M} (s t u : ℕ → Bool) → Added n mark old mid s →
-    Added n mark mid new t → ((y : ℕ) → y < n → u y ≡ (s y || t y)) → Added n mark old new u
-added_twice {M = M} {mark = mark} {old = old} s t u a b e =
-    record {
-      size = b.size ∙ a.size;
-      marks = λ z y h. b.marks z y h ∙ rw (a.marks z y h, e y h) (twice (s y) (t y) (get_or old y z));
-    }
-  where
-    twice : (b c : Bool) (v : M) → cond c mark (cond b mark v) ≡ cond (b || c) mark v
-    twice true true v = refl
-    twice true false v = refl
-    twice false c v = refl
-
--- what is may_hold of an axis but 11 is no attribute, and of axis 11 an attribute
-may_hold_iff : (a : ℕ) (d : Document) (y : ℕ) → ¬ (a ≡ 11) → T (may_hold a d y) ↔ NoAttribute d y
+-- what an axis but attribute may hold is no attribute, and what attribute may hold is one
+may_hold_iff : (a : ℕ) (d : Document) (y : ℕ) → ¬ (a ≡ attribute) → T (may_hold a d y) ↔ NoAttribute d y
 unfolding may_hold
-may_hold_iff a d y f = rw (ne_eqb a 11 f) (not_via (is_attribute d y) (eq_iff (kind_at d y) 5))
+may_hold_iff a d y f = rw (ne_eqb a attribute f) (not_via (is_attribute d y) (eq_iff (kind_at d y) attribute_kind))
 
-kept_attribute : (d : Document) (y : ℕ) → T (may_hold 11 d y) ↔ (kind_at d y ≡ 5)
+kept_attribute : (d : Document) (y : ℕ) → T (may_hold attribute d y) ↔ (kind_at d y ≡ attribute_kind)
 unfolding may_hold
-kept_attribute d y = eq_iff (kind_at d y) 5
+kept_attribute d y = eq_iff (kind_at d y) attribute_kind
 
 module _ (d : Document) (es : List ℕ) (r : Prepared d es) (t : ℕ → Bool) (x : ℕ) (k : x < length d) where
   abbrev end : ℕ → ℕ
@@ -87,33 +76,39 @@ module _ (d : Document) (es : List ℕ) (r : Prepared d es) (t : ℕ → Bool) (
 
   -- the node itself
   pub self_marked : {M : Type 0} {mark : M} {old new : List M} → Added (length d) mark old new (λ y. eqb x y && t y) →
-      Added (length d) mark old new (stepped 0)
+      Added (length d) mark old new (stepped self)
   unfolding on_axis
   self_marked u = u
 
   pub descendant_marked : {M : Type 0} {mark : M} {old new : List M} (lo : ℕ) → lo ≡ x + 1 →
-      Added (length d) mark old new (between lo (end x) (kept_of 3)) → Added (length d) mark old new (stepped 3)
+      Added (length d) mark old new (between lo (end x) (kept_of descendant)) →
+      Added (length d) mark old new (stepped descendant)
   unfolding OnAxis
   descendant_marked lo q =
-      by_tests 3 lo (end x) (may_hold 3 d) (λ y l. let v = may_hold_iff 3 d y (λ e. omega arith) in (
+      by_tests descendant lo (end x) (may_hold descendant d) (λ y l.
+      let v = may_hold_iff descendant d y (λ e. omega arith) in (
         λ (h, s). (below_end d es r x y (omega arith) l h.1 k, v.0 s),
         λ (a, n). let s = ancestor_smaller d r.formed l a in ((omega arith, descendant_before x y k l a), v.1 n),
       ))
 
   pub descendant_or_self_marked : {M : Type 0} {mark : M} {old mid new : List M} (lo : ℕ) → lo ≡ x + 1 →
       Added (length d) mark old mid (λ y. eqb x y && t y) →
-      Added (length d) mark mid new (between lo (end x) (kept_of 3)) → Added (length d) mark old new (stepped 5)
+      Added (length d) mark mid new (between lo (end x) (kept_of descendant)) →
+      Added (length d) mark old new (stepped descendant_or_self)
   unfolding on_axis
   descendant_or_self_marked lo q a b =
-      added_twice (stepped 0) (stepped 3) (stepped 5) (self_marked a) (descendant_marked lo q b)
+      added_twice (stepped self) (stepped descendant) (stepped descendant_or_self)
+      (self_marked a) (descendant_marked lo q b)
       (λ y l. and-or_distrib_right (eqb x y) (is_ancestor d x y && not (is_attribute d y)) (t y))
 
   pub following_marked : {M : Type 0} {mark : M} {old new : List M} (n : ℕ) → n ≡ length d →
-      Added (length d) mark old new (between (end x) n (kept_of 9)) → Added (length d) mark old new (stepped 9)
+      Added (length d) mark old new (between (end x) n (kept_of following)) →
+      Added (length d) mark old new (stepped following)
   unfolding OnAxis
   following_marked n q =
       let s = (at_end d es r x k).after in
-      by_tests 9 (end x) n (may_hold 9 d) (λ y l. let v = may_hold_iff 9 d y (λ e. omega arith) in (
+      by_tests following (end x) n (may_hold following d) (λ y l.
+      let v = may_hold_iff following d y (λ e. omega arith) in (
         λ (h, m). ((omega arith, λ a. past_end d es r x y h.0 l k a), v.0 m),
         λ (f, m). (
           (
@@ -125,11 +120,12 @@ module _ (d : Document) (es : List ℕ) (r : Prepared d es) (t : ℕ → Bool) (
       ))
 
   pub preceding_marked : {M : Type 0} {mark : M} {old new : List M} →
-      Added (length d) mark old new (between 0 x (λ y. leb (end y) x && kept_of 10 y)) →
-      Added (length d) mark old new (stepped 10)
+      Added (length d) mark old new (between 0 x (λ y. leb (end y) x && kept_of preceding y)) →
+      Added (length d) mark old new (stepped preceding)
   unfolding OnAxis
   preceding_marked =
-      by_candidates 10 0 x (λ y. leb (end y) x) (λ y l. let v = may_hold_iff 10 d y (λ e. omega arith) in (
+      by_candidates preceding 0 x (λ y. leb (end y) x) (λ y l.
+      let v = may_hold_iff preceding d y (λ e. omega arith) in (
         λ (h, m, n). ((h.1, λ a. past_end d es r y x ((le_iff (end y) x).0 m) k l a), v.0 n),
         λ (f, n). (
           (omega arith, f.0),
@@ -157,17 +153,18 @@ module _ (d : Document) (es : List ℕ) (r : Prepared d es) (t : ℕ → Bool) (
       ))
 
   pub child_marked : {M : Type 0} {mark : M} {old new : List M} (lo : ℕ) → lo ≡ x + 1 →
-      Added (length d) mark old new (between lo (end x) (λ y. is_child d x y && kept_of 1 y)) →
-      Added (length d) mark old new (stepped 1)
+      Added (length d) mark old new (between lo (end x) (λ y. is_child d x y && kept_of child y)) →
+      Added (length d) mark old new (stepped child)
   unfolding OnAxis
-  child_marked lo q = under_marked 1 lo (NoAttribute d) q (λ y. may_hold_iff 1 d y (λ e. omega arith))
+  child_marked lo q = under_marked child lo (NoAttribute d) q (λ y. may_hold_iff child d y (λ e. omega arith))
       (λ y. (λ c. c, λ c. c))
 
   pub attribute_marked : {M : Type 0} {mark : M} {old new : List M} (lo : ℕ) → lo ≡ x + 1 →
-      Added (length d) mark old new (between lo (end x) (λ y. is_child d x y && kept_of 11 y)) →
-      Added (length d) mark old new (stepped 11)
+      Added (length d) mark old new (between lo (end x) (λ y. is_child d x y && kept_of attribute y)) →
+      Added (length d) mark old new (stepped attribute)
   unfolding OnAxis
-  attribute_marked lo q = under_marked 11 lo (λ y. kind_at d y ≡ 5) q (λ y. kept_attribute d y) (λ y. (λ c. c, λ c. c))
+  attribute_marked lo q =
+      under_marked attribute lo (λ y. kind_at d y ≡ attribute_kind) q (λ y. kept_attribute d y) (λ y. (λ c. c, λ c. c))
 
   -- the parent of x, and the siblings of x
   module _ (p : ℕ) (g : 0 < x) (q : p ≡ parent_at d x) where
@@ -182,19 +179,20 @@ module _ (d : Document) (es : List ℕ) (r : Prepared d es) (t : ℕ → Bool) (
 
     pub parent_marked : {M : Type 0} {mark : M} {old new : List M} →
         Added (length d) mark old new (λ y. eqb p y && t y) →
-        Added (length d) mark old new (stepped 2)
+        Added (length d) mark old new (stepped parent)
     unfolding on_axis is_child
-    parent_marked u = added_cong (stepped 2) u (λ y l. rw (ne_eqb x 0 (λ e. omega arith), q))
+    parent_marked u = added_cong (stepped parent) u (λ y l. rw (ne_eqb x 0 (λ e. omega arith), q))
 
     module _ (o : NoAttribute d x) where
       pub following_sibling_marked : {M : Type 0} {mark : M} {old new : List M} →
-          Added (length d) mark old new (between (end x) (end p) (λ y. is_child d p y && kept_of 7 y)) →
-          Added (length d) mark old new (stepped 7)
+          Added (length d) mark old new (between (end x) (end p) (λ y. is_child d p y && kept_of following_sibling y)) →
+          Added (length d) mark old new (stepped following_sibling)
       unfolding OnAxis
       following_sibling_marked =
           let b = before in
           let s = (at_end d es r x k).after in
-          by_candidates 7 (end x) (end p) (is_child d p) (λ y l. let v = may_hold_iff 7 d y (λ e. omega arith) in (
+          by_candidates following_sibling (end x) (end p) (is_child d p) (λ y l.
+          let v = may_hold_iff following_sibling d y (λ e. omega arith) in (
             λ (h, m, n). let c = child_yes d p y m in ((g, c.1 ∙ q, let z = h.0 in omega arith), o, v.0 n),
             λ (f, _, n). let c : Child d p y = (let z = f.2 in omega arith, f.1 ∙ sym q) in (
               (
@@ -208,11 +206,12 @@ module _ (d : Document) (es : List ℕ) (r : Prepared d es) (t : ℕ → Bool) (
           ))
 
       pub preceding_sibling_marked : {M : Type 0} {mark : M} {old new : List M} (lo : ℕ) → lo ≡ p + 1 →
-          Added (length d) mark old new (between lo x (λ y. is_child d p y && kept_of 8 y)) →
-          Added (length d) mark old new (stepped 8)
+          Added (length d) mark old new (between lo x (λ y. is_child d p y && kept_of preceding_sibling y)) →
+          Added (length d) mark old new (stepped preceding_sibling)
       unfolding OnAxis
       preceding_sibling_marked lo e =
-          by_candidates 8 lo x (is_child d p) (λ y l. let v = may_hold_iff 8 d y (λ e. omega arith) in (
+          by_candidates preceding_sibling lo x (is_child d p) (λ y l.
+          let v = may_hold_iff preceding_sibling d y (λ e. omega arith) in (
             λ (h, m, n). let c = child_yes d p y m in ((c.0, sym q ∙ sym c.1, h.1), o, v.0 n),
             λ (f, _, n). let c : Child d p y = (f.0, sym f.1 ∙ sym q) in
                 let s = parent_smaller d r.formed y l f.0 in
@@ -222,22 +221,23 @@ module _ (d : Document) (es : List ℕ) (r : Prepared d es) (t : ℕ → Bool) (
   -- the axes that climb
   pub ancestor_marked : {M : Type 0} {mark : M} {old new : List M} →
       Added (length d) mark old new (λ y. is_ancestor d y x && t y) →
-      Added (length d) mark old new (stepped 4)
+      Added (length d) mark old new (stepped ancestor)
   unfolding on_axis
   ancestor_marked u = u
 
   pub ancestor_or_self_marked : {M : Type 0} {mark : M} {old mid new : List M} →
       Added (length d) mark old mid (λ y. eqb x y && t y) →
-      Added (length d) mark mid new (λ y. is_ancestor d y x && t y) → Added (length d) mark old new (stepped 6)
+      Added (length d) mark mid new (λ y. is_ancestor d y x && t y) →
+      Added (length d) mark old new (stepped ancestor_or_self)
   unfolding on_axis
   ancestor_or_self_marked a b =
-      added_twice (stepped 0) (λ y. is_ancestor d y x && t y) (stepped 6) (self_marked a) b
+      added_twice (stepped self) (λ y. is_ancestor d y x && t y) (stepped ancestor_or_self) (self_marked a) b
       (λ y l. and-or_distrib_right (eqb x y) (is_ancestor d y x) (t y))
 
   -- the root has no parent; it has no sibling, nor has an attribute
-  pub root_parent : {M : Type 0} {mark : M} {old : List M} → x ≡ 0 → Added (length d) mark old old (stepped 2)
+  pub root_parent : {M : Type 0} {mark : M} {old : List M} → x ≡ 0 → Added (length d) mark old old (stepped parent)
   unfolding on_axis is_child
-  root_parent e = nothing_added (stepped 2) (λ y l. rw e)
+  root_parent e = nothing_added (stepped parent) (λ y l. rw e)
 
   no_siblings : (eqb x 0 || is_attribute d x) ≡ true → (y : ℕ) → are_siblings d x y ≡ false
   unfolding are_siblings
@@ -251,14 +251,14 @@ module _ (d : Document) (es : List ℕ) (r : Prepared d es) (t : ℕ → Bool) (
       )
 
   pub no_following_sibling : {M : Type 0} {mark : M} {old : List M} → (eqb x 0 || is_attribute d x) ≡ true →
-      Added (length d) mark old old (stepped 7)
+      Added (length d) mark old old (stepped following_sibling)
   unfolding on_axis
-  no_following_sibling e = nothing_added (stepped 7) (λ y l. rw (no_siblings e y))
+  no_following_sibling e = nothing_added (stepped following_sibling) (λ y l. rw (no_siblings e y))
 
   pub no_preceding_sibling : {M : Type 0} {mark : M} {old : List M} → (eqb x 0 || is_attribute d x) ≡ true →
-      Added (length d) mark old old (stepped 8)
+      Added (length d) mark old old (stepped preceding_sibling)
   unfolding on_axis
-  no_preceding_sibling e = nothing_added (stepped 8) (λ y l. rw (no_siblings e y))
+  no_preceding_sibling e = nothing_added (stepped preceding_sibling) (λ y l. rw (no_siblings e y))
 
   -- x has siblings
   pub may_have_siblings : (eqb x 0 || is_attribute d x) ≡ false → (0 < x) × NoAttribute d x

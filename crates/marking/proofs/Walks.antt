@@ -5,14 +5,13 @@ use mathlib.Core.Bool.{Bool, true, false, ◌&&◌, and-false}
 use mathlib.Core.List.{List}
 use mathlib.Core.Logic.{inl, inr, ⊎_elim}
 use native.Mathlib.Omega.{arith}
-use lib.Dec.{T}
+use lib.Dec.{T, eqb}
 use lib.ListN.{length, get_or, set}
-use borrow.Author.Tests.{lt-ltb, le-ltb}
+use borrow.Author.Tests.{eq-eqb, ne_eqb, lt-ltb, le-ltb}
 use Rattle.xpath.specs.Document.{Document, parent_at, is_child, is_ancestor, well_formed}
 use Rattle.xpath.specs.code.Ends.{EndsAt, Prepared}
 use Rattle.marking.specs.code.Added.{Added, ChildrenFrom}
-use Rattle.marking.proofs.Added.{between, from_on, up_start, up_marked, up_left, down_start}
-use Rattle.marking.proofs.Added.{down_marked, down_left, down_end}
+use Rattle.marking.proofs.Added.{between, from_on, up_start, up_marked, up_left, down_start, down_on, down_end}
 use Rattle.common.proofs.Reflect.{tests_equal, true_iff, le_or_lt, eq_or_ne}
 use Rattle.xpath.proofs.Tree.{Ancestor, parent_is, ancestor_trans, ancestor_cases, child_yes, yes_child, ancestor_yes}
 use Rattle.xpath.proofs.Tree.{yes_ancestor, parent_smaller, ancestor_smaller, no_later_ancestor, subtree_contiguous}
@@ -215,7 +214,7 @@ pub record AncestorsFrom {M : Type 0} (d : Document) (t : ℕ → Bool) (x at : 
   pub added : Added (length d) mark old new (from_on at (λ k. is_ancestor d k x && t k))
 
 module _ {M : Type 0} (d : Document) (w : T (well_formed d)) (t : ℕ → Bool) (x : ℕ) (l : x < length d)
-    (mark : M) (old : List M) (few : length d ≤ length old) where
+    (mark : M) (old : List M) where
   pub ancestors_start : AncestorsFrom d t x x mark old old
   ancestors_start =
       record {
@@ -235,29 +234,19 @@ module _ {M : Type 0} (d : Document) (w : T (well_formed d)) (t : ℕ → Bool) 
     pub ancestors_within : p < length d
     ancestors_within = let a = ancestors_less in let b = at_in d w x at l u.current h in omega arith
 
-    pub ancestors_inside : p < length new
-    ancestors_inside = let a = ancestors_less in let b = at_in d w x at l u.current h in
-        omega (arith, u.added.size)
-
     skips : (y : ℕ) → y < length d → p < y → y < at → (is_ancestor d y x && t y) ≡ false
     skips y m a b = rw (climb_skips d w x at l u.current h y (omega arith) b)
 
     is_one : is_ancestor d p x ≡ true
     is_one = rw q (climb_is d w x at l u.current h)
 
-    pub ancestors_marked : t p ≡ true → AncestorsFrom d t x p mark old (set new p mark)
-    ancestors_marked z =
+    pub ancestors_on : {newer : List M} → Added (length d) mark new newer (λ y. eqb p y && t y) →
+        AncestorsFrom d t x p mark old newer
+    ancestors_on a =
         record {
           current = rw q (climb_current d w x at l u.current h);
-          added = down_marked (λ k. is_ancestor d k x && t k) at p u.added ancestors_less skips ancestors_inside
-              (rw (is_one, z));
-        }
-
-    pub ancestors_left : t p ≡ false → AncestorsFrom d t x p mark old new
-    ancestors_left z =
-        record {
-          current = rw q (climb_current d w x at l u.current h);
-          added = down_left (λ k. is_ancestor d k x && t k) at p u.added ancestors_less skips (rw (z, and-false));
+          added = down_on (λ k. is_ancestor d k x && t k) at p u.added ancestors_less skips (λ y. eqb p y && t y) a
+              (rw (eq-eqb p p refl, is_one)) (λ y n. rw (ne_eqb p y (λ e. n (sym e))));
         }
 
   pub ancestors_end : (at : ℕ) (new : List M) → AncestorsFrom d t x at mark old new → at ≤ 0 →

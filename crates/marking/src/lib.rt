@@ -9,13 +9,14 @@ ghost use Rattle.xpath.specs.Document.{parent_at, is_attribute, is_child, is_anc
 ghost use Rattle.xpath.specs.code.Checked.{doc};
 ghost use Rattle.xpath.specs.code.Tests.{picks};
 ghost use Rattle.xpath.specs.Axis.{on_axis, passes};
-ghost use Rattle.marking.specs.code.Added.{Added, candidate, ChildrenFrom, StepFrom};
+ghost use Rattle.marking.specs.code.Added.{Added, candidate, ChildrenFrom};
 
 use common::axis::Axis;
 use xpath::{Checked, MAX_NODES, NodeSet, StepTest};
 
 // A step from node x of a document that was checked, and the mark that the nodes get which it selects. Document and x
-// are no struct of their own: in a Context the document is lent with the rows, and x alone goes on from node to node.
+// are no struct shared with selection's `Context`: that lends the document with the rows, and has another x for each
+// node.
 #[derive(Drop)]
 struct AxisStep<'a, T, M> {
     document: Checked<'a>,
@@ -27,8 +28,8 @@ struct AxisStep<'a, T, M> {
 }
 
 impl<T: NodeSet, M: Copy> AxisStep<'_, T, M> {
-    // Whether y passes the test. That y is a row is a clause, here and below, as at `whole_node`: an index with that
-    // fact would name this step's document.
+    // Whether y passes the test. That y is a row is a clause, here and below: a type for such a y would have to name
+    // the document (see `xpath::whole_node`).
     #[tactic(auto, unfolding(xpath::specs::Document::kind_at, xpath::specs::Document::name_at))]
     fn passes(&self, y: usize) -> bool
         requires { y < length (doc self.now.document) }
@@ -134,9 +135,7 @@ impl<T: NodeSet, M: Copy> AxisStep<'_, T, M> {
         // By `while`: from a row it goes to its parent.
         while 0 < at {
             at = self.parent_of(at);
-            if self.passes(at) {
-                out[at] = self.mark;
-            }
+            self.mark_node(at, out);
         }
     }
 
@@ -203,7 +202,8 @@ impl<T: NodeSet, M: Copy> AxisStep<'_, T, M> {
     }
 }
 
-// What a step with a test of this form selects from x. The parameters are the fields of the step, which is made once.
+// What a step with a test of this form selects from x. A function, since the arms of `mark_step` differ in the test's
+// type alone; its parameters are the fields of the step that it makes.
 fn mark_where<T: NodeSet + Copy, M: Copy>(
     document: Checked,
     axis: Axis,
@@ -227,8 +227,8 @@ fn mark_where<T: NodeSet + Copy, M: Copy>(
 }
 
 // Puts the mark at the nodes that a step selects from x, and leaves the others. It asks for a node of the document,
-// which the caller has shown, and room for every node; no user calls it. Axis, test and name are the numbers of a row
-// that any caller may have, so a struct of them would promise nothing and be made for the call.
+// which the caller has shown; no user calls it. Axis, test and name are numbers, since a lent row may have any: a
+// struct of them would promise nothing.
 pub fn mark_step<M: Copy>(
     document: Checked,
     axis: u16,
@@ -236,9 +236,9 @@ pub fn mark_step<M: Copy>(
     name: usize,
     x: usize,
     mark: M,
-    out: &mut [M],
+    out: &mut [M; MAX_NODES],
 )
-    requires { StepFrom (doc document) x out.old }
+    requires { x < length (doc document) }
     ensures { Added (length (doc document.entry)) mark out.old out.new
         (λ y. on_axis axis (doc document.entry) x y && passes axis test name (doc document.entry) y) }
 {
@@ -246,9 +246,6 @@ pub fn mark_step<M: Copy>(
         return;
     };
     let Ok(axis) = Axis::try_from(axis) else {
-        return;
-    };
-    let Some(out) = out.as_mut_array() else {
         return;
     };
     // The test is told apart here, and not at each node.

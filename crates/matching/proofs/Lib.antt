@@ -6,4 +6,5 @@ mod RowForms
 pub mod RowWayBack
 mod WayBackRows
 pub mod RowYields
+pub mod ListOfTwo
 mod Matching

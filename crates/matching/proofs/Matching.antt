@@ -14,6 +14,7 @@ use Rattle.std.proofs.lemmas.Bool.{false_from_ne_true}
 use Rattle.terms.specs.Row.{Row, row_at}
 use Rattle.std.proofs.lemmas.Bool.{and_parts}
 use Rattle.matching.specs.declared.matcher.Letters.{Letters}
+use Rattle.matching.specs.declared.matcher.Sides.{Sides as CodeSides}
 use Rattle.matching.specs.declared.pattern.Claim.{Claim}
 use Rattle.rules.specs.Instance.{meets}
 use Rattle.common.specs.Lists.{all_of}
@@ -21,7 +22,8 @@ use Rattle.matching.specs.code.Pattern.{Pattern, number, letter, row_pattern, le
 use Rattle.matching.specs.code.RowYields.{Sides, Match, check, bind, suits, is_row, match, match_claim, match_claims}
 use Rattle.matching.specs.code.RowYields.{numbers_in, match_form, form_yields}
 use Rattle.matching.specs.code.PatternTypes.{claim_of}
-use Rattle.matching.specs.code.MatchTypes.{has_value, value_or_0, values_in, matched, Matches}
+use Rattle.matching.specs.code.MatchTypes.{has_value, value_or_0, sides_in, values_in, matched, Matches}
+use Rattle.matching.proofs.ListOfTwo.{map_two}
 
 -- a value that a letter has is the one that it gets
 pub bind_way : (k v : ℕ) (l : Letters) {old : ℕ} → k < letter_count → old ≡ unwrap_or (get_or l.values k None) v
@@ -139,47 +141,54 @@ module _ (rs : List Row) where
     other_row_way f = rw f
 
 -- a form's premises, as many as there are
-module _ (rs : List Row) (s₁ s₂ : Sides) (l : Letters) where
+module _ (rs : List Row) (ss : List CodeSides) (l : Letters) where
   abbrev premises_matched : List Claim → Match
   premises_matched ws =
-      match_claims rs (map claim_of ws) (take (length (map claim_of ws)) (s₁ ∷ s₂ ∷ [])) (matched l)
+      match_claims rs (map claim_of ws) (take (length (map claim_of ws)) (map sides_in ss)) (matched l)
 
   pub no_premise : (ws : List Claim) → length ws < 1 → Matches true l (premises_matched ws)
   unfolding match_claims
   no_premise [] h = record { answer = refl; letters = λ _. refl }
   no_premise (w ∷ ws) h = absurd (omega arith)
 
-  pub one_premise : (d : Claim) (ws : List Claim) → 1 ≤ length ws → length ws < 2 → {b : Bool} {l₁ : Letters}
-      → Matches b l₁ (match_claim rs (claim_of (get_or ws 0 d)) s₁ (matched l)) → Matches b l₁ (premises_matched ws)
-  unfolding match_claims
-  one_premise d [] g h m = absurd (omega arith)
-  one_premise d (w ∷ []) g h m = m
-  one_premise d (w ∷ v ∷ ws) g h m = absurd (omega arith)
+  module _ (s : CodeSides) (two : length ss ≡ 2) where
+    abbrev first_matched : Claim → List Claim → Match
+    first_matched d ws = match_claim rs (claim_of (get_or ws 0 d)) (sides_in (get_or ss 0 s)) (matched l)
 
-  pub two_premises : (d : Claim) (ws : List Claim) → 2 ≤ length ws → length ws < 3 → {b : Bool} {l₁ : Letters}
-      → Matches b l₁ (match_claim rs (claim_of (get_or ws 0 d)) s₁ (matched l)) → b ≡ true → {r : Bool} {l₂ : Letters}
-      → Matches r l₂ (match_claim rs (claim_of (get_or ws 1 d)) s₂ (matched l₁)) → Matches r l₂ (premises_matched ws)
-  unfolding match_claims
-  two_premises d [] g h m e n = absurd (omega arith)
-  two_premises d (w ∷ []) g h m e n = absurd (omega arith)
-  two_premises d (w ∷ v ∷ []) g h m e n = goes_on (claim_keeps rs (claim_of v) s₂) m e n
-  two_premises d (w ∷ v ∷ u ∷ ws) g h m e n = absurd (omega arith)
+    pub one_premise : (d : Claim) (ws : List Claim) → 1 ≤ length ws → length ws < 2 → {b : Bool} {l₁ : Letters}
+        → Matches b l₁ (first_matched d ws) → Matches b l₁ (premises_matched ws)
+    unfolding match_claims
+    one_premise d [] g h m = absurd (omega arith)
+    one_premise d (w ∷ []) g h m = rw (map_two sides_in s ss two) m
+    one_premise d (w ∷ v ∷ ws) g h m = absurd (omega arith)
 
-  pub first_fails : (d : Claim) (ws : List Claim) → 2 ≤ length ws → length ws < 3 → {b : Bool} {l₁ : Letters}
-      → Matches b l₁ (match_claim rs (claim_of (get_or ws 0 d)) s₁ (matched l)) → b ≡ false
-      → Matches b l₁ (premises_matched ws)
-  unfolding match_claims
-  first_fails d [] g h m e = absurd (omega arith)
-  first_fails d (w ∷ []) g h m e = absurd (omega arith)
-  first_fails d (w ∷ v ∷ []) g h m e = stops (claim_keeps rs (claim_of v) s₂) m e
-  first_fails d (w ∷ v ∷ u ∷ ws) g h m e = absurd (omega arith)
+    pub two_premises : (d : Claim) (ws : List Claim) → 2 ≤ length ws → length ws < 3 → {b : Bool} {l₁ : Letters}
+        → Matches b l₁ (first_matched d ws) → b ≡ true → {r : Bool} {l₂ : Letters}
+        → Matches r l₂ (match_claim rs (claim_of (get_or ws 1 d)) (sides_in (get_or ss 1 s)) (matched l₁))
+        → Matches r l₂ (premises_matched ws)
+    unfolding match_claims
+    two_premises d [] g h m e n = absurd (omega arith)
+    two_premises d (w ∷ []) g h m e n = absurd (omega arith)
+    two_premises d (w ∷ v ∷ []) g h m e n =
+        rw (map_two sides_in s ss two) (goes_on (claim_keeps rs (claim_of v) (sides_in (get_or ss 1 s))) m e n)
+    two_premises d (w ∷ v ∷ u ∷ ws) g h m e n = absurd (omega arith)
 
-  pub more_premises : (ws : List Claim) → 3 ≤ length ws → Matches false l (premises_matched ws)
-  unfolding match_claims check
-  more_premises [] h = absurd (omega arith)
-  more_premises (w ∷ []) h = absurd (omega arith)
-  more_premises (w ∷ v ∷ []) h = absurd (omega arith)
-  more_premises (w ∷ v ∷ u ∷ ws) h = record { answer = sym (and-false _); letters = λ t. absurd (false≢true t) }
+    pub first_fails : (d : Claim) (ws : List Claim) → 2 ≤ length ws → length ws < 3 → {b : Bool} {l₁ : Letters}
+        → Matches b l₁ (first_matched d ws) → b ≡ false → Matches b l₁ (premises_matched ws)
+    unfolding match_claims
+    first_fails d [] g h m e = absurd (omega arith)
+    first_fails d (w ∷ []) g h m e = absurd (omega arith)
+    first_fails d (w ∷ v ∷ []) g h m e =
+        rw (map_two sides_in s ss two) (stops (claim_keeps rs (claim_of v) (sides_in (get_or ss 1 s))) m e)
+    first_fails d (w ∷ v ∷ u ∷ ws) g h m e = absurd (omega arith)
+
+    pub more_premises : (ws : List Claim) → 3 ≤ length ws → Matches false l (premises_matched ws)
+    unfolding match_claims check
+    more_premises [] h = absurd (omega arith)
+    more_premises (w ∷ []) h = absurd (omega arith)
+    more_premises (w ∷ v ∷ []) h = absurd (omega arith)
+    more_premises (w ∷ v ∷ u ∷ ws) h =
+        rw (map_two sides_in s ss two) (record { answer = sym (and-false _); letters = λ t. absurd (false≢true t) })
 
 -- the letters that fit a form's conclusion and premises, and its conditions
 module _ (rs : List Row) (s : Sides) (ss : List Sides) (w : FormPattern) {b : Bool} {l : Letters}

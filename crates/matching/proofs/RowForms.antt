@@ -9,6 +9,8 @@ use native.Mathlib.Omega.{arith}
 use lib.Dec.{T, ltb, leb}
 use lib.ListN.{length}
 use mir.Facts.{yes_and, yes_ltb, leb_yes}
+use Rattle.common.specs.RowKinds.{void_row, root_row, step_row, union_row, composition_row, filter_row, true_row}
+use Rattle.common.specs.RowKinds.{false_row, not_row, and_row, or_row, inclusion_row}
 use Rattle.xpath.specs.Term.{Path, Qualifier, AxisStep, Union, Composition, Filter}
 use Rattle.common.proofs.Reflect.{facts}
 use Rattle.terms.specs.Row.{Row, row, row_at}
@@ -225,32 +227,37 @@ module _ {rs : List Row} (built : Built rs) (e : Letters) where
 
     path_is : (w : PathForm) → FormIs path_part (path_pattern w) (path_for e w)
     path_is (path_letter x) = path_letter_is x
-    path_is PathForm.Void = row_is 0 (path_sort rs) tt (λ t u w. Path.Void) (λ a b c. refl) (λ t u w. refl)
+    path_is PathForm.Void = row_is void_row (path_sort rs) tt (λ t u w. Path.Void) (λ a b c. refl) (λ t u w. refl)
         (λ t t₁ u u₁ w w₁ q. (refl, refl, refl)) unused_is unused_is unused_is
-    path_is PathForm.Root = row_is 1 (path_sort rs) tt (λ t u w. Path.Root) (λ a b c. refl) (λ t u w. refl)
+    path_is PathForm.Root = row_is root_row (path_sort rs) tt (λ t u w. Path.Root) (λ a b c. refl) (λ t u w. refl)
         (λ t t₁ u u₁ w w₁ q. (refl, refl, refl)) unused_is unused_is unused_is
-    path_is (u :: n) = row_is 2 (path_sort rs) tt AxisStep (λ a b c. refl) (λ t u w. refl)
+    path_is (u :: n) = row_is step_row (path_sort rs) tt AxisStep (λ a b c. refl) (λ t u w. refl)
         (λ t t₁ u u₁ w w₁ q. (cc, cc, cc)) (axis_is u) (test_is n) (name_is n)
-    path_is (u ¦ v) = row_is 3 (path_sort rs) tt (λ t u w. Union t u) (λ a b c. refl) (λ t u w. refl)
+    path_is (u ¦ v) = row_is union_row (path_sort rs) tt (λ t u w. Union t u) (λ a b c. refl) (λ t u w. refl)
         (λ t t₁ u u₁ w w₁ q. (cc, cc, refl)) (path_is u) (path_is v) unused_is
-    path_is (u ∕ v) = row_is 4 (path_sort rs) tt (λ t u w. Composition t u) (λ a b c. refl) (λ t u w. refl)
+    path_is (u ∕ v) = row_is composition_row (path_sort rs) tt (λ t u w. Composition t u) (λ a b c. refl)
+        (λ t u w. refl)
         (λ t t₁ u u₁ w w₁ q. (cc, cc, refl)) (path_is u) (path_is v) unused_is
-    path_is (u ⟦ v ⟧) = row_is 5 (path_sort rs) tt (λ t u w. Filter t u) (λ a b c. refl) (λ t u w. refl)
+    path_is (u ⟦ v ⟧) = row_is filter_row (path_sort rs) tt (λ t u w. Filter t u) (λ a b c. refl) (λ t u w. refl)
         (λ t t₁ u u₁ w w₁ q. (cc, cc, refl)) (path_is u) (qualifier_is v) unused_is
 
     qualifier_is : (w : QualifierForm) → FormIs qualifier_part (qualifier_pattern w) (qualifier_for e w)
     qualifier_is (qualifier_letter x) = qualifier_letter_is x
-    qualifier_is QualifierForm.True = row_is 6 (qualifier_sort rs) tt (λ t u w. Qualifier.True) (λ a b c. refl)
+    qualifier_is QualifierForm.True = row_is true_row (qualifier_sort rs) tt (λ t u w. Qualifier.True) (λ a b c. refl)
         (λ t u w. refl) (λ t t₁ u u₁ w w₁ q. (refl, refl, refl)) unused_is unused_is unused_is
-    qualifier_is QualifierForm.False = row_is 7 (qualifier_sort rs) tt (λ t u w. Qualifier.False) (λ a b c. refl)
+    qualifier_is QualifierForm.False = row_is false_row (qualifier_sort rs) tt (λ t u w. Qualifier.False)
+        (λ a b c. refl)
         (λ t u w. refl) (λ t t₁ u u₁ w w₁ q. (refl, refl, refl)) unused_is unused_is unused_is
-    qualifier_is (Not u) = row_is 8 (qualifier_sort rs) tt (λ t u w. Qualifier.Not t) (λ a b c. refl) (λ t u w. refl)
+    qualifier_is (Not u) = row_is not_row (qualifier_sort rs) tt (λ t u w. Qualifier.Not t) (λ a b c. refl)
+        (λ t u w. refl)
         (λ t t₁ u u₁ w w₁ q. (cc, refl, refl)) (qualifier_is u) unused_is unused_is
-    qualifier_is (u And v) = row_is 9 (qualifier_sort rs) tt (λ t u w. Qualifier.And t u) (λ a b c. refl)
+    qualifier_is (u And v) = row_is and_row (qualifier_sort rs) tt (λ t u w. Qualifier.And t u) (λ a b c. refl)
         (λ t u w. refl) (λ t t₁ u u₁ w w₁ q. (cc, cc, refl)) (qualifier_is u) (qualifier_is v) unused_is
-    qualifier_is (u Or v) = row_is 10 (qualifier_sort rs) tt (λ t u w. Qualifier.Or t u) (λ a b c. refl) (λ t u w. refl)
+    qualifier_is (u Or v) = row_is or_row (qualifier_sort rs) tt (λ t u w. Qualifier.Or t u) (λ a b c. refl)
+        (λ t u w. refl)
         (λ t t₁ u u₁ w w₁ q. (cc, cc, refl)) (qualifier_is u) (qualifier_is v) unused_is
-    qualifier_is (u In v) = row_is 11 (qualifier_sort rs) tt (λ t u w. Qualifier.In t u) (λ a b c. refl) (λ t u w. refl)
+    qualifier_is (u In v) = row_is inclusion_row (qualifier_sort rs) tt (λ t u w. Qualifier.In t u) (λ a b c. refl)
+        (λ t u w. refl)
         (λ t t₁ u u₁ w w₁ q. (cc, cc, refl)) (path_is u) (path_is v) unused_is
 
   pub path_instance : (w : PathForm) (v : ℕ) → IsInstance rs (Means rs e) (path_pattern w) v ↔

@@ -10,6 +10,7 @@ use lib.Dec.{eqb, ltb}
 use lib.ListN.{length, get_or, set, take, replicate, length-take, get_or-eq_default}
 use lib.Seq.{get_or-take}
 use borrow.Author.Tests.{lt-ltb, le-ltb}
+use Rattle.common.specs.RowKinds.{step_row, union_row, composition_row, filter_row}
 use Rattle.common.proofs.Reflect.{le_or_lt}
 use Rattle.terms.specs.Row.{Row, no_row, row_at}
 use Rattle.terms.proofs.Entries.{entries_take, entry_at_lem, entry_past}
@@ -76,12 +77,14 @@ module _ (rs : List Row) where
 
   module _ (x y : Row) where
     -- a row of another kind has no way back
-    pub no_way_back : (back : ℕ → ℕ → Bool) → ¬ (x.kind ≡ 2) → ¬ (x.kind ≡ 3) → ¬ (x.kind ≡ 4) → ¬ (x.kind ≡ 5) →
+    pub no_way_back : (back : ℕ → ℕ → Bool) → ¬ (x.kind ≡ step_row) → ¬ (x.kind ≡ union_row)
+        → ¬ (x.kind ≡ composition_row) → ¬ (x.kind ≡ filter_row) →
         is_back_by rs back x y ≡ false
     unfolding is_back_by
     no_way_back back n₂ n₃ n₄ n₅ = by _ _ _ _ x.kind n₂ n₃ n₄ n₅
       where
-        by : (b₂ b₃ b₄ b₅ : Bool) (k : ℕ) → ¬ (k ≡ 2) → ¬ (k ≡ 3) → ¬ (k ≡ 4) → ¬ (k ≡ 5) →
+        by : (b₂ b₃ b₄ b₅ : Bool) (k : ℕ) → ¬ (k ≡ step_row) → ¬ (k ≡ union_row) → ¬ (k ≡ composition_row)
+            → ¬ (k ≡ filter_row) →
             get_or (false ∷ false ∷ b₂ ∷ b₃ ∷ b₄ ∷ b₅ ∷ []) k false ≡ false
         by b₂ b₃ b₄ b₅ zero n₂ n₃ n₄ n₅ = refl
         by b₂ b₃ b₄ b₅ (suc zero) n₂ n₃ n₄ n₅ = refl
@@ -124,7 +127,7 @@ module _ (rs : List Row) where
   is_noted xs i j s there = record { answer = sym (s i j there); noted = s; found_noted = λ q n l. there }
 
   -- r is what is seen of rows i and j
-  abbrev Seen : ℕ → ℕ → Reversal → Type 0
+  abbrev pub Seen : ℕ → ℕ → Reversal → Type 0
   Seen i j r = Reverses rs (row_at rs i) (row_at rs j) r
 
   pub seen_of : (i j k m : ℕ) (x y : Row) (r : Reversal) → k ≡ i → x ≡ row_at rs k → m ≡ j → y ≡ row_at rs m →
@@ -145,7 +148,7 @@ module _ (rs : List Row) where
     never e = not_back (level ∙ rw e)
 
     -- what is a way back whatever its operands are is a step's
-    always_step : r ≡ Always → (row_at rs i).kind ≡ 2
+    always_step : r ≡ Always → (row_at rs i).kind ≡ step_row
     unfolding Reverses is_back_by
     always_step e =
         let y : Row = row_at rs j in

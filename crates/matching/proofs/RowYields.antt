@@ -5,6 +5,7 @@ use mathlib.Core.Bool.{Bool, false, ◌&&◌, ◌||◌}
 use mathlib.Core.List.{List, [], ◌∷◌, map, Memᴰ, head-eq_of_cons-eq, tail-eq_of_cons-eq, cons-ne-nil}
 use mathlib.Core.Logic.{◌↔◌, ◌⊎◌, ⊎_elim}
 use native.Mathlib.Omega.{arith}
+use Rattle.std.proofs.lemmas.List.{nil_from_length}
 use lib.Dec.{T, ltb, eqb}
 use lib.ListN.{length, get_or, replicate, get_or-eq_default}
 use mir.Facts.{and_yes, yes_and, eqb_yes, yes_eqb}
@@ -218,10 +219,6 @@ module _ {rs : List Row} (built : Built rs) (n : ℕ) (s : Sides) (ss : List Sid
       yes_and m.fits (all_of (meets (numbers_in m.value)) w.conditions) f
       (subst T (p ∙ sym (conditions_same w.conditions m)) y.conditions)
 
-no_entries : {A : Type 0} (xs : List A) → length xs ≡ 0 → xs ≡ []
-no_entries [] e = refl
-no_entries (x ∷ xs) e = absurd (omega arith)
-
 any_of_map : {A B : Type 0} (f : B → Bool) (g : A → B) (xs : List A) → any_of f (map g xs) ≡ any_of (λ x. f (g x)) xs
 unfolding any_of
 any_of_map f g [] = refl
@@ -289,7 +286,7 @@ module _ {rs : List Row} (built : Built rs) (n : ℕ) (s : Sides) (ss : List Sid
         let (e, r) = and_yes (eqb n way_back_rule) (eqb (length ss) 0 && is_with_back rs s.left s.right) t in
         let (z, u) = and_yes (eqb (length ss) 0) (is_with_back rs s.left s.right) r in
         ⊎_elim
-        (λ (l, r). paths_yield l r (eqb_yes e) (no_entries ss (eqb_yes z)) u)
+        (λ (l, r). paths_yield l r (eqb_yes e) (nil_from_length ss (eqb_yes z)) u)
         (λ (l, r). absurd (no_qualifiers r u))
         (sort_of_lem rs s sort),
     λ y.

@@ -9,6 +9,8 @@ use native.Mathlib.Omega.{arith}
 use lib.Dec.{T, eqb, ltb}
 use lib.ListN.{length, get_or}
 use mir.Facts.{and_yes, yes_and, eqb_yes, yes_eqb, yes_ltb}
+use Rattle.common.specs.RowKinds.{void_row, root_row, step_row, union_row, composition_row, filter_row, not_row}
+use Rattle.common.specs.RowKinds.{inclusion_row}
 use Rattle.common.proofs.Entries.{◌&◌}
 use Rattle.common.proofs.Reflect.{facts}
 use Rattle.xpath.specs.Term.{Path, Qualifier, Void, Root, AxisStep, Union, Composition, Filter, Not, In, some_of}
@@ -52,36 +54,37 @@ module _ {rs : List Row} (built : Built rs) where
     term_of_kind k e =
         built_term built i h ∙ ap (λ k. term_by (terms rs) (row k (row_at rs i).a (row_at rs i).b (row_at rs i).c)) e
 
-    void_at : (row_at rs i).kind ≡ 0 → path_at rs i ≡ Void
+    void_at : (row_at rs i).kind ≡ void_row → path_at rs i ≡ Void
     unfolding term_by as_path term_at
-    void_at e = ap as_path (term_of_kind 0 e)
+    void_at e = ap as_path (term_of_kind void_row e)
 
-    root_at : (row_at rs i).kind ≡ 1 → path_at rs i ≡ Root
+    root_at : (row_at rs i).kind ≡ root_row → path_at rs i ≡ Root
     unfolding term_by as_path term_at
-    root_at e = ap as_path (term_of_kind 1 e)
+    root_at e = ap as_path (term_of_kind root_row e)
 
-    union_at : (row_at rs i).kind ≡ 3 → path_at rs i ≡ Union (path_at rs (row_at rs i).a) (path_at rs (row_at rs i).b)
+    union_at : (row_at rs i).kind ≡ union_row → path_at rs i
+        ≡ Union (path_at rs (row_at rs i).a) (path_at rs (row_at rs i).b)
     unfolding term_by as_path term_at
-    union_at e = ap as_path (term_of_kind 3 e)
+    union_at e = ap as_path (term_of_kind union_row e)
 
-    composition_at : (row_at rs i).kind ≡ 4 →
+    composition_at : (row_at rs i).kind ≡ composition_row →
         path_at rs i ≡ Composition (path_at rs (row_at rs i).a) (path_at rs (row_at rs i).b)
     unfolding term_by as_path term_at
-    composition_at e = ap as_path (term_of_kind 4 e)
+    composition_at e = ap as_path (term_of_kind composition_row e)
 
-    filter_at : (row_at rs i).kind ≡ 5 → path_at rs i ≡ Filter (path_at rs (row_at rs i).a)
+    filter_at : (row_at rs i).kind ≡ filter_row → path_at rs i ≡ Filter (path_at rs (row_at rs i).a)
         (qualifier_at rs (row_at rs i).b)
     unfolding term_by as_path term_at
-    filter_at e = ap as_path (term_of_kind 5 e)
+    filter_at e = ap as_path (term_of_kind filter_row e)
 
-    not_at : (row_at rs i).kind ≡ 8 → qualifier_at rs i ≡ Not (qualifier_at rs (row_at rs i).a)
+    not_at : (row_at rs i).kind ≡ not_row → qualifier_at rs i ≡ Not (qualifier_at rs (row_at rs i).a)
     unfolding term_by as_qualifier term_at
-    not_at e = ap as_qualifier (term_of_kind 8 e)
+    not_at e = ap as_qualifier (term_of_kind not_row e)
 
-    inclusion_at : (row_at rs i).kind ≡ 11 → qualifier_at rs i
+    inclusion_at : (row_at rs i).kind ≡ inclusion_row → qualifier_at rs i
         ≡ In (path_at rs (row_at rs i).a) (path_at rs (row_at rs i).b)
     unfolding term_by as_qualifier term_at
-    inclusion_at e = ap as_qualifier (term_of_kind 11 e)
+    inclusion_at e = ap as_qualifier (term_of_kind inclusion_row e)
 
     fields_of_kind : (k : ℕ) → (row_at rs i).kind ≡ k →
         FieldLaw rs i (fields_of k).a (row_at rs i).a (row_at rs i).b × FieldLaw rs i (fields_of k).b (row_at rs i).b
@@ -102,7 +105,7 @@ module _ {rs : List Row} (built : Built rs) where
         let r = simp facts at s in
         step_path rs i r.0.0.0 ∙ rw (r.0.0.1, r.0.1, r.1) refl,
     λ e.
-        let k : (row_at rs i).kind ≡ 2 = path_kind i h e in
+        let k : (row_at rs i).kind ≡ step_row = path_kind i h e in
         let q = sym (step_path rs i k) ∙ e in
         simp facts (((k, (cc)), (cc)), (cc)),
   )
@@ -153,7 +156,7 @@ module _ {rs : List Row} (built : Built rs) where
         )
 
     -- row j, if it is a composition
-    composed : (row_at rs j).kind ≡ 4 →
+    composed : (row_at rs j).kind ≡ composition_row →
         (path_at rs j ≡ Composition (path_at rs (row_at rs j).a) (path_at rs (row_at rs j).b))
         × PathRow (row_at rs j).a × PathRow (row_at rs j).b
     unfolding fields_of
@@ -162,7 +165,8 @@ module _ {rs : List Row} (built : Built rs) where
         let (a, b) = fields_of_kind j g 4 c in
         (composition_at j g c, (omega (arith, a.0), a.1), (omega (arith, b.0), b.1))
 
-    united : (row_at rs j).kind ≡ 3 → (path_at rs j ≡ Union (path_at rs (row_at rs j).a) (path_at rs (row_at rs j).b))
+    united : (row_at rs j).kind ≡ union_row →
+        (path_at rs j ≡ Union (path_at rs (row_at rs j).a) (path_at rs (row_at rs j).b))
         × PathRow (row_at rs j).a × PathRow (row_at rs j).b
     unfolding fields_of
     united c =
@@ -170,7 +174,7 @@ module _ {rs : List Row} (built : Built rs) where
         let (a, b) = fields_of_kind j g 3 c in
         (union_at j g c, (omega (arith, a.0), a.1), (omega (arith, b.0), b.1))
 
-    union_iff : (row_at rs i).kind ≡ 3 →
+    union_iff : (row_at rs i).kind ≡ union_row →
         T (get_or (back_by_kind rs (operand_back rs i) (row_at rs i) (row_at rs j)) 3 false) ↔ IsBack
     unfolding way_back fields_of kind_of
     union_iff k =
@@ -184,7 +188,7 @@ module _ {rs : List Row} (built : Built rs) where
         (row_at rs i).a (row_at rs i).b a.0 (omega (arith, a.0), a.1) b.0 (omega (arith, b.0), b.1) in
         (λ t. e ∙ f.0 t, λ q. f.1 (sym e ∙ q))
 
-    composition_iff : (row_at rs i).kind ≡ 4 →
+    composition_iff : (row_at rs i).kind ≡ composition_row →
         T (get_or (back_by_kind rs (operand_back rs i) (row_at rs i) (row_at rs j)) 4 false) ↔ IsBack
     unfolding way_back fields_of kind_of
     composition_iff k =
@@ -198,7 +202,7 @@ module _ {rs : List Row} (built : Built rs) where
         (row_at rs i).b (row_at rs i).a b.0 (omega (arith, b.0), b.1) a.0 (omega (arith, a.0), a.1) in
         (λ t. e ∙ f.0 t, λ q. f.1 (sym e ∙ q))
 
-    step_iff : (row_at rs i).kind ≡ 2 → T (is_step_back rs (row_at rs i) (row_at rs j)) ↔ IsBack
+    step_iff : (row_at rs i).kind ≡ step_row → T (is_step_back rs (row_at rs i) (row_at rs j)) ↔ IsBack
     unfolding way_back is_step_back kind_of
     step_iff k =
         let x : Row = row_at rs i in
@@ -218,12 +222,12 @@ module _ {rs : List Row} (built : Built rs) where
               ),
           λ q.
               let (axis, o, p) = (map-eq-some_iff (λ b. step_back b x.b x.c) (opposite x.a)).0 (sym e ∙ q) in
-              let c : y.kind ≡ 4 = path_kind j row-j (sym p) in
+              let c : y.kind ≡ composition_row = path_kind j row-j (sym p) in
               let (path, a, b) = composed c in
               let parts = p ∙ path in
               let first : path_at rs y.a ≡ AxisStep 0 x.b x.c = sym (cc) in
               let second : path_at rs y.b ≡ AxisStep axis 2 0 = sym (cc) in
-              let n : z.kind ≡ 2 = path_kind y.b b second in
+              let n : z.kind ≡ step_row = path_kind y.b b second in
               let fields = sym (step_path rs y.b n) ∙ second in
               let m : axis ≡ z.a = sym (cc) in
               yes_and (eqb y.kind 4) _ (yes_eqb c)
@@ -233,7 +237,7 @@ module _ {rs : List Row} (built : Built rs) where
               ((is_step_iff y.b b z.a 2 0).1 (second ∙ ap (λ a. AxisStep a 2 0) m)))),
         )
 
-    filter_iff : (row_at rs i).kind ≡ 5 →
+    filter_iff : (row_at rs i).kind ≡ filter_row →
         T (get_or (back_by_kind rs (operand_back rs i) (row_at rs i) (row_at rs j)) 5 false) ↔ IsBack
     unfolding way_back is_filter_back fields_of kind_of
     filter_iff k =
@@ -264,12 +268,12 @@ module _ {rs : List Row} (built : Built rs) where
           λ q.
               let (w, g, p) = (map-eq-some_iff (filter_back (qualifier_at rs x.b)) (way_back (path_at rs x.a))).0
               (sym e ∙ q) in
-              let c : y.kind ≡ 4 = path_kind j row-j (sym p) in
+              let c : y.kind ≡ composition_row = path_kind j row-j (sym p) in
               let (path, a, b) = composed c in
               let parts = p ∙ path in
               let first : path_at rs y.a ≡ Filter (AxisStep 0 2 0) (qualifier_at rs x.b) = sym (cc) in
               let second : w ≡ path_at rs y.b = cc in
-              let kind : z.kind ≡ 5 = path_kind y.a a first in
+              let kind : z.kind ≡ filter_row = path_kind y.a a first in
               let (la, lb) = fields_of_kind y.a a.0 5 kind in
               let fields = sym (filter_at y.a a.0 kind) ∙ first in
               let self : path_at rs z.a ≡ AxisStep 0 2 0 = cc in
@@ -360,24 +364,24 @@ module _ {rs : List Row} (built : Built rs) where
               sym (filter_at r g.0 (eqb_yes k) ∙ ap₂ Filter (ap (path_at rs) (eqb_yes same)) qualifier),
             ),
         λ (w, e, q).
-            let k : y.kind ≡ 5 = path_kind r g (sym q) in
+            let k : y.kind ≡ filter_row = path_kind r g (sym q) in
             let (lp, lf) = fields_of_kind r g.0 5 k in
             let parts = q ∙ filter_at r g.0 k in
             let path : path_at rs y.a ≡ path_at rs l = sym (cc) in
             let same : y.a ≡ l = same_path built y.a l (omega (arith, lp.0, g.0), lp.1) h path in
             let hf : QualifierRow y.b = (omega (arith, lf.0, g.0), (lf.1, lf.2)) in
             let some_is : qualifier_at rs y.b ≡ Not (In w Void) = sym (cc) in
-            let k₁ : f.kind ≡ 8 = qualifier_kind y.b hf some_is in
+            let k₁ : f.kind ≡ not_row = qualifier_kind y.b hf some_is in
             let (ln, _) = fields_of_kind y.b hf.0 8 k₁ in
             let hn : QualifierRow f.a = (omega (arith, ln.0, hf.0), (ln.1, ln.2)) in
             let of-not = sym (not_at y.b hf.0 k₁) ∙ some_is in
             let inclusion : qualifier_at rs f.a ≡ In w Void = cc in
-            let k₂ : n.kind ≡ 11 = qualifier_kind f.a hn inclusion in
+            let k₂ : n.kind ≡ inclusion_row = qualifier_kind f.a hn inclusion in
             let (lw, lv) = fields_of_kind f.a hn.0 11 k₂ in
             let of-in = sym (inclusion_at f.a hn.0 k₂) ∙ inclusion in
             let back : w ≡ path_at rs n.a = sym (cc) in
             let void : path_at rs n.b ≡ Void = cc in
-            let k₃ : v.kind ≡ 0 = path_kind n.b (omega (arith, lv.0, hn.0), lv.1) void in
+            let k₃ : v.kind ≡ void_row = path_kind n.b (omega (arith, lv.0, hn.0), lv.1) void in
             yes_and (filter && some_test) (is_back rs l n.a)
             (yes_and filter some_test (yes_and (eqb y.kind 5) (eqb y.a l) (yes_eqb k) (yes_eqb same))
             (yes_and (eqb f.kind 8) (eqb n.kind 11 && eqb v.kind 0) (yes_eqb k₁)

@@ -7,7 +7,7 @@ mod pattern;
 mod tables;
 mod way_back;
 
-ghost use Rattle.std.specs.Prelude.{◌≡◌, List, [], ◌∷◌, take};
+ghost use Rattle.std.specs.Prelude.{◌≡◌, List, map, take};
 ghost use Rattle.terms.specs.Row.{Row, table_of};
 ghost use Rattle.rules.specs.Yields.{premise_count};
 ghost use Rattle.matching.specs.code.RowWayBack.{Noted};
@@ -24,15 +24,14 @@ use way_back::is_with_back;
 // The last rule.
 pub const MAX_RULE: u16 = WAY_BACK_RULE;
 
-// Notes of rows' ways back, before any is found. No struct of notes and their fact: that is of the rows too, which
-// calls lend with their steps, and a call that keeps no notes lends an empty slice.
+// Notes of rows' ways back, before any is found; `terms::is_noted` says why notes and rows are no struct.
 pub fn no_notes() -> [Option<u16>; MAX_ROWS]
     ensures { (rs : List Row) → Noted rs result }
 {
     [None; MAX_ROWS]
 }
 
-// How many premises a rule has; none where there is no such rule.
+// How many premises a rule has; 0 where there is no such rule, as the definition has it.
 #[tactic(auto, unfolding(rules::specs::Yields::premise_count, rules::specs::Yields::first_count))]
 pub fn premise_count(rule: u16) -> usize
     ensures { result ≡ premise_count rule }
@@ -41,19 +40,17 @@ pub fn premise_count(rule: u16) -> usize
 }
 
 // Whether the rule, by the rule table or by the way back, yields the step from premises with the rows given. The rows
-// of a premise that the rule doesn't have don't matter. What is found of ways back is noted. The premises stand apart:
-// `fit_premises` alone looks at them, and would take an array of both apart to fit each to its claim.
+// of a premise that the rule doesn't have don't matter. What is found of ways back is noted.
 pub fn yields(
     rows: &[u16],
     rule: u16,
     step: Sides,
-    first: Sides,
-    second: Sides,
+    premises: [Sides; 2],
     noted: &mut [Option<u16>],
 ) -> bool
     requires { Noted (table_of rows.now) noted.old }
     ensures { (result ≡ row_yields (table_of rows.now) rule (sides_in step)
-        (take (premise_count rule) (sides_in first ∷ sides_in second ∷ [])))
+        (take (premise_count rule) (map sides_in premises)))
         × Noted (table_of rows.now) noted.new }
 {
     if rule == WAY_BACK_RULE {
@@ -61,5 +58,5 @@ pub fn yields(
     }
     forms_of(rule)
         .iter()
-        .any(|form| form.yields(rows, step, first, second))
+        .any(|form| form.yields(rows, step, premises))
 }

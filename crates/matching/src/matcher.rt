@@ -1,5 +1,5 @@
 // A form of a rule against the rows of a step and of its premises.
-ghost use Rattle.std.specs.Prelude.{◌≡◌, [], ◌∷◌, map, length, take, drop, get_or};
+ghost use Rattle.std.specs.Prelude.{◌≡◌, [], map, length, take, drop, get_or};
 ghost use Rattle.terms.specs.Row.{table_of};
 ghost use Rattle.common.specs.code.Numbers.{row_number};
 ghost use Rattle.rules.specs.Instance.{meets};
@@ -32,8 +32,7 @@ struct Letters {
     values: [Option<u16>; LETTER_COUNT],
 }
 
-// The first part of the rule table. Of one static with all rules the check of its function stops at 50,000,000 steps,
-// and a static of the parts is refused, since it would refer to others: so there are three, with a function for each.
+// The first part of the rule table; crate::tables says why it has three.
 fn rules_to_24() -> &'static [&'static [Form]]
     ensures { map forms_in result.now ≡ take 25 rule_table }
 {
@@ -172,21 +171,15 @@ impl Letters {
         self.fit(rows, claim.0, s.left) && self.fit(rows, claim.1, s.right)
     }
 
-    // The rows of the premises, of as many as the form has, against the form's. They come apart: in an array they would
-    // be taken apart here.
-    fn fit_premises(
-        &mut self,
-        rows: &[u16],
-        premises: &[Claim],
-        first: Sides,
-        second: Sides,
-    ) -> bool
+    // The rows of the premises, of as many as the form has, against the form's claims. By cases: no fact says what a
+    // closure that `all` takes leaves in `self`, and a `for` over both, after a test of the lengths, is no plainer.
+    fn fit_premises(&mut self, rows: &[u16], claims: &[Claim], premises: [Sides; 2]) -> bool
         ensures { Matches result self.new
-            (match_claims (table_of rows.now) (map claim_of premises.now)
-            (take (length (map claim_of premises.now)) (sides_in first ∷ sides_in second ∷ []))
-            (matched self.old)) }
+            (match_claims (table_of rows.now) (map claim_of claims.now)
+            (take (length (map claim_of claims.now)) (map sides_in premises)) (matched self.old)) }
     {
-        match premises {
+        let [first, second] = premises;
+        match claims {
             [] => true,
             [one] => self.fit_claim(rows, one, first),
             [one, other] => {
@@ -199,13 +192,12 @@ impl Letters {
 
 impl Form {
     // Whether it yields the step, from as many of the premises as it has.
-    pub fn yields(&self, rows: &[u16], step: Sides, first: Sides, second: Sides) -> bool
-        ensures { result ≡ yields_by (table_of rows.now) (sides_in step) (sides_in first ∷ sides_in second ∷ [])
-            (form_of self.now) }
+    pub fn yields(&self, rows: &[u16], step: Sides, premises: [Sides; 2]) -> bool
+        ensures { result ≡ yields_by (table_of rows.now) (sides_in step) (map sides_in premises) (form_of self.now) }
     {
         let mut letters = Letters::new();
         letters.fit_claim(rows, &self.conclusion, step)
-            && letters.fit_premises(rows, self.premises, first, second)
+            && letters.fit_premises(rows, self.premises, premises)
             && self
                 .conditions
                 .iter()

@@ -21,7 +21,8 @@ pub fn axis_below(a: u16, b: u16) -> bool
     is_pair(&AXIS_PAIRS, a, b)
 }
 
-// Whether test t with name c is below test u with name e.
+// Whether test t with name c is below test u with name e. By the four numbers, as the definition has them: letters hold
+// a test and its name apart, and a struct of the two would be made for this one call.
 #[tactic(auto, unfolding(rules::specs::Order::test_below))]
 pub fn test_below(t: u16, c: u16, u: u16, e: u16) -> bool
     ensures { result ≡ test_below t c u e }

@@ -43,7 +43,8 @@ fn is_opposite(a: u16, b: u16) -> bool
     is_pair(&OPPOSITES, a, b)
 }
 
-// Whether row i is a step on that axis with that test and name, by the three: a struct of them would be the row itself.
+// Whether row i is a step on that axis with that test and name. By the three, as the definition has them: with a Row
+// each of the three calls would write out the literal below.
 #[tactic(auto, unfolding(crate::specs::code::RowWayBack::is_step, terms::specs::Row::same_row))]
 fn is_step(rows: &[u16], i: u16, a: u16, t: u16, c: u16) -> bool
     ensures { result ≡ is_step (table_of rows.now) i a t c }
@@ -57,8 +58,8 @@ fn is_step(rows: &[u16], i: u16, a: u16, t: u16, c: u16) -> bool
         }
 }
 
-// Whether y is self::N, then the opposite axis with node(), for the step x. The rows and x and y come apart, here and
-// below: one call makes such a pair, and a struct of the three for it would be no plainer.
+// Whether y is self::N, then the opposite axis with node(), for the step x. Rows, x and y are parameters, here and
+// below: `is_back` alone makes such a pair, and methods of a struct would only read `self.x.b` for `x.b`.
 #[tactic(auto, unfolding(crate::specs::code::RowWayBack::is_step_back))]
 fn is_step_back(rows: &[u16], x: Row, y: Row) -> bool
     ensures { result ≡ is_step_back (table_of rows.now) (row_of x) (row_of y) }

@@ -1,18 +1,19 @@
 -- The pieces of a text that its newlines end. Assumes nothing.
-use Prim.Native.Nat.{ℕ, zero, suc, ◌+◌, ◌<◌, min}
+use Prim.Native.Nat.{ℕ, zero, suc, ◌+◌, ◌<◌, ◌≤◌, min}
 use mathlib.Core.Path.{◌≡◌, refl, sym, ap, subst, ◌∙◌}
 use mathlib.Core.Bool.{Bool, true, false, cond, false≢true}
 use mathlib.Core.List.{List, [], ◌∷◌, ◌++◌}
 use native.Mathlib.Omega.{arith}
 use denote.Param.Members.{Mut}
 use lib.Dec.{eqb}
-use lib.ListN.{length, get_or, drop}
+use lib.ListN.{length, get_or, take, drop}
 use Rattle.std.specs.Borrow.{Bor}
-use Rattle.std.specs.Prelude.{Option as Maybe, Some, MatchOption}
+use Rattle.std.specs.Prelude.{Option as Maybe, Some, MatchOption, sum_by}
 use Rattle.std.specs.Fn.{ComputesKey}
 use Rattle.std.specs.Iterator.{AlwaysYields}
 use Rattle.std.specs.List.{IsFirstMatchOrLen}
 use Rattle.std.proofs.lemmas.Iterator.{YieldsList}
+use Rattle.std.proofs.lemmas.List.Sums.{sum_by-cons, sum_by-take-le}
 use Rattle.lines.specs.Line.{newline, Line, lines, in_first_line, in_first_part}
 use Rattle.lines.proofs.FirstLine.{one_more}
 
@@ -38,6 +39,50 @@ pub pieces_count : (xs : List ℕ) → length (pieces xs) ≡ length (lines xs)
 unfolding pieces lines
 pieces_count [] = refl
 pieces_count (x ∷ xs) = more_pieces x (eqb x newline) (pieces xs) (lines xs) (pieces_count xs)
+
+-- how many bytes the first k pieces have
+abbrev pub first_size : (k : ℕ) → List (List ℕ) → ℕ
+first_size k ps = sum_by length (take k ps)
+
+-- a piece that is a byte longer
+one_longer : (x : ℕ) (p : List ℕ) (ps : List (List ℕ)) → sum_by length ((x ∷ p) ∷ ps) ≡ suc (sum_by length (p ∷ ps))
+one_longer x p ps = omega (arith, sum_by-cons length (x ∷ p) ps, sum_by-cons length p ps)
+
+-- behind the first k pieces stand the lines behind the first k
+more_behind : (x k : ℕ) (xs : List ℕ) (b : Bool) (ps : List (List ℕ)) (ls : List Line) → length ps ≡ length ls
+    → ((j : ℕ) → lines (drop (first_size j ps) xs) ≡ drop j ls)
+    → lines (drop (first_size (suc k) (cond b ((x ∷ []) ∷ ps) (in_first_part x ps))) (x ∷ xs))
+    ≡ drop (suc k) (one_more x b ls)
+unfolding in_first_part in_first_line
+more_behind x k xs true ps ls n h = rw (one_longer x [] (take k ps)) (h k)
+more_behind x k xs false [] [] n h = rw (one_longer x [] (take k [])) (h k)
+more_behind x k xs false [] (l ∷ ls) n h = absurd (omega (arith, n))
+more_behind x k xs false (p ∷ ps) [] n h = absurd (omega (arith, n))
+more_behind x k xs false (p ∷ ps) (l ∷ ls) n h = rw (one_longer x p (take k ps)) (h (suc k))
+
+pub pieces_behind : (xs : List ℕ) (k : ℕ) → lines (drop (first_size k (pieces xs)) xs) ≡ drop k (lines xs)
+unfolding pieces lines
+pieces_behind [] zero = refl
+pieces_behind [] (suc k) = refl
+pieces_behind (x ∷ xs) zero = refl
+pieces_behind (x ∷ xs) (suc k) =
+    more_behind x k xs (eqb x newline) (pieces xs) (lines xs) (pieces_count xs) (pieces_behind xs)
+
+-- the pieces have all of the text's bytes
+more_size : (x n : ℕ) (b : Bool) (ps : List (List ℕ)) → sum_by length ps ≡ n
+    → sum_by length (cond b ((x ∷ []) ∷ ps) (in_first_part x ps)) ≡ suc n
+unfolding in_first_part
+more_size x n true ps e = one_longer x [] ps ∙ ap (λ k. suc k) e
+more_size x n false [] e = ap (λ k. suc k) e
+more_size x n false (p ∷ ps) e = one_longer x p ps ∙ ap (λ k. suc k) e
+
+pieces_size : (xs : List ℕ) → sum_by length (pieces xs) ≡ length xs
+unfolding pieces
+pieces_size [] = refl
+pieces_size (x ∷ xs) = more_size x (length xs) (eqb x newline) (pieces xs) (pieces_size xs)
+
+pub first_inside : (xs : List ℕ) (k : ℕ) → first_size k (pieces xs) ≤ length xs
+first_inside xs k = omega (arith, sum_by-take-le length (pieces xs) k, pieces_size xs)
 
 -- a byte that ends no piece
 piece_longer : (x : ℕ) (xs : List ℕ) → eqb x newline ≡ false → pieces (x ∷ xs) ≡ in_first_part x (pieces xs)

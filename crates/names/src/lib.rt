@@ -25,15 +25,14 @@ pub fn next_line(list: &[u8], at: usize) -> usize
     }
 }
 
-// Where line k starts, counted from 0; the list's length where there is none.
+// Where line k starts, counted from 0; where there is none, the list's length, to which all lines add up.
 fn line_start(list: &[u8], k: usize) -> usize
     ensures { StartMet list.now k result }
 {
-    let mut at = 0;
-    for _ in 0..k {
-        at = next_line(list, at);
-    }
-    at
+    list.split_inclusive(|b| *b == lines::NEWLINE)
+        .take(k)
+        .map(|line| line.len())
+        .sum()
 }
 
 // How many names the list has.
@@ -43,8 +42,8 @@ pub fn count(list: &[u8]) -> usize
     list.split_inclusive(|b| *b == lines::NEWLINE).count()
 }
 
-// Name k of the list, counted from 0; an empty one, which no file has, where there is none. By place: `split` and `nth`
-// give a name's bytes, and not where they stand, which is promised too.
+// Name k of the list, counted from 0; an empty one where there is none, as specs/Names, which is believed, has it. By
+// place: `split` and `nth` give a name's bytes, and not where they stand, which is promised too.
 pub fn name_at(list: &[u8], k: usize) -> Name
     ensures { NameMet list.now k result.start result.end }
 {

@@ -103,6 +103,10 @@ module _ (rs ss : List Row) where
   pair_noted i j r e q xs ys noted stored =
       subst (Noted rs ss) (sym stored) (equal_noted xs i j noted (sym e ∙ equal_where r q))
 
+  -- the fields x and y at one place of rows i and j
+  abbrev pub fields : (i j : ℕ) → Field → (x y : ℕ) → Order
+  fields i j f x y = field_order (field_as (terms (take i rs)) f x) (field_as (terms (take j ss)) f y)
+
   -- rows i and j, read as the code reads them, and their kinds
   module _ (i j : ℕ) {x y : Row} {n m : ℕ} (left : x ≡ row_at rs n) (n-is : n ≡ i) (right : y ≡ row_at ss m)
       (m-is : m ≡ j) {k l : ℕ} (kind : k ≡ term_kind x.kind) (other : l ≡ term_kind y.kind) {r₀ : Ordering}
@@ -116,10 +120,6 @@ module _ (rs ss : List Row) where
     abbrev order : Order
     order = term_order (term_at rs i) (term_at ss j)
 
-    -- the fields x and y at one place
-    abbrev fields : Field → (x y : ℕ) → Order
-    fields f x y = field_order (field_as (terms (take i rs)) f x) (field_as (terms (take j ss)) f y)
-
     both_rows : order ≡ row_order (row_by (terms (take i rs)) x) (row_by (terms (take j ss)) y)
     unfolding term_order
     both_rows =
@@ -131,11 +131,11 @@ module _ (rs ss : List Row) where
     kinds_differ e = decided kinds _ r₀ kinds-are (sym told ∙ e) ∙ sym both_rows
 
     abbrev by : Fields → Order
-    by fs = fields fs.a x.a y.a and_then fields fs.b x.b y.b and_then fields fs.c x.c y.c
+    by fs = fields i j fs.a x.a y.a and_then fields i j fs.b x.b y.b and_then fields i j fs.c x.c y.c
 
     -- of one kind, whose fields are these
     pub by_fields : unequal ≡ false → {fs : Fields} → fs ≡ fields_of k
-        → Three order (fields fs.a x.a y.a) (fields fs.b x.b y.b) (fields fs.c x.c y.c)
+        → Three order (fields i j fs.a x.a y.a) (fields i j fs.b x.b y.b) (fields i j fs.c x.c y.c)
     unfolding row_order
     by_fields e are =
         let alike : kinds ≡ equal = sym kinds-are ∙ equal_of r₀ (sym told ∙ e) in

@@ -11,8 +11,7 @@ use Rattle.std.specs.declared.cmp.Ordering.{Ordering}
 use Rattle.std.specs.Ordering.{is_ne}
 use Rattle.terms.specs.Row.{Row}
 use Rattle.terms.specs.Terms.{term_at}
-use Rattle.calls.specs.Book.{Step, no_step}
-use Rattle.calls.specs.code.Tables.{step_in}
+use Rattle.calls.specs.Book.{Step, step_of_numbers, no_step}
 use Rattle.ordering.specs.Order.{Order, ◌and_then◌, number_order}
 use Rattle.ordering.specs.TermOrder.{term_order}
 use Rattle.ordering.specs.BundleOrder.{term_step, step_order, steps_order}
@@ -21,12 +20,13 @@ use Rattle.ordering.proofs.Orders.{Numbers, below, alike, above, numbers}
 use Rattle.ordering.proofs.Compared.{Three, decided, passed}
 
 -- a step of those that are read from lent numbers
-pub step_there : (ps : List (List ℕ)) (qs : List Step) (k : ℕ) {xs : List ℕ} {p : Step} → p ≡ step_in xs
-    → xs ≡ get_or ps k [] → map step_in ps ≡ qs → p ≡ get_or qs k no_step
-step_there ps qs k e f g = e ∙ ap step_in f ∙ sym (get_or-map step_in ps k []) ∙ ap (λ qs. get_or qs k no_step) g
+pub step_there : (ps : List (List ℕ)) (qs : List Step) (k : ℕ) {xs : List ℕ} {p : Step} → p ≡ step_of_numbers xs
+    → xs ≡ get_or ps k [] → map step_of_numbers ps ≡ qs → p ≡ get_or qs k no_step
+step_there ps qs k e f g =
+    e ∙ ap step_of_numbers f ∙ sym (get_or-map step_of_numbers ps k []) ∙ ap (λ qs. get_or qs k no_step) g
 
-pub steps_there : (ps : List (List ℕ)) (qs : List Step) → map step_in ps ≡ qs → length ps ≡ length qs
-steps_there ps qs g = sym (length-map ps step_in) ∙ ap length g
+pub steps_there : (ps : List (List ℕ)) (qs : List Step) → map step_of_numbers ps ≡ qs → length ps ≡ length qs
+steps_there ps qs g = sym (length-map ps step_of_numbers) ∙ ap length g
 
 -- two steps, of rows rs and ss: their rules, then their left and right rows
 pub by_rows : (rs ss : List Row) (p q : Step) → Three (step_order (term_step rs p) (term_step ss q))

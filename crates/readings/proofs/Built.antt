@@ -7,6 +7,7 @@ use mathlib.Core.Option.{Option, none, some}
 use Rattle.std.specs.Prelude.{Option as Maybe, Some, None}
 use Rattle.std.specs.Option.{option_or}
 use native.Mathlib.Omega.{arith}
+use borrow.Author.Clash.{clash}
 use Rattle.std.proofs.lemmas.Bool.{false≢true, le-ltb, lt-ltb}
 use lib.Dec.{eqb, ltb}
 use lib.ListN.{length, take, drop, length-append}
@@ -43,9 +44,6 @@ put_new rs r h = rw (le-ltb (find rs r) (length rs) h) refl
 put_at : (rs : List Row) (r : Row) → (put rs r).at ≡ find rs r
 unfolding put
 put_at rs r = refl
-
-pub refuse : {A : Type 0} (b : Bool) → b ≡ true → b ≡ false → A
-refuse b e f = absurd (false≢true (sym f ∙ e))
 
 unchanged : (x y : Standing) → y.ok ≡ x.ok → y.at ≡ x.at → y.missing ≡ x.missing → SameText x y
 unchanged x y a b c = record { ok = a; at = b; missing = c }
@@ -87,7 +85,10 @@ row_beyond xs ys n r e =
 
 -- put
 module _ (r : Row) (nesting : ℕ) (xs : List ℕ) (x : Standing) (z : Sized xs x.count) where
-  counted : length (table_of (take (row_width * x.count) xs)) ≡ x.count
+  abbrev counted_rows : List Row
+  counted_rows = table_of (take (row_width * x.count) xs)
+
+  counted : length counted_rows ≡ x.count
   counted = table_count xs x.count z
 
   held_count : (rs : List Row) → Holds rs xs x.count x.fits → x.fits ≡ true → length rs ≡ x.count
@@ -110,18 +111,18 @@ module _ (r : Row) (nesting : ℕ) (xs : List ℕ) (x : Standing) (z : Sized xs 
         nest = refl;
       }
 
-  module _ (e : x.fits ≡ true) (found : ℕ) (f : found ≡ find (table_of (take (row_width * x.count) xs)) r) where
+  module _ (e : x.fits ≡ true) (found : ℕ) (f : found ≡ find counted_rows r) where
     found_in : (rs : List Row) → Holds rs xs x.count x.fits → found ≡ find rs r
     found_in rs h = f ∙ ap (λ (q : List Row). find q r) (h.rows e)
 
-    pub put_found : found < x.count → PutMet r nesting xs x xs (row_taken x found x.count nesting)
+    pub put_found : found < length counted_rows → PutMet r nesting xs x xs (row_taken x found x.count nesting)
     put_found i =
         record {
           sized = z;
           puts = record {
             held = λ rs h. record {
-              rows = λ g. h.rows g ∙ sym (put_held rs r (omega (arith, found_in rs h, held_count rs h e, i)));
-              over = λ g. refuse x.fits e g;
+              rows = λ g. h.rows g ∙ sym (put_held rs r (omega (arith, found_in rs h, held_count rs h e, counted, i)));
+              over = λ g. clash x.fits e g;
             };
             at = λ rs h g. found_in rs h ∙ sym (put_at rs r);
             keeps = λ g. g;
@@ -131,9 +132,9 @@ module _ (r : Row) (nesting : ℕ) (xs : List ℕ) (x : Standing) (z : Sized xs 
           nest = refl;
         }
 
-    module _ (i : x.count ≤ found) where
+    module _ (i : found ≡ length counted_rows) where
       fresh_rows : (rs : List Row) → Holds rs xs x.count x.fits → (put rs r).rows ≡ rs ++ (r ∷ [])
-      fresh_rows rs h = put_new rs r (omega (arith, found_in rs h, held_count rs h e, i))
+      fresh_rows rs h = put_new rs r (omega (arith, found_in rs h, held_count rs h e, counted, i))
 
       pub put_full : max_rows ≤ x.count → PutMet r nesting xs x xs (no_room x nesting)
       put_full j =
@@ -167,9 +168,10 @@ module _ (r : Row) (nesting : ℕ) (xs : List ℕ) (x : Standing) (z : Sized xs 
             puts = record {
               held = λ rs h. record {
                 rows = λ g. rows ∙ ap (λ (q : List Row). q ++ (r ∷ [])) (h.rows g) ∙ sym (fresh_rows rs h);
-                over = λ g. refuse x.fits e g;
+                over = λ g. clash x.fits e g;
               };
-              at = λ rs h g. sym (put_at rs r ∙ omega (arith, found_in rs h, held_count rs h e, i, find_le rs r));
+              at = λ rs h g.
+                  sym (put_at rs r ∙ omega (arith, found_in rs h, held_count rs h e, counted, i, find_le rs r));
               keeps = λ g. g;
               beyond = λ g. row_beyond xs ys n r k;
             };
@@ -268,7 +270,7 @@ module _ (kind : ℕ) (f g : List Row → Put) (n k : ℕ) (m p : Option ℕ) (w
           let t = b.puts.held (f rs).rows (a.puts.held rs h) in
           subst (λ (r : Row). Holds (put (g (f rs).rows).rows r).rows zs z.count z.fits) (same_join rs h e)
           (c.puts.held (g (f rs).rows).rows t)
-      held rs h false e = record { rows = λ i. refuse y.fits (c.puts.keeps i) e; over = λ _. joined_more rs h e }
+      held rs h false e = record { rows = λ i. clash y.fits (c.puts.keeps i) e; over = λ _. joined_more rs h e }
 
 -- a row over one term
 module _ (kind : ℕ) (f : List Row → Put) (n : ℕ) (m : Option ℕ) (ws xs ys : List ℕ) (w x y : Standing)
@@ -296,7 +298,7 @@ module _ (kind : ℕ) (f : List Row → Put) (n : ℕ) (m : Option ℕ) (ws xs y
       held rs h true e = subst (λ (r : Row). Holds (put (f rs).rows r).rows ys y.count y.fits)
           (same_over rs h e) (c.puts.held (f rs).rows (a.puts.held rs h))
       held rs h false e = record {
-        rows = λ i. refuse x.fits (c.puts.keeps i) e;
+        rows = λ i. clash x.fits (c.puts.keeps i) e;
         over = λ _. omega (arith, (a.puts.held rs h).over e, put_more (f rs).rows (row kind (f rs).at 0 0));
       }
 

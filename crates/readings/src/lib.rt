@@ -27,7 +27,9 @@ use words::bytes::{byte_at, is_name, skip};
 // don't all fit goes on, since a later byte may be refused; then its row and its count say nothing. `fits` is no Option
 // of the row: before the first term there is no row, and all rows fit. That `count` is within the table is no ghost
 // field: Rattle has no `..` for a struct with one, and all that changes a part of a reading would write out six. The
-// table is none either: a reading is copied, as the left operand is kept while the right one is read into the table.
+// table is no field either: a reading is copied, since the left operand is kept while the right one is read.
+// The table's length is a clause, `Sized`, and no type `&mut [u16; TABLE_NUMBERS]`: of such an array, too, a proof
+// knows the length past a call only by what the call promises.
 #[derive(Clone, Copy)]
 pub struct Reading {
     pub at: usize,
@@ -87,6 +89,7 @@ fn no_row(r: Reading, nesting: u16) -> Reading
 }
 
 // A row that is held is used again; else it is added.
+#[tactic(auto, using(crate::proofs::Built::table_count))]
 pub fn put(rows: &mut [u16], r: Reading, row: Row, nesting: u16) -> Reading
     requires { Sized rows.old r.count }
     ensures { PutMet (row_of row) nesting rows.old (stands r) rows.new (stands result) }
@@ -113,16 +116,16 @@ fn above(x: u16, y: u16) -> u16
     x.max(y).min(terms::MAX_NESTING) + 1
 }
 
-// A row of no operands.
-fn put_leaf(rows: &mut [u16], r: Reading, kind: RowKind) -> Reading
+// A row of no operands. Its kind is a number, as in `join`: `constant` puts any.
+fn put_leaf(rows: &mut [u16], r: Reading, kind: u16) -> Reading
     requires { Sized rows.old r.count }
-    ensures { PutMet (row (row_number kind) 0 0 0) 1 rows.old (stands r) rows.new (stands result) }
+    ensures { PutMet (row kind 0 0 0) 1 rows.old (stands r) rows.new (stands result) }
 {
     put(
         rows,
         r,
         Row {
-            kind: u16::from(kind),
+            kind,
             a: 0,
             b: 0,
             c: 0,
@@ -146,7 +149,8 @@ fn put_over(rows: &mut [u16], r: Reading, kind: RowKind) -> Reading
     put(rows, r, row, above(r.nesting, 0))
 }
 
-// A row of two operands, of which the right one was read last. Its kind is a number as in a row: any may be put.
+// A row of two operands, of which the right one was read last. Its kind is a number, as in a row: a RowKind would ask
+// more of callers, who may put any number.
 pub fn join(rows: &mut [u16], kind: u16, left: Reading, right: Reading) -> Reading
     requires { Sized rows.old right.count }
     ensures { PutMet (row kind left.row right.row 0)
@@ -272,7 +276,7 @@ pub fn begin_path(s: &[u8], rows: &mut [u16], from: Reading) -> Result<Start, us
     if byte_at(s, at) != b'/' {
         return Ok(Start::First(lead));
     }
-    let root = put_leaf(rows, lead, RowKind::Root);
+    let root = put_leaf(rows, lead, RowKind::Root.into());
     let next = at + 1;
     if byte_at(s, next) != b'/' {
         let end = skip(s, next);
@@ -288,13 +292,13 @@ pub fn some_of(rows: &mut [u16], paths: Reading) -> Reading
     requires { Sized rows.old paths.count }
     ensures { Grown some_of_put (λ n. suc (suc (max n 1))) rows.old (stands paths) rows.new (stands result) }
 {
-    let void = put_leaf(rows, paths, RowKind::Void);
+    let void = put_leaf(rows, paths, RowKind::Void.into());
     let inclusion = join(rows, RowKind::Inclusion.into(), paths, void);
     put_over(rows, inclusion, RowKind::Not)
 }
 
-// The row of `not` over the expression in `not ( )`; a group is what it holds. One function for both, with the kind:
-// crate text reads what they hold in one place.
+// The row of `not` over the expression in `not ( )`; a group is what it holds. `opens` is no switch that the caller
+// sets: it is what the text has there, and crate text reads what either holds in one place.
 pub fn negate_if(rows: &mut [u16], opens: Opens, r: Reading) -> Reading
     requires { Sized rows.old r.count }
     ensures { NegatePut opens rows.old (stands r) rows.new (stands result) }
@@ -313,13 +317,7 @@ pub fn constant(s: &[u8], rows: &mut [u16], from: Reading, kind: u16) -> Result<
 {
     let at = skip(s, from.at);
     let shut = close(s, Reading { at, ..from }, b')')?;
-    let row = Row {
-        kind,
-        a: 0,
-        b: 0,
-        c: 0,
-    };
-    Ok(put(rows, shut, row, 1))
+    Ok(put_leaf(rows, shut, kind))
 }
 
 // An operator name, which begins where r ends. What is refused is the first byte that is not the name's, or the byte
@@ -329,6 +327,7 @@ pub fn pass_word(s: &[u8], r: Reading, word: &[u8]) -> Result<Reading, usize>
     requires no_zero { (k : ℕ) → k < length word.now → eqb 0 (get_or word.now k 0) ≡ false }
     ensures { WordPassed s.now word.now (stands r) (ended result) }
 {
+    // By `for`: with `position` the place would be made twice, in the closure and in the error.
     for (i, b) in word.iter().enumerate() {
         let at = r.at + i;
         if byte_at(s, at) != *b {

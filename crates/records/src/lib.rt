@@ -36,20 +36,23 @@ pub struct Records {
 }
 
 // What a call gives: its answer, and the records or the releases that it leaves. Not the type of a session's or of a
-// register's call: the demands name the fields of these, `session` and `register`.
+// register's call: session's specs/ReadCall and register's specs/Promises, which are believed, name the fields
+// `session` and `register` of those.
 #[derive(Clone, Copy)]
 pub struct Answered<T> {
     pub answer: Result<(), Refusal>,
     pub left: T,
 }
 
-// Which records are released: 1 at the place of each that is. Not as bool: the demand on registers that is to be
-// believed reads these numbers as they stand.
+// Which records are released: 1 at the place of each that is. Not as bool, and not in the records: the demand on
+// registers, which is to be believed, reads these numbers as they stand.
 #[derive(Clone, Copy)]
 pub struct Releases {
     pub flags: [u8; MAX_RECORDS],
 }
 
+// What stands past the records held, as in the definition. No derived Default: as a default the zeros would look like a
+// record, and editions count from 1.
 const NO_RECORD: Record = Record {
     series: 0,
     edition: 0,
@@ -80,7 +83,8 @@ impl Records {
         }
     }
 
-    // How many records are held.
+    // How many records are held: a count above the limit is read as the limit. The fields are public, so a fact of the
+    // type that bounds it would ask more of whoever makes one.
     pub fn size(self) -> usize
         ensures { result ≡ size_of self }
     {
@@ -88,7 +92,7 @@ impl Records {
     }
 
     // The records held.
-    fn list(&self) -> &[Record]
+    pub fn list(&self) -> &[Record]
         ensures { result.now ≡ records_in self.now }
     {
         &self.held[..self.size()]
@@ -209,6 +213,7 @@ impl Releases {
         }
     }
 
+    // Two functions, as their definitions: with the flag a parameter a caller could give any number.
     #[tactic(auto, unfolding(crate::specs::code::Promises::all_releases))]
     fn all() -> Releases
         ensures { result ≡ all_releases }

@@ -35,8 +35,7 @@ pub struct Register {
     releases: Releases,
 }
 
-// What a call gives: its answer, and the register that it leaves. No one type for sessions and registers:
-// specs/Promises and session's specs/ReadCall, which are believed, name the fields `register` and `session`.
+// What a call gives: its answer, and the register that it leaves. Session's `Answered` says why it isn't this type.
 #[derive(Clone, Copy)]
 pub struct Answered<A> {
     pub answer: A,
@@ -131,7 +130,8 @@ impl Register {
         self.passed_on(made)
     }
 
-    // The answer of a call of the session's, and the register over the session that it leaves.
+    // The answer of a call of the session's, and the register over the session that it leaves: what `return_to` and the
+    // calls below share. These stay apart, since the contract of each names its own `Call`.
     fn passed_on<A>(self, made: session::Answered<A>) -> Answered<A>
         ensures answer { result.answer ≡ made.answer }
         ensures register { result.register ≡ over self made.session }

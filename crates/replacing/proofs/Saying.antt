@@ -17,8 +17,7 @@ use Rattle.common.specs.Lists.{any_of}
 use Rattle.common.proofs.Tests.{eqb_turned}
 use Rattle.common.proofs.Search.{none_iff, first_in}
 use Rattle.terms.specs.Fields.{held_path}
-use Rattle.calls.specs.Book.{Book, no_step}
-use Rattle.calls.specs.code.Tables.{step_in}
+use Rattle.calls.specs.Book.{Book, step_of_numbers, no_step}
 use Rattle.replacing.specs.Covered.{is_held_step, is_in, is_replaced, step_saying}
 use Rattle.replacing.specs.code.Places.{IndexIs}
 use Rattle.replacing.proofs.Places.{by_test}
@@ -41,27 +40,28 @@ module _ (b : Book) (old new : ℕ) where
 
   -- a step, as its numbers, has these two rows
   abbrev pub has_rows : List ℕ → Bool
-  has_rows xs = eqb (step_in xs).left old && eqb (step_in xs).right new
+  has_rows xs = eqb (step_of_numbers xs).left old && eqb (step_of_numbers xs).right new
 
   pub unheld : held_path b.rows old ≡ false → step_saying b old new ≡ 0
   unfolding step_saying is_replaced Option-elim
   unheld e = rw ((none_iff says_at (length b.steps)).1 (λ k l. no_path _ _ _ _ e))
 
   -- the search among the steps, each as its numbers
-  module _ (path-held : held_path b.rows old ≡ true) (ps : List (List ℕ)) (steps : map step_in ps ≡ b.steps) where
+  module _ (path-held : held_path b.rows old ≡ true) (ps : List (List ℕ))
+      (steps : map step_of_numbers ps ≡ b.steps) where
     size : length ps ≡ length b.steps
-    size = sym (length-map ps step_in) ∙ ap length steps
+    size = sym (length-map ps step_of_numbers) ∙ ap length steps
 
     alike : (k : ℕ) → k < length ps → says_at k ≡ has_rows (get_or ps k [])
     unfolding is_replaced is_held_step is_in any_of
     alike k l =
-        let at : get_or b.steps (suc k - 1) no_step ≡ step_in (get_or ps k []) =
+        let at : get_or b.steps (suc k - 1) no_step ≡ step_of_numbers (get_or ps k []) =
         let e : suc k - 1 ≡ k = omega arith in
-        rw (e, ← steps) (get_or-map step_in ps k [] no_step l) in
+        rw (e, ← steps) (get_or-map step_of_numbers ps k [] no_step l) in
         let held : leb (suc k) (length b.steps) ≡ true = le-leb (suc k) (length b.steps) (omega (arith, l, size)) in
         by_rows (leb 1 (suc k) && leb (suc k) (length b.steps)) _ _ _ (rw (held, le-leb 1 (suc k) (omega arith)) refl)
         path-held
-        ∙ rw (at, eqb_turned new (step_in (get_or ps k [])).right)
+        ∙ rw (at, eqb_turned new (step_of_numbers (get_or ps k [])).right)
 
     pub said_found : IndexIs (position has_rows ps) (first_below (length b.steps) says_at)
     said_found =

@@ -15,7 +15,7 @@ use common::Refusal;
 // The most old rows of a call, and the most new ones.
 pub const MAX_LIST: usize = 64;
 
-// Whether the list has the number n.
+// Whether the list has the number n. With `contains` itself in `is_replaced` the check doesn't find that one's proof.
 fn is_in(list: &[u16], n: u16) -> bool
     ensures { result ≡ is_in list.now n }
 {

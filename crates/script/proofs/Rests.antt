@@ -1,18 +1,18 @@
 -- The first line of a text, and what stands behind its word. Assumes nothing.
-use Prim.Native.Nat.{ℕ, suc, ◌+◌}
+use Prim.Native.Nat.{ℕ, ◌+◌, ◌≤◌}
 use mathlib.Core.Path.{◌≡◌, refl, sym, ap, ◌∙◌}
-use mathlib.Core.Bool.{Bool, true, false, cond, not}
+use mathlib.Core.Bool.{Bool, true, false}
 use mathlib.Core.List.{List, [], ◌∷◌, ◌++◌}
 use mathlib.Core.Option.{none}
 use native.Mathlib.Omega.{arith}
 use lib.Dec.{eqb}
-use lib.ListN.{length, take, drop, length-append, length-drop}
+use lib.ListN.{length, take, drop, length-append, length-drop, length-take}
 use lib.Seq.{drop-drop}
-use Rattle.std.specs.List.{position_or_len}
 use Rattle.lines.specs.Line.{newline, space, Line, in_first_line, lines}
-use Rattle.lines.specs.code.NumbersRead.{first_parts}
+use Rattle.lines.specs.code.NumbersRead.{first_parts, first_length}
 use Rattle.lines.proofs.Cutting.{Free, lines_at, no_whole_line}
 use Rattle.lines.proofs.First.{Before, behind_first}
+use Rattle.lines.proofs.FirstLine.{one_more}
 use Rattle.lines.proofs.Parts.{PartsMet}
 use Rattle.script_words.specs.Words.{Rest}
 use Rattle.script.specs.Command.{numbers_in}
@@ -37,26 +37,31 @@ any_bytes xs at i b =
 pub no_bytes : (xs : List ℕ) → Free newline xs → none ≡ first_parts (numbers_in Rest) (lines xs)
 no_bytes xs f = sym (no_whole_line (numbers_in Rest) xs f)
 
--- one byte more at the start of the first line
-one_more : (x : ℕ) (ls : List Line) → first_bytes (in_first_line x ls) ≡ x ∷ first_bytes ls
-unfolding first_bytes in_first_line
-one_more x [] = refl
-one_more x (l ∷ ls) = refl
+-- the first line's bytes are the first of the text, as many as it has
+more_taken : (x : ℕ) (xs : List ℕ) (b : Bool) (ls : List Line) → take (first_length ls) xs ≡ first_bytes ls
+    → take (first_length (one_more x b ls)) (x ∷ xs) ≡ first_bytes (one_more x b ls)
+unfolding first_length first_bytes in_first_line
+more_taken x xs true ls e = refl
+more_taken x xs false [] e = refl
+more_taken x xs false (l ∷ ls) e = ap (λ ys. x ∷ ys) e
 
--- the first line goes to the first newline, or the text's end
-pub first_line_taken : (xs : List ℕ) → take (position_or_len (λ x. eqb x newline) xs) xs ≡ first_bytes (lines xs)
-unfolding lines first_bytes
-first_line_taken [] = refl
-first_line_taken (x ∷ xs) = by_test (eqb x newline) (first_line_taken xs)
-  where
-    by_test : (b : Bool) → take (position_or_len (λ x. eqb x newline) xs) xs ≡ first_bytes (lines xs)
-        → take (cond (not b) (1 + position_or_len (λ x. eqb x newline) xs) 0) (x ∷ xs)
-        ≡ first_bytes (cond b (record { bytes = []; ended = true } ∷ lines xs) (in_first_line x (lines xs)))
-    by_test true later = refl
-    by_test false later =
-        let k : 1 + position_or_len (λ x. eqb x newline) xs ≡ suc (position_or_len
-        (λ x. eqb x newline) xs) = omega arith in
-        rw (k, one_more x (lines xs)) (ap (λ ys. x ∷ ys) later)
+all_taken : (xs : List ℕ) → take (first_length (lines xs)) xs ≡ first_bytes (lines xs)
+unfolding lines first_length first_bytes
+all_taken [] = refl
+all_taken (x ∷ xs) = more_taken x xs (eqb x newline) (lines xs) (all_taken xs)
+
+first_size : (ls : List Line) → length (first_bytes ls) ≡ first_length ls
+unfolding first_length first_bytes
+first_size [] = refl
+first_size (l ∷ ls) = refl
+
+-- the first line of a text, which ends at `end`
+module _ (xs : List ℕ) (end : ℕ) (is-end : end ≡ 0 + first_length (lines xs)) where
+  pub line_taken : take end xs ≡ first_bytes (lines xs)
+  line_taken = let e : end ≡ first_length (lines xs) = omega arith in rw e (all_taken xs)
+
+  pub line_inside : end ≤ length xs
+  line_inside = omega (arith, length-take end xs, ap length line_taken, first_size (lines xs))
 
 -- what stands behind the first space
 rest_behind : (w r : List ℕ) → Free space w → rest_of (w ++ space ∷ r) ≡ r

@@ -3,7 +3,7 @@
 
 mod list;
 
-ghost use Rattle.std.specs.Prelude.{◌≡◌, ◌+◌, ◌≤◌, ◌<◌, min, length, take, drop};
+ghost use Rattle.std.specs.Prelude.{◌≡◌, ◌+◌, ◌≤◌, min, length, take, drop};
 ghost use Rattle.script_words.specs.Words.{max_numbers};
 ghost use Rattle.script_words.specs.declared.Word.TheVariants as WORD;
 ghost use Rattle.lines.specs.Line.{lines};
@@ -26,8 +26,9 @@ pub const MAX_MARKS: usize = 1024;
 // The length of the longest buffer of a write.
 pub const MAX_ROOM: usize = common::MAX_BYTES;
 
-// A word with the numbers after it: of a select, the row, the context node, the limit and the length of the marks
-// buffer that it is lent; of a write, the length of its buffer. What `names` and `text` take stays in the line.
+// A word with the numbers after it, by place, as a script's line has them: of a select, the row, the context node, the
+// limit and the length of the marks buffer that it is lent; of a write, the length of its buffer. What `names` and
+// `text` take stays in the line.
 #[derive(Clone, Copy)]
 pub enum Command {
     Term(Row),
@@ -152,7 +153,8 @@ fn listed<F: FnOnce(NumberList) -> Command>(
     None
 }
 
-// The command of a word with what stands at `at`, a space behind the word.
+// The command of a word with what stands at `at`, a space behind the word. The word is no switch that a caller sets,
+// here and in `alone`: `call_at` has read it in the text.
 fn behind_word(bytes: &[u8], at: usize, word: Word) -> Option<CallLine>
     ensures { CallRead (word_command word) bytes.now at result }
 {
@@ -219,7 +221,8 @@ fn alone(word: Word) -> Option<Command>
     }
 }
 
-// The call of the line at `at`.
+// The call of the line at `at`. By `for`: a word is tried in two ways, and what `find_map` gives would be an Option of
+// an Option.
 pub fn call_at(bytes: &[u8], at: usize) -> Option<CallLine>
     ensures { CallRead command_of bytes.now at result }
 {
@@ -240,19 +243,12 @@ pub fn call_at(bytes: &[u8], at: usize) -> Option<CallLine>
     None
 }
 
-// The first line of a text, without its newline.
-fn first_line(text: &[u8]) -> &[u8]
-    ensures { result.now ≡ first_bytes (lines text.now) }
-{
-    let length = lines::find(text, lines::NEWLINE).unwrap_or(text.len());
-    &text[..length]
-}
-
 // The bytes behind the first space of the line at `at`; none where it has none.
 pub fn rest_at(bytes: &[u8], at: usize) -> &[u8]
     ensures { result.now ≡ rest_of (first_bytes (lines (drop at bytes.now))) }
 {
-    let line = first_line(lines::rest(bytes, at));
+    let rest = lines::rest(bytes, at);
+    let line = &rest[..lines::line_end(rest, 0)];
     match lines::find(line, lines::SPACE) {
         Some(length) => &line[length + 1..],
         None => &[],
@@ -267,17 +263,18 @@ fn newline_for_space(b: u8) -> u8
 }
 
 // Writes the list of names that the bytes write, as much of it as there is room for. It gives how many bytes these are.
-// A lent buffer and a size, and no ArrayVec: that has its capacity in its type, and its `extend` tests at each byte
-// whether there is room, and can fail there, where `min` tells it of all at once.
+// Into a lent buffer of any length: this is public, and an ArrayVec has one capacity in its type, so it would ask more
+// of callers.
 pub fn put_names(bytes: &[u8], out: &mut [u8]) -> usize
     ensures { (result ≡ min (length bytes.now) (length out.old))
         × (take result out.new ≡ take result (names_of bytes.now))
         × (length out.new ≡ length out.old) }
 {
     let size = bytes.len().min(out.len());
-    // By place: what a `for` over `iter_mut` with `zip` leaves in `out` is a value of which no fact says anything.
-    for (i, b) in bytes[..size].iter().enumerate() {
-        out[i] = newline_for_space(*b);
+    let names = &mut out[..size];
+    names.copy_from_slice(&bytes[..size]);
+    for b in names.iter_mut() {
+        *b = newline_for_space(*b);
     }
     size
 }

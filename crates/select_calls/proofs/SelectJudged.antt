@@ -3,24 +3,28 @@ use Prim.Native.Nat.{ℕ, ◌≤◌, ◌<◌}
 use mathlib.Core.Path.{◌≡◌, refl, sym, ap, ◌∙◌}
 use mathlib.Core.Bool.{Bool, true, false, cond, ◌||◌}
 use mathlib.Core.List.{List}
-use mathlib.Core.Option.{none, some, Option-elim}
+use mathlib.Core.Option.{none, Option-elim}
 use native.Mathlib.Omega.{arith}
 use lib.Dec.{leb, ltb}
 use lib.ListN.{length}
 use borrow.Author.Tests.{lt-ltb, le-ltb, le-leb, lt-leb, leb-true, leb-false}
 use Rattle.xpath.specs.Document.{max_nodes, document_of, document_refusal}
 use Rattle.xpath.specs.Visits.{visits}
+use Rattle.xpath.specs.code.Check.{DocumentChecked}
+use Rattle.xpath.specs.code.Ends.{Prepared}
 use Rattle.xpath.proofs.Refusal.{accepted_iff}
 use Rattle.terms.specs.Row.{Row}
 use Rattle.terms.specs.Fields.{held_path}
 use Rattle.terms.specs.Terms.{path_at}
 use Rattle.selection.specs.Evaluation.{Outcome, outcome, selected, no_room, too_many_visits, path_evaluated, evaluated}
 use Rattle.selection.specs.Evaluation as evaluation
-use Rattle.std.specs.Prelude.{Err}
+use Rattle.std.specs.Prelude.{Result, Ok, Err}
 use Rattle.selection.specs.declared.EvaluationError.{EvaluationError}
 use Rattle.selection.specs.declared.EvaluationError.TheVariants.{NoRoom, LimitPassed}
 use Rattle.selection.specs.code.EvaluatedTypes as code
+use Rattle.common.specs.declared.refusal.Refusal.{Refusal}
 use Rattle.common.specs.declared.refusal.Refusal.TheVariants.{BadDocument, BadArgument}
+use Rattle.common.proofs.Results.{Mapped, mapped_ok, mapped_err}
 use Rattle.calls.specs.Book.{answer, accepted}
 use Rattle.calls.specs.SelectCall.{select_answer, select_buffer}
 use Rattle.calls.specs.code.Answers.{NumberOrRefusal, answer_of, evaluation_answer}
@@ -52,6 +56,17 @@ buffer_by_tests v w buffer true within = refl
 buffer_by_tests v w buffer false true = refl
 buffer_by_tests v w buffer false false = refl
 
+-- a document that the check accepts: no refusal applies, and it is prepared with the ends that the check gives
+module _ (xs : List ℕ) (r : Result (List ℕ) ℕ) (checked : DocumentChecked xs r) (ends : List ℕ)
+    (is : Mapped BadDocument r (Ok ends)) where
+  none_applies : none ≡ document_refusal xs
+  none_applies = rw (mapped_ok BadDocument r ends is) at checked.refusal
+
+  pub prepared_by : Prepared (document_of xs) ends
+  prepared_by =
+      let (whole, few, formed) = (accepted_iff xs).0 (sym none_applies) in
+      record { few = few; formed = formed; ends = rw (mapped_ok BadDocument r ends is) at checked.ends }
+
 module _ (rs : List Row) (row : ℕ) (xs : List ℕ) (x limit : ℕ) (buffer : List ℕ) where
   -- a refused call leaves the buffer as it was
   select_refused : (t : NumberOrRefusal) → ¬ ((answer_of t).number ≡ 0) → answer_of t
@@ -60,12 +75,21 @@ module _ (rs : List Row) (row : ℕ) (xs : List ℕ) (x limit : ℕ) (buffer : L
   unfolding select_buffer
   select_refused t f e = record { answer = e; bytes = if_refused _ _ e _ _ f }
 
-  pub bad_document : (v : ℕ) → some v ≡ document_refusal xs
-      → SelectMade rs row xs x limit buffer (Err (BadDocument v)) buffer
+  -- the document is refused
+  pub bad_document : (r : Result (List ℕ) ℕ) → DocumentChecked xs r → (e : Refusal) → Mapped BadDocument r (Err e)
+      → SelectMade rs row xs x limit buffer (Err e) buffer
   unfolding select_answer Option-elim
-  bad_document v e = select_refused (Err (BadDocument v)) (λ z. omega arith) (rw (← e))
+  bad_document r checked e is =
+      let refused = mapped_err BadDocument r e is in
+      let told = rw refused.1 at checked.refusal in
+      rw refused.2 (select_refused (Err (BadDocument refused.0)) (λ z. omega arith) (rw (← told)))
 
-  module _ (taken : none ≡ document_refusal xs) where
+  -- it is accepted
+  module _ (r : Result (List ℕ) ℕ) (checked : DocumentChecked xs r) (ends : List ℕ)
+      (is : Mapped BadDocument r (Ok ends)) where
+    taken : none ≡ document_refusal xs
+    taken = none_applies xs r checked ends is
+
     pub bad_context : length (document_of xs) ≤ x → SelectMade rs row xs x limit buffer (Err (BadArgument 1)) buffer
     unfolding select_answer Option-elim
     bad_context h = select_refused (Err (BadArgument 1)) (λ z. omega arith) (rw (← taken, le-leb _ _ h))
@@ -79,7 +103,7 @@ module _ (rs : List Row) (row : ℕ) (xs : List ℕ) (x limit : ℕ) (buffer : L
 
       module _ (path : held_path rs row ≡ true) where
         size : ltb max_nodes (length (document_of xs)) ≡ false
-        size = le-ltb _ _ ((accepted_iff xs).0 (sym taken)).1
+        size = le-ltb _ _ (prepared_by xs r checked ends is).few
 
         -- the answer of the evaluation is the call's, and so is what it leaves in the buffer
         evaluation_answers : evaluation_answer (evaluated rs row (document_of xs) x limit buffer).answer

@@ -11,8 +11,7 @@ use Rattle.xpath.specs.Document.{max_nodes}
 use Rattle.selection.specs.Marks.{written}
 use Rattle.selection.specs.code.MarksHeld.{Clear}
 use Rattle.marking.specs.code.Added.{Added}
-use Rattle.marking.proofs.Added.{nothing_added, added_cong}
-use Rattle.marking.proofs.Steps.{added_twice}
+use Rattle.marking.proofs.Added.{nothing_added, added_cong, added_twice}
 use Rattle.selection.proofs.Folds.{any_more}
 
 zeros_at : (n y : ℕ) → get_or {A = Bool} (replicate n false) y false ≡ false

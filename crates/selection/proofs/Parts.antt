@@ -16,8 +16,7 @@ use Rattle.terms.specs.Row.{Row, row_at}
 use Rattle.terms.specs.Terms.{Term, no_term, term_by, terms, as_path, as_qualifier, path_in, qualifier_in}
 use Rattle.selection.specs.code.MarksHeld.{Marks}
 use Rattle.marking.specs.code.Added.{marked, Added}
-use Rattle.marking.proofs.Added.{nothing_added, added_cong}
-use Rattle.marking.proofs.Steps.{added_twice}
+use Rattle.marking.proofs.Added.{nothing_added, added_cong, added_twice}
 use Rattle.selection.specs.code.Limit.{Finished, Exceeded, UnderLimit}
 use Rattle.selection.specs.code.Parts.{leaf_path}
 use Rattle.selection.proofs.Folds.{sum_cong}

@@ -39,7 +39,7 @@ impl<'a> Context<'a> {
         terms::row_at(lent.rows, r)
     }
 
-    // The same rows from node z.
+    // The same rows from node z. Each field by name, here and below: beside a ghost field the check doesn't cover `..`.
     pub fn at(&self, z: usize) -> Context<'a>
         requires { z < length (doc self.now.lent.now.document) }
         ensures lent { result.lent ≡ self.now.lent }

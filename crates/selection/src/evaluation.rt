@@ -134,6 +134,7 @@ impl Context<'_> {
     {
         let mut first = [false; MAX_NODES];
         self.eval_path(a, left, &mut first)?;
+        // By number, here and in `eval_filter`: the range says that z is a node, which `at` asks.
         for z in 0..self.node_count() {
             if first[z] {
                 self.at(z).eval_path(b, left, out)?;

@@ -40,7 +40,8 @@ fn copy_out(m: &[bool], buffer: &mut [u8])
     requires { length m.now ≤ length buffer.old }
     ensures { buffer.new ≡ written (length m.now) (marked m.now) buffer.old }
 {
-    // By place: what a `for` over `iter_mut` with `zip` leaves in `buffer` is a value of which no fact says anything.
+    // By place: of `iter_mut` with `zip` no fact says what it leaves, and `iter_mut().enumerate()` would read `m` by
+    // place instead.
     for (y, mark) in m.iter().enumerate() {
         buffer[y] = u8::from(*mark);
     }

@@ -20,7 +20,7 @@ use Rattle.session.specs.declared.session.Session.{Session}
 use Rattle.session.specs.code.Results.{ReadResult}
 use Rattle.calls.specs.Book.{Step, book, answer}
 use Rattle.calls.specs.Runs.{seen, done, then}
-use Rattle.calls.specs.Calls.{Call, step, CallSeen, book_after}
+use Rattle.calls.specs.Calls.{Call, step, CallSeen, AllAccepted, book_after}
 use Rattle.calls.specs.code.Tables.{row_width}
 use Rattle.session.specs.View.{view, fresh_session}
 use Rattle.terms.specs.Row.{row_numbers}
@@ -32,7 +32,7 @@ use Rattle.session.specs.Promises.{CallRelation, SelectRelation, session_answer,
 use Rattle.session.specs.Promises.{Met, CallsMade, SelectMet}
 use Rattle.session.specs.ReadCall.{ReadMet}
 use Rattle.session.specs.WriteCall.{session_text, WriteRelation, WriteMet}
-use Rattle.session.specs.ReadDemand.{IsAccepted, calls_of, RowFits, StepFits, CallFits, ReadDemand}
+use Rattle.session.specs.ReadDemand.{calls_of, RowFits, StepFits, CallFits, ReadDemand}
 use Rattle.session.specs.SessionLaws.{session_of, without_points}
 use Rattle.calls.proofs.Runs.{run_map, accepted_made}
 use Rattle.session.proofs.Demand3.{CallsKept, SelectsKept}
@@ -77,7 +77,7 @@ abbrev all_read : Session → Reading
 all_read u = record { answer = answer 0 (length (view u).steps); session = u }
 
 steps_written : (s : Session) (n : ℕ) (ps : List Step) (os : List CallSeen) (u : Session) → Every StepFits ps
-    → CallsMade s (map step ps) os u → Every IsAccepted os
+    → CallsMade s (map step ps) os u → AllAccepted os
     → steps_read row_step_answer s n (lines (steps_text ps)) ≡ all_read u
 unfolding steps_text steps_read lines
 steps_written s n [] os u fits done taken = refl
@@ -88,7 +88,7 @@ steps_written s n (p ∷ ps) os u fits (then {os = rest} m run) taken =
 
 rows_written : (s : Session) (n : ℕ) (rs : List Row) (ps : List Step) (os : List CallSeen) (u : Session)
     → Every RowFits rs → Every StepFits ps
-    → CallsMade s (calls_of rs ps) os u → Every IsAccepted os → rows_read row_step_answer s n
+    → CallsMade s (calls_of rs ps) os u → AllAccepted os → rows_read row_step_answer s n
     (lines (rows_text rs ++ (step_names ++ newline ∷ steps_text ps))) ≡ all_read u
 unfolding rows_text first_is
 rows_written s n [] ps os u rows steps run taken =
@@ -103,7 +103,7 @@ rows_written s n (r ∷ rs) ps os u rows steps (then {os = rest} m run) taken =
 
 well_written : (rs : List Row) (ps : List Step) (os : List CallSeen) (u : Session) → Every RowFits rs
     → Every StepFits ps
-    → CallsMade fresh_session (calls_of rs ps) os u → Every IsAccepted os → reading (bundle_text rs ps) ≡ record {
+    → CallsMade fresh_session (calls_of rs ps) os u → AllAccepted os → reading (bundle_text rs ps) ≡ record {
       answer = answer 0 (length ps);
       session = u;
     }
@@ -122,7 +122,7 @@ record TakenRun (s : Session) (cs : List Call) : Type 0 where
   pub seen : List CallSeen
   pub last : Session
   pub made : CallsMade s cs seen last
-  pub accepted : Every IsAccepted seen
+  pub accepted : AllAccepted seen
   pub kept : Kept last
   pub held : view last ≡ book_with_all (view s) cs
 

@@ -11,7 +11,7 @@ use Rattle.calls.specs.declared.answer.LineRefusal.{LineRefusal}
 use native.Mathlib.Omega.{arith}
 use lib.ListN.{length, drop}
 use lib.Seq.{sets}
-use Rattle.terms.specs.Row.{max_rows}
+use Rattle.terms.specs.Row.{row_of_numbers, max_rows}
 use Rattle.lines.specs.Ascii.{ascii}
 use Rattle.lines.specs.Line.{newline, lines, first_is}
 use Rattle.lines.specs.code.NumbersRead.{first_numbers, LineMet, starts_with}
@@ -21,10 +21,10 @@ use Rattle.session.specs.declared.session.Session.{Session}
 use Rattle.calls.specs.Book.{max_steps, book, answer}
 use Rattle.calls.specs.code.Tables.{row_width, step_width, first_rows, first_steps}
 use Rattle.session.specs.View.{view, fresh_session}
-use Rattle.calls.specs.Book.{step_numbers}
+use Rattle.calls.specs.Book.{step_numbers, step_of_numbers}
 use Rattle.calls.specs.Promises.{row_step_answer}
 use Rattle.term_calls.specs.code.Placed.{TermPlaced}
-use Rattle.bundles.specs.Bundle.{row_names, step_names, row_of_numbers, step_of_numbers}
+use Rattle.bundles.specs.Bundle.{row_names, step_names}
 use Rattle.common.specs.Refusals.{wrong_form}
 use Rattle.session.specs.Reading.{refused_at, steps_read, rows_read}
 use Rattle.session.specs.code.Parts.{holding, refused_by}

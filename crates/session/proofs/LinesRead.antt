@@ -5,18 +5,19 @@ use mathlib.Core.Bool.{true, false, cond, false≢true}
 use mathlib.Core.List.{List, [], ◌∷◌}
 use mathlib.Core.Option.{none, some, Option-elim, some-ne-none}
 use lib.ListN.{drop}
+use Rattle.terms.specs.Row.{row_of_numbers}
 use Rattle.lines.specs.Line.{Line, first_is}
 use Rattle.lines.specs.Number.{numbers_of}
 use Rattle.lines.specs.code.NumbersRead.{first_parts, first_numbers}
 use Rattle.session.specs.declared.session.Session.{Session}
-use Rattle.calls.specs.Book.{Answer, accepted}
+use Rattle.calls.specs.Book.{Answer, accepted, step_of_numbers}
 use Rattle.calls.specs.TermCall.{term_answer}
 use Rattle.calls.specs.code.Tables.{row_width, step_width}
 use Rattle.session.specs.View.{view, with_row, with_step}
 use Rattle.calls.specs.Calls.{term, step}
 use Rattle.calls.specs.Promises.{row_step_answer}
 use Rattle.session.specs.Promises.{Met}
-use Rattle.bundles.specs.Bundle.{step_names, row_of_numbers, step_of_numbers, row_of_line, step_of_line}
+use Rattle.bundles.specs.Bundle.{step_names, row_of_line, step_of_line}
 use Rattle.common.specs.Refusals.{wrong_form}
 use Rattle.session.specs.Reading.{refused_at, steps_read, rows_read}
 use Rattle.calls.proofs.Accepted.{if_accepted, if_refused}

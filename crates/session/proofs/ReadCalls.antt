@@ -9,7 +9,6 @@ use native.Mathlib.Omega.{arith}
 use lib.ListN.{length}
 use borrow.Author.Tests.{eqb-true, eqb-false}
 use Rattle.terms.specs.Row.{Row}
-use Rattle.common.specs.Lists.{Every}
 use Rattle.lines.specs.Line.{Line, line, lines, same_bytes, is_line}
 use Rattle.lines.proofs.SameBytes.{same_bytes_lem}
 use Rattle.session.specs.declared.session.Session.{Session}
@@ -17,7 +16,7 @@ use Rattle.session.specs.code.Results.{ReadResult}
 use Rattle.calls.specs.Book.{Step, Answer, answer, accepted}
 use Rattle.calls.specs.TermCall.{term_answer}
 use Rattle.calls.specs.Runs.{seen, done, then}
-use Rattle.calls.specs.Calls.{term, step, CallSeen}
+use Rattle.calls.specs.Calls.{term, step, CallSeen, AllAccepted}
 use Rattle.session.specs.View.{view, fresh_session, with_row, with_step}
 use Rattle.calls.specs.Promises.{row_step_answer}
 use Rattle.session.specs.Promises.{CallRelation, SelectRelation, session, Met, CallsMade, SelectMet}
@@ -25,7 +24,7 @@ use Rattle.bundles.specs.Bundle.{row_names, step_names, row_of_line, step_of_lin
 use Rattle.common.specs.Refusals.{wrong_form}
 use Rattle.session.specs.Reading.{Reading, refused_at, steps_read, rows_read, lines_read}
 use Rattle.session.specs.ReadCall.{read_answer_of, ReadMet}
-use Rattle.session.specs.ReadDemand.{IsAccepted, calls_of, IsBundle, ReadAccepted}
+use Rattle.session.specs.ReadDemand.{calls_of, IsBundle, ReadAccepted}
 use Rattle.calls.proofs.Runs.{accepted_made, run_map}
 use Rattle.session.proofs.ReadByRows.{reading_by_rows}
 use Rattle.session.proofs.Demand3.{CallsKept, SelectsKept, demanded}
@@ -46,7 +45,7 @@ record StepsMade (s : Session) (ls : List Line) (u : Session) : Type 0 where
   pub are_steps : map step_of_line ls ≡ map some steps
   pub seen : List CallSeen
   pub made : CallsMade s (map step steps) seen u
-  pub accepted : Every IsAccepted seen
+  pub accepted : AllAccepted seen
 
 one_step : (s : Session) (p : Step) (l : Line) (ls : List Line) (u : Session) → step_of_line l ≡ some p
     → (row_step_answer (view s) p).number ≡ 0
@@ -106,7 +105,7 @@ record RowsMade (s : Session) (ls : List Line) (u : Session) : Type 0 where
   pub are_steps : map step_of_line step_lines ≡ map some steps
   pub seen : List CallSeen
   pub made : CallsMade s (calls_of rows steps) seen u
-  pub accepted : Every IsAccepted seen
+  pub accepted : AllAccepted seen
 
 names_made : (s : Session) (l : Line) (ls : List Line) (u : Session) → is_line step_names l ≡ true → StepsMade s ls u
     → RowsMade s (l ∷ ls) u
@@ -195,7 +194,7 @@ record BundleMade (ls : List Line) (u : Session) : Type 0 where
   pub bundle : IsBundle ls rows steps
   pub seen : List CallSeen
   pub made : CallsMade fresh_session (calls_of rows steps) seen u
-  pub accepted : Every IsAccepted seen
+  pub accepted : AllAccepted seen
 
 first_names_made : (l : Line) (ls : List Line) (u : Session) → is_line row_names l ≡ true → RowsMade fresh_session ls u
     → BundleMade (l ∷ ls) u

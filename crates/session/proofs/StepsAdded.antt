@@ -2,14 +2,13 @@
 use mathlib.Core.Path.{◌≡◌, refl, sym, ap, ◌∙◌}
 use mathlib.Core.List.{List, [], ◌∷◌, ◌++◌, map, append_assoc, append-nil}
 use Rattle.terms.specs.Row.{Row}
-use Rattle.common.specs.Lists.{Every}
 use Rattle.session.specs.declared.session.Session.{Session}
 use Rattle.calls.specs.Book.{Step, Book, pointed_book, book, empty_book, Answer}
 use Rattle.calls.specs.Runs.{done, then}
-use Rattle.calls.specs.Calls.{Call, term, step, CallSeen, book_with}
+use Rattle.calls.specs.Calls.{Call, term, step, CallSeen, AllAccepted, book_with}
 use Rattle.session.specs.View.{view, fresh_session}
 use Rattle.session.specs.Promises.{Met, CallsMade}
-use Rattle.session.specs.ReadDemand.{IsAccepted, calls_of}
+use Rattle.session.specs.ReadDemand.{calls_of}
 use Rattle.calls.proofs.Accepted.{if_accepted}
 use Rattle.session.proofs.Simulation.{Kept, fresh_kept, call_follows, kept_on}
 use Rattle.session.proofs.Views.{fresh_view}
@@ -27,7 +26,7 @@ book_with_all b [] = b
 book_with_all b (c ∷ cs) = book_with_all (book_with b c) cs
 
 pub calls_add : {s u : Session} {cs : List Call} {os : List CallSeen} → Kept s → CallsMade s cs os u
-    → Every IsAccepted os → view u ≡ book_with_all (view s) cs
+    → AllAccepted os → view u ≡ book_with_all (view s) cs
 calls_add k done taken = refl
 calls_add k (then {cs = cs} m run) taken =
     calls_add (kept_on k m) run taken.1 ∙ ap (λ b. book_with_all b cs) (call_adds k m taken.0)
@@ -53,6 +52,6 @@ calls_behind rs ps = all_behind empty_book rs ps
 
 -- what the accepted calls of rows and then steps hold from a fresh session on
 pub calls_held : (rs : List Row) (ps : List Step) (os : List CallSeen) (u : Session)
-    → CallsMade fresh_session (calls_of rs ps) os u → Every IsAccepted os → view u ≡ book rs ps
+    → CallsMade fresh_session (calls_of rs ps) os u → AllAccepted os → view u ≡ book rs ps
 calls_held rs ps os u run taken =
     calls_add fresh_kept run taken ∙ ap (λ b. book_with_all b (calls_of rs ps)) fresh_view ∙ calls_behind rs ps

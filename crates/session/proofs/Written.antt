@@ -11,14 +11,13 @@ use lib.Seq.{sets-eq, take_at, length-take-le}
 use borrow.Author.Tests.{le-leb, lt-leb}
 use Rattle.terms.specs.Row.{Row, max_rows}
 use Rattle.common.specs.Limits.{max_bytes}
-use Rattle.common.specs.Lists.{Every}
 use Rattle.lines.specs.Line.{newline, lines}
 use Rattle.session.specs.declared.session.Session.{Session}
 use Rattle.std.specs.Prelude.{Ok, Err}
 use Rattle.common.specs.declared.refusal.Refusal.TheVariants.{ShortBuffer}
 use Rattle.calls.specs.Book.{Step, max_steps, Book, answer}
 use Rattle.common.specs.Refusals.{short_buffer}
-use Rattle.calls.specs.Calls.{CallSeen}
+use Rattle.calls.specs.Calls.{CallSeen, AllAccepted}
 use Rattle.calls.specs.code.Tables.{row_width, step_width, first_row_numbers, first_step_numbers}
 use Rattle.bundles.specs.Bundle.{row_names, step_names, bundle_text}
 use Rattle.bundles.specs.code.TextPut.{held_text, TextWritten}
@@ -28,7 +27,7 @@ use Rattle.bundles.proofs.Spelling.{text_of, lines_joined, text_append, rows_spe
 use Rattle.session.specs.View.{rows_held, steps_held, view, fresh_session}
 use Rattle.session.specs.Promises.{CallsMade}
 use Rattle.session.specs.WriteCall.{session_text, WriteMet}
-use Rattle.session.specs.ReadDemand.{IsAccepted, calls_of, IsBundle}
+use Rattle.session.specs.ReadDemand.{calls_of, IsBundle}
 use Rattle.session.proofs.Sorted.{AllSorted}
 use Rattle.session.proofs.StepsAdded.{calls_held}
 
@@ -74,7 +73,7 @@ bundle_spelled bytes rs ps b =
 -- what the calls of a bundle leave has its bytes for text
 pub read_text : (bytes : List ℕ) (rs : List Row) (ps : List Step) (os : List CallSeen) (u : Session)
     → IsBundle (lines bytes) rs ps
-    → CallsMade fresh_session (calls_of rs ps) os u → Every IsAccepted os → session_text u ≡ bytes
+    → CallsMade fresh_session (calls_of rs ps) os u → AllAccepted os → session_text u ≡ bytes
 read_text bytes rs ps os u b run taken =
     ap (λ b. bundle_text b.rows b.steps) (calls_held rs ps os u run taken) ∙ sym (bundle_spelled bytes rs ps b)
 

@@ -8,7 +8,7 @@ use Rattle.xpath.specs.Meaning.{selects, holds}
 use Rattle.terms.specs.Terms.{path_at}
 use Rattle.rules.specs.Claim.{Containment, Implication}
 use Rattle.session.specs.declared.session.Session.{Session}
-use Rattle.calls.specs.Book.{no_step, Book}
+use Rattle.calls.specs.Book.{no_step, Book, IsAccepted}
 use Rattle.calls.specs.StepCall.{claim_of}
 use Rattle.calls.specs.SelectCall.{select_answer}
 use Rattle.calls.specs.Runs.{Run}
@@ -36,11 +36,11 @@ module _ (Selected : SelectRelation) where
         → answer_of t ≡ select_answer b.rows row xs x limit (length buffer)
     -- a refused select leaves the buffer
     pub refused : (row : ℕ) (xs : List ℕ) (x limit : ℕ) (buffer left : List ℕ) (t : NumberOrRefusal)
-        → Selected s row xs x limit buffer t left → ¬ ((answer_of t).number ≡ 0) → left ≡ buffer
+        → Selected s row xs x limit buffer t left → ¬ IsAccepted (answer_of t) → left ≡ buffer
     -- where select accepts, the lent numbers are a well-formed document, its nodes are marked 1 or 0 as the path
     -- selects them, and later bytes stay
     pub marks : (row : ℕ) (xs : List ℕ) (x limit : ℕ) (buffer left : List ℕ) (t : NumberOrRefusal)
-        → Selected s row xs x limit buffer t left → (answer_of t).number ≡ 0
+        → Selected s row xs x limit buffer t left → IsAccepted (answer_of t)
         → T (well_formed (document_of xs))
         × ((y : ℕ) → y < length (document_of xs)
         → get_or left y 0 ≡ cond (selects (document_of xs) (path_at b.rows row) x y) 1 0)
@@ -50,8 +50,8 @@ module _ (Selected : SelectRelation) where
     pub marks_contained : (i : ℕ) → i < length b.steps
         → (p q : Path) → claim_of b.rows (get_or b.steps i no_step) ≡ Containment p q
         → (xs : List ℕ) (x limit limit' : ℕ) (buffer buffer' left left' : List ℕ) (t t' : NumberOrRefusal)
-        → Selected s (get_or b.steps i no_step).left xs x limit buffer t left → (answer_of t).number ≡ 0
-        → Selected s (get_or b.steps i no_step).right xs x limit' buffer' t' left' → (answer_of t').number ≡ 0
+        → Selected s (get_or b.steps i no_step).left xs x limit buffer t left → IsAccepted (answer_of t)
+        → Selected s (get_or b.steps i no_step).right xs x limit' buffer' t' left' → IsAccepted (answer_of t')
         → (y : ℕ) → y < length (document_of xs) → get_or left y 0 ≡ 1 → get_or left' y 0 ≡ 1
 
   -- what demand 3 asks of the calls cs, of which os was seen and which left s

@@ -3,7 +3,7 @@
 use Rattle.calls.specs.code.Answers.{OrderOrRefusal, order_answer_of}
 use Rattle.std.specs.Prelude.{ℕ, ◌≤◌, ◌<◌, ◌≡◌, List, [], ◌∷◌, map, ◌↔◌, length}
 use Rattle.terms.specs.Terms.{term_at}
-use Rattle.calls.specs.Book.{Book, answer}
+use Rattle.calls.specs.Book.{Book, answer, IsAccepted}
 use Rattle.calls.specs.Runs.{Run}
 use Rattle.calls.specs.Calls.{Call, CallSeen, book_after}
 use Rattle.ordering.specs.TermOrder.{term_order}
@@ -33,7 +33,7 @@ module _ (Ordered : OrderRelation) (BundleOrdered : BundleOrderRelation) where
   -- an order call on rows i and j of s answered less or equal
   abbrev pub RowAtMost : Session → (i j : ℕ) → Type 0
   RowAtMost s i j =
-      (r : OrderOrRefusal) × Ordered s i s j r × ((order_answer_of r).number ≡ 0) × ((order_answer_of r).value ≤ 1)
+      (r : OrderOrRefusal) × Ordered s i s j r × IsAccepted (order_answer_of r) × ((order_answer_of r).value ≤ 1)
 
   -- a list of rows that is sorted by such calls
   abbrev pub SortedRows : Session → List ℕ → Type 0

@@ -9,8 +9,8 @@ use Rattle.lines.specs.Line.{Line, line, lines}
 use Rattle.lines.specs.Written.{AllFit}
 use Rattle.session.specs.declared.session.Session.{Session}
 use Rattle.session.specs.code.Results.{ReadResult}
-use Rattle.calls.specs.Book.{Step, answer}
-use Rattle.calls.specs.Calls.{Call, term, step, text, point, return, CallSeen}
+use Rattle.calls.specs.Book.{Step, answer, IsAccepted}
+use Rattle.calls.specs.Calls.{Call, term, step, text, point, return, CallSeen, AllAccepted}
 use Rattle.calls.specs.Runs.{Run}
 use Rattle.session.specs.View.{view, fresh_session}
 use Rattle.terms.specs.Row.{row_numbers}
@@ -21,9 +21,6 @@ use Rattle.session.specs.ReadCall.{read_answer_of}
 use Rattle.session.specs.WriteCall.{WriteRelation}
 use Rattle.session.specs.Demand3.{Demand3}
 use Rattle.session.specs.SessionLaws.{without_points}
-
-abbrev pub IsAccepted : CallSeen → Type 0
-IsAccepted o = o.answer.number ≡ 0
 
 -- a term call for each row, and then a step call for each step
 abbrev pub calls_of : List Row → List Step → List Call
@@ -62,7 +59,7 @@ module _ (Selected : SelectRelation) (Called : CallRelation) where
     pub bundle : IsBundle (lines bytes) rows steps
     pub seen : List CallSeen
     pub made : Run view Called fresh_session (calls_of rows steps) seen t.session
-    pub all_accepted : Every IsAccepted seen
+    pub all_accepted : AllAccepted seen
     pub count : read_answer_of t.answer ≡ answer 0 (length steps)
     pub demand : Demand3 Selected (calls_of rows steps) seen t.session
 
@@ -71,30 +68,30 @@ module _ (Selected : SelectRelation) (Called : CallRelation) where
   pub record ReadDemand (Read : List ℕ → ReadResult → Type 0) (Write : WriteRelation) : Type 0 where
     -- read accepts only bundles, makes their calls, and demand 3 holds of them
     pub accepted : (bytes : List ℕ) (t : ReadResult) → Read bytes t
-        → (read_answer_of t.answer).number ≡ 0 → ReadAccepted bytes t
+        → IsAccepted (read_answer_of t.answer) → ReadAccepted bytes t
     -- a refused reading leaves a fresh session
     pub refused : (bytes : List ℕ) (t : ReadResult) → Read bytes t
-        → ¬ ((read_answer_of t.answer).number ≡ 0) → t.session ≡ fresh_session
+        → ¬ IsAccepted (read_answer_of t.answer) → t.session ≡ fresh_session
     -- reading the text of calls that are all accepted is making them: 0 with the number of steps, and the session that
     -- they leave
     pub reads_back : (rs : List Row) (ps : List Step) (os : List CallSeen) (s : Session)
         → Every RowFits rs → Every StepFits ps
-        → Run view Called fresh_session (calls_of rs ps) os s → Every IsAccepted os
+        → Run view Called fresh_session (calls_of rs ps) os s → AllAccepted os
         → (t : ReadResult) → Read (bundle_text rs ps) t
         → (read_answer_of t.answer ≡ answer 0 (length ps)) × (t.session ≡ s)
     -- reading what was written of a session that calls lead to, returns among them, gives 0, the number of steps, and
     -- that very session but for its points
     pub written_reads_back : (cs : List Call) (os : List CallSeen) (s : Session)
         → Run view Called fresh_session cs os s → Every CallFits cs
-        → (buffer left : List ℕ) (w : NumberOrRefusal) → Write s buffer w left → (answer_of w).number ≡ 0
+        → (buffer left : List ℕ) (w : NumberOrRefusal) → Write s buffer w left → IsAccepted (answer_of w)
         → (t : ReadResult) → Read (take (answer_of w).value left) t
         → (read_answer_of t.answer ≡ answer 0 (length (view s).steps)) × (t.session ≡ without_points s)
     -- what read accepted and is written again is the same bytes
-    pub same_bytes : (bytes : List ℕ) (t : ReadResult) → Read bytes t → (read_answer_of t.answer).number ≡ 0
-        → (buffer left : List ℕ) (w : NumberOrRefusal) → Write t.session buffer w left → (answer_of w).number ≡ 0
+    pub same_bytes : (bytes : List ℕ) (t : ReadResult) → Read bytes t → IsAccepted (read_answer_of t.answer)
+        → (buffer left : List ℕ) (w : NumberOrRefusal) → Write t.session buffer w left → IsAccepted (answer_of w)
         → take (answer_of w).value left ≡ bytes
     -- a buffer as long as the longest text that audit takes has room for every session that calls lead to
     pub always_room : (cs : List Call) (os : List CallSeen) (s : Session)
         → Run view Called fresh_session cs os s → Every CallFits cs
         → (buffer left : List ℕ) (w : NumberOrRefusal) → Write s buffer w left → max_bytes ≤ length buffer
-        → (answer_of w).number ≡ 0
+        → IsAccepted (answer_of w)

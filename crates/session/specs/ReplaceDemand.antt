@@ -4,7 +4,7 @@ use Rattle.std.specs.Prelude.{ℕ, ◌≡◌, false, List, ◌↔◌, T}
 use Rattle.common.specs.Lists.{Every}
 use Rattle.xpath.specs.Term.{Path}
 use Rattle.terms.specs.Fields.{held_path}
-use Rattle.calls.specs.Book.{Book}
+use Rattle.calls.specs.Book.{Book, IsAccepted}
 use Rattle.calls.specs.Runs.{Run}
 use Rattle.calls.specs.Calls.{Call, CallSeen, book_after}
 use Rattle.replacing.specs.Covered.{is_replaced, is_covered}
@@ -36,10 +36,10 @@ module _ (Replaced : ReplaceRelation) where
     pub answers : (old new by : List ℕ) (t : DoneOrRefusal) → Replaced s old new by t
         → done_answer_of t ≡ replace_answer b old new by
     pub accepts : (old new by : List ℕ) (t : DoneOrRefusal) → Replaced s old new by t
-        → ((done_answer_of t).number ≡ 0) ↔ ((are_bad_lists old new by ≡ false) × T (is_covered b old new by))
+        → IsAccepted (done_answer_of t) ↔ ((are_bad_lists old new by ≡ false) × T (is_covered b old new by))
     -- where it accepts, each node that any old path selects is selected by some new one
     pub accepted : (old new by : List ℕ) (t : DoneOrRefusal) → Replaced s old new by t
-        → (done_answer_of t).number ≡ 0
+        → IsAccepted (done_answer_of t)
         → Every (λ n. T (held_path b.rows n)) old × NoneLost (paths_of b.rows old) (paths_of b.rows new)
 
   -- the demand: every list of calls, run from what `Session::new` gives, refused ones included

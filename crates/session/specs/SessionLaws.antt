@@ -3,7 +3,7 @@ use Rattle.std.specs.Prelude.{ℕ, ◌-◌, ◌*◌, ◌≡◌, List, [], ◌∷
 use Rattle.common.specs.Lists.{Every, joined}
 use Rattle.terms.specs.Row.{max_rows}
 use Rattle.session.specs.declared.session.Session.{Session}
-use Rattle.calls.specs.Book.{max_steps, Point, max_points, Book, Answer, answer}
+use Rattle.calls.specs.Book.{max_steps, Point, max_points, Book, Answer, answer, IsAccepted}
 use Rattle.calls.specs.PointCall.{point_names}
 use Rattle.calls.specs.Runs.{Run}
 use Rattle.calls.specs.Calls.{Call, term, step, text, point, return, CallSeen, book_after}
@@ -73,7 +73,7 @@ module _ (New : Session → Type 0) (Called : CallRelation) where
   abbrev pub SessionRestored : Type 0
   SessionRestored = (s₀ s t u v : Session) (cs ds : List Call) (os ps : List CallSeen) (n : ℕ) (a b : Answer)
       → New s₀ → Run view Called s₀ cs os s
-      → Called s (point n) a t → a.number ≡ 0
+      → Called s (point n) a t → IsAccepted a
       → Run view Called t ds ps u → Every (KeepsPoints (point_names (view s).points)) ds
       → Called u (return n) b v
       → (b ≡ answer 0 0) × (v ≡ t) × (without_points v ≡ without_points s)

@@ -26,7 +26,7 @@ impl Session {
         step_calls::rule_uses(steps, rule)
     }
 
-    // The rows of the last step; zeros where there is none, as the program audit prints them.
+    // The rows of the last step; zeros if there is none, as `report` of auditing's specs has them, which is believed.
     #[tactic(auto, using(crate::proofs::Views::steps_viewed), unfolding(crate::specs::View::view))]
     pub fn last_step(self) -> Sides
         ensures { sides_in result ≡ sides_of (step_numbered (view self).steps (length (view self).steps)) }

@@ -54,7 +54,8 @@ fn read_rows(bytes: &[u8], start: usize, rows: &mut KeptRows) -> Result<RowsEnd,
 }
 
 // Makes the step calls of a bundle's lines behind its term lines, whose rows are held. Its loop is another one than
-// that of `read_rows`: it ends with the text, and counts what it puts.
+// that of `read_rows`: it ends with the text, and counts what it puts. The length of `steps` is a clause, as that of
+// the table of readings: past a call a proof knows an array's length, too, only by what the call promises.
 fn read_steps(
     bytes: &[u8],
     first: RowsEnd,

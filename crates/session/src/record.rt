@@ -24,7 +24,7 @@ impl Session {
     pub fn drops_in_use(self, records: Records, name: u16) -> bool
         ensures { result ≡ drops_in_use (view self) (records_in records) (Call.return name) }
     {
-        let point = point_calls::point_named(&self.points, self.point_count, name);
+        let point = point_calls::point_named(self.held_points(), name);
         let (n, m) = (usize::from(point.rows), usize::from(point.steps));
         let kept = Held::first(&self.rows, n, &self.steps, m);
         !records.all_kept(terms::row_count(kept.rows), calls::step_count(kept.steps))

@@ -3,6 +3,7 @@ ghost use Rattle.calls.specs.code.Answers.{answer_of, done_answer_of, step_of};
 ghost use Rattle.std.specs.Prelude.{◌≡◌};
 ghost use Rattle.terms.specs.code.RowTypes.{row_of};
 ghost use Rattle.calls.specs.Calls.{Call};
+ghost use Rattle.calls.specs.code.Points.{first_point_numbers};
 ghost use Rattle.calls.specs.code.Tables.{first_row_numbers, first_step_numbers};
 ghost use Rattle.session.specs.View.{rows_held, steps_held, points_held, fresh_session};
 ghost use Rattle.session.specs.Promises.{Met, SelectMet};
@@ -96,6 +97,13 @@ impl Session {
         calls::first_steps(&self.steps, self.step_count)
     }
 
+    // The same of the points. Not in `Held`: a call on points takes no other table.
+    pub(crate) fn held_points(&self) -> &[u16]
+        ensures { result.now ≡ first_point_numbers self.now.point_count self.now.points }
+    {
+        calls::first_points(&self.points, self.point_count)
+    }
+
     // The rows and the steps held.
     pub(crate) fn held(&self) -> Held<'_>
         ensures { (result.rows.now ≡ first_row_numbers self.now.row_count self.now.rows)
@@ -140,7 +148,7 @@ impl Session {
         let n = self.rows_counted();
         let m = self.steps_counted();
         let k = self.points_counted();
-        let told = point_calls::judge_point(&self.points, self.point_count, name);
+        let told = point_calls::judge_point(self.held_points(), name);
         if told.is_ok() {
             let point = PointCounts {
                 name,
@@ -161,9 +169,8 @@ impl Session {
     pub fn return_to(mut self, name: u16) -> Answered<Result<(), Refusal>>
         ensures { Met self (Call.return name) (done_answer_of result.answer) result.session }
     {
-        let found = point_calls::judge_return(&self.points, self.point_count, name);
-        if let Ok(place) = found {
-            let point = point_calls::point_at(&self.points, self.point_count, place);
+        let found = point_calls::judge_return(self.held_points(), name);
+        if let Ok((place, point)) = found {
             let n = usize::from(point.rows);
             let m = usize::from(point.steps);
             point_calls::clear(&mut self.rows, terms::ROW_WIDTH * n);

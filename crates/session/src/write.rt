@@ -4,7 +4,6 @@ ghost use Rattle.bundles.specs.code.TextPut.{TextWritten};
 ghost use Rattle.session.specs.WriteCall.{session_text, WriteMet};
 
 use crate::session::Session;
-use calls::Held;
 use common::Refusal;
 
 // What lines are appended to, which T-02 speaks of: a caller's buffer, and the position of the next line.
@@ -19,8 +18,7 @@ pub struct Writer<'a> {
 fn write_at(out: &mut [u8], at: usize, s: Session) -> usize
     ensures { TextWritten out.old at (session_text s) result out.new }
 {
-    let held = Held::first(&s.rows, s.row_count, &s.steps, s.step_count);
-    bundles::write_tables(out, at, held)
+    bundles::write_tables(out, at, s.held())
 }
 
 impl<'a> Writer<'a> {

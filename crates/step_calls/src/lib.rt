@@ -85,20 +85,18 @@ fn check_premises(held: usize, step: Step) -> Result<(), Refusal>
     }
 }
 
-// Whether the rule yields the step, judged by row numbers. The premises are read apart, as a step names them, and lent
-// apart, as `yields` takes them.
+// Whether the rule yields the step, judged by row numbers.
 fn is_yielded(held: Held, step: Step, noted: &mut [Option<u16>]) -> bool
     requires { Noted (table_of held.rows.now) noted.old }
     ensures { (result ≡ row_yielded (book_held held.entry) (step_of step))
         × Noted (table_of held.entry.rows.now) noted.new }
 {
-    let first = sides_of(held.steps, step.first);
-    let second = sides_of(held.steps, step.second);
     let sides = Sides {
         left: step.left,
         right: step.right,
     };
-    matching::yields(held.rows, step.rule, sides, first, second, noted)
+    let premises = [step.first, step.second].map(|i| sides_of(held.steps, i));
+    matching::yields(held.rows, step.rule, sides, premises, noted)
 }
 
 // The answer of a step call on the rows and steps held: the first refusal that applies, or the new step's number. The

@@ -23,13 +23,15 @@ pub const LONGEST_LIST: usize = tallies::MAX_FILES * (LONGEST_NAME + 1) + 1;
 // Longer than a line of two numbers.
 const LONGEST_LINE: usize = 64;
 
-// The open files, in the order of their names. Fixed memory without a heap: no list can fail for want of it. An
-// ArrayVec asks for a default of what it holds, and a file has none.
+// The open files, in the order of their names. Fixed memory without a heap: no list can fail for want of it. Of
+// Option<File> an ArrayVec would be this array and a length that nothing asks for; of File it can't be made, since it
+// asks for a default, and a file has none.
 type OpenFiles = [Option<File>; tallies::MAX_FILES];
 
 const NO_FILE: Option<File> = None;
 
-// The file of that name; none if it can't be opened. A name that is no UTF-8 can't be.
+// The file of that name; none if it can't be opened. A name that is no UTF-8 can't be. By `names::name_at` and not by
+// a walk over the list's lines: that the file opened is name k rests on its contract.
 fn open_at(rt: &impl Files<File = File>, list: &[u8], k: usize) -> Option<File> {
     let name = names::name_at(list, k);
     let path = str::from_utf8(&list[name.start..name.end]).ok()?;
@@ -77,6 +79,7 @@ fn add_all(files: OpenFiles) -> Tally {
     files.into_iter().flatten().fold(Tally::new(), add_file)
 }
 
+// Much as `print` of reports, which says why they are two functions.
 fn print_line<T: Display + Drop>(line: T) {
     let mut text = ArrayString::<LONGEST_LINE>::new();
     let _ = writeln!(text, "{line}");
@@ -98,7 +101,7 @@ pub fn print_list(rt: &impl Files<File = File>, list: &[u8]) {
     // Beside the files, since a list is judged by what was opened, and no definition knows a file.
     let opened: [bool; tallies::MAX_FILES] = array::from_fn(|k| files[k].is_some());
     if let Err(refused) = tallies::judge_list(list, &opened) {
-        print_line(AnswerLine::of(refused));
+        print_line(AnswerLine::from(refused));
         return;
     }
     print_tally(add_all(files));

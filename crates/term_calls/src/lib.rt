@@ -1,21 +1,21 @@
 // Term calls on lent rows: their answers, and the row that is put after the others.
 #![tactic(auto)]
 
-ghost use Rattle.std.specs.Prelude.{◌≡◌, ◌*◌, ◌≤◌, length};
-ghost use Rattle.terms.specs.Row.{table_of, row_width, max_rows, find};
+ghost use Rattle.std.specs.Prelude.{◌≡◌, ◌≤◌, length};
+ghost use Rattle.terms.specs.Row.{table_of, max_rows, find};
 ghost use Rattle.terms.specs.Nesting.{nesting};
 ghost use Rattle.terms.specs.code.RowTypes.{row_of, FoundIs};
 ghost use Rattle.calls.specs.TermCall.{term_answer};
-ghost use Rattle.calls.specs.code.Tables.{first_rows};
 ghost use Rattle.calls.specs.code.Answers.{answer_of};
 ghost use Rattle.term_calls.specs.code.Placed.{TermPlaced, TermKept};
 
 use calls::first_rows;
 use common::Refusal;
-use terms::{KeptRows, Row};
+use terms::{KeptRows, Row, TABLE_NUMBERS};
 
 // The answer of a term call on the rows, by the row's nesting and the search for an equal row: the first refusal that
-// applies, or the new row's number.
+// applies, or the new row's number. That the rows are few is a clause here, in `judge_term` and in `nestings` of terms:
+// a type with it would be made for these three, and taken apart in each.
 #[tactic(auto, unfolding(calls::specs::TermCall::term_answer))]
 fn term_answer(rows: &[u16], depth: u16, found: Option<usize>, row: Row) -> Result<u16, Refusal>
     requires { (length (table_of rows.now) ≤ max_rows) × (depth ≡ nesting (table_of rows.now) (row_of row))
@@ -37,24 +37,24 @@ fn term_answer(rows: &[u16], depth: u16, found: Option<usize>, row: Row) -> Resu
     Ok(count as u16)
 }
 
-// The same on the first n rows of a table.
-#[tactic(auto, using(calls::proofs::Tables::few_rows))]
-fn judge_term(rows: &[u16], n: usize, row: Row) -> Result<u16, Refusal>
-    ensures { answer_of result ≡ term_answer (first_rows n rows.now) (row_of row) }
+// The same on rows of which nothing else is kept.
+fn judge_term(rows: &[u16], row: Row) -> Result<u16, Refusal>
+    requires { length (table_of rows.now) ≤ max_rows }
+    ensures { answer_of result ≡ term_answer (table_of rows.now) (row_of row) }
 {
-    let held = first_rows(rows, n);
     // No table of a call has more rows than `nesting_of` takes.
-    let depth = terms::nesting_of(held, row).unwrap();
-    let found = terms::find_row(held, row);
-    term_answer(held, depth, found, row)
+    let depth = terms::nesting_of(rows, row).unwrap();
+    let found = terms::find_row(rows, row);
+    term_answer(rows, depth, found, row)
 }
 
-// A term call on the first n rows: the answer, and the row put after them where it is held.
-pub fn term_in_place(rows: &mut [u16], n: usize, row: Row) -> Result<u16, Refusal>
-    requires { (n ≤ max_rows) × (length rows.old ≡ row_width * max_rows) }
+// A term call on the first n rows: the answer, and the row put after them where it is held, which is why it takes the
+// whole table and not a slice of it.
+#[tactic(auto, using(calls::proofs::Tables::few_rows))]
+pub fn term_in_place(rows: &mut [u16; TABLE_NUMBERS], n: usize, row: Row) -> Result<u16, Refusal>
     ensures { TermPlaced rows.old n (row_of row) rows.new result }
 {
-    let number = judge_term(rows, n, row)?;
+    let number = judge_term(first_rows(rows, n), row)?;
     common::put_record(rows, n, row.into());
     Ok(number)
 }

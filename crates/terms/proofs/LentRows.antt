@@ -11,11 +11,10 @@ use Rattle.std.proofs.Common.{map}
 use Rattle.std.proofs.lemmas.Bool.{le-leb}
 use Rattle.std.specs.Simd.{first_chunks}
 use Rattle.common.proofs.Chunks.{by_width, count_by_width}
-use Rattle.terms.specs.Row.{Row, row, row_width, row_numbers, table_of}
-use Rattle.terms.specs.code.RowTypes.{row_in}
+use Rattle.terms.specs.Row.{Row, row, row_width, row_numbers, row_of_numbers, table_of}
 
 -- a list has a first row where it has four numbers
-one_row : (xs : List ℕ) → table_of xs ≡ cond (leb 4 (length xs)) (row_in (take 4 xs) ∷ table_of (drop 4 xs)) []
+one_row : (xs : List ℕ) → table_of xs ≡ cond (leb 4 (length xs)) (row_of_numbers (take 4 xs) ∷ table_of (drop 4 xs)) []
 unfolding table_of
 one_row [] = refl
 one_row (k ∷ []) = refl
@@ -25,11 +24,11 @@ one_row (k ∷ x ∷ y ∷ z ∷ xs) = rw (le-leb 4 (length (k ∷ x ∷ y ∷ z
 
 -- a row is four numbers
 pub rows_lent : (xs : List ℕ) → length (table_of xs) ≡ length xs / 4
-rows_lent xs = count_by_width 4 row_in table_of one_row (length xs / 4) xs (omega arith) (omega arith)
+rows_lent xs = count_by_width 4 row_of_numbers table_of one_row (length xs / 4) xs (omega arith) (omega arith)
 
 -- the rows are the numbers four by four
-pub rows_by_four : (n : ℕ) (xs : List ℕ) → n ≡ length xs / 4 → map row_in (first_chunks 4 n xs) ≡ table_of xs
-rows_by_four n xs e = by_width 4 row_in table_of one_row n xs (omega arith) (omega arith)
+pub rows_by_four : (n : ℕ) (xs : List ℕ) → n ≡ length xs / 4 → map row_of_numbers (first_chunks 4 n xs) ≡ table_of xs
+rows_by_four n xs e = by_width 4 row_of_numbers table_of one_row n xs (omega arith) (omega arith)
 
 -- n whole rows, and then other numbers
 pub table_append : (n : ℕ) (xs ys : List ℕ) → length xs ≡ 4 * n → table_of (xs ++ ys) ≡ table_of xs ++ table_of ys

@@ -27,6 +27,10 @@ row_width = 4
 abbrev pub row_numbers : Row → List ℕ
 row_numbers r = r.kind ∷ r.a ∷ r.b ∷ r.c ∷ []
 
+-- the row of four numbers
+abbrev pub row_of_numbers : List ℕ → Row
+row_of_numbers ns = row (get_or ns 0 0) (get_or ns 1 0) (get_or ns 2 0) (get_or ns 3 0)
+
 -- the table of lent 16-bit numbers, four a row, without an incomplete last row
 unfoldable pub table_of : List ℕ → List Row
 table_of [] = []

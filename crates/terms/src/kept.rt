@@ -54,6 +54,7 @@ impl KeptRows {
     }
 
     // The numbers of the rows.
+    #[tactic(auto, using(crate::proofs::RowsKept::rows_put))]
     pub fn rows(&self) -> &[u16]
         ensures { (result.now ≡ take (row_width * self.now.count) self.now.numbers)
             × (length (table_of result.now) ≡ self.now.count) }

@@ -7,11 +7,11 @@ mod kept;
 
 ghost use Rattle.std.specs.Prelude.{◌≡◌, ◌↔◌, IsTrue, Some, None, cond, leb, ◌+◌, ◌≤◌};
 ghost use Rattle.std.specs.Prelude.{map, length, get_or, set};
-ghost use Rattle.terms.specs.Row.{row_at, row_numbers, table_of, max_rows, find};
+ghost use Rattle.terms.specs.Row.{row_at, row_numbers, row_of_numbers, table_of, max_rows, find};
 ghost use Rattle.terms.specs.Fields.{is_path, is_qualifier, fields_of, held_path, held_qualifier, field_ok, bad_place};
 ghost use Rattle.terms.specs.Nesting.{operand_nesting, nesting_by, nesting};
 ghost use Rattle.terms.specs.code.Kept.{Nestings};
-ghost use Rattle.terms.specs.code.RowTypes.{row_of, row_in, field_of, fields_in, KindIs, RowIs, FoundIs};
+ghost use Rattle.terms.specs.code.RowTypes.{row_of, field_of, fields_in, KindIs, RowIs, FoundIs};
 ghost use Rattle.common.specs.code.Refusal.{RefusedAt};
 ghost use Rattle.common.specs.declared.refusal.Refusal.TheVariants.{BadField};
 
@@ -22,8 +22,8 @@ use common::row_kind::RowKind;
 use kept::nesting_kept;
 pub use kept::{KeptRows, SLOTS};
 
-// The most rows of a table. An array of what is kept or noted of each row has so many, and a count beside it or the
-// table says how many count: fixed memory without a heap.
+// The most rows of a table. Arrays of what is kept or noted of each row are this long: fixed memory without a heap. A
+// count beside one, or the table, says how much of it is in use.
 pub const MAX_ROWS: usize = 1024;
 
 // The deepest nesting of a row.
@@ -87,7 +87,7 @@ impl Row {
 }
 
 impl From<[u16; ROW_WIDTH]> for Row {
-    ghost from_gives = { λ numbers row. row_of row ≡ row_in numbers };
+    ghost from_gives = { λ numbers row. row_of row ≡ row_of_numbers numbers };
 
     fn from([kind, a, b, c]: [u16; ROW_WIDTH]) -> Row {
         Row { kind, a, b, c }
@@ -103,8 +103,9 @@ impl From<Row> for [u16; ROW_WIDTH] {
 }
 
 // The rows, each as its numbers. `as_chunks` is what rows, steps and points share; each says what its numbers are.
+#[tactic(auto, using(crate::proofs::LentRows::rows_by_four))]
 fn whole_rows(rows: &[u16]) -> &[[u16; ROW_WIDTH]]
-    ensures { map row_in result.now ≡ table_of rows.now }
+    ensures { map row_of_numbers result.now ≡ table_of rows.now }
 {
     rows.as_chunks().0
 }
@@ -115,7 +116,7 @@ pub fn row_count(rows: &[u16]) -> usize
     whole_rows(rows).len()
 }
 
-// Row i. For a record of any width a function would be no plainer than `get`.
+// Row i.
 pub fn get_row(rows: &[u16], i: usize) -> Option<Row>
     ensures { RowIs result (table_of rows.now) i }
 {
@@ -129,7 +130,8 @@ pub fn row_at(rows: &[u16], i: usize) -> Row
     get_row(rows, i).unwrap_or(NO_ROW)
 }
 
-// Whether x is the number of a row that is a path.
+// Whether x is the number of a row that is a path. A function for each sort: each has a definition of its own, and what
+// they share is `get_row`.
 #[tactic(auto, unfolding(crate::specs::Fields::held_path))]
 pub fn is_held_path(rows: &[u16], x: u16) -> bool
     ensures { result ≡ held_path (table_of rows.now) x }
@@ -217,7 +219,7 @@ fn entry_at(entries: &[u16], x: u16) -> u16
     entries.get(usize::from(x)).copied().unwrap_or(0)
 }
 
-// The nesting of the operand x, by the nestings of the rows; 0 for a field that is no operand.
+// The nesting of the operand x, by the nestings of the rows; 0, which adds nothing, for a field that is no operand.
 #[tactic(auto, unfolding(crate::specs::Nesting::operand_nesting))]
 fn operand_nesting(nestings: &[u16], field: Field, x: u16) -> u16
     ensures { result ≡ operand_nesting nestings.now (field_of field) x }
@@ -228,7 +230,7 @@ fn operand_nesting(nestings: &[u16], field: Field, x: u16) -> u16
     }
 }
 
-// The nesting of the deeper operand, by the nestings of the rows before; 0 if there is no operand.
+// The nesting of the deeper operand, by the nestings of the rows before; 0 if there is no operand, which adds nothing.
 #[tactic(auto, unfolding(crate::specs::Nesting::nesting_by))]
 pub(crate) fn deeper_operand(nestings: &[u16], row: Row) -> u16
     ensures { result + 1 ≡ nesting_by nestings.now (row_of row) }
@@ -240,11 +242,13 @@ pub(crate) fn deeper_operand(nestings: &[u16], row: Row) -> u16
 }
 
 // The nestings of the rows, in order, each by those before it, from the start of a table.
+#[tactic(auto, unfolding(crate::specs::Nesting::nestings, crate::specs::Row::entries_from))]
 fn nestings(rows: &[u16]) -> [u16; MAX_ROWS]
     requires { length (table_of rows.now) ≤ max_rows }
     ensures { Nestings (table_of rows.now) result }
 {
     let mut table = [0; MAX_ROWS];
+    // By index: each nesting is made of those before it in the same array.
     for i in 0..row_count(rows) {
         table[i] = deeper_operand(&table[..i], row_at(rows, i)) + 1;
     }
@@ -276,7 +280,7 @@ pub fn is_noted(noted: &[Option<u16>], i: u16, j: u16) -> bool
 pub fn note(noted: &mut [Option<u16>], i: u16, j: u16)
     ensures { noted.new ≡ set noted.old i (Some j) }
 {
-    // By index: the contract of `get_mut` says nothing of what the slice becomes.
+    // By index: of a slice's `get_mut` a proof knows the length afterwards, and no element.
     let at = usize::from(i);
     if at < noted.len() {
         noted[at] = Some(j);

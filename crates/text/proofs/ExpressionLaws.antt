@@ -4,6 +4,7 @@ use mathlib.Core.Path.{◌≡◌, refl, sym, ap, ◌∙◌, subst}
 use mathlib.Core.Bool.{Bool, true, false, cond}
 use mathlib.Core.List.{List, [], ◌∷◌, ◌++◌}
 use native.Mathlib.Omega.{arith}
+use borrow.Author.Clash.{clash}
 use lib.Dec.{eqb}
 use lib.ListN.{length, drop, length-append}
 use Rattle.terms.specs.Row.{row, max_rows}
@@ -18,7 +19,7 @@ use Rattle.heads.specs.code.Head.{proceed}
 use Rattle.readings.specs.code.Build.{Standing, capped, moved_to, refused_at, Sized, PutMet}
 use Rattle.readings.specs.code.Passing.{WordMet, after_and, after_or}
 use Rattle.text.specs.code.Readers.{MadeQual, Reached, UnaryMet, AndRead, AndFails, AndMet, OrFails, OrMet}
-use Rattle.readings.proofs.Built.{refuse, unlisted_append, made_from, made_join}
+use Rattle.readings.proofs.Built.{unlisted_append, made_from, made_join}
 
 -- an operator name changes only the place
 module _ (s : Bytes) (y q : Standing) (n : ℕ) (next : Open → Pend → Unary → Bytes → Pend)
@@ -81,8 +82,8 @@ module _ (s list : Bytes) (left : ℕ) (xs : List ℕ) (x : Standing) (ys : List
       let a = got.read ok in
       record {
         reached = word_reached s y q 3 after_and w x.at ys got.reached;
-        read = λ f. refuse q.ok f e;
-        stops = λ f. refuse q.ok f e;
+        read = λ f. clash q.ok f e;
+        stops = λ f. clash q.ok f e;
         failed = λ _ o l i. a.runs o l i ∙ w.failed e o (a.pend l) a.last a.spaces;
       }
 
@@ -105,8 +106,8 @@ module _ (s list : Bytes) (left : ℕ) (xs : List ℕ) (x : Standing) (ys : List
           fits = m.reached.fits;
           sized = m.reached.sized;
         };
-        read = λ g. refuse z.ok g f;
-        stops = λ g. refuse z.ok g f;
+        read = λ g. clash z.ok g f;
+        stops = λ g. clash z.ok g f;
         failed = λ _ o l i. next o l i ∙ m.failed f o (both l a.tree a.spaces) i;
       }
 
@@ -204,7 +205,7 @@ module _ (s list : Bytes) (left : ℕ) (xs : List ℕ) (x : Standing) (ys : List
       let a = got.read ok in
       record {
         reached = word_reached s y q 2 after_or w x.at ys got.reached;
-        read = λ f. refuse q.ok f e;
+        read = λ f. clash q.ok f e;
         failed = λ _ o i. a.runs o i ∙ w.failed e o a.pend a.last a.spaces;
       }
 
@@ -227,7 +228,7 @@ module _ (s list : Bytes) (left : ℕ) (xs : List ℕ) (x : Standing) (ys : List
           fits = m.reached.fits;
           sized = m.reached.sized;
         };
-        read = λ g. refuse z.ok g f;
+        read = λ g. clash z.ok g f;
         failed = λ _ o i. next o i ∙ m.failed f o l i;
       }
 

@@ -2,6 +2,5 @@ pub mod StepLaws
 pub mod PathLaws
 pub mod ExpressionLaws
 pub mod OperandLaws
-pub mod LoopLaws
 pub mod Left
 pub mod TextLaws

@@ -4,7 +4,9 @@ use mathlib.Core.Path.{◌≡◌, refl, sym, ap, ◌∙◌, subst}
 use mathlib.Core.Bool.{Bool, true, false}
 use mathlib.Core.List.{List, [], ◌∷◌, ◌++◌}
 use mathlib.Core.Option.{none, some}
+use mathlib.Core.Logic.{◌⊎◌, inl, inr}
 use native.Mathlib.Omega.{arith}
+use borrow.Author.Clash.{clash}
 use native.Mathlib.Decide.{dec_lt}
 use Rattle.std.proofs.lemmas.Bool.{eqb-true, ne_eqb}
 use lib.Dec.{eqb}
@@ -34,7 +36,7 @@ use Rattle.text.specs.code.Readers.{after_union, union_at_top, MadeQual, NoOpera
 use Rattle.words.proofs.Scanned.{past, head_drop}
 use Rattle.heads.proofs.Ran.{on_here, on_pass, on_stop, over, need_over, closed_over}
 use Rattle.heads.proofs.Headed.{byte_there, passed_length, passed_to, on_fail, same_split}
-use Rattle.readings.proofs.Built.{refuse, made_row, made_over, made_from}
+use Rattle.readings.proofs.Built.{made_row, made_over, made_from}
 use Rattle.text.proofs.StepLaws.{has_room, Enclosed}
 
 -- whitespace ends at one place
@@ -124,7 +126,7 @@ module _ (s list : Bytes) (left : ℕ) (xs : List ℕ) (x : Standing) (to : ℕ)
       λ o p _ i v. subst (λ (k : ℕ). NoCall s k × (byte_at s k ≡ 40 → ⊥)) (sym (passed_one s x.at to i q v)) n in
       record {
         reached = m.reached;
-        read = λ f. refuse y.ok f e;
+        read = λ f. clash y.ok f e;
         failed = λ _ o p i. m.failed e (inside o p) i (none_begins o p);
       }
 
@@ -139,7 +141,7 @@ module _ (s list : Bytes) (left : ℕ) (xs : List ℕ) (x : Standing) (to : ℕ)
             fits = q.fits;
             sized = record { size = z.size; bound = omega arith };
           };
-          read = λ e. refuse false e refl;
+          read = λ e. clash false e refl;
           failed = λ _ o p i. need_over s x.at to q (inside o p) first begin
               ∙ on_fail s to (need (inside o p) first begin q.bytes) (byte_there s to 40 refl b)
               (rw (b, i ∙ h) refl);
@@ -257,7 +259,7 @@ module _ (s list : Bytes) (left : ℕ) (xs : List ℕ) (x : Standing) (to : ℕ)
             fits = omega (arith, i);
             sized = record { size = z.size; bound = omega arith };
           };
-          read = λ e. refuse false e refl;
+          read = λ e. clash false e refl;
           failed = λ _ o p i. call_none s list left xs x to q paren not_word a not_type o p (rw (i ∙ h) refl);
         }
 
@@ -280,7 +282,7 @@ module _ (s list : Bytes) (left : ℕ) (xs : List ℕ) (x : Standing) (to : ℕ)
               fits = m.reached.fits;
               sized = m.reached.sized;
             };
-            read = λ f. refuse y.ok f e;
+            read = λ f. clash y.ok f e;
             failed = λ _ o k i. not_opens o k i ∙ m.failed e (negate o k q.bytes a.spaces) (ap (λ (n : ℕ). n - 1) i)
                 (λ t w n j. rw j refl);
           }
@@ -350,7 +352,7 @@ module _ (s list : Bytes) (left : ℕ) (xs : List ℕ) (x : Standing) (to : ℕ)
               fits = rw at v.fits;
               sized = c.sized;
             };
-            read = λ e. refuse y.ok e no;
+            read = λ e. clash y.ok e no;
             failed = λ _ o p i. const_inner o p c.to v
                 ∙ rw at (on_stop s c.to (const_open o p k q.bytes a.spaces v.bytes) v.fits
                 (rw (v.stops, ne_eqb (byte_at s c.to) 41 f) refl) refl);
@@ -395,7 +397,7 @@ module _ (s list : Bytes) (left : ℕ) (xs : List ℕ) (x : Standing) (to : ℕ)
                   ∙ closed_over s (c.to + 1) end r o p u
                   ∙ rw at (closed_ends s end o p r.bytes u r.stops);
             };
-            failed = λ e. refuse y.ok fine e;
+            failed = λ e. clash y.ok fine e;
           }
 
       -- by cases on the byte after the whitespace
@@ -404,7 +406,7 @@ module _ (s list : Bytes) (left : ℕ) (xs : List ℕ) (x : Standing) (to : ℕ)
         where
           go : (b : Bool) → eqb (byte_at s c.to) 41 ≡ b → UnaryMet s list left xs x ys y
           go true e = const_right (eqb-true (byte_at s c.to) 41 e)
-          go false e = const_wrong (λ f. refuse true refl (rw f at e))
+          go false e = const_wrong (λ f. clash true refl (rw f at e))
 
   -- the two by name
   pub unary_true : CallAt s to paren true_word → x.ok ≡ true → (ys : List ℕ) (y : Standing)
@@ -419,47 +421,39 @@ module _ (s list : Bytes) (left : ℕ) (xs : List ℕ) (x : Standing) (to : ℕ)
 
 -- a group or a negation
 abbrev pub Encloses : Opens → Type 0
-Encloses Opening.Group = Unit {0}
-Encloses Opening.Not = Unit {0}
-Encloses Opening.Paths = ⊥
-Encloses Opening.True = ⊥
-Encloses Opening.False = ⊥
+Encloses k = (k ≡ Opening.Group) ⊎ (k ≡ Opening.Not)
 
 module _ (s list : Bytes) (left : ℕ) (xs : List ℕ) (x : Standing) (to : ℕ) (q : Passed is_space s x.at to) where
   -- no level is left
   pub unary_full : (k : Opens) (paren : ℕ) → Encloses k → OperandMet s to k paren → left ≡ 0 → Sized xs x.count
       → UnaryMet s list left xs x xs (refused_at paren)
-  unary_full Opening.Group paren n m h z =
-      subst (λ (i : ℕ). UnaryMet s list left xs x xs (refused_at i)) (sym m.1)
-      (group_full s list left xs x to q m.0 h z)
-  unary_full Opening.Not paren n m h z = not_full s list left xs x to q paren m h z
-  unary_full Opening.Paths paren n m h z = absurd n
-  unary_full Opening.True paren n m h z = absurd n
-  unary_full Opening.False paren n m h z = absurd n
+  unary_full k paren (inl e) m h z =
+      let (b, there) = rw e at m in
+      subst (λ (i : ℕ). UnaryMet s list left xs x xs (refused_at i)) (sym there)
+      (group_full s list left xs x to q b h z)
+  unary_full k paren (inr e) m h z = not_full s list left xs x to q paren (rw e at m) h z
 
   -- by cases: a group is what it holds, `not` puts one row more
   pub unary_enclosed : (k : Opens) (paren : ℕ) → Encloses k → OperandMet s to k paren → 0 < left
       → (ys : List ℕ) (y : Standing) (zs : List ℕ) (z : Standing)
       → Enclosed s list (left - 1) 41 xs (moved_to x (paren + 1)) ys y → NegatePut k ys y zs z
       → UnaryMet s list left xs x zs z
-  unary_enclosed Opening.Group paren n m h ys y zs z e p =
-      subst (λ (r : Standing). UnaryMet s list left xs x zs r) (sym p.1)
-      (subst (λ (us : List ℕ). UnaryMet s list left xs x us y) (sym p.0)
-      (unary_group s list left xs x to q m.0 h ys y
-      (subst (λ (i : ℕ). Enclosed s list (left - 1) 41 xs (moved_to x (i + 1)) ys y) m.1 e)))
-  unary_enclosed Opening.Not paren n m h ys y zs z e p = unary_not s list left xs x to q paren m h ys y zs z e p
-  unary_enclosed Opening.Paths paren n m h ys y zs z e p = absurd n
-  unary_enclosed Opening.True paren n m h ys y zs z e p = absurd n
-  unary_enclosed Opening.False paren n m h ys y zs z e p = absurd n
+  unary_enclosed k paren (inl e) m h ys y zs z w p =
+      let (b, there) = rw e at m in
+      let (table, same) = rw e at p in
+      subst (λ (r : Standing). UnaryMet s list left xs x zs r) (sym same)
+      (subst (λ (us : List ℕ). UnaryMet s list left xs x us y) (sym table)
+      (unary_group s list left xs x to q b h ys y
+      (subst (λ (i : ℕ). Enclosed s list (left - 1) 41 xs (moved_to x (i + 1)) ys y) there w)))
+  unary_enclosed k paren (inr e) m h ys y zs z w p =
+      unary_not s list left xs x to q paren (rw e at m) h ys y zs z w (rw e at p)
 
   -- the expression or its `)` was refused
   pub enclosed_fails : (k : Opens) (paren : ℕ) → Encloses k → OperandMet s to k paren → 0 < left
       → (ys : List ℕ) (y : Standing) → Enclosed s list (left - 1) 41 xs (moved_to x (paren + 1)) ys y → y.ok ≡ false
       → UnaryMet s list left xs x ys y
-  enclosed_fails Opening.Group paren n m h ys y e f =
-      unary_group s list left xs x to q m.0 h ys y
-      (subst (λ (i : ℕ). Enclosed s list (left - 1) 41 xs (moved_to x (i + 1)) ys y) m.1 e)
-  enclosed_fails Opening.Not paren n m h ys y e f = not_refused s list left xs x to q paren m h ys y e f
-  enclosed_fails Opening.Paths paren n m h ys y e f = absurd n
-  enclosed_fails Opening.True paren n m h ys y e f = absurd n
-  enclosed_fails Opening.False paren n m h ys y e f = absurd n
+  enclosed_fails k paren (inl e) m h ys y w f =
+      let (b, there) = rw e at m in
+      unary_group s list left xs x to q b h ys y
+      (subst (λ (i : ℕ). Enclosed s list (left - 1) 41 xs (moved_to x (i + 1)) ys y) there w)
+  enclosed_fails k paren (inr e) m h ys y w f = not_refused s list left xs x to q paren (rw e at m) h ys y w f

@@ -5,6 +5,7 @@ use mathlib.Core.Bool.{Bool, true, false, ◌||◌}
 use mathlib.Core.List.{List, [], ◌∷◌, ◌++◌}
 use mathlib.Core.Option.{none}
 use native.Mathlib.Omega.{arith}
+use borrow.Author.Clash.{clash}
 use native.Mathlib.Numerals.{add-one}
 use Rattle.std.proofs.lemmas.Bool.{eqb-true, ne_eqb, or_parts}
 use lib.Dec.{eqb}
@@ -34,7 +35,7 @@ use Rattle.words.proofs.Scanned.{head_drop}
 use Rattle.heads.proofs.Ran.{on_pass, need_over}
 use Rattle.heads.proofs.Headed.{byte_there, passed_length, passed_to, on_fail}
 use Rattle.readings.proofs.Worded.{root_step, root_slash, root_alone}
-use Rattle.readings.proofs.Built.{refuse, unlisted_append, made_row, made_from, made_to, made_join}
+use Rattle.readings.proofs.Built.{unlisted_append, made_row, made_from, made_to, made_join}
 
 -- only an operand's first step may be a call
 unfoldable is_begin : Lead → Bool
@@ -49,7 +50,7 @@ not_callable : (c : Ctx) (g : Alt) (l : Lead) → is_begin l ≡ false → calla
 unfolding callable is_begin
 not_callable top g l e = refl
 not_callable (inside o p) (more u w) l e = refl
-not_callable (inside o p) first (start bare) e = refuse true refl e
+not_callable (inside o p) first (start bare) e = clash true refl e
 not_callable (inside o p) first (start (at_root w)) e = refl
 not_callable (inside o p) first (start (at_any w)) e = refl
 not_callable (inside o p) first (after1 x r w) e = refl
@@ -150,7 +151,7 @@ path_refused s list left xs x ys y zs z l m e =
         fits = m.reached.fits;
         sized = m.reached.sized;
       };
-      read = λ f. refuse z.ok f e;
+      read = λ f. clash z.ok f e;
       failed = λ _ c g i _. l.runs c g i ∙ m.failed e c g l.lead l.spaces i (l.due c g);
     }
 
@@ -274,9 +275,9 @@ module _ (s list : Bytes) (left : ℕ) (xs : List ℕ) (x : Standing) (to : ℕ)
           made = root_made;
           runs = λ c g i. root_runs c g;
           due = λ c g. record {
-            plain = λ k. refuse (callable c g (start (at_root q.bytes))) k
+            plain = λ k. clash (callable c g (start (at_root q.bytes))) k
                 (not_callable c g (start (at_root q.bytes)) refl);
-            lead = λ f. refuse (begins_step (byte_at s end)) e f;
+            lead = λ f. clash (begins_step (byte_at s end)) e f;
           };
           denotes = λ t. refl;
           named = λ t. rw at refl;
@@ -294,7 +295,7 @@ module _ (s list : Bytes) (left : ℕ) (xs : List ℕ) (x : Standing) (to : ℕ)
               fits = v.fits;
               sized = record { size = p.sized.size; bound = omega arith };
             };
-            read = λ g. refuse false g refl;
+            read = λ g. clash false g refl;
             failed = λ _ c g i n. root_runs c g
                 ∙ on_fail s end (need c g (start (at_root q.bytes)) v.bytes) (byte_there s end 47 refl f)
                 (rw f (slash_none c (join_alt g (root q.bytes)) v.bytes));
@@ -314,7 +315,7 @@ module _ (s list : Bytes) (left : ℕ) (xs : List ℕ) (x : Standing) (to : ℕ)
               runs = λ c g i. root_runs c g ∙ root_after (drop end s) c g q.bytes v.bytes
                   (rw (head_drop s end) e) (rw (head_drop s end) v.stops);
             };
-            failed = λ g. refuse y.ok ok g;
+            failed = λ g. clash y.ok ok g;
           }
 
   module _ (d : byte_at s (to + 1) ≡ 47) (ys zs : List ℕ) (y z : Standing) (end : ℕ)
@@ -343,7 +344,7 @@ module _ (s list : Bytes) (left : ℕ) (xs : List ℕ) (x : Standing) (to : ℕ)
               (rw d refl)
               ∙ need_over s (to + 1 + 1) end v c g lead;
           due = λ c g. record {
-            plain = λ k. refuse (callable c g lead) k (not_callable c g lead refl);
+            plain = λ k. clash (callable c g lead) k (not_callable c g lead refl);
             lead = λ _. (refl, refl);
           };
           denotes = λ t. refl;
@@ -456,7 +457,7 @@ module _ (s list : Bytes) (left : ℕ) (xs : List ℕ) (x : Standing) (ys : List
             (rw (head_drop s (y.at + 1)) (ne_eqb (byte_at s (y.at + 1)) 47 d))
             ∙ need_over s (y.at + 1) to q c g lead;
         due = λ c g. record {
-          plain = λ k. refuse (callable c g lead) k (not_callable c g lead refl);
+          plain = λ k. clash (callable c g lead) k (not_callable c g lead refl);
           lead = λ _. (refl, refl);
         };
         denotes = λ t. slash_denotes num rel a.spaces t prefix;
@@ -484,7 +485,7 @@ module _ (s list : Bytes) (left : ℕ) (xs : List ℕ) (x : Standing) (ys : List
             (byte_there s (y.at + 1) 47 refl d) (rw d refl)
             ∙ need_over s (y.at + 1 + 1) to q c g lead;
         due = λ c g. record {
-          plain = λ k. refuse (callable c g lead) k (not_callable c g lead refl);
+          plain = λ k. clash (callable c g lead) k (not_callable c g lead refl);
           lead = λ _. (refl, refl);
         };
         denotes = λ t. slashes_denotes num rel a.spaces t prefix;
@@ -503,7 +504,7 @@ module _ (s list : Bytes) (left : ℕ) (xs : List ℕ) (x : Standing) (ys : List
           subst (λ (r : Standing). Leads s list left xs x zs r) (sym q.4)
           (leads_two d q.0 zs q.1 q.2 q.3)
       go false e =
-          let d : byte_at s (y.at + 1) ≡ 47 → ⊥ = λ f. refuse true refl (rw f at e) in
+          let d : byte_at s (y.at + 1) ≡ 47 → ⊥ = λ f. clash true refl (rw f at e) in
           let q = p.one d in
           subst (λ (r : Standing). Leads s list left xs x zs r) (sym q.3)
           (subst (λ (us : List ℕ). Leads s list left xs x us (moved_to y q.0)) (sym q.2)
@@ -578,9 +579,9 @@ module _ (s list : Bytes) (left : ℕ) (xs : List ℕ) (x : Standing) (r : Ready
             subst (λ (u : Standing). PathGot s list left xs x vs u) (sym e.1)
             (subst (λ (us : List ℕ). PathGot s list left xs x us z) (sym e.0)
             (path_bare s list left xs x to q b zs z m));
-        refused = λ _ zs z m e. path_ends s list left xs x zs z (λ f. refuse z.ok f e)
+        refused = λ _ zs z m e. path_ends s list left xs x zs z (λ f. clash z.ok f e)
             (path_bare s list left xs x to q b zs z m);
-        alone = λ e. refuse true refl e;
+        alone = λ e. clash true refl e;
       }
 
   -- `/` or `//`, and a step
@@ -592,7 +593,7 @@ module _ (s list : Bytes) (left : ℕ) (xs : List ℕ) (x : Standing) (r : Ready
         space = λ _. e;
         first = λ _ zs z vs v m f. path_joined s list left xs x ys y zs z vs v l m (f.joins refl);
         refused = λ _ zs z m f. path_refused s list left xs x ys y zs z l m f;
-        alone = λ f. refuse true refl f;
+        alone = λ f. clash true refl f;
       }
 
   -- `/` alone, or refused
@@ -600,10 +601,10 @@ module _ (s list : Bytes) (left : ℕ) (xs : List ℕ) (x : Standing) (r : Ready
       → Begun s list left xs x ys (start_of y true false)
   begun_alone ys y m =
       record {
-        ready = λ e. refuse false e refl;
-        space = λ e. refuse false e refl;
-        first = λ e. refuse false e refl;
-        refused = λ e. refuse false e refl;
+        ready = λ e. clash false e refl;
+        space = λ e. clash false e refl;
+        first = λ e. clash false e refl;
+        refused = λ e. clash false e refl;
         alone = λ _. m;
       }
 
@@ -631,7 +632,7 @@ module _ (s list : Bytes) (left : ℕ) (xs : List ℕ) (x : Standing) (r : Ready
           from_it (start_of (refused_at end) true false) (root_slash s (moved_to y end) e g)
           (begun_alone ys (refused_at end) (path_second s list left xs x to q b d ys y end p v e g))
       go false e false f =
-          let g : byte_at s end ≡ 47 → ⊥ = λ h. refuse true refl (rw h at f) in
+          let g : byte_at s end ≡ 47 → ⊥ = λ h. clash true refl (rw h at f) in
           from_it (start_of (moved_to y end) true false) (root_alone s (moved_to y end) e g)
           (begun_alone ys (moved_to y end) (path_root s list left xs x to q b d ys y end p v e g ok))
 
@@ -645,14 +646,14 @@ module _ (s list : Bytes) (left : ℕ) (xs : List ℕ) (x : Standing) (r : Ready
       go : (k : Bool) → eqb (byte_at s p.to) 47 ≡ k → (n : Bool) → eqb (byte_at s (p.to + 1)) 47 ≡ n
           → Begun s list left xs x ys y
       go false e n f =
-          let b : byte_at s p.to ≡ 47 → ⊥ = λ h. refuse true refl (rw h at e) in
+          let b : byte_at s p.to ≡ 47 → ⊥ = λ h. clash true refl (rw h at e) in
           let c = p.bare b in
           from_it (start_of (moved_to x p.to) false true) c.1
           (subst (λ (us : List ℕ). Begun s list left xs x us (start_of (moved_to x p.to) false true)) (sym c.0)
           (begun_bare p.to p.passed b))
       go true e false f =
           let b = eqb-true (byte_at s p.to) 47 e in
-          let d : byte_at s (p.to + 1) ≡ 47 → ⊥ = λ h. refuse true refl (rw h at f) in
+          let d : byte_at s (p.to + 1) ≡ 47 → ⊥ = λ h. clash true refl (rw h at f) in
           let c = p.root b d in
           from_it (root_start s (moved_to c.0 c.1)) c.4
           (begun_root p.to p.passed b d ys c.0 c.1 c.2 c.3)
@@ -741,7 +742,7 @@ union_more s list left xs x ys y zs z vs v ok b m p got =
             runs = λ c i. next c i ∙ rw p.text.at (r.runs c (more u a.spaces) i);
           };
       failed = λ e c i n. next c i ∙ rw p.text.at (m.failed (sym p.text.ok ∙ e) c (more u a.spaces) i
-          (λ k. refuse (callable c (more u a.spaces) begin) k (more_not_callable c u a.spaces)));
+          (λ k. clash (callable c (more u a.spaces) begin) k (more_not_callable c u a.spaces)));
     }
 
 -- the path after a `|` was refused
@@ -762,9 +763,9 @@ union_refused s list left xs x ys y zs z ok b m e got =
         fits = m.reached.fits;
         sized = m.reached.sized;
       };
-      read = λ f. refuse z.ok f e;
+      read = λ f. clash z.ok f e;
       failed = λ _ c i n. next c i ∙ m.failed e c (more u a.spaces) i
-          (λ k. refuse (callable c (more u a.spaces) begin) k (more_not_callable c u a.spaces));
+          (λ k. clash (callable c (more u a.spaces) begin) k (more_not_callable c u a.spaces));
     }
 
 -- a union ends where no `|` follows

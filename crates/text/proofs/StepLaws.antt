@@ -4,6 +4,7 @@ use mathlib.Core.Path.{◌≡◌, refl, sym, ap, ◌∙◌, subst}
 use mathlib.Core.Bool.{Bool, true, false, cond, ◌||◌}
 use mathlib.Core.List.{List, [], ◌∷◌, ◌++◌}
 use mathlib.Core.Option.{none, some}
+use borrow.Author.Clash.{clash}
 use mathlib.Core.Logic.{⊎_elim}
 use native.Mathlib.Omega.{arith}
 use native.Mathlib.Numerals.{add-one}
@@ -28,7 +29,7 @@ use Rattle.text.specs.code.Readers.{MadeQual, Ready, Reached, PredicateMet, Step
 use Rattle.words.proofs.Scanned.{there}
 use Rattle.heads.proofs.Ran.{on_pass, over}
 use Rattle.heads.proofs.Headed.{byte_there, passed_length, on_fail}
-use Rattle.readings.proofs.Built.{refuse, unlisted_append, made_from, made_to, made_join}
+use Rattle.readings.proofs.Built.{unlisted_append, made_from, made_to, made_join}
 
 -- there is room for one more level
 pub has_room : (n left : ℕ) → n ≡ left → 0 < left → ltb 0 n ≡ true
@@ -59,7 +60,7 @@ pub record Enclosed (s list : Bytes) (left b : ℕ) (xs : List ℕ) (x : Standin
 pub enclosed_refused : (s list : Bytes) (left b : ℕ) (xs : List ℕ) (x : Standing) (ys : List ℕ) (y : Standing)
     → OrMet s list left xs x ys y → y.ok ≡ false → Enclosed s list left b xs x ys y
 enclosed_refused s list left b xs x ys y m e =
-    record { reached = m.reached; read = λ f. refuse y.ok f e; failed = λ _ o i _. m.failed e o i }
+    record { reached = m.reached; read = λ f. clash y.ok f e; failed = λ _ o i _. m.failed e o i }
 
 module _ (s list : Bytes) (left b : ℕ) (xs : List ℕ) (x : Standing) (ys : List ℕ) (y z : Standing)
     (m : OrMet s list left xs x ys y) (e : y.ok ≡ true) (h : CloseMet s y b z) where
@@ -73,7 +74,7 @@ module _ (s list : Bytes) (left b : ℕ) (xs : List ℕ) (x : Standing) (ys : Li
           fits = m.reached.fits;
           sized = record { size = m.reached.sized.size; bound = omega arith };
         };
-        read = λ g. refuse false g refl;
+        read = λ g. clash false g refl;
         failed = λ _ o i n. r.runs o i ∙ rw (n r.tree r.spaces (byte_at s y.at) (ne_eqb _ b f)) refl;
       }
 
@@ -105,7 +106,7 @@ module _ (s list : Bytes) (left b : ℕ) (xs : List ℕ) (x : Standing) (ys : Li
           runs = λ o i st j k. r.runs o i ∙ rw (f, j, ← add-one) (over is_space st k s (y.at + 1) to q []);
           space = q.stops;
         };
-        failed = λ g. refuse y.ok e g;
+        failed = λ g. clash y.ok e g;
       }
 
   -- the closing byte is another one, or it is there
@@ -114,7 +115,7 @@ module _ (s list : Bytes) (left b : ℕ) (xs : List ℕ) (x : Standing) (ys : Li
     where
       go : (q : Bool) → eqb (byte_at s y.at) b ≡ q → Enclosed s list left b xs x ys z
       go true f = enclosed_right (eqb-true (byte_at s y.at) b f)
-      go false f = enclosed_wrong (λ g. refuse (eqb b b) (is_true (eqb b b) (eqb_refl b)) (rw g at f))
+      go false f = enclosed_wrong (λ g. clash (eqb b b) (is_true (eqb b b) (eqb_refl b)) (rw g at f))
 
 -- read_predicate
 module _ (s list : Bytes) (left : ℕ) (xs : List ℕ) (x : Standing) (r : Ready s xs x) (b : byte_at s x.at ≡ 91) where
@@ -131,8 +132,8 @@ module _ (s list : Bytes) (left : ℕ) (xs : List ℕ) (x : Standing) (r : Ready
           fits = r.fits;
           sized = record { size = r.sized.size; bound = omega arith };
         };
-        further = λ e. refuse false e refl;
-        read = λ e. refuse false e refl;
+        further = λ e. clash false e refl;
+        read = λ e. clash false e refl;
         failed = λ _ c g l t w i k. on_fail s x.at (after c g l t w) bracket_there (rw (b, k, i ∙ h) refl);
       }
 
@@ -152,8 +153,8 @@ module _ (s list : Bytes) (left : ℕ) (xs : List ℕ) (x : Standing) (r : Ready
     predicate_refused ys y m e =
         record {
           reached = record { from = omega (arith, m.reached.from); fits = m.reached.fits; sized = m.reached.sized };
-          further = λ f. refuse y.ok f e;
-          read = λ f. refuse y.ok f e;
+          further = λ f. clash y.ok f e;
+          read = λ f. clash y.ok f e;
           failed = λ _ c g l u w i k. bracket_opens c g l u w i k
               ∙ m.failed e (bracket c g l u w) (ap (λ (n : ℕ). n - 1) i) (λ o v n j. rw j refl);
         }
@@ -217,8 +218,8 @@ step_refused s list left xs x i r m =
         fits = m.between.fits;
         sized = record { size = r.sized.size; bound = omega arith };
       };
-      read = λ e. refuse false e refl;
-      stops = λ e. refuse false e refl;
+      read = λ e. clash false e refl;
+      stops = λ e. clash false e refl;
       failed = λ _ c g l w _ d. m.failed c g l w d;
     }
 
@@ -249,7 +250,7 @@ step_head s list left xs x ys y h f filters r m p =
         colon = λ c g l w b. t.colon c g l w (rw p.at at b);
         takes = λ w. t.takes w ∙ filters;
       };
-      failed = λ e. refuse y.ok ok e;
+      failed = λ e. clash y.ok ok e;
     }
 
 -- one more predicate
@@ -295,8 +296,8 @@ pub step_stopped : (s list : Bytes) (left : ℕ) (f : Bool) (xs : List ℕ) (x :
 step_stopped s list left f xs x ys y e got =
     record {
       reached = got.reached;
-      read = λ g. refuse y.ok g e;
-      stops = λ g. refuse y.ok g e;
+      read = λ g. clash y.ok g e;
+      stops = λ g. clash y.ok g e;
       failed = got.failed;
     }
 
@@ -317,7 +318,7 @@ module _ (s list : Bytes) (left : ℕ) (filters : Bool) (xs : List ℕ) (x : Sta
     where
       bracketed : byte_at s y.at ≡ 91 → (f : Bool) → filters ≡ f
           → step (after c g l (a.tree w) a.spaces) (byte_at s y.at) ≡ none
-      bracketed b true f = refuse true refl (rw b at (stop f ok))
+      bracketed b true f = clash true refl (rw b at (stop f ok))
       bracketed b false f = rw (b, a.takes w, f) refl
 
   -- such a byte is in the text
@@ -343,8 +344,8 @@ module _ (s list : Bytes) (left : ℕ) (filters : Bool) (xs : List ℕ) (x : Sta
           fits = got.reached.fits;
           sized = record { size = got.reached.sized.size; bound = omega arith };
         };
-        read = λ g. refuse false g refl;
-        stops = λ g. refuse false g refl;
+        read = λ g. clash false g refl;
+        stops = λ g. clash false g refl;
         failed = λ _ c g l w i d. let a = got.read e in
             a.read.runs c g l w i ∙ on_fail s y.at (after c g l (a.tree w) a.spaces) (refused_there f)
             (refused_byte a e f c g l w d);

@@ -1,7 +1,8 @@
 // Reads a selector typed as text and puts the rows of its term into a lent table. The readers go from left to right,
 // one byte at a time; each takes where the reading stands and gives where it stands afterwards. A place is a number,
 // and no rest of the text: a refusal tells the place of the first byte that can't continue, and that of a name that
-// isn't listed. A refused reading leaves rows of no use in the table that it works on, which is a copy.
+// isn't listed. A refused reading leaves rows of no use in the table that it works on, which is a copy. All loops are
+// `while`: where the next part begins is known only when this one is read.
 #![tactic(auto)]
 
 ghost use Rattle.std.specs.Prelude.{◌≡◌, true, false, min, ◌≤◌, length};
@@ -18,14 +19,12 @@ use common::Refusal;
 use common::row_kind::RowKind;
 use heads::{Opens, Selector};
 use readings::{Reading, Start};
+use terms::TABLE_NUMBERS;
 use words::Names;
 use words::bytes::{byte_at, skip};
 
 // How deep predicates, groups and negations may nest.
 const MAX_LEVELS: usize = 32;
-
-// How many numbers a table has.
-const TABLE_SIZE: usize = terms::TABLE_NUMBERS;
 
 // A list of fewer bytes is not indexed, nor for a text of fewer.
 const MIN_LIST: usize = 2048;
@@ -40,14 +39,15 @@ const MAX_LIST: usize = 4294967295;
 #[derive(Clone, Copy)]
 pub struct TextHeld {
     pub row: u16,
-    pub rows: [u16; TABLE_SIZE],
+    pub rows: [u16; TABLE_NUMBERS],
     pub count: usize,
 }
 
 // What the readers ask of a reading, `Ready`, is no ghost field of it: it is of the reading, the text and the table
 // together, and each reader changes the table. Selector and rows are no struct with the readers as its methods: these
 // would have it by `&mut`, and each contract would have to say that the selector stays. The reading is another at each
-// call, and the depth in each predicate and group.
+// call, and the depth in each predicate and group. That the table's length is a clause has the reason that stands at
+// `Reading`.
 
 // A predicate whose `[` is where `from`, the step so far, ends.
 #[cycle(expression)]
@@ -89,7 +89,6 @@ fn read_step(
     if !head.filters {
         return readings::step_end(selector.s, got);
     }
-    // By `while`: where the next predicate begins is known only when this one is read.
     while byte_at(selector.s, got.at) == b'[' {
         got = read_predicate(selector, rows, got, left)?;
     }
@@ -118,7 +117,6 @@ fn read_path(
             readings::join(rows, RowKind::Composition.into(), lead, step)
         }
     };
-    // By `while`: where the next step begins is known only when this one is read.
     while byte_at(selector.s, got.at) == b'/' {
         let before = readings::pass_slash(selector.s, rows, got);
         let step = read_step(selector, rows, before, left)?;
@@ -141,7 +139,6 @@ fn read_union(
         left rows.old (stands from) rows.new (ended result) }
 {
     let mut got = read_path(selector, rows, from, left)?;
-    // By `while`: where the next path begins is known only when this one is read.
     while byte_at(selector.s, got.at) == b'|' {
         let at = got.at + 1;
         let path = read_path(selector, rows, Reading { at, ..got }, left)?;
@@ -164,40 +161,26 @@ fn read_operand(
         left rows.old (stands from) rows.new (ended result) }
 {
     let operand = heads::operand_at(selector.s, skip(selector.s, from.at));
-    let paren = operand.paren;
-    // The place behind `paren` in each arm: where paths open, `operand_at` promises no bound of `paren`, so that before
-    // the match `paren + 1` might not fit.
+    let at = operand.paren + 1;
+    let inside = Reading { at, ..from };
     match operand.opens {
         Opens::Paths => {
             let paths = read_union(selector, rows, from, left)?;
             return Ok(readings::some_of(rows, paths));
         }
         Opens::True => {
-            let at = paren + 1;
-            return readings::constant(
-                selector.s,
-                rows,
-                Reading { at, ..from },
-                RowKind::True.into(),
-            );
+            return readings::constant(selector.s, rows, inside, RowKind::True.into());
         }
         Opens::False => {
-            let at = paren + 1;
-            return readings::constant(
-                selector.s,
-                rows,
-                Reading { at, ..from },
-                RowKind::False.into(),
-            );
+            return readings::constant(selector.s, rows, inside, RowKind::False.into());
         }
         // Both go on below: what they hold is read alike, and in two arms it would be read in two places.
         Opens::Group | Opens::Not => {}
     }
     if left == 0 {
-        return Err(paren);
+        return Err(operand.paren);
     }
-    let at = paren + 1;
-    let inner = read_or(selector, rows, Reading { at, ..from }, left - 1)?;
+    let inner = read_or(selector, rows, inside, left - 1)?;
     let shut = readings::close(selector.s, inner, b')')?;
     Ok(readings::negate_if(rows, operand.opens, shut))
 }
@@ -215,7 +198,6 @@ fn read_and(
         left rows.old (stands from) rows.new (ended result) }
 {
     let mut got = read_operand(selector, rows, from, left)?;
-    // By `while`: where the next operand begins is known only when this one is read.
     while byte_at(selector.s, got.at) == b'a' {
         let word = readings::pass_word(selector.s, got, b"and")?;
         let right = read_operand(selector, rows, word, left)?;
@@ -237,7 +219,6 @@ fn read_or(
         left rows.old (stands from) rows.new (ended result) }
 {
     let mut got = read_and(selector, rows, from, left)?;
-    // By `while`: where the next operand begins is known only when this one is read.
     while byte_at(selector.s, got.at) == b'o' {
         let word = readings::pass_word(selector.s, got, b"or")?;
         let right = read_and(selector, rows, word, left)?;
@@ -325,7 +306,7 @@ fn read_listed<'a>(
 pub fn read_text(
     s: &[u8],
     names: &[u8],
-    mut rows: [u16; TABLE_SIZE],
+    mut rows: [u16; TABLE_NUMBERS],
     count: usize,
 ) -> Result<TextHeld, Refusal>
     ensures { TextRead names.now s.now rows (min count max_rows) result }

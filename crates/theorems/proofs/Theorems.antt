@@ -54,7 +54,7 @@ use Rattle.calls.specs.Promises.{sides_of}
 use Rattle.matching.specs.code.MatchTypes.{sides_in}
 use Rattle.terms.specs.code.RowTypes.{PlaceIs}
 use Rattle.replacing.specs.Covered.{step_saying}
-use Rattle.tallies.specs.code.Tally.{TallyPromise}
+use Rattle.tallies.specs.Promise.{TallyPromise}
 use Rattle.xpath.specs.OneName.{StepSameElsewhere}
 use Rattle.session.proofs.Takes as session-takes
 use Rattle.session.proofs.Source as session

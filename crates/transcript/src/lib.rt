@@ -16,7 +16,8 @@ use register::{Answered, Records, Register};
 use script::{Command, NumberList};
 use std::fmt::Write;
 
-// What the lent marks hold before a select, and a lent buffer before a write.
+// What the lent marks hold before a select, and a lent buffer before a write. Buffers are arrays, here and in the other
+// programs: fixed memory without a heap.
 const FILL: u8 = 7;
 
 // Longer than the longest line: two numbers, and 256 records of four numbers of at most five digits.
@@ -27,7 +28,7 @@ const LINE: usize = 8192;
 // the register aside and starts a new one, `order` and `bundle-order` compare the one set aside with it, and `fresh`
 // is no call. Other and what is lent print nothing. `Nodes`: the marked nodes of each accepted select, and `refused
 // NUMBER VALUE` for what is refused; `fresh` starts a new register, and `write`, `other`, `order`, `bundle-order` and
-// the listings are no calls.
+// the listings are no calls. An enum and no closure: `word_taken` of specs/Transcript, which is believed, names it.
 #[derive(Clone, Copy, Debug, PartialEq, Eq)]
 pub enum Style {
     Answers,
@@ -46,10 +47,11 @@ fn put_node(line: &mut Line, node: usize) {
     };
 }
 
-// An answer in a style: nothing where it is an accepted one that `Nodes` leaves out.
+// An answer in a style: nothing where it is an accepted one that `Nodes` leaves out. It is accepted where its number is
+// 0, as `accepted` of calls' specs/Book, which is believed, has it.
 fn answer_line<A: Answer + Copy>(style: Style, answer: A) -> Line {
     let mut line = Line::new();
-    let told = AnswerLine::of(answer);
+    let told = AnswerLine::from(answer);
     let _ = match style {
         Style::Answers => write!(line, "{told}"),
         Style::Nodes if told.number == 0 => Ok(()),
@@ -85,7 +87,7 @@ fn print_wrong_form(style: Style, line: usize) {
 fn print_listing(listing: Records) {
     let size = listing.size();
     let mut line = answer_line::<Result<usize, Refusal>>(Style::Answers, Ok(size));
-    for record in listing.held.iter().take(size) {
+    for record in listing.list() {
         // By its fields: a record is printed here alone, and a Display of it would name the same four.
         let _ = write!(
             line,

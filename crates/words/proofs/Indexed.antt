@@ -20,7 +20,7 @@ use Rattle.lines.proofs.SameBytes.{same_bytes_lem}
 use Rattle.words.specs.code.Scan.{byte_at}
 use Rattle.words.specs.code.Names.{first_line_is, numbered_from}
 use Rattle.words.specs.code.Index.{signed_by, signature_of, line_of, ended}
-use Rattle.words.specs.code.Index.{LineMet, LineAt, LineIndexed, Indexed}
+use Rattle.words.specs.code.Index.{LineMet, LineAt, LineIndexed}
 use Rattle.words.specs.declared.index.IndexedLine.{IndexedLine}
 use Rattle.words.proofs.Named.{first_bytes_lem, first_line}
 use Rattle.words.proofs.Listed.{after_byte_lem, after_end, find_past, numbered_one, next_from, first_hit}
@@ -140,14 +140,6 @@ module _ (list : Bytes) where
             (record { place = p; signature = m.signed })
         go (inr j) =
             rw (get_or-set_other ls n k (record { start = at; signature = h }) d (λ q. omega (arith, q, j))) (x k d j)
-
--- an index of no line
-pub unindexed : (list : Bytes) → Indexed list [] 0
-unindexed list =
-    record {
-      entries = λ k d i. absurd (omega (arith, i));
-      rest = record { rest = refl; fits = omega arith; few = omega arith };
-    }
 
 -- a line that is the word has its signature
 module _ (list n : Bytes) (k : ℕ) (l : IndexedLine) (x : LineIndexed list k l) where

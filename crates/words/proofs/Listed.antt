@@ -4,6 +4,7 @@ use mathlib.Core.Path.{◌≡◌, refl, sym, ap, ◌∙◌}
 use mathlib.Core.Bool.{Bool, true, false, cond, ◌&&◌, ◌||◌}
 use mathlib.Core.List.{List, [], ◌∷◌}
 use mathlib.Core.Option.{Option, none, some}
+use native.Mathlib.Nat.{add_assoc}
 use native.Mathlib.Omega.{arith}
 use Rattle.std.proofs.lemmas.Bool.{and_from, and_parts, eqb-true, false≢true, or_parts}
 use Rattle.std.specs.Prelude.{None, Result, Ok, Err, MatchResult}
@@ -54,9 +55,6 @@ pub next_from : (k : ℕ) (o : Option ℕ) → numbered_from k (next o) ≡ numb
 unfolding numbered_from next
 next_from k none = refl
 next_from k (some i) = let e : k + suc i ≡ k + 1 + i = omega arith in rw e refl
-
-assoc : (a b c : ℕ) → a + (b + c) ≡ a + b + c
-assoc a b c = omega arith
 
 -- the bytes of what a text starts with
 starts_byte : (n t : Bytes) (j : ℕ) → starts_with n t ≡ true → j < length n → eqb (get_or t j 0) (get_or n j 0) ≡ true
@@ -183,7 +181,7 @@ module _ (list n : Bytes) where
     pub searched_byte : (byte_at list i ≡ 10 → Begins i ≡ false) → Searched list n from (i + 1) (ends + one) false
     searched_byte f =
         record {
-          on = λ _ k g. rw (q, assoc k ends (cond (eqb (byte_at list i) 10) 1 0))
+          on = λ _ k g. rw (q, sym (add_assoc k ends (cond (eqb (byte_at list i) 10) 1 0)))
               (sought_byte i (k + ends) h (s.on refl k g) f);
           hit = λ e. absurd (false≢true e);
           few = omega (arith, s.few, q, at_most_one (eqb (byte_at list i) 10));

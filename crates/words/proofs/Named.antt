@@ -14,7 +14,8 @@ use Rattle.std.specs.List.{AllWithin, HoldsAt, range_with_len}
 use Rattle.common.proofs.Tests.{eqb_turned}
 use Rattle.lines.specs.Line.{Line, line, lines, in_first_line, same_bytes}
 use Rattle.lines.specs.code.NumbersRead.{starts_with}
-use Rattle.grammar.specs.Bytes.{Bytes, is_start, is_name, every, is_word}
+use Rattle.common.specs.Lists.{all_of}
+use Rattle.grammar.specs.Bytes.{Bytes, is_start, is_name, is_word}
 use Rattle.grammar.proofs.Basics.{start_name}
 use Rattle.lines.proofs.SameBytes.{same_bytes_lem, same_itself}
 use Rattle.words.specs.code.Names.{pick_from, found, first_line_is}
@@ -54,9 +55,9 @@ name_newline b h = go (eqb 10 b) refl
     go true e = absurd (false≢true (rw (← eqb-true 10 b e) at h))
     go false e = e
 
-line_same : (n t : Bytes) → every is_name n ≡ true
+line_same : (n t : Bytes) → all_of is_name n ≡ true
     → same_bytes n (line_of t) ≡ (starts_with n t && ended (drop (length n) t))
-unfolding same_bytes line_of starts_with ended every
+unfolding same_bytes line_of starts_with ended all_of
 line_same [] [] h = refl
 line_same [] (x ∷ t) h = go (eqb x 10) refl
   where
@@ -65,7 +66,7 @@ line_same [] (x ∷ t) h = go (eqb x 10) refl
     go false e = rw e refl
 line_same (c ∷ n) [] h = refl
 line_same (c ∷ n) (x ∷ t) h =
-    let u = and_parts (is_name c) (every is_name n) h in
+    let u = and_parts (is_name c) (all_of is_name n) h in
     go (eqb x 10) refl u.0 (line_same n t u.1)
   where
     both : (a p q : Bool) → (a && (p && q)) ≡ ((a && p) && q)
@@ -79,10 +80,10 @@ line_same (c ∷ n) (x ∷ t) h =
     go true e i k = rw (e, eqb-true x 10 e, name_newline c i) refl
     go false e i k = rw (e, k, eqb_turned c x) (both (eqb x c) (starts_with n t) (ended (drop (length n) t)))
 
-pub word_names : (n : Bytes) → is_word n ≡ true → every is_name n ≡ true
-unfolding is_word every
+pub word_names : (n : Bytes) → is_word n ≡ true → all_of is_name n ≡ true
+unfolding is_word all_of
 word_names [] h = absurd (false≢true h)
-word_names (b ∷ n) h = let u = and_parts (is_start b) (every is_name n) h in rw (start_name b u.0, u.1) refl
+word_names (b ∷ n) h = let u = and_parts (is_start b) (all_of is_name n) h in rw (start_name b u.0, u.1) refl
 
 starts_length : (n t : Bytes) → starts_with n t ≡ true → length n ≤ length t
 unfolding starts_with

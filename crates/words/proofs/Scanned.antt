@@ -14,7 +14,8 @@ use Rattle.std.proofs.lemmas.List.Sums.{fails_before_first, passes_at_first, pre
 use lib.Dec.{ltb}
 use lib.ListN.{length, get_or, drop, length-drop, get_or-eq_default}
 use lib.Seq.{drop-cons, get_or-drop}
-use Rattle.grammar.specs.Bytes.{Bytes, every}
+use Rattle.common.specs.Lists.{all_of}
+use Rattle.grammar.specs.Bytes.{Bytes}
 use Rattle.grammar.proofs.Back.{snoc}
 use Rattle.words.specs.code.Scan.{byte_at, PassedOver, Passed}
 
@@ -36,11 +37,11 @@ module _ (p : ℕ → Bool) (s : Bytes) (at : ℕ) where
   -- the bytes up to a place, each of which passes the test
   record So-far (i : ℕ) : Type 0 where
     bytes : Bytes
-    all : every p bytes ≡ true
+    all : all_of p bytes ≡ true
     split : drop at s ≡ bytes ++ drop i s
 
   so_far : (n : ℕ) → at + n ≤ length s → ((k : ℕ) → k < n → p (byte_at s (at + k)) ≡ true) → So-far (at + n)
-  unfolding every
+  unfolding all_of
   so_far zero h a = let e : at + zero ≡ at = omega arith in
       rw e (record { bytes = []; all = refl; split = refl })
   so_far (suc n) h a =

@@ -46,6 +46,7 @@ pub(crate) fn pass<F: Fn(u8) -> bool>(s: &[u8], at: usize, test: F) -> usize
 }
 
 // The first place from `at` that has no whitespace.
+#[tactic(auto, unfolding(grammar::specs::Bytes::is_space), using(crate::proofs::Scanned::passed))]
 pub fn skip(s: &[u8], at: usize) -> usize
     requires { at ≤ length s.now }
     ensures { Passed is_space s.now at result }

@@ -36,14 +36,15 @@ pub(crate) fn ends_at(list: &[u8], at: usize) -> bool
 }
 
 // Passes the line that begins at `at`: where the next line begins, or the end of the list; and the line's signature.
+#[tactic(auto, using(crate::proofs::Indexed::goes_on))]
 fn pass_line(list: &[u8], at: usize) -> (usize, u32)
     requires { at < length list.now }
     ensures { LineMet list.now at result.0 result.1 }
 {
     let mut signed = 0;
     let mut i = at;
-    // By index, 10,000 names of 5 bytes take 96 us. With `for` they take 108, with `enumerate` 103, with `take_while`
-    // and `fold` 100, and with `split_inclusive`, which goes over each line twice, 126.
+    // By index, 10,000 names of 5 bytes take 96 us; with `for` 108, with `enumerate` 103, with `take_while` and `fold`
+    // 100, with `split_inclusive`, which reads each line twice, 126.
     while !ends_at(list, i) {
         signed = signed_by(signed, list[i]);
         i += 1;

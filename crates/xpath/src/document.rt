@@ -1,8 +1,8 @@
 // Documents lent as 16-bit numbers, three a row: their rows, and their check, which climbs toward ancestors and finds
 // the ends of the rows' subtrees.
-ghost use Rattle.std.specs.Prelude.{◌≡◌, ◌||◌, not, suc, ◌<◌, ◌≤◌, length, get_or, eqb, map};
-ghost use Rattle.xpath.specs.Document.{kind_at, parent_at, name_at, is_attribute, attribute_placed, kind_and_name_ok};
-ghost use Rattle.xpath.specs.Document.{row_ok_by, document_of, root_node, max_nodes};
+ghost use Rattle.std.specs.Prelude.{◌≡◌, ◌||◌, suc, ◌<◌, ◌≤◌, length, get_or, eqb, map};
+ghost use Rattle.xpath.specs.Document.{parent_at, is_attribute, attribute_placed, kind_and_name_ok, row_ok_by};
+ghost use Rattle.xpath.specs.Document.{document_of, root_node, max_nodes};
 ghost use Rattle.xpath.specs.code.Nodes.{node_of, node_in};
 ghost use Rattle.common.specs.NodeKinds.{attribute_kind};
 ghost use Rattle.xpath.specs.Climb.{climb_met};
@@ -36,7 +36,7 @@ impl From<[u16; NODE_WIDTH]> for Node {
 }
 
 impl Node {
-    // By its number, as the rows have it: a kind that is compared once isn't read as a NodeKind, here and below.
+    // By its number, here and below: a conversion to NodeKind before the one comparison would be no plainer.
     pub fn is_attribute(self) -> bool
         ensures { result ≡ eqb self.kind attribute_kind }
     {
@@ -44,7 +44,9 @@ impl Node {
     }
 }
 
-// The whole rows, each as its numbers.
+// The whole rows, each as its numbers. `as_chunks` and `get` are what nodes, rows, steps and points share, here and in
+// the crates above; each says what its numbers are.
+#[tactic(auto, using(crate::proofs::LentNumbers::nodes_by_three))]
 fn nodes(d: &[u16]) -> &[[u16; NODE_WIDTH]]
     ensures { map node_in result.now ≡ document_of d.now }
 {
@@ -58,7 +60,7 @@ pub fn node_count(d: &[u16]) -> usize
     nodes(d).len()
 }
 
-// The node in row y; `0 0 0` past the last row. For a record of any width a function would be no plainer than `get`.
+// The node in row y; `0 0 0` past the last row.
 pub fn node_at(d: &[u16], y: usize) -> Node
     ensures { node_of result ≡ get_or (document_of d.now) y root_node }
 {
@@ -78,25 +80,11 @@ pub fn whole_node(d: &[u16], y: usize) -> Node
     Node::from(nodes(d)[y])
 }
 
-#[tactic(auto, unfolding(crate::specs::Document::kind_at))]
-pub fn kind_at(d: &[u16], y: usize) -> u16
-    ensures { result ≡ kind_at (document_of d.now) y }
-{
-    node_at(d, y).kind
-}
-
 #[tactic(auto, unfolding(crate::specs::Document::parent_at))]
 pub fn parent_at(d: &[u16], y: usize) -> usize
     ensures { result ≡ parent_at (document_of d.now) y }
 {
     usize::from(node_at(d, y).parent)
-}
-
-#[tactic(auto, unfolding(crate::specs::Document::name_at))]
-pub fn name_at(d: &[u16], y: usize) -> u16
-    ensures { result ≡ name_at (document_of d.now) y }
-{
-    node_at(d, y).name
 }
 
 #[tactic(auto, unfolding(crate::specs::Document::kind_at))]
@@ -115,16 +103,8 @@ pub fn parent_of(d: &[u16], y: usize) -> usize
     usize::from(whole_node(d, y).parent)
 }
 
-#[tactic(auto, unfolding(crate::specs::Document::kind_at))]
-fn kind_of(d: &[u16], y: usize) -> u16
-    requires { y < length (document_of d.now) }
-    ensures { result ≡ kind_at (document_of d.now) y }
-{
-    whole_node(d, y).kind
-}
-
-// What the climb toward a row gives: whether it met that row, and how many parents it took, which is counted
-// whether it met the row or not.
+// What the climb toward a row gives: whether it met that row, and how many parents it took, which is counted whether it
+// met the row or not, and is promised (docs/TRACE.md, document 02, T-04) though the check takes `met` alone.
 #[derive(Clone, Copy, Debug, PartialEq, Eq)]
 struct Climb {
     met: bool,
@@ -133,8 +113,8 @@ struct Climb {
 
 // The ancestor test: the climb from row y toward x. It ends once it is at or below x, and where a parent is not the
 // smaller row, which no document has. It closes at `end` the subtree of each row that it leaves. `d` and `ends` are no
-// struct, here and below: each of its methods would owe that `d` stays as it was. Nor is `d` one that promises at most
-// `max_nodes` rows: it would be made for this check alone, and each contract would read the rows through it.
+// struct, here and below: each of its methods would owe that `d` stays as it was. Nor is there a type of documents of
+// at most `max_nodes` rows: it would be made for this check alone, and each contract would read the rows through it.
 fn climb_toward(d: &[u16], x: usize, y: usize, end: u16, ends: &mut [u16; MAX_NODES]) -> Climb
     requires y_in_bounds { y < length (document_of d.now) }
     requires y_lt_max_nodes { y < max_nodes }
@@ -181,17 +161,19 @@ fn kind_and_name_ok(kind: u16, name: u16) -> bool
 }
 
 // Whether an attribute in row n + 1 stands where it must.
+#[tactic(auto, unfolding(crate::specs::Document::kind_at))]
 fn attribute_placed(d: &[u16], n: usize) -> bool
     requires { n < max_nodes }
     ensures { result ≡ attribute_placed (document_of d.now) n }
 {
     let parent = parent_at(d, n + 1);
-    kind_at(d, parent) == node_kind::ELEMENT
+    node_at(d, parent).kind == node_kind::ELEMENT
         && (parent == n || is_attribute(d, n) && parent_at(d, n) == parent)
 }
 
 // Whether row `parent` is row n or an ancestor of it, which the climb from row n tells. It closes the subtrees that end
 // there.
+#[tactic(auto, using(crate::proofs::Rows::same_placed, crate::proofs::Rows::climb_placed))]
 fn is_placed(d: &[u16], parent: usize, n: usize, ends: &mut [u16; MAX_NODES]) -> bool
     requires n_in_bounds { n < length (document_of d.now) }
     requires n_lt_max_nodes { n < max_nodes }
@@ -213,7 +195,10 @@ fn later_row_ok(d: &[u16], n: usize, ends: &mut [u16; MAX_NODES]) -> bool
     let node = whole_node(d, n + 1);
     let parent = parent_of(d, n + 1);
     is_placed(d, parent, n, ends)
-        && matches!(kind_of(d, parent), node_kind::ROOT | node_kind::ELEMENT)
+        && matches!(
+            whole_node(d, parent).kind,
+            node_kind::ROOT | node_kind::ELEMENT
+        )
         && kind_and_name_ok(node.kind, node.name)
         && (!node.is_attribute() || attribute_placed(d, n))
 }

@@ -1,6 +1,7 @@
 // Documents lent as 16-bit numbers, three a row, as C lends them: their check, with the ends of the rows' subtrees, and
 // the node tests.
-// Every public function takes every input; a number that no whole row has is read as 0.
+// Every public function but `parent_of` and `whole_node` takes every input; a number that no whole row has is read as
+// 0.
 #![tactic(auto)]
 
 mod checked;
@@ -13,8 +14,8 @@ pub use document::{
 };
 pub use node_tests::{AnyNode, Named, NodeSet, OfKind, StepTest, passes_test};
 
-// The largest document that a call takes. An array of a mark or an end for each row has so many, and the document's
-// size says how many count: fixed memory without a heap.
+// The largest document that a call takes. Arrays of a mark or an end for each row are this long: fixed memory without
+// a heap. The document's size says how much of one is in use.
 pub const MAX_NODES: usize = 512;
 
 // How many numbers a node has.

@@ -75,6 +75,7 @@ fn principal_kind(axis: u16) -> NodeKind
 impl StepTest {
     // None where the test selects nothing. By three numbers, here and below, as a row of any table has them: a struct
     // of them would promise nothing, and be made for this call.
+    #[tactic(auto, unfolding(crate::specs::Axis::passes))]
     pub fn new(axis: u16, test: u16, name: usize) -> Option<StepTest>
         ensures { Asks axis test name result }
     {

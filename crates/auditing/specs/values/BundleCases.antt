@@ -15,7 +15,8 @@ use Rattle.rules.specs.code.RuleFits.{rule_fits}
 use Rattle.rules.specs.Decision.{yields_dec}
 use Rattle.lines.specs.Ascii.{ascii}
 use Rattle.lines.specs.Line.{in_first_line, lines, in_first_part, parts, same_bytes, is_line}
-use Rattle.lines.specs.Number.{is_digit, are_digits, is_decimal, append_digits, numbers_up_to, numbers_of}
+use Rattle.common.specs.Lists.{all_of}
+use Rattle.lines.specs.Number.{is_digit, is_decimal, append_digits, numbers_up_to, numbers_of}
 use Rattle.auditing.specs.declared.Report.{Report}
 use Rattle.calls.specs.Book.{answer}
 use Rattle.calls.specs.TermCall.{term_answer}
@@ -121,7 +122,7 @@ reports :
     ∷ audited (example ++ "2 1 1 0 0\n") is report_by 0 0 2 1 1
     ∷ [])
 unfolding ascii report reading lines_read rows_read steps_read row_names step_names row_of_line step_of_line lines
-    in_first_line parts in_first_part same_bytes is_line numbers_of numbers_up_to is_decimal are_digits is_digit
+    in_first_line parts in_first_part same_bytes is_line numbers_of numbers_up_to is_decimal all_of is_digit
     append_digits Option-elim view table_of steps_of fresh_session with_row with_step term_answer bad_place fields_of
     field_ok held_path held_qualifier is_path is_qualifier nesting nestings entries_from nesting_by operand_nesting
     find same_row step_answer step_answer_by same_sort bad_side_of premise_ok bad_premise_of claim_of premises_of
@@ -146,7 +147,7 @@ readings :
     ∷ [])
 unfolding ascii reading lines_read rows_read steps_read row_names step_names row_of_line step_of_line lines
     in_first_line
-    parts in_first_part same_bytes is_line numbers_of numbers_up_to is_decimal are_digits is_digit append_digits
+    parts in_first_part same_bytes is_line numbers_of numbers_up_to is_decimal all_of is_digit append_digits
     Option-elim view table_of steps_of fresh_session with_row with_step term_answer bad_place fields_of field_ok
     held_path held_qualifier is_path is_qualifier nesting nestings entries_from nesting_by operand_nesting find
     same_row step_answer step_answer_by same_sort bad_side_of premise_ok bad_premise_of claim_of premises_of

@@ -1,10 +1,11 @@
 -- A session's points: of each its name, and how many rows and steps were held. Assumes nothing.
-use Rattle.std.specs.Prelude.{ℕ, ◌-◌, ◌*◌, ◌≡◌, min, List, [], ◌∷◌, ◌++◌, map, length, get_or, take, replicate, Ok, Err}
-pub use Rattle.terms.specs.code.RowTypes.{FoundIs}
+use Rattle.std.specs.Prelude.{ℕ, ◌-◌, ◌*◌, ◌<◌, ◌≡◌, min, List, [], ◌∷◌, ◌++◌, map, length, get_or, take, replicate}
+use Rattle.std.specs.Prelude.{Option, Some, None, Result, Ok, Err}
+use Rattle.common.specs.declared.refusal.Refusal.{Refusal}
 use Rattle.calls.specs.declared.points.PointCounts.{PointCounts}
 use Rattle.calls.specs.Book.{max_points, answer}
 use Rattle.calls.specs.PointCall.{place_of, return_answer}
-use Rattle.calls.specs.code.Answers.{NumberOrRefusal, refusal_answer}
+use Rattle.calls.specs.code.Answers.{refusal_answer}
 
 -- how many numbers a point has
 abbrev pub point_width : ℕ
@@ -38,11 +39,18 @@ counts_names cs = map (λ c. c.name) cs
 abbrev pub point_named : List PointCounts → (n : ℕ) → PointCounts
 point_named cs n = get_or cs (place_of (counts_names cs) n) no_counts
 
--- what a return to the point of the name n gives, where points of these names are held: the place of the first of that
--- name, counted from 0, or the call's refusal
-abbrev pub ReturnFound : NumberOrRefusal → (names : List ℕ) → (n : ℕ) → Type 0
-ReturnFound (Ok place) names n = (place ≡ place_of names n) × (answer 0 0 ≡ return_answer names n)
-ReturnFound (Err r) names n = refusal_answer r ≡ return_answer names n
+-- o is the first point of the name n among points, with its place, counted from 0; none where no point has that name
+abbrev pub PointFound : Option (ℕ × PointCounts) → List PointCounts → (n : ℕ) → Type 0
+PointFound None cs n = place_of (counts_names cs) n ≡ length cs
+PointFound (Some found) cs n = (found.0 ≡ place_of (counts_names cs) n) × (found.1 ≡ point_named cs n)
+    × (found.0 < length cs)
+
+-- what a return to the point of the name n gives: the first point of that name with its place, counted from 0, or the
+-- call's refusal
+abbrev pub ReturnFound : Result (ℕ × PointCounts) Refusal → List PointCounts → (n : ℕ) → Type 0
+ReturnFound (Ok found) cs n = (found.0 ≡ place_of (counts_names cs) n) × (found.1 ≡ point_named cs n)
+    × (answer 0 0 ≡ return_answer (counts_names cs) n)
+ReturnFound (Err r) cs n = refusal_answer r ≡ return_answer (counts_names cs) n
 
 -- how many points a count says are held: one above the limit is read as the limit
 abbrev pub points_counted : ℕ → ℕ

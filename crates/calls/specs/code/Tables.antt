@@ -1,5 +1,5 @@
 -- Tables of numbers as rows and as steps. Assumes nothing.
-use Rattle.std.specs.Prelude.{ℕ, ◌*◌, ◌≡◌, Bool, true, false, ◌&&◌, min, List, [], ◌∷◌, leb, length, get_or, take}
+use Rattle.std.specs.Prelude.{ℕ, ◌*◌, ◌≡◌, Bool, true, false, ◌&&◌, min, List, [], ◌∷◌, leb, length, take}
 use Rattle.std.specs.Prelude.{Option, Some, None}
 use Rattle.terms.specs.Row.{Row, table_of, max_rows}
 pub use Rattle.terms.specs.Row.{row_width}
@@ -21,10 +21,6 @@ steps_of (n ∷ l ∷ []) = []
 steps_of (n ∷ l ∷ r ∷ []) = []
 steps_of (n ∷ l ∷ r ∷ i ∷ []) = []
 steps_of (n ∷ l ∷ r ∷ i ∷ j ∷ xs) = step n l r i j ∷ steps_of xs
-
--- five numbers as a step
-abbrev pub step_in : List ℕ → Step
-step_in xs = step (get_or xs 0 0) (get_or xs 1 0) (get_or xs 2 0) (get_or xs 3 0) (get_or xs 4 0)
 
 -- whether ps has a step numbered i, counted from 1
 abbrev pub is_numbered : List Step → (i : ℕ) → Bool

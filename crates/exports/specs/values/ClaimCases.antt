@@ -4,11 +4,11 @@ use Prim.Native.String.{String, ◌++◌}
 use Rattle.std.proofs.Math.Bool.{decide}
 use Rattle.std.proofs.Math.Option.{Option-elim}
 use Rattle.common.specs.Bounded.{first_below}
-use Rattle.common.specs.Lists.{any_of, joined}
+use Rattle.common.specs.Lists.{all_of, any_of, joined}
 use Rattle.common.specs.values.Expected.{◌is◌, AllRight}
 use Rattle.lines.specs.Ascii.{ascii}
 use Rattle.lines.specs.Line.{in_first_line, lines, in_first_part, parts, same_bytes, is_line}
-use Rattle.lines.specs.Number.{is_digit, are_digits, is_decimal, append_digits, numbers_up_to, numbers_of}
+use Rattle.lines.specs.Number.{is_digit, is_decimal, append_digits, numbers_up_to, numbers_of}
 use Rattle.terms.specs.Row.{table_of, entries_from, same_row, find, table_with}
 use Rattle.terms.specs.Fields.{fields_of, is_path, is_qualifier, held_path, held_qualifier, field_ok, bad_place}
 use Rattle.terms.specs.Nesting.{operand_nesting, nesting_by, nestings, nesting}
@@ -108,7 +108,7 @@ unfolding told claim_answer old_claimed new_claimed said_answer step_saying firs
     and_of or_of put
     put_path put_qual nest_path nest_qual grammar.term_answer names_answer read_answer grammar.answer
     ascii reading lines_read rows_read steps_read row_names bundles.step_names row_of_line step_of_line lines
-    in_first_line parts in_first_part same_bytes is_line numbers_of numbers_up_to is_decimal are_digits is_digit
+    in_first_line parts in_first_part same_bytes is_line numbers_of numbers_up_to is_decimal all_of is_digit
     append_digits Option-elim view table_of steps_of fresh_session with_row with_step term_answer bad_place fields_of
     field_ok held_path held_qualifier is_path is_qualifier nesting nestings entries_from nesting_by operand_nesting
     find same_row step_answer step_answer_by same_sort bad_side_of premise_ok bad_premise_of claim_of premises_of

@@ -1,20 +1,19 @@
 -- `file` meets its contract. Assumes nothing.
-use Rattle.std.proofs.lemmas.Result.{err_from_is_err_and}
+use Rattle.common.proofs.Errors.{err_is}
 use Rattle.filing.proofs.CallLaws.{file_refused, file_written}
 use Rattle.filing.proofs.file.Goals as goal
 
 pub returns-in_err-session : goal.returns-in_err-session
 returns-in_err-session c =
     let a = c.args in
-    let p = err_from_is_err_and c.from_residual.result c.from_residual.ensures.1 in
-    rw (p.1, p.2) (file_refused a.script.now a.out.now _ c.in_err-session.ensures)
+    rw (err_is c.from_residual.result c.from_residual.ensures.1)
+    (file_refused a.script.now a.out.now _ c.in_err-session.ensures)
 
 pub returns-in_err-length : goal.returns-in_err-length
 returns-in_err-length c =
     let a = c.args in
     let exit = c.from_residual-in_err-length in
-    let p = err_from_is_err_and exit.result exit.ensures.1 in
-    rw (p.1, p.2)
+    rw (err_is exit.result exit.ensures.1)
     (file_written a.script.now a.out.now _ c.in_ok-session.ensures _ _ c.in_err-length.ensures)
 
 pub returns : goal.returns

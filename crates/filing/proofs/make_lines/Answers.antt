@@ -7,7 +7,7 @@ use Rattle.std.proofs.Common.{rules}
 use Rattle.std.specs.Slice.Iter.{split_inclusive_rest, split_inclusive_callee}
 use Rattle.std.proofs.lemmas.List.{length_push}
 use Rattle.std.proofs.lemmas.List.Sorted.{answers_always}
-use Rattle.std.proofs.lemmas.Result.{err_from_is_err_and}
+use Rattle.common.proofs.Errors.{err_is}
 use Rattle.script.proofs.EachLine.{turn, no_turn}
 use Rattle.filing.proofs.LinesLaws.{no_line_left, line_refused_by, line_taken_by}
 use Rattle.filing.proofs.CallLaws.{filed_from_start}
@@ -22,12 +22,11 @@ returns-in_err-left c =
     let t = turn _ split_inclusive_rest split_inclusive_callee c.args.script.now _ (cc) (cc)
     (answers_always _ _ _ (λ f a r q k. search (rules, tests))) l.yielded _ l.yielded_by _ _ _ c.in-Some.is
     c.next.ensures.steps in
-    let exit = err_from_is_err_and c.from_residual.result c.from_residual.ensures.1 in
     let refused = c.in_err-left.ensures in
     let told = line_refused_by (record { session = l.left.0; names = l.left.1.0 }) (c.in-Some.i + 1) _ _
     c.in-Some.line.now _ t.line.alone t.line.there c.line.result c.line.ensures c.in_err-left.field-0.0 _ _
     refused.cases (sym refused.variant) (λ k h. search rules) in
-    rw (exit.1, exit.2) ((rw t.place at told) ∙ sym l.invariant)
+    rw (err_is c.from_residual.result c.from_residual.ensures.1) ((rw t.place at told) ∙ sym l.invariant)
 
 pub loop-i-preserved : goal.loop-i-preserved
 loop-i-preserved c =

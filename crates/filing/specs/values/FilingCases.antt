@@ -2,7 +2,7 @@
 use Rattle.std.specs.Prelude.{ℕ, true, List, [], ◌∷◌, ◌++◌, refl, replicate}
 use Prim.Native.String.{String}
 use Rattle.std.proofs.Math.Option.{some, Option-elim}
-use Rattle.common.specs.Lists.{joined}
+use Rattle.common.specs.Lists.{all_of, joined}
 use Rattle.common.specs.values.Expected.{◌is◌, AllRight}
 use Rattle.terms.specs.Fields.{fields_of, is_path, is_qualifier, held_path, held_qualifier, field_ok, bad_place}
 use Rattle.terms.specs.Nesting.{operand_nesting, nesting_by, nestings, nesting}
@@ -10,7 +10,7 @@ use Rattle.terms.specs.Row.{row, table_of, entries_from, same_row, find, table_w
 use Rattle.terms.specs.Terms.{as_path, as_qualifier, term_by, terms, term_at}
 use Rattle.lines.specs.Ascii.{ascii}
 use Rattle.lines.specs.Line.{line, in_first_line, lines, in_first_part, parts, same_bytes}
-use Rattle.lines.specs.Number.{is_digit, are_digits, is_decimal, append_digits, numbers_up_to}
+use Rattle.lines.specs.Number.{is_digit, is_decimal, append_digits, numbers_up_to}
 use Rattle.lines.specs.Written.{digits_of, decimal, line_text}
 use Rattle.grammar.proofs.Answered.{answered}
 use Rattle.grammar.specs.Bytes.{is_space, is_start, is_name, is_quote}
@@ -99,7 +99,7 @@ unfolding with_rows table_with joined text_answer text_reply answered run outcom
     union_of
     unary_of and_of or_of put put_path put_qual nest_path nest_qual grammar.term_answer names_answer read_answer
     grammar.answer ascii row_names bundles.step_names lines in_first_line parts in_first_part same_bytes numbers_up_to
-    is_decimal are_digits is_digit append_digits Option-elim view table_of steps_of fresh_session with_row term_answer
+    is_decimal all_of is_digit append_digits Option-elim view table_of steps_of fresh_session with_row term_answer
     bad_place fields_of field_ok held_path held_qualifier is_path is_qualifier nesting nestings entries_from nesting_by
     operand_nesting find same_row term_at terms term_by as_path as_qualifier file_answer file_buffer filed lines_filed
     line_action lending rest_of names_of script.words shape_of word_for command_by named at_most rows_text steps_text
@@ -128,7 +128,7 @@ unfolding with_rows table_with joined text_answer text_reply answered run outcom
     union_of
     unary_of and_of or_of put put_path put_qual nest_path nest_qual grammar.term_answer names_answer read_answer
     grammar.answer ascii row_names bundles.step_names lines in_first_line parts in_first_part same_bytes numbers_up_to
-    is_decimal are_digits is_digit append_digits Option-elim view table_of steps_of fresh_session with_row term_answer
+    is_decimal all_of is_digit append_digits Option-elim view table_of steps_of fresh_session with_row term_answer
     bad_place fields_of field_ok held_path held_qualifier is_path is_qualifier nesting nestings entries_from nesting_by
     operand_nesting find same_row term_at terms term_by as_path as_qualifier file_answer file_buffer filed lines_filed
     line_action lending rest_of names_of script.words shape_of word_for command_by named at_most rows_text steps_text
@@ -145,5 +145,5 @@ actions :
     ∷ [])
 unfolding line_action lending rest_of names_of script.words shape_of word_for command_by named at_most numbers_up_to
     parts
-    in_first_part same_bytes Option-elim is_decimal are_digits is_digit append_digits ascii
+    in_first_part same_bytes Option-elim is_decimal all_of is_digit append_digits ascii
 actions = refl

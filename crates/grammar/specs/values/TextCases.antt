@@ -1,6 +1,6 @@
 -- Texts of the grammar, and texts outside it with their places, by computation: the reader decides the grammar
 -- (`given` and `only` in grammar/proofs/Answered.antt). Assumes nothing.
-use Rattle.std.specs.Prelude.{ℕ, zero, suc, ◌-◌, ◌≡◌, refl, List, [], ◌∷◌, ◌++◌, map, length}
+use Rattle.std.specs.Prelude.{ℕ, zero, suc, ◌-◌, refl, List, [], ◌∷◌, ◌++◌, map, length}
 use Prim.Native.String.{String}
 use Rattle.std.proofs.Math.Option.{Option, none, some}
 use Rattle.common.specs.values.Expected.{Case, ◌is◌, AllRight}
@@ -43,8 +43,9 @@ unfolding
     is_start is_name is_quote same_bytes find next axes types is_some instruction_word takes_predicate place
 refused_at t = place (run t initial) (length t)
 
-abbrev Texts : List String → Type 0
-Texts ts = map (λ t. refused_at (ascii t)) ts ≡ map (λ t. none) ts
+-- the text is of the grammar
+abbrev is_text : String → Case (Option ℕ)
+is_text t = refused_at (ascii t) is none
 
 infix 70 ◌at◌
 -- the text is outside the grammar, and this is its place
@@ -63,7 +64,7 @@ texts =
     ∷ "self::node()[self::text()]" ∷ "following-sibling::b/preceding::*" ∷ "descendant-or-self::node()/a"
     ∷ []
 
-are_texts : Texts texts
+are_texts : AllRight (map is_text texts)
 unfolding refused_at ascii
 are_texts = refl
 
@@ -79,7 +80,7 @@ more_texts =
     ∷ "a | b" ∷ "a[not ( b )]" ∷ "a[b and or]" ∷ "a[b or and]" ∷ "a[b and c and d or e]" ∷ "processing-instruction"
     ∷ []
 
-are_more_texts : Texts more_texts
+are_more_texts : AllRight (map is_text more_texts)
 unfolding refused_at ascii
 are_more_texts = refl
 
@@ -129,7 +130,7 @@ targets =
     ∷ "self::processing-instruction('and')" ∷ "@processing-instruction('x')"
     ∷ []
 
-are_targets : Texts targets
+are_targets : AllRight (map is_text targets)
 unfolding refused_at ascii
 are_targets = refl
 

@@ -4,10 +4,9 @@ use Prim.Native.Nat.{ℕ, ◌+◌, ◌-◌}
 use mathlib.Core.Path.{◌≡◌, refl, sym, ap, ◌∙◌}
 use mathlib.Core.List.{[], ◌∷◌}
 use native.Mathlib.Omega.{arith}
-use Rattle.std.proofs.lemmas.List.{take_all}
+use Rattle.std.proofs.lemmas.List.{take_all, take_more_set}
 use lib.ListN.{length, drop, length-set, length-replicate, length-append}
 use Rattle.lines.specs.Line.{lines}
-use Rattle.lines.proofs.Filled.{put_behind}
 use Rattle.lines.proofs.LineRead.{starts_counted, counted_more, counted_last, none_more, none_last}
 use Rattle.lines.proofs.LineRead.{no_numbers_met}
 use Rattle.lines.proofs.numbers_line.Goals as goal
@@ -41,7 +40,7 @@ loop-n-preserved g c =
     let left = g.row.N - (l.n-index + 1) in
     let v = c.in_ok-number.number.value in (
       omega (arith, length-set l.n-items l.n-index v, l.invariant.0),
-      rw (put_behind l.n-items l.n-index v (omega arith))
+      rw (take_more_set l.n-items l.n-index v (omega arith))
           (counted_more g.row.N a.bytes.now a.at l.from (g.row.N - l.n-index) _ l.invariant.1 left (omega arith) v _
           c.in_ok-number.ensures),
     )

@@ -3,9 +3,10 @@ use Rattle.std.specs.Prelude.{ℕ, refl, true, false, List, [], ◌∷◌}
 use Prim.Native.String.{String}
 use Rattle.std.proofs.Math.Option.{Option, none, some, Option-elim}
 use Rattle.common.specs.values.Expected.{◌is◌, AllRight}
+use Rattle.common.specs.Lists.{all_of}
 use Rattle.lines.specs.Ascii.{ascii}
 use Rattle.lines.specs.Line.{Line, line, in_first_line, lines, in_first_part, parts, same_bytes, is_line, first_is}
-use Rattle.lines.specs.Number.{max_number, is_digit, are_digits, is_decimal, append_digits}
+use Rattle.lines.specs.Number.{max_number, is_digit, is_decimal, append_digits}
 use Rattle.lines.specs.Number.{number_up_to, numbers_up_to, numbers_of}
 use Rattle.lines.specs.code.NumbersRead.{cut, number_before, number_cut, starts_with}
 use Rattle.lines.specs.Written.{digits_of, decimal, line_text}
@@ -65,7 +66,7 @@ pub numbers :
     ∷ number "/" is none
     ∷ number ":" is none
     ∷ [])
-unfolding ascii is_decimal are_digits is_digit append_digits
+unfolding ascii is_decimal all_of is_digit append_digits
 numbers = refl
 
 -- the largest of 32 bits and one more; 1024 and 1025; 7, where 6 is the bound
@@ -77,7 +78,7 @@ pub bounds :
     ∷ number_up_to 1024 (ascii "1025") is none
     ∷ number_up_to 6 (ascii "7") is none
     ∷ [])
-unfolding ascii is_decimal are_digits is_digit append_digits
+unfolding ascii is_decimal all_of is_digit append_digits
 bounds = refl
 
 -- "12 34" before a space and before a newline, which isn't there; before the digit 2 and the digit 1
@@ -88,7 +89,7 @@ pub cuts :
     ∷ number_cut 65535 50 (ascii "12 34") is some (number_before 1 (ascii " 34"))
     ∷ number_cut 65535 49 (ascii "12 34") is none
     ∷ [])
-unfolding ascii number_cut cut Option-elim is_decimal are_digits is_digit append_digits
+unfolding ascii number_cut cut Option-elim is_decimal all_of is_digit append_digits
 cuts = refl
 
 -- a line with its newline
@@ -121,7 +122,7 @@ pub four_numbers :
     ∷ numbers_of 4 (line (ascii "2 1 0 2") false) is none
     ∷ numbers_of 0 (line [] true) is none
     ∷ [])
-unfolding ascii numbers_of numbers_up_to Option-elim parts in_first_part is_decimal are_digits is_digit append_digits
+unfolding ascii numbers_of numbers_up_to Option-elim parts in_first_part is_decimal all_of is_digit append_digits
 four_numbers = refl
 
 -- a text's first line is known: itself, longer, without its newline, another, none

@@ -1,6 +1,6 @@
 -- Marks that are added to marks. Assumes nothing.
 use Rattle.std.specs.Prelude.{ℕ, ◌≤◌, ◌<◌, ◌≡◌, Bool, true, false, not, cond, ◌&&◌, List, eqb, length, get_or}
-use Rattle.xpath.specs.Document.{Document, is_attribute, is_child, max_nodes}
+use Rattle.xpath.specs.Document.{Document, is_attribute, is_child}
 use Rattle.common.specs.Axes.{attribute}
 use Rattle.xpath.specs.code.Tests.{picks}
 
@@ -28,8 +28,3 @@ pub record ChildrenFrom (d : Document) (es : List ℕ) (p lo hi : ℕ) : Type 0 
   pub ordered : lo ≤ hi
   pub inside : hi ≤ get_or es p 0
   pub first : lo < hi → is_child d p lo ≡ true
-
--- x is a row of the document, and the marks have room for every row
-pub record StepFrom {M : Type 0} (d : Document) (x : ℕ) (m : List M) : Type 0 where
-  pub row : x < length d
-  pub room : length m ≡ max_nodes

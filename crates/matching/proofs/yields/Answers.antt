@@ -1,6 +1,6 @@
 -- The way back, or one of the rule's forms. Assumes nothing.
 use mathlib.Core.Path.{◌∙◌, ap}
-use mathlib.Core.List.{[], ◌∷◌}
+use mathlib.Core.List.{map}
 use borrow.Author.Rules.{rules}
 use borrow.Author.Tests.{tests}
 use Rattle.std.proofs.lemmas.Iterator.{YieldsList-from_slice}
@@ -17,7 +17,7 @@ pub returns-then-rule-eq-WAY_BACK_RULE : goal.returns-then-rule-eq-WAY_BACK_RULE
 returns-then-rule-eq-WAY_BACK_RULE c =
     let a = c.args in
     let done = c.is_with_back.ensures in (
-      way_back_way (table_of a.rows.now) (sides_in a.step) (sides_in a.first ∷ sides_in a.second ∷ []) a.rule
+      way_back_way (table_of a.rows.now) (sides_in a.step) (map sides_in a.premises) a.rule
           c.if-rule-eq-WAY_BACK_RULE.true done.0,
       done.1,
     )
@@ -27,7 +27,7 @@ returns c =
     let a = c.args in
     let rs = table_of a.rows.now in
     let s = sides_in a.step in
-    let ss = sides_in a.first ∷ sides_in a.second ∷ [] in
+    let ss = map sides_in a.premises in
     let forms = c.forms_of.result.now in
     let found =
     any_from_yields_List (λ w. yields_by rs s ss (form_of w)) _ _ c.any.result c.any.ensures.ran

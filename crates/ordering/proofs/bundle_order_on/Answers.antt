@@ -7,7 +7,7 @@ use native.Mathlib.Omega.{arith}
 use lib.ListN.{length}
 use Rattle.std.proofs.lemmas.List.{length_push}
 use Rattle.std.proofs.lemmas.Slice.Zip.{zip_turn, zip_end}
-use Rattle.terms.specs.Row.{table_of}
+use Rattle.terms.specs.Row.{table_of, max_rows}
 use Rattle.calls.specs.Book.{answer}
 use Rattle.calls.specs.code.Tables.{steps_of}
 use Rattle.ordering.specs.BundleOrder.{term_step, step_order, term_steps, bundle_order}
@@ -19,7 +19,7 @@ use Rattle.ordering.proofs.bundle_order_on.Goals as goal
 use Rattle.ordering.proofs.bundle_order_on.Goals.{After-order_steps-order}
 
 pub loop-p-init : goal.loop-p-init
-loop-p-init c = (none_noted (table_of c.args.left.rows.now) (table_of c.args.right.rows.now) 1024, refl)
+loop-p-init c = (none_noted (table_of c.args.left.rows.now) (table_of c.args.right.rows.now) max_rows, refl)
 
 -- the steps compared stand at this place of both bundles
 compared : (c : After-order_steps-order) → let k = length c.loop-p.yielded in

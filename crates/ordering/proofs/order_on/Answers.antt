@@ -4,7 +4,7 @@ use mathlib.Core.Path.{ap, ◌∙◌}
 use native.Mathlib.Omega.{arith}
 use borrow.Author.Tests.{le-leb, lt-leb}
 use lib.ListN.{length}
-use Rattle.terms.specs.Row.{table_of}
+use Rattle.terms.specs.Row.{table_of, max_rows}
 use Rattle.calls.specs.Book.{answer}
 use Rattle.ordering.specs.OrderCall.{order_value, order_answer}
 use Rattle.ordering.proofs.Compared.{number_of_order, none_noted}
@@ -24,7 +24,7 @@ returns-then-row_count-from-2 c =
     )
 
 pub order_rows-requires : goal.order_rows-requires
-order_rows-requires c = none_noted _ _ 1024
+order_rows-requires c = none_noted _ _ max_rows
 
 pub returns : goal.returns
 unfolding order_answer

@@ -1,18 +1,11 @@
 -- `constant` meets its contract. Assumes nothing.
 use mathlib.Core.Path.{refl}
-use native.Mathlib.Omega.{arith}
 use Rattle.readings.specs.code.Build.{stands}
 use Rattle.readings.proofs.Worded.{const_read}
 use Rattle.readings.proofs.constant.Goals as goal
-
-pub put-requires : goal.put-requires
-put-requires c = record {
-  size = c.requires.sized.size;
-  bound = omega (arith, c.requires.sized.bound, c.in_ok-shut.ensures.count refl);
-}
 
 pub returns : goal.returns
 returns c =
     const_read c.args.s.now c.args.kind _ _ (stands c.args.from) (stands c.in_ok-shut.shut) _
     c.skip-at.result refl
-    c.skip-at.ensures c.in_ok-shut.ensures c.put.ensures
+    c.skip-at.ensures c.in_ok-shut.ensures c.put_leaf.ensures

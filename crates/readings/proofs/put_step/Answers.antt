@@ -3,9 +3,6 @@ use Rattle.readings.proofs.Built.{step_put}
 use Rattle.readings.specs.code.Build.{stands}
 use Rattle.readings.proofs.put_step.Goals as goal
 
-pub put-step-requires : goal.put-step-requires
-put-step-requires c = record { size = c.requires.size; bound = c.requires.bound }
-
 pub returns : goal.returns
 returns c =
     step_put _ c.args.unlisted c.args.rows.now (stands c.args.from) c.args.at _ c.put-step.result _

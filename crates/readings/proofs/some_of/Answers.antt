@@ -4,5 +4,6 @@ use Rattle.readings.proofs.some_of.Goals as goal
 
 pub returns : goal.returns
 returns c =
-    some_grown _ _ _ _ _ _ _ _ c.put_leaf-void.ensures (rw c.into.ensures at c.join-inclusion.ensures)
+    some_grown _ _ _ _ _ _ _ _ (rw c.into.ensures at c.put_leaf-void.ensures)
+    (rw c.into-2.ensures at c.join-inclusion.ensures)
     c.put_over.ensures

@@ -3,7 +3,7 @@ use Rattle.std.specs.Prelude.{ℕ, ◌≡◌, Bool, true, false, not, ◌&&◌, 
 use Rattle.std.proofs.Math.Path.{refl}
 use Rattle.common.specs.Bounded.{list_below}
 use Rattle.common.specs.Axes.{self, child, parent, descendant, ancestor, descendant_or_self, ancestor_or_self}
-use Rattle.common.specs.Axes.{following_sibling, preceding_sibling, following, preceding, attribute}
+use Rattle.common.specs.Axes.{following_sibling, preceding_sibling, following, preceding}
 use Rattle.xpath.specs.Term.{Path, Void, Root, AxisStep, Union, Composition, Filter}
 use Rattle.xpath.specs.Term.{Qualifier, True, False, Not, And, Or, In}
 use Rattle.rules.specs.Order.{axis_pairs, is_pair, axis_below, test_below}

@@ -1,8 +1,10 @@
--- `put_names` meets its contract: the first i bytes are written. Assumes nothing.
+-- `put_names` meets its contract: the first bytes are written, and the others copied. Assumes nothing.
 use mathlib.Core.Path.{◌≡◌}
-use lib.ListN.{length, take}
-use Rattle.script.specs.Rest.{names_of}
+use mathlib.Core.List.{◌++◌, map}
+use lib.ListN.{take, drop}
+use Rattle.script.specs.Rest.{newline_for_space}
 use Rattle.script.proofs.put_names.Given as goal
 
-abbrev pub invariant-loop-i : goal.invariant-loop-i
-invariant-loop-i l = (take l.i l.out ≡ take l.i (names_of l.bytes)) × (length l.out ≡ length l.initial.out)
+abbrev pub invariant-loop-b : goal.invariant-loop-b
+invariant-loop-b l =
+    l.names ≡ map newline_for_space (take l.b-index l.initial.names) ++ drop l.b-index l.initial.names

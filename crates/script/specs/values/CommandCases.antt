@@ -5,7 +5,8 @@ use Rattle.std.proofs.Math.Option.{Option, none, some, Option-elim}
 use Rattle.common.specs.values.Expected.{◌is◌, AllRight}
 use Rattle.lines.specs.Ascii.{ascii}
 use Rattle.lines.specs.Line.{in_first_line, lines, in_first_part, parts, same_bytes}
-use Rattle.lines.specs.Number.{is_digit, are_digits, is_decimal, append_digits, numbers_up_to}
+use Rattle.common.specs.Lists.{all_of}
+use Rattle.lines.specs.Number.{is_digit, is_decimal, append_digits, numbers_up_to}
 use Rattle.lines.specs.code.NumbersRead.{first_parts}
 use Rattle.script_words.specs.declared.Word.TheVariants.{Term, Step, Select, Document, Fresh, Old, New, Replace}
 use Rattle.script_words.specs.declared.Word.TheVariants.{Write, Point, Return, Other, Order, BundleOrder, Names, Text}
@@ -54,7 +55,7 @@ pub commands :
     ∷ [])
 unfolding ascii words word_for shape_of command_by named at_most first_parts lines in_first_line parts in_first_part
     same_bytes
-    numbers_up_to Option-elim is_decimal are_digits is_digit append_digits
+    numbers_up_to Option-elim is_decimal all_of is_digit append_digits
 commands = refl
 
 pub no_commands :
@@ -146,7 +147,7 @@ pub no_commands :
     ∷ [])
 unfolding ascii words word_for shape_of command_by named at_most first_parts lines in_first_line parts in_first_part
     same_bytes
-    numbers_up_to Option-elim is_decimal are_digits is_digit append_digits
+    numbers_up_to Option-elim is_decimal all_of is_digit append_digits
 no_commands = refl
 
 -- the parts of a list of n zeros

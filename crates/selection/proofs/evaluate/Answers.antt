@@ -2,7 +2,7 @@
 use native.Mathlib.Omega.{arith}
 use mathlib.Core.Path.{◌≡◌}
 use Rattle.std.specs.Prelude.{Err}
-use Rattle.std.proofs.lemmas.Result.{err_from_is_err_and}
+use Rattle.common.proofs.Errors.{err_is}
 use Rattle.selection.specs.declared.EvaluationError.TheVariants.{LimitPassed}
 use Rattle.selection.proofs.Outcome.{too_short, passed, copied}
 use Rattle.selection.proofs.evaluate.Goals as goal
@@ -12,10 +12,9 @@ returns-then-marks-n c = too_short _ _ _ _ _ _ c.args.document.prepared.few (ome
 
 pub returns-in_err-ok_or : goal.returns-in_err-ok_or
 returns-in_err-ok_or c =
-    let p = err_from_is_err_and c.from_residual.result c.from_residual.ensures.1 in
     let z = c.in_err-ok_or.ensures in
     let v = rw z.ok_part at z.value in
-    let e : c.from_residual.result ≡ Err LimitPassed = cc (p.1, p.2) in
+    let e : c.from_residual.result ≡ Err LimitPassed = cc (err_is c.from_residual.result c.from_residual.ensures.1) in
     rw e
     (passed _ _ _ _ _ _ c.args.document.prepared.few (omega (arith, c.node_count-n.ensures)) _ c.row_count.ensures
     (rw z.ok_part at c.eval_path.ensures))

@@ -8,14 +8,14 @@ use Prim.Native.Nat.{ℕ, ◌+◌, ◌*◌, ◌≤◌, ◌<◌}
 use mathlib.Core.Path.{◌≡◌, refl, sym, ap, ◌∙◌}
 use mathlib.Core.List.{List}
 use native.Mathlib.Omega.{arith}
-use lib.ListN.{length, get_or, length-map}
+use lib.ListN.{length, length-map}
 use lib.Seq.{sets, length-take-le}
 use Rattle.session.specs.declared.session.Session.{Session}
 use Rattle.calls.specs.declared.points.PointCounts.{PointCounts}
 use Rattle.calls.specs.Book.{Answer, answer, max_points}
 use Rattle.calls.specs.PointCall.{point_names, place_of, point_answer, return_answer}
 use Rattle.calls.specs.code.Tables.{row_width, step_width}
-use Rattle.calls.specs.code.Points.{point_width, counts, no_counts, counts_names, counts_numbers, point_named}
+use Rattle.calls.specs.code.Points.{point_width, counts, counts_names, counts_numbers}
 use Rattle.calls.specs.code.Points.{first_point_numbers, cleared, ReturnFound}
 use Rattle.calls.specs.Calls.{point, return}
 use Rattle.session.specs.View.{rows_held, steps_held, points_held, points_in, view, with_point, at_point}
@@ -92,24 +92,21 @@ module _ (s : Session) (name : ℕ) where
       → t ≡ return_answer (point_names (view s).points) name
   return_judged t e = e ∙ ap (λ ns. return_answer ns name) (sym (names_viewed s))
 
-  module _ (place : ℕ) (found : ReturnFound (Ok place) (counts_names (points_in s)) name) where
-    pub return_made_held : (c : PointCounts) → c ≡ get_or (points_in s) place no_counts
-        → (n m : ℕ) → n ≡ c.rows → m ≡ c.steps
+  module _ (f : ℕ × PointCounts) (found : ReturnFound (Ok f) (points_in s) name) where
+    pub return_made_held : (n m : ℕ) → n ≡ f.1.rows → m ≡ f.1.steps
         → (xs ys zs : List ℕ) → xs ≡ cleared (row_width * n) s.rows → ys ≡ cleared (step_width * m) s.steps
-        → zs ≡ cleared (point_width * (place + 1)) s.points
+        → zs ≡ cleared (point_width * (f.0 + 1)) s.points
         → Met s (return name) (answer 0 0)
-        (record { rows = xs; row_count = n; steps = ys; step_count = m; points = zs; point_count = place + 1 })
+        (record { rows = xs; row_count = n; steps = ys; step_count = m; points = zs; point_count = f.0 + 1 })
     unfolding at_point
-    return_made_held c is_c n m is-n is_m xs ys zs is-xs is-ys is-zs =
+    return_made_held n m is-n is_m xs ys zs is-xs is-ys is-zs =
         let is-place = found.0 in
-        let there : c ≡ point_named (points_in s) name =
-        is_c ∙ ap (λ k. get_or (points_in s) k no_counts) is-place in
-        let rows = is-n ∙ ap (λ d. d.rows) there in
-        let steps = is_m ∙ ap (λ d. d.steps) there in
+        let rows = is-n ∙ ap (λ d. d.rows) found.1 in
+        let steps = is_m ∙ ap (λ d. d.steps) found.1 in
         let left-rows = is-xs ∙ ap (λ k. cleared (row_width * k) s.rows) rows in
         let left-steps = is-ys ∙ ap (λ k. cleared (step_width * k) s.steps) steps in
         let left-points = is-zs ∙ ap (λ k. cleared (point_width * (k + 1)) s.points) is-place in
-        let judged = return_judged (answer 0 0) found.1 in
+        let judged = return_judged (answer 0 0) found.2 in
         record {
           answer = judged;
           left = (λ i. record {
@@ -122,7 +119,7 @@ module _ (s : Session) (name : ℕ) where
           }) ∙ if_accepted _ _ judged (at_point s name) s refl;
         }
 
-  pub return_made_refused : (r : Refusal) → ReturnFound (Err r) (counts_names (points_in s)) name
+  pub return_made_refused : (r : Refusal) → ReturnFound (Err r) (points_in s) name
       → Met s (return name) (refusal_answer r) s
   return_made_refused r e =
       let judged = return_judged (refusal_answer r) e in

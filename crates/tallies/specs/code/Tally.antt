@@ -1,5 +1,5 @@
--- A tally in code, file by file, and what it promises. Assumes nothing.
-use Rattle.std.specs.Prelude.{ℕ, ◌+◌, ◌≤◌, ◌<◌, min, ◌≡◌, true, false, cond, List, [], ◌∷◌, length, get_or, replicate}
+-- A tally in code, file by file. Assumes nothing.
+use Rattle.std.specs.Prelude.{ℕ, ◌+◌, ◌<◌, min, ◌≡◌, true, false, cond, List, [], ◌∷◌, length, get_or, replicate}
 use Rattle.std.specs.Prelude.{Option, Some, None}
 use denote.Ref.{Bor}
 use Rattle.rules.specs.Yields.{max_rule}
@@ -10,8 +10,7 @@ use Rattle.session.specs.Reading.{reading}
 use Rattle.tallies.specs.declared.Tally.{Tally}
 use Rattle.tallies.specs.declared.TallyLine.{TallyLine}
 use Rattle.tallies.specs.declared.TallyLine.TheVariants.{Rule, Total}
-use Rattle.tallies.specs.NameList.{max_files}
-use Rattle.tallies.specs.Count.{File, file, is_accepted, uses, total, each_rule, Entry, entry, entries_by, entries, sum}
+use Rattle.tallies.specs.Count.{File, file, is_accepted, each_rule, Entry, entry, entries_by}
 
 abbrev pub tally : (uses : List ℕ) (total : ℕ) → Tally
 tally uses total = record { uses = uses; total = total }
@@ -66,10 +65,3 @@ no_entry = entry 0 0
 -- the line at place k of lines, where there is one
 abbrev pub LineIs : List Entry → (k : ℕ) → TallyLine → Type 0
 LineIs es k l = k < length es → entry_of l ≡ get_or es k no_entry
-
--- what the calls of a tally come to
-pub record TallyPromise : Type 0 where
-  -- the lines after up to 64 files are those of the definitions
-  pub lines : (fs : List File) → length fs ≤ max_files → entries_of (with_files fresh_tally fs) ≡ entries fs
-  -- the column adds up to the total
-  pub adds_up : (fs : List File) → sum (each_rule (λ r. uses r fs)) ≡ total fs

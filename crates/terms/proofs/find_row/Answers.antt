@@ -3,8 +3,8 @@ use Rattle.std.proofs.Common.{◌≡◌, rules, position}
 use Rattle.std.proofs.Common.{tests, ℕ, List}
 use Rattle.std.proofs.lemmas.Iterator.{YieldsList-from_slice}
 use Rattle.std.proofs.lemmas.Iterator.Search.{position_from_yields_List}
-use Rattle.terms.specs.Row.{same_row}
-use Rattle.terms.specs.code.RowTypes.{row_of, row_in}
+use Rattle.terms.specs.Row.{row_of_numbers, same_row}
+use Rattle.terms.specs.code.RowTypes.{row_of}
 use Rattle.terms.proofs.Find.{found_by}
 use Rattle.terms.proofs.find_row.Goals as goal
 
@@ -13,7 +13,8 @@ unfolding same_row
 returns c =
     let rows = c.whole_rows.result.now in
     let r = row_of c.args.row in
-    let first : c.position.result ≡ position (λ xs. same_row (row_in xs) r) rows =
-    position_from_yields_List (λ (xs : List ℕ). same_row (row_in xs) r) _ _ c.position.result c.position.ensures.ran
+    let first : c.position.result ≡ position (λ xs. same_row (row_of_numbers xs) r) rows =
+    position_from_yields_List (λ (xs : List ℕ). same_row (row_of_numbers xs) r) _ _ c.position.result
+    c.position.ensures.ran
     (YieldsList-from_slice _ c.iter.ensures.rest) (λ x b q k. search (rules, tests)) in
-    rw (first, ← c.whole_rows.ensures) (found_by row_in r rows)
+    rw (first, ← c.whole_rows.ensures) (found_by row_of_numbers r rows)

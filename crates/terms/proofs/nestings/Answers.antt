@@ -1,17 +1,11 @@
 -- `nestings` meets its contract. The invariant: the table's first i numbers are the nestings of the first i rows.
 -- Assumes nothing.
-use mathlib.Core.Path.{refl}
 use native.Mathlib.Omega.{arith}
 use lib.ListN.{take, length-take}
-use Rattle.terms.specs.Row.{table_of, entries_from}
-use Rattle.terms.specs.Nesting.{nestings}
+use Rattle.terms.specs.Row.{table_of}
 use Rattle.terms.proofs.Nesting.{nesting_from, deeper_le, nestings_put}
 use borrow.Author.Rules.{rules}
 use Rattle.terms.proofs.nestings.Goals as goal
-
-pub loop-i-init : goal.loop-i-init
-unfolding nestings entries_from
-loop-i-init c = (search rules, refl)
 
 pub overflow_add-table : goal.overflow_add-table
 overflow_add-table c =

@@ -1,11 +1,11 @@
 -- The code's rows, fields and results of searches as the definitions have them. Assumes nothing.
-use Rattle.std.specs.Prelude.{ℕ, ◌<◌, ◌≤◌, ◌≡◌, List, length, get_or, Option, Some, None}
+use Rattle.std.specs.Prelude.{ℕ, ◌<◌, ◌≤◌, ◌≡◌, List, length, Option, Some, None}
 use Rattle.common.specs.declared.row_kind.RowKind.{RowKind}
 use Rattle.common.specs.code.Numbers.{row_number}
 use Rattle.terms.specs.declared.Row.{Row as CodeRow}
 use Rattle.terms.specs.declared.Field.{Field as CodeField}
 use Rattle.terms.specs.declared.Field.TheVariants.{Unused, Axis, Test, Name, Path, Qualifier}
-use Rattle.terms.specs.Row.{Row, row, row_at}
+use Rattle.terms.specs.Row.{Row, row_at}
 use Rattle.terms.specs.Fields.{Field, unused, axis, test, name, path, qualifier, Fields, fields, max_kind}
 
 abbrev pub row_of : CodeRow → Row
@@ -15,10 +15,6 @@ row_of r = record { kind = r.kind; a = r.a; b = r.b; c = r.c }
 abbrev pub RowIs : Option CodeRow → List Row → (i : ℕ) → Type 0
 RowIs None rs i = length rs ≤ i
 RowIs (Some r) rs i = (row_of r ≡ row_at rs i) × (i < length rs)
-
--- four numbers as a row
-abbrev pub row_in : List ℕ → Row
-row_in xs = row (get_or xs 0 0) (get_or xs 1 0) (get_or xs 2 0) (get_or xs 3 0)
 
 abbrev pub field_of : CodeField → Field
 field_of Unused = unused

@@ -1,6 +1,6 @@
 -- `run` meets its contract: the line that ends it is the first not taken of those that are left. Assumes nothing.
 use Prim.Native.Nat.{◌+◌}
-use mathlib.Core.Path.{sym, ap, ◌∙◌}
+use mathlib.Core.Path.{◌∙◌}
 use native.Mathlib.Omega.{arith}
 use borrow.Author.Tests.{tests}
 use lib.ListN.{length}
@@ -8,7 +8,7 @@ use Rattle.std.proofs.Common.{rules}
 use Rattle.std.specs.Slice.Iter.{split_inclusive_rest, split_inclusive_callee}
 use Rattle.std.proofs.lemmas.List.{length_push}
 use Rattle.std.proofs.lemmas.List.Sorted.{answers_always}
-use Rattle.std.proofs.lemmas.Result.{err_from_is_err_and}
+use Rattle.common.proofs.Errors.{err_is}
 use Rattle.common.proofs.Results.{none_by_ok_or}
 use Rattle.script.proofs.EachLine.{turn, no_turn}
 use Rattle.transcript.proofs.Ending.{no_line_left, line_ends, line_passed}
@@ -21,10 +21,9 @@ returns-in_err-read c =
     (answers_always _ _ _ (λ f a r q k. search (rules, tests))) l.yielded _ l.yielded_by _ _ _ c.in-Some.is
     c.next.ensures.steps in
     let no = none_by_ok_or c.filter.result (c.in-Some.i + 1) _ c.in_err-read.ensures.value in
-    let exit = err_from_is_err_and c.from_residual.result c.from_residual.ensures.1 in
     let ends = line_ends c.args.style (length l.yielded + 1) _ _ c.in-Some.line.now _ t.line.alone t.line.there
     c.call_at.result c.filter.result c.call_at.ensures _ c.filter.ensures (λ r b w. search rules) no.0 in
-    rw (exit.1, exit.2, no.1, t.place) (l.invariant ∙ ends, omega arith)
+    rw (err_is c.from_residual.result c.from_residual.ensures.1, no.1, t.place) (l.invariant ∙ ends, omega arith)
 
 pub loop-i-preserved : goal.loop-i-preserved
 loop-i-preserved c =

@@ -3,9 +3,10 @@ use Rattle.std.specs.Prelude.{ℕ, refl, [], ◌∷◌}
 use Prim.Native.String.{String}
 use Rattle.std.proofs.Math.Option.{Option-elim}
 use Rattle.common.specs.values.Expected.{◌is◌, AllRight}
+use Rattle.common.specs.Lists.{all_of}
 use Rattle.lines.specs.Ascii.{ascii}
 use Rattle.lines.specs.Line.{in_first_line, lines, in_first_part, parts, same_bytes}
-use Rattle.lines.specs.Number.{is_digit, are_digits, is_decimal, append_digits, numbers_up_to}
+use Rattle.lines.specs.Number.{is_digit, is_decimal, append_digits, numbers_up_to}
 use Rattle.script.specs.Command.{at_most, named, word_for, command_by}
 use Rattle.script_words.specs.Words.{words, shape_of}
 use Rattle.transcript.specs.declared.Style.{Style}
@@ -53,5 +54,5 @@ pub endings :
     ∷ ends Nodes "released\n" is 1
     ∷ [])
 unfolding ending_line ascii words shape_of word_for command_by named at_most numbers_up_to lines in_first_line parts
-    in_first_part same_bytes Option-elim is_decimal are_digits is_digit append_digits
+    in_first_part same_bytes Option-elim is_decimal all_of is_digit append_digits
 endings = refl

@@ -1,12 +1,11 @@
 -- `select_text` meets its contract. Assumes nothing.
-use Rattle.std.proofs.lemmas.Result.{err_from_is_err_and}
+use Rattle.common.proofs.Errors.{err_is}
 use Rattle.exports.proofs.Judged.{select_refused, select_accepted}
 use Rattle.exports.proofs.select.select_text.Goals as goal
 
 pub returns-in_err-row : goal.returns-in_err-row
 returns-in_err-row c =
-    let exit = err_from_is_err_and c.from_residual.result c.from_residual.ensures.1 in
-    rw (exit.1, exit.2)
+    rw (err_is c.from_residual.result c.from_residual.ensures.1)
     (select_refused _ _ _ _ _ _ _ c.new-fresh.ensures _ _ c.text-read.ensures _ c.in_err-row.was)
 
 pub returns : goal.returns

@@ -2,7 +2,7 @@
 use mathlib.Core.Path.{subst}
 use Rattle.common.proofs.Results.{none_by_ok_or}
 use Rattle.common.specs.declared.refusal.Refusal.TheVariants as refusals
-use Rattle.std.proofs.lemmas.Result.{err_from_is_err_and}
+use Rattle.common.proofs.Errors.{err_is}
 use Rattle.script.specs.Command.{command_of}
 use Rattle.script.specs.code.CommandRead.{CallRead}
 use Rattle.filing.proofs.LineLaws.{line_not_read, line_read}
@@ -12,8 +12,7 @@ pub returns-in_err-read : goal.returns-in_err-read
 returns-in_err-read c =
     let a = c.args in
     let no = none_by_ok_or c.call_at.result refusals.WrongForm _ c.in_err-read.ensures.value in
-    let exit = err_from_is_err_and c.from_residual.result c.from_residual.ensures.1 in
-    rw (exit.1, exit.2, no.1)
+    rw (err_is c.from_residual.result c.from_residual.ensures.1, no.1)
     (line_not_read a.self a.line.now (subst (CallRead command_of a.line.now 0) no.0 c.call_at.ensures))
 
 pub returns : goal.returns

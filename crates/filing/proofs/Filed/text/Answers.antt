@@ -1,6 +1,9 @@
 -- `Filed::text` meets its contract. Assumes nothing.
 use mathlib.Core.Path.{sym}
+use Prim.Native.Nat.{ℕ}
 use native.Mathlib.Omega.{arith}
+use lib.ListN.{replicate, length-replicate}
+use Rattle.common.specs.Limits.{max_bytes}
 use lib.Seq.{length-take-le}
 use Rattle.filing.proofs.CallLaws.{text_done}
 use Rattle.filing.proofs.Filed.text.Goals as goal
@@ -15,5 +18,5 @@ slice_bounds-text-end c =
 
 pub returns : goal.returns
 returns c =
-    text_done c.args.self _ _ _ c.no_bytes-list.ensures c.put_names-size.ensures _ _ _ c.text.ensures _
-    c.called.ensures
+    text_done c.args.self _ (replicate max_bytes 0) _ (length-replicate {A = ℕ} max_bytes 0) c.put_names-size.ensures _
+    _ _ c.text.ensures _ c.called.ensures

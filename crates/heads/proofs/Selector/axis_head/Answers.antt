@@ -1,6 +1,6 @@
 -- `axis_head` meets its contract. Assumes nothing.
 use mathlib.Core.Path.{sym, ◌∙◌}
-use Rattle.std.proofs.lemmas.Result.{err_from_is_err_and}
+use Rattle.common.proofs.Errors.{err_is}
 use Rattle.common.proofs.Results.{none_by_ok_or, some_by_ok_or}
 use Rattle.heads.proofs.Headed.{axis_no, axis_one, axis_two, axis_none, axis_some}
 use Rattle.heads.proofs.Selector.axis_head.Goals as goal
@@ -9,8 +9,7 @@ pub returns-in_err-axis : goal.returns-in_err-axis
 returns-in_err-axis c =
     let n = c.args.name in
     let (missing, place) = none_by_ok_or _ _ _ c.in_err-axis.ensures.value in
-    let p = err_from_is_err_and c.from_residual.result c.from_residual.ensures.1 in
-    rw (p.1, p.2, place)
+    rw (err_is c.from_residual.result c.from_residual.ensures.1, place)
     (axis_no c.args.self.s.now c.args.self.names.list.now n.start n.end n.after c.requires.name_at
     c.requires.colon_value (axis_none _ (rw missing at c.axis_of.ensures)))
 

@@ -5,9 +5,6 @@ use Rattle.std.proofs.Common.{rules}
 use Rattle.heads.proofs.Headed.{head_dot, head_at, head_test}
 use Rattle.heads.proofs.Selector.read_head.Goals as goal
 
-pub dot_head-requires : goal.dot_head-requires
-dot_head-requires c = sym c.byte_at-b.ensures ∙ c.if-b-eq46.true
-
 pub returns-then-b-eq46 : goal.returns-then-b-eq46
 returns-then-b-eq46 c = head_dot c.args.self.s.now c.args.self.names.list.now c.args.at _ c.dot_head.ensures
 
@@ -25,17 +22,8 @@ returns-then-not-is_start c =
     (search (rules, tests))
     c.test_head-then-not-is_start.ensures
 
-pub axis_head-requires : goal.axis_head-requires
-axis_head-requires c = record {
-  name_at = c.name_from-name.ensures.1;
-  colon_value = sym c.byte_at.ensures ∙ c.if-byte_at-eq58.true;
-}
-
 pub returns-then-byte_at-eq58 : goal.returns-then-byte_at-eq58
 returns-then-byte_at-eq58 c = rw c.name_from-name.ensures.0 at c.axis_head.ensures
-
-pub name_test-requires : goal.name_test-requires
-name_test-requires c = record { name_at = c.name_from-name.ensures.1 }
 
 pub returns : goal.returns
 returns c =

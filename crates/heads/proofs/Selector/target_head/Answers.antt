@@ -1,30 +1,11 @@
 -- `target_head` meets its contract. Assumes nothing.
 use mathlib.Core.Path.{sym, ◌∙◌}
-use native.Mathlib.Omega.{arith}
 use Prim.Native.Nat.{◌+◌}
 use borrow.Author.Tests.{tests}
 use Rattle.std.proofs.Common.{rules}
-use Rattle.heads.proofs.Headed.{target_none, target_open, target_unclosed, target_read, start_there}
-use Rattle.heads.proofs.Headed.{quote_there}
+use Rattle.heads.proofs.Headed.{target_none, target_open, target_unclosed, target_read}
 use Rattle.heads.proofs.Ran.{part_is}
 use Rattle.heads.proofs.Selector.target_head.Goals as goal
-
-pub overflow_add-from : goal.overflow_add-from
-overflow_add-from c = omega (arith, quote_there c.args.self.s.now c.args.at c.requires.at_value)
-
-pub overflow_add-from-2 : goal.overflow_add-from-2
-overflow_add-from-2 c = omega (arith, start_there c.args.self.s.now (c.args.at + 1) (search (rules, tests)))
-
-pub name_end-end-requires : goal.name_end-end-requires
-name_end-end-requires c = omega (arith, start_there c.args.self.s.now (c.args.at + 1) (search (rules, tests)))
-
-pub skip-close-requires : goal.skip-close-requires
-skip-close-requires c =
-    omega (
-      arith,
-      quote_there c.args.self.s.now c.name_end-end.result
-          (rw (sym c.byte_at-2.ensures ∙ c.if-byte_at-quote.false ∙ c.byte_at-quote.ensures) c.requires.at_value),
-    )
 
 pub returns-then-not-is_start : goal.returns-then-not-is_start
 returns-then-not-is_start c =
@@ -48,13 +29,9 @@ returns-then-byte_at-ne41 c =
     ∙ c.byte_at-quote.ensures) _ c.skip-close.ensures
     (λ e. c.if-byte_at-ne41.true (c.byte_at-3.ensures ∙ e)))
 
-pub named_head-requires : goal.named_head-requires
-named_head-requires c = record {
-  from_le_to = (omega (arith, c.name_end-end.ensures.from), c.name_end-end.ensures.fits);
-  to_value = part_is c.args.self.s.now (c.args.at + 1) _
-      (search (rules, tests))
-      c.name_end-end.ensures;
-}
+pub named_head-requires-clause-to_value : goal.named_head-requires-clause-to_value
+named_head-requires-clause-to_value c =
+    part_is c.args.self.s.now (c.args.at + 1) _ (search (rules, tests)) c.name_end-end.ensures
 
 pub returns : goal.returns
 returns c =

@@ -19,9 +19,6 @@ returns-then-not-is_start c =
     (λ e. c.if-b-eq42.false (c.byte_at-b.ensures ∙ e))
     (search (rules, tests)))
 
-pub name_test-requires : goal.name_test-requires
-name_test-requires c = record { name_at = c.name_from.ensures.1 }
-
 pub returns : goal.returns
 returns c =
     test_name c.args.self.s.now c.args.self.names.list.now c.args.at c.args.axis _ _

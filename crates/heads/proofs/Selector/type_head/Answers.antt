@@ -33,11 +33,6 @@ returns-then-not-is_quote c =
     (λ e. c.if-b-eq41.false (c.byte_at-b.ensures ∙ e))
     (search (rules, tests)))
 
-pub target_head-requires : goal.target_head-requires
-target_head-requires c = record {
-  at_value = search (rules, tests);
-}
-
 pub returns : goal.returns
 returns c =
     type_target c.args.self.s.now c.args.self.names.list.now c.args.at c.args.axis

@@ -1,16 +1,19 @@
 -- `order_fields` and `order_rows` meet their contracts: a measure, the row of the left, and the ways of Rows.antt and
 -- of Compared.antt. Assumes nothing.
-use Prim.Native.Nat.{◌<◌}
+use Prim.Native.Nat.{ℕ, ◌<◌}
 use mathlib.Core.Path.{◌≡◌, sym, ◌∙◌}
 use mathlib.Core.Bool.{false, ◌&&◌}
 use native.Mathlib.Omega.{arith}
 use Rattle.std.proofs.lemmas.Grind.{common_steps}
 use Rattle.terms.specs.Row.{table_of}
-use Rattle.terms.specs.code.RowTypes.{field_of}
+use Rattle.terms.specs.Terms.{term_at}
+use Rattle.terms.specs.code.RowTypes.{field_of, row_of, fields_in}
+use Rattle.ordering.specs.TermOrder.{term_order}
 use Rattle.ordering.specs.code.FieldsCompared.{is_operand}
 use Rattle.ordering.proofs.Rows as ways
 use Rattle.ordering.proofs.Compared as law
 use Rattle.ordering.proofs.Tables.+order_fields_order_rows.Goals as goal
+use Rattle.ordering.proofs.Tables.+order_fields_order_rows.Goals.{order_rows-After-fields_of-a}
 
 pub order_fields-order_rows-requires : goal.order_fields-order_rows-requires
 order_fields-order_rows-requires t c =
@@ -65,13 +68,25 @@ order_rows-returns-then-is_ne t c =
 pub order_rows-order_fields-first-requires : goal.order_rows-order_fields-first-requires
 order_rows-order_fields-first-requires t c = (omega arith, c.requires)
 
+-- two rows of one kind, by the fields of that kind
+by_fields : (t : ℕ) (c : order_rows-After-fields_of-a t) → let a = c.args in
+    let rs = table_of a.self.left.now in
+    let ss = table_of a.self.right.now in
+    let x = row_of c.row_at-x.result in
+    let y = row_of c.row_at-y.result in
+    let fs = fields_in c.fields_of-a.result.0 c.fields_of-a.result.1 c.fields_of-a.result.2 in
+    law.Three (term_order (term_at rs a.rows.0) (term_at ss a.rows.1)) (law.fields rs ss a.rows.0 a.rows.1 fs.a x.a y.a)
+    (law.fields rs ss a.rows.0 a.rows.1 fs.b x.b y.b) (law.fields rs ss a.rows.0 a.rows.1 fs.c x.c y.c)
+by_fields t c =
+    let a = c.args in
+    law.by_fields (table_of a.self.left.now) (table_of a.self.right.now) a.rows.0 a.rows.1 c.row_at-x.ensures
+    c.from.ensures c.row_at-y.ensures c.from-2.ensures c.term_kind-kind.ensures c.term_kind-other.ensures
+    c.cmp-kinds.ensures c.is_ne.ensures c.if-is_ne.false c.fields_of-a.ensures
+
 pub order_rows-returns-then-is_ne-2 : goal.order_rows-returns-then-is_ne-2
 order_rows-returns-then-is_ne-2 t c =
     let a = c.args in
-    let whole =
-    law.by_fields (table_of a.self.left.now) (table_of a.self.right.now) a.rows.0 a.rows.1 c.row_at-x.ensures
-    c.from.ensures c.row_at-y.ensures c.from-2.ensures c.term_kind-kind.ensures c.term_kind-other.ensures
-    c.cmp-kinds.ensures c.is_ne.ensures c.if-is_ne.false c.fields_of-a.ensures in
+    let whole = by_fields t (goal.at.order_rows-returns-then-is_ne-2 t c).After-fields_of-a in
     record {
       answer = law.first_decides whole c.order_fields-first.result c.order_fields-first.ensures.answer
           (sym c.is_ne-2.ensures ∙ c.if-is_ne-2.true);
@@ -84,10 +99,7 @@ order_rows-order_fields-second-requires t c = (omega arith, c.order_fields-first
 pub order_rows-returns-then-is_ne-3 : goal.order_rows-returns-then-is_ne-3
 order_rows-returns-then-is_ne-3 t c =
     let a = c.args in
-    let whole =
-    law.by_fields (table_of a.self.left.now) (table_of a.self.right.now) a.rows.0 a.rows.1 c.row_at-x.ensures
-    c.from.ensures c.row_at-y.ensures c.from-2.ensures c.term_kind-kind.ensures c.term_kind-other.ensures
-    c.cmp-kinds.ensures c.is_ne.ensures c.if-is_ne.false c.fields_of-a.ensures in
+    let whole = by_fields t (goal.at.order_rows-returns-then-is_ne-3 t c).After-fields_of-a in
     record {
       answer = law.second_decides whole c.order_fields-first.result c.order_fields-first.ensures.answer
           (sym c.is_ne-2.ensures ∙ c.if-is_ne-2.false) c.order_fields-second.result
@@ -101,10 +113,7 @@ order_rows-order_fields-third-requires t c = (omega arith, c.order_fields-second
 pub order_rows-returns-then-is_eq : goal.order_rows-returns-then-is_eq
 order_rows-returns-then-is_eq t c =
     let a = c.args in
-    let whole =
-    law.by_fields (table_of a.self.left.now) (table_of a.self.right.now) a.rows.0 a.rows.1 c.row_at-x.ensures
-    c.from.ensures c.row_at-y.ensures c.from-2.ensures c.term_kind-kind.ensures c.term_kind-other.ensures
-    c.cmp-kinds.ensures c.is_ne.ensures c.if-is_ne.false c.fields_of-a.ensures in
+    let whole = by_fields t (goal.at.order_rows-returns-then-is_eq t c).After-fields_of-a in
     let third =
     law.third_decides whole c.order_fields-first.result c.order_fields-first.ensures.answer
     (sym c.is_ne-2.ensures ∙ c.if-is_ne-2.false) c.order_fields-second.result c.order_fields-second.ensures.answer
@@ -119,10 +128,7 @@ order_rows-returns-then-is_eq t c =
 pub order_rows-returns-else-is_eq : goal.order_rows-returns-else-is_eq
 order_rows-returns-else-is_eq t c =
     let a = c.args in
-    let whole =
-    law.by_fields (table_of a.self.left.now) (table_of a.self.right.now) a.rows.0 a.rows.1 c.row_at-x.ensures
-    c.from.ensures c.row_at-y.ensures c.from-2.ensures c.term_kind-kind.ensures c.term_kind-other.ensures
-    c.cmp-kinds.ensures c.is_ne.ensures c.if-is_ne.false c.fields_of-a.ensures in
+    let whole = by_fields t (goal.at.order_rows-returns-else-is_eq t c).After-fields_of-a in
     record {
       answer =
           law.third_decides whole c.order_fields-first.result c.order_fields-first.ensures.answer

@@ -9,12 +9,6 @@ use Rattle.words.proofs.index.pass_line.Goals as goal
 pub bounds-list-i : goal.bounds-list-i
 bounds-list-i c = omega (arith, (goes_on c.args.list.now c.loop-signed.i (search (rules, tests))).0)
 
-pub overflow_add-i : goal.overflow_add-i
-overflow_add-i c = omega (arith, (goes_on c.args.list.now c.loop-signed.i (search (rules, tests))).0)
-
-pub loop-signed-smaller : goal.loop-signed-smaller
-loop-signed-smaller c = omega (arith, (goes_on c.args.list.now c.loop-signed.i (search (rules, tests))).0)
-
 pub loop-signed-preserved : goal.loop-signed-preserved
 loop-signed-preserved c =
     let more = goes_on c.args.list.now c.loop-signed.i (search (rules, tests)) in (

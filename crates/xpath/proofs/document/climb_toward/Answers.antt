@@ -4,31 +4,15 @@ use mathlib.Core.Logic.{inl}
 use native.Mathlib.Omega.{arith}
 use borrow.Author.Tests.{lt-ltb, le-ltb}
 use Rattle.xpath.proofs.Climbing.{way_starts, way_on, way_over, way_stuck}
-use borrow.Author.Rules.{rules}
 use Rattle.xpath.proofs.document.climb_toward.Goals as goal
 
 pub loop-at-init : goal.loop-at-init
 loop-at-init c = way_starts _ _ _ _ _
 
-pub parent_of-parent-requires : goal.parent_of-parent-requires
-parent_of-parent-requires c = let r = c.loop-at.invariant.room in omega arith
-
 pub returns-then-at-parent : goal.returns-then-at-parent
 returns-then-at-parent c =
     let u = c.parent_of-parent.ensures in
     way_stuck _ _ _ _ _ _ _ _ c.loop-at.invariant c.loop-at-test.true (omega arith)
-
-pub offset_bounds-ends-at : goal.offset_bounds-ends-at
-offset_bounds-ends-at c = let i = c.loop-at.invariant in omega (arith, i.room, i.size)
-
-pub bounds-ends-at : goal.bounds-ends-at
-bounds-ends-at c = let i = c.loop-at.invariant in omega (arith, i.room, i.size)
-
-pub overflow_add-parents : goal.overflow_add-parents
-overflow_add-parents c = let r = c.loop-at.invariant.room in search rules
-
-pub loop-at-smaller : goal.loop-at-smaller
-loop-at-smaller c = omega arith
 
 pub loop-at-preserved : goal.loop-at-preserved
 loop-at-preserved c =

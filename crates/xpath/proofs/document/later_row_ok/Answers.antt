@@ -3,8 +3,8 @@ use Rattle.std.proofs.Common.{add-one, arith}
 use Rattle.xpath.proofs.Rows.{placed_below, row_closed}
 use Rattle.xpath.proofs.document.later_row_ok.Goals as goal
 
-pub kind_of-requires : goal.kind_of-requires
-kind_of-requires c = omega (arith, placed_below _ _ _ _ _ _ c.is_placed.ensures c.if-is_placed.true)
+pub whole_node-requires : goal.whole_node-requires
+whole_node-requires c = omega (arith, placed_below _ _ _ _ _ _ c.is_placed.ensures c.if-is_placed.true)
 
 pub returns-then-not-is_attribute-clause-ends_after : goal.returns-then-not-is_attribute-clause-ends_after
 returns-then-not-is_attribute-clause-ends_after c =

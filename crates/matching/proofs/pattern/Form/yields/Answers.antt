@@ -1,6 +1,6 @@
 -- The conclusion, the premises and the conditions, one after the other. Assumes nothing.
 use mathlib.Core.Path.{◌∙◌}
-use mathlib.Core.List.{[], ◌∷◌}
+use mathlib.Core.List.{map}
 use lib.ListN.{take, length}
 use borrow.Author.Rules.{rules}
 use borrow.Author.Tests.{tests}
@@ -23,7 +23,7 @@ returns-then-fit_premises c =
     let w = form_of a.self.now in
     let rs = table_of a.rows.now in
     let s = sides_in a.step in
-    let ss = take (length w.premises) (sides_in a.first ∷ sides_in a.second ∷ []) in
+    let ss = take (length w.premises) (map sides_in a.premises) in
     let said = rw c.new-letters.ensures at c.fit_claim.ensures in
     let fits : Matches c.if-fit_claim.value c.if-fit_claim.letters (match_form rs s ss w) =
     elim c.if-fit_claim.branch [
@@ -47,7 +47,7 @@ returns-else-fit_premises c =
     let w = form_of a.self.now in
     let rs = table_of a.rows.now in
     let s = sides_in a.step in
-    let ss = take (length w.premises) (sides_in a.first ∷ sides_in a.second ∷ []) in
+    let ss = take (length w.premises) (map sides_in a.premises) in
     let said = rw c.new-letters.ensures at c.fit_claim.ensures in
     let fits : Matches c.if-fit_claim.value c.if-fit_claim.letters (match_form rs s ss w) =
     elim c.if-fit_claim.branch [

@@ -13,7 +13,7 @@ pub returns : goal.returns
 returns c =
     let a = c.args in
     let s = a.self in
-    let told = c.point_named-point.ensures in
+    let told = rw c.held_points.ensures at c.point_named-point.ensures in
     let rows = c.row_count.ensures
     ∙ ap (λ xs. length (table_of xs)) c.first-kept.ensures.0
     ∙ ap (λ k. length (first_rows k s.rows)) c.from-n.ensures

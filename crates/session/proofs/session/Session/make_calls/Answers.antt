@@ -1,7 +1,7 @@
 -- `Session::make_calls` meets its contract: what the lines of either table leave to be read. Assumes nothing.
 use mathlib.Core.Path.{sym, ap, ◌∙◌}
 use native.Mathlib.Omega.{arith}
-use Rattle.std.proofs.lemmas.Result.{err_from_is_err_and}
+use Rattle.common.proofs.Errors.{err_is}
 use Rattle.calls.specs.Book.{answer}
 use Rattle.session.specs.code.Parts.{refused_by}
 use Rattle.lines.specs.Ascii.{ascii}
@@ -29,9 +29,8 @@ pub returns-in_err-ended : goal.returns-in_err-ended
 unfolding row_names ascii
 returns-in_err-ended c =
     let names = sym (is_row_names _ _ c.if-not-is_line.ensures) in
-    let p = err_from_is_err_and c.from_residual.result c.from_residual.ensures.1 in
     let m = c.in_err-ended.ensures in
-    rw (p.1, p.2)
+    rw (err_is c.from_residual.result c.from_residual.ensures.1)
     (record {
       told = rows_read_lem c.args.bytes.now names _ _ _ (c.new-held.ensures.0 ∙ sym fresh_rows) _ m;
       bounds = m.bounds;
@@ -43,9 +42,8 @@ returns-in_err-m c =
     let bytes = c.args.bytes.now in
     let names = sym (is_row_names _ _ c.if-not-is_line.ensures) in
     let rows = rows_read_lem bytes names _ _ _ (c.new-held.ensures.0 ∙ sym fresh_rows) _ c.in_ok-ended.ensures in
-    let p = err_from_is_err_and c.from_residual-in_err-m.result c.from_residual-in_err-m.ensures.1 in
     let m = c.in_err-m.ensures in
-    rw (p.1, p.2)
+    rw (err_is c.from_residual-in_err-m.result c.from_residual-in_err-m.ensures.1)
     (record {
       told = steps_read_lem bytes _ _ _ _ _ _ (ap (λ s. s.steps) c.requires) _ m rows;
       bounds = m.bounds;

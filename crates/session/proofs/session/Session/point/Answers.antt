@@ -15,19 +15,21 @@ pub put_record-requires : goal.put_record-requires
 put_record-requires c =
     let s = c.args.self in
     let size : length s.points ≡ point_width * max_points = search rules in
+    let told = rw c.held_points.ensures at c.judge_point-told.ensures in
     let held = ok_accepted _ c.judge_point-told.result (sym c.if-is_ok.ensures.value) in
-    let room = point_room s _ c.judge_point-told.result c.judge_point-told.ensures held size _
-    c.points_counted-k.ensures in
+    let room = point_room s _ c.judge_point-told.result told held size _ c.points_counted-k.ensures in
     omega (arith, size, room)
 
 pub returns-then-is_ok : goal.returns-then-is_ok
 returns-then-is_ok c =
     let s = c.args.self in
-    point_made_held s _ c.judge_point-told.result c.judge_point-told.ensures
+    let told = rw c.held_points.ensures at c.judge_point-told.ensures in
+    point_made_held s _ c.judge_point-told.result told
     (ok_accepted _ c.judge_point-told.result (sym c.if-is_ok.ensures.value)) _ _ _ c.rows_counted-n.ensures
     c.steps_counted-m.ensures c.points_counted-k.ensures _ (c.put_record.ensures ∙ rw c.into.ensures refl)
 
 pub returns-else-is_ok : goal.returns-else-is_ok
 returns-else-is_ok c =
-    point_made_refused c.args.self _ c.judge_point-told.result
-    c.judge_point-told.ensures (err_refused _ c.judge_point-told.result (sym c.if-is_ok.ensures.value))
+    let told = rw c.held_points.ensures at c.judge_point-told.ensures in
+    point_made_refused c.args.self _ c.judge_point-told.result told
+    (err_refused _ c.judge_point-told.result (sym c.if-is_ok.ensures.value))

@@ -11,17 +11,17 @@ use Rattle.session.proofs.session.Session.return_to.Goals.{in-Ok, in_default}
 pub overflow_add-place : goal.overflow_add-place
 overflow_add-place c =
     let s = c.args.self in
-    omega (arith, few_places s _ _ c.in-Ok.ensures.0)
+    omega (arith, few_places s _ _ (rw c.held_points.ensures at c.in-Ok.ensures.0))
 
 pub overflow_mul-place : goal.overflow_mul-place
 overflow_mul-place c =
     let s = c.args.self in
-    omega (arith, few_places s _ _ c.in-Ok.ensures.0)
+    omega (arith, few_places s _ _ (rw c.held_points.ensures at c.in-Ok.ensures.0))
 
 pub overflow_add-self : goal.overflow_add-self
 overflow_add-self c =
     let s = c.args.self in
-    omega (arith, few_places s _ _ c.in-Ok.ensures.0)
+    omega (arith, few_places s _ _ (rw c.held_points.ensures at c.in-Ok.ensures.0))
 
 pub returns : goal.returns
 returns c =
@@ -30,9 +30,10 @@ returns c =
       | in-Ok w ↦
           let told : c.map.result ≡ Ok tt = search rules in
           rw (w.self-is, told)
-          (return_made_held s _ w.in-Ok.place w.in-Ok.ensures _ w.point_at-point.ensures _ _ w.from-n.ensures
-          w.from-m.ensures _ _ _ w.clear.ensures w.clear-in-Ok.ensures w.clear-in-Ok-2.ensures)
+          (return_made_held s _ _ (rw c.held_points.ensures at w.in-Ok.ensures) _ _ w.from-n.ensures w.from-m.ensures
+          _ _ _ w.clear.ensures w.clear-in-Ok.ensures w.clear-in-Ok-2.ensures)
       | in_default w ↦
           let told : c.map.result ≡ Err w.in_default.field-0 = search rules in
-          rw (w.self-is, told) (return_made_refused s _ w.in_default.field-0 w.in_default.ensures)
+          rw (w.self-is, told)
+          (return_made_refused s _ w.in_default.field-0 (rw c.held_points.ensures at w.in_default.ensures))
     ]
