@@ -7,7 +7,7 @@ use crate::tell::tell;
 use calls::Answer;
 use session::Session;
 
-// The number of the answer to a bundle's bytes. Beside `spinebriar_read_line`, since C has both by name.
+// The number of the answer to a bundle's bytes.
 pub fn spinebriar_read(bytes: &[u8]) -> u16
     ensures { result ≡ (reading bytes.now).answer.number }
 {

@@ -25,8 +25,9 @@ pub struct Sides {
     pub right: u16,
 }
 
-// What each letter stands for, where it stands for something yet. The rows stand beside it: `fit` and its like change
-// the letters, and with the rows in one struct each would have to promise that the rows stay as they are.
+// What each letter stands for, where it stands for something yet. An array: each letter has its own place. The rows
+// stand beside it: `fit` and its like change the letters, and with the rows in one struct each would have to promise
+// that the rows stay as they are.
 #[derive(Clone, Copy)]
 struct Letters {
     values: [Option<u16>; LETTER_COUNT],
@@ -53,7 +54,7 @@ fn rules_to_58() -> &'static [&'static [Form]]
     &RULES_TO_58
 }
 
-// Entry i of a part, no forms past the last one.
+// Entry i of a part; no forms past the last one, as the definition has it of a rule that isn't there.
 fn entry_at(part: &'static [&'static [Form]], i: usize) -> &'static [Form]
     ensures { forms_in result ≡ get_or (map forms_in part.now) i [] }
 {

@@ -17,7 +17,7 @@ use terms::{Row, is_noted, note, row_at};
 // Rule 59, which the table doesn't have.
 pub const WAY_BACK_RULE: u16 = 59;
 
-// The axes of paths that have a way back, each with its opposite axis.
+// The axes of paths that have a way back, each with its opposite axis. By number, as rows have them (see `is_pair`).
 const OPPOSITES: [(u16, u16); 6] = [
     (axis::SELF, axis::SELF),
     (axis::CHILD, axis::PARENT),

@@ -163,13 +163,7 @@ fn behind_word(bytes: &[u8], at: usize, word: Word) -> Option<CallLine>
             Command::Term(Row { kind, a, b, c })
         }),
         Word::Step => counted::<STEP_WIDTH, _>(bytes, at, |rule, left, right, first, second| {
-            Command::Step(Step {
-                rule,
-                left,
-                right,
-                first,
-                second,
-            })
+            Command::Step(Step::from([rule, left, right, first, second]))
         }),
         Word::Select => selection(bytes, at),
         Word::Document => listed(bytes, at, MAX_NUMBERS, Command::Document),

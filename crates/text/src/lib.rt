@@ -1,8 +1,7 @@
 // Reads a selector typed as text and puts the rows of its term into a lent table. The readers go from left to right,
 // one byte at a time; each takes where the reading stands and gives where it stands afterwards. A place is a number,
 // and no rest of the text: a refusal tells the place of the first byte that can't continue, and that of a name that
-// isn't listed. A refused reading leaves rows of no use in the table that it works on, which is a copy. All loops are
-// `while`: where the next part begins is known only when this one is read.
+// isn't listed. A refused reading leaves rows of no use in the table that it works on, which is a copy.
 #![tactic(auto)]
 
 ghost use Rattle.std.specs.Prelude.{◌≡◌, true, false, min, ◌≤◌, length};
@@ -89,6 +88,7 @@ fn read_step(
     if !head.filters {
         return readings::step_end(selector.s, got);
     }
+    // By `while`: where the next predicate begins is known only when this one is read.
     while byte_at(selector.s, got.at) == b'[' {
         got = read_predicate(selector, rows, got, left)?;
     }
@@ -117,6 +117,7 @@ fn read_path(
             readings::join(rows, RowKind::Composition.into(), lead, step)
         }
     };
+    // By `while`: where the next step begins is known only when this one is read.
     while byte_at(selector.s, got.at) == b'/' {
         let before = readings::pass_slash(selector.s, rows, got);
         let step = read_step(selector, rows, before, left)?;
@@ -139,6 +140,7 @@ fn read_union(
         left rows.old (stands from) rows.new (ended result) }
 {
     let mut got = read_path(selector, rows, from, left)?;
+    // By `while`: where the next path begins is known only when this one is read.
     while byte_at(selector.s, got.at) == b'|' {
         let at = got.at + 1;
         let path = read_path(selector, rows, Reading { at, ..got }, left)?;
@@ -198,6 +200,7 @@ fn read_and(
         left rows.old (stands from) rows.new (ended result) }
 {
     let mut got = read_operand(selector, rows, from, left)?;
+    // By `while`: where the next operand begins is known only when this one is read.
     while byte_at(selector.s, got.at) == b'a' {
         let word = readings::pass_word(selector.s, got, b"and")?;
         let right = read_operand(selector, rows, word, left)?;
@@ -219,6 +222,7 @@ fn read_or(
         left rows.old (stands from) rows.new (ended result) }
 {
     let mut got = read_and(selector, rows, from, left)?;
+    // By `while`: where the next operand begins is known only when this one is read.
     while byte_at(selector.s, got.at) == b'o' {
         let word = readings::pass_word(selector.s, got, b"or")?;
         let right = read_and(selector, rows, word, left)?;

@@ -282,7 +282,7 @@ pub fn print_answers() {
     run_input(Style::Answers)
 }
 
-// What the program engine_cases does; as `print_answers`.
+// What the programs engine_cases and text_cases do; as `print_answers`.
 pub fn print_nodes() {
     run_input(Style::Nodes)
 }
