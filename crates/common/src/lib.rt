@@ -2,8 +2,7 @@
 #![tactic(auto)]
 
 // Of axes, kinds and tests. Each enum's two conversions are written out: `rt ci` refuses an `impl` that a macro of this
-// repository writes. The constants are the enums' numbers: patterns of `try_from`, entries of tables, and what a number
-// that is lent is compared with once, where a conversion before it would be no plainer.
+// repository writes.
 pub mod axis;
 pub mod node_kind;
 pub mod node_test;
