@@ -1,7 +1,7 @@
 -- The operator names `and` and `or`. Assumes nothing.
 use Prim.Native.Nat.{ℕ, zero, suc, ◌+◌, ◌-◌, ◌<◌, ◌≤◌, max}
 use Rattle.terms.specs.Row.{row}
-use mathlib.Core.Path.{◌≡◌, refl, sym, ap, subst, ◌∙◌}
+use mathlib.Core.Path.{◌≡◌, refl, sym, subst, ◌∙◌}
 use mathlib.Core.Bool.{Bool, true, false}
 use mathlib.Core.List.{List, [], ◌∷◌}
 use native.Mathlib.Omega.{arith}
@@ -17,7 +17,7 @@ use Rattle.grammar.specs.code.Reader.{bad, unary_byte, keyword_byte, lead_end}
 use Rattle.words.specs.code.Scan.{byte_at, Passed, begins_step}
 use Rattle.heads.specs.code.Head.{proceed}
 use Rattle.readings.specs.code.Build.{Standing, capped, moved_to, refused_at, Sized, PutMet, Grown, below_of}
-use Rattle.readings.specs.code.Passing.{WordPassed, WordMet, ConstPut, CloseMet, FirstPut}
+use Rattle.readings.specs.code.Passing.{WordPassed, WordMet, FirstPut}
 use Rattle.readings.specs.code.Passing.{SlashPut, BeginPut, Starting, start_of, root_start}
 use Rattle.readings.specs.code.Passing.{after_and, after_or}
 use Rattle.words.proofs.Scanned.{head_drop}
@@ -223,29 +223,6 @@ or_word s r q o b p = go p.n refl
         named true k d touched whole = it _ (touched k) (or_touch s r b d k)
         named false k d touched whole = it _ (whole k) (or_read s r b d o k)
     go (suc (suc (suc n))) e = absurd (omega (arith, e, p.few))
-
--- constant
-pub const_read : (s : Bytes) (kind : ℕ) (xs ys : List ℕ) (r shut q : Standing) (to : ℕ) → shut.ok ≡ true
-    → Passed is_space s r.at to → CloseMet s (moved_to r to) 41 shut → PutMet (row kind 0 0 0) 1 xs shut ys q
-    → ConstPut s kind xs r ys q
-const_read s kind xs ys r shut q to o v h p =
-    record {
-      to = to;
-      passed = v;
-      sized = p.sized;
-      wrong = λ f. yes_no (sym o ∙ ap (λ (z : Standing). z.ok) (h.wrong f));
-      right = λ e.
-          let d = h.right e in
-          (d.0, d.2, subst (λ (z : Standing). PutMet (row kind 0 0 0) 1 xs z ys q) d.1 p);
-    }
-
--- close
-pub close_wrong : (s : Bytes) (r : Standing) (b : ℕ) → (byte_at s r.at ≡ b → ⊥) → CloseMet s r b (refused_at r.at)
-close_wrong s r b h = record { count = λ e. no e; wrong = λ _. refl; right = λ g. absurd (h g) }
-
-pub close_right : (s : Bytes) (r : Standing) (b to : ℕ) → byte_at s r.at ≡ b → Passed is_space s (r.at + 1) to
-    → CloseMet s r b (moved_to r to)
-close_right s r b to h q = record { count = λ _. refl; wrong = λ g. absurd (g h); right = λ _. (to, refl, q) }
 
 -- first_step, pass_slash
 pub first_joins : (lead step : Standing) (xs ys : List ℕ) (q : Standing) (rooted : Bool) → rooted ≡ true
