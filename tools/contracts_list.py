@@ -1,5 +1,5 @@
-"""Writes docs/DESIGN-PASS-CONTRACTS.txt: contracts_list.py KIT/port/contracts.py OLDTREE NEWTREE > FILE, with trees as git
-archive gives them, and KIT the folder of the toolchain."""
+"""Writes docs/DESIGN-PASS-CONTRACTS.txt: contracts_list.py KIT/port/contracts.py OLDTREE NEWTREE > FILE, with trees as
+git archive gives them, and KIT the folder of the toolchain."""
 import importlib.util
 import sys
 
@@ -7,9 +7,10 @@ spec = importlib.util.spec_from_file_location("contracts", sys.argv[1])
 contracts = importlib.util.module_from_spec(spec)
 spec.loader.exec_module(contracts)
 r = contracts.compare(sys.argv[2], sys.argv[3])
-print("""Each function, clause, ghost item, constant and definition of specs/ that changed, went or came between the commit in
-the first line of docs/DESIGN-PASS.md and today's tree, as the kit's contracts.py lists them by their text: old beside new.
-A function is found again at its place, else by type and name in its crate. Private ones are listed too. Edits by name.
+print("""Each function, clause, ghost item, constant and definition of specs/ that changed, went or came between
+the commit in the first line of docs/DESIGN-PASS.md and today's tree, as the kit's contracts.py lists them by their
+text: old beside new. A function is found again at its place, else by type and name in its crate. Private ones are
+listed too. Edits by name.
 """)
 for k in ("crates", "crates new", "crates gone", "functions", "with ensures", "contracts the same"):
     print(f"{k}: {r[k]}")

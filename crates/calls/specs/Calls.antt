@@ -42,6 +42,7 @@ plain_book = record { answer = book_answer; with = book_with }
 abbrev pub CallSeen : Type 0
 CallSeen = Seen Book
 
+-- each call was accepted
 abbrev pub AllAccepted : List CallSeen → Type 0
 AllAccepted os = Every (λ (o : CallSeen). IsAccepted o.answer) os
 

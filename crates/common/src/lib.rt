@@ -20,7 +20,9 @@ pub const MAX_BYTES: usize = 65536;
 // The largest number that a line may have and the largest name: the largest of 16 bits.
 pub const MAX_NUMBER: usize = u16::MAX as usize;
 
-// Record n, counted from 0, of lent numbers of which each W are a record, becomes `values`.
+// Record n, counted from 0, of lent numbers of which each W are a record, becomes `values`. Room is asked: each caller
+// has counted, and no answer could say that there is none. Reading one has no function here: `as_chunks` and `get` are
+// the library's, and each crate says what its numbers are.
 #[tactic(auto, using(crate::proofs::Records::copied))]
 pub fn put_record<const W: usize>(numbers: &mut [u16], n: usize, values: [u16; W])
     requires { W * n + W ≤ length numbers.old }

@@ -5,7 +5,8 @@ use mathlib.Core.Bool.{Bool, true, false, not, ◌&&◌, ◌||◌}
 use mathlib.Core.List.{List, [], ◌∷◌, ◌++◌, append_assoc, append-nil}
 use mathlib.Core.Option.{Option, none, some}
 use mathlib.Core.Logic.{◌⊎◌, inl, inr, ⊎_elim}
-use Rattle.std.proofs.lemmas.Bool.{and_from, and_parts, eqb-true, false≢true, lt-ltb, not-true, or_cases, or_right}
+use Rattle.std.proofs.lemmas.Bool.{and_from, and_parts, eqb-true, false_from_ne_true, false≢true, lt-ltb, not-true}
+use Rattle.std.proofs.lemmas.Bool.{or_cases, or_right}
 use lib.Dec.{eqb, ltb}
 use Rattle.lines.specs.Ascii.{ascii}
 use Rattle.lines.specs.Line.{same_bytes}
@@ -266,11 +267,7 @@ pub record Mark (b : ℕ) : Type 0 where
   pub dot : eqb b 46 ≡ false
 
 name_start : (b : ℕ) → is_name b ≡ false → is_start b ≡ false
-name_start b h = go (is_start b) refl
-  where
-    go : (c : Bool) → is_start b ≡ c → is_start b ≡ false
-    go true e = absurd (false≢true (sym h ∙ start_name b e))
-    go false e = e
+name_start b h = false_from_ne_true (is_start b) (λ e. absurd (false≢true (sym h ∙ start_name b e)))
 
 pub space_slash : (b : ℕ) → is_space b ≡ true → eqb b 47 ≡ false
 space_slash b t = space_cases (λ c. eqb c 47 ≡ false) b t refl refl refl refl
@@ -590,11 +587,7 @@ leads_spaces (b ∷ w) t h i = rw (space_slash b (and_parts (is_space b) (all_of
 
 start_slash : (b : ℕ) → is_start b ≡ true → eqb b 47 ≡ false
 unfolding is_start
-start_slash b h = go (eqb b 47) refl
-  where
-    go : (c : Bool) → eqb b 47 ≡ c → eqb b 47 ≡ false
-    go true e = absurd (false≢true (rw (eqb-true b 47 e) at h))
-    go false e = e
+start_slash b h = false_from_ne_true (eqb b 47) (λ e. absurd (false≢true (rw (eqb-true b 47 e) at h)))
 
 leads_word : (n : Bytes) → is_word n ≡ true → leads n ≡ true
 unfolding leads is_word

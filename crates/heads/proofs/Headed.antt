@@ -5,7 +5,7 @@ use mathlib.Core.Bool.{Bool, true, false, cond, ◌&&◌, ◌||◌, and-false}
 use mathlib.Core.List.{List, [], ◌∷◌, ◌++◌, append_assoc}
 use mathlib.Core.Option.{Option, none, some}
 use native.Mathlib.Omega.{arith}
-use Rattle.std.proofs.lemmas.Bool.{and_from, and_parts, false≢true, ne_eqb}
+use Rattle.std.proofs.lemmas.Bool.{and_from, and_parts, false_from_ne_true, false≢true, ne_eqb}
 use lib.Dec.{eqb, eqb_refl}
 use lib.ListN.{length, get_or, drop, length-drop, length-append}
 use lib.Seq.{drop-cons}
@@ -336,11 +336,8 @@ instruction Tests.Target e = absurd (omega (arith, e))
 
 not_instruction : (n : Bytes) (t : NodeTest) → test_number t ≡ type_code n → (t ≡ Tests.Instruction → ⊥)
     → same_bytes n instruction_word ≡ false
-not_instruction n t e f = go (same_bytes n instruction_word) refl
-  where
-    go : (b : Bool) → same_bytes n instruction_word ≡ b → same_bytes n instruction_word ≡ false
-    go true h = absurd (f (instruction t (e ∙ ap type_code (same_bytes_lem n instruction_word h) ∙ instruction_code)))
-    go false h = h
+not_instruction n t e f = false_from_ne_true (same_bytes n instruction_word)
+    (λ h. absurd (f (instruction t (e ∙ ap type_code (same_bytes_lem n instruction_word h) ∙ instruction_code))))
 
 -- a type of code 5 is `processing-instruction`
 is_instruction : (n : Bytes) → is_type n ≡ true → 5 ≡ type_code n → same_bytes n instruction_word ≡ true

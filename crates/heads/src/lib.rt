@@ -248,7 +248,8 @@ impl Selector<'_> {
         self.test_head(skip(self.s, second + 1), axis)
     }
 
-    // The head that begins at `at`, where no whitespace is.
+    // The head that begins at `at`, where no whitespace is. That is asked, since it would refuse whitespace, which the
+    // grammar passes over; callers have passed it by `skip`.
     pub fn read_head(self, at: usize) -> Result<Head, usize>
         requires at_in_bounds { at ≤ length self.s.now }
         requires at_value { is_space (byte_at self.s.now at) ≡ false }

@@ -40,7 +40,8 @@ pub fn premise_count(rule: u16) -> usize
 }
 
 // Whether the rule, by the rule table or by the way back, yields the step from premises with the rows given. The rows
-// of a premise that the rule doesn't have don't matter. What is found of ways back is noted.
+// of a premise that the rule doesn't have don't matter. What is found of ways back is noted. That the notes are true of
+// the rows is asked: they are lent, and a test of them would find each way back anew.
 pub fn yields(
     rows: &[u16],
     rule: u16,

@@ -137,7 +137,8 @@ fn is_back(rows: &[u16], i: u16, j: u16, noted: &mut [Option<u16>]) -> bool
     }
 }
 
-// Whether the right row is left[some w], and w is the way back of the left one; what is found on the way is noted.
+// Whether the right row is left[some w], and w is the way back of the left one; what is found on the way is noted. That
+// the notes are true is asked, as by `yields`.
 #[tactic(auto, unfolding(crate::specs::code::RowWayBack::is_with_back))]
 pub fn is_with_back(rows: &[u16], step: Sides, noted: &mut [Option<u16>]) -> bool
     requires { Noted (table_of rows.now) noted.old }

@@ -214,7 +214,7 @@ pub fn step_end(s: &[u8], r: Reading) -> Result<Reading, usize>
     }
 }
 
-// The closing byte b is due.
+// The closing byte b is due. It isn't 0, which `byte_at` gives past the end.
 pub fn close(s: &[u8], r: Reading, b: u8) -> Result<Reading, usize>
     requires { eqb 0 b ≡ false }
     ensures { CloseMet s.now (stands r) b (ended result) }
@@ -236,7 +236,8 @@ fn every_below(rows: &mut [u16], path: Reading) -> Reading
     join(rows, RowKind::Composition.into(), path, step)
 }
 
-// Passes the `/` or `//` that follows a path, and the whitespace after it.
+// Passes the `/` or `//` that follows a path, and the whitespace after it. That the `/` is there, the caller's loop has
+// tested.
 pub fn pass_slash(s: &[u8], rows: &mut [u16], path: Reading) -> Reading
     requires { (byte_at s.now path.at ≡ slash_byte) × Sized rows.old path.count }
     ensures { SlashPut s.now rows.old (stands path) rows.new (stands result) }
@@ -320,8 +321,8 @@ pub fn constant(s: &[u8], rows: &mut [u16], from: Reading, kind: u16) -> Result<
     Ok(put_leaf(rows, shut, kind))
 }
 
-// An operator name, which begins where r ends. What is refused is the first byte that is not the name's, or the byte
-// after the name, if that is a name's too.
+// An operator name, which begins where r ends; its bytes aren't 0, as in `close`. What is refused is the first byte
+// that is not the name's, or the byte after the name, if that is a name's too.
 pub fn pass_word(s: &[u8], r: Reading, word: &[u8]) -> Result<Reading, usize>
     requires at_in_bounds { r.at ≤ length s.now }
     requires no_zero { (k : ℕ) → k < length word.now → eqb 0 (get_or word.now k 0) ≡ false }

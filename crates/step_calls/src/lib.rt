@@ -100,7 +100,7 @@ fn is_yielded(held: Held, step: Step, noted: &mut [Option<u16>]) -> bool
 }
 
 // The answer of a step call on the rows and steps held: the first refusal that applies, or the new step's number. The
-// notes of what is known of rows' ways back are lent.
+// notes of what is known of rows' ways back are lent; that they are true is asked, as by `matching::yields`.
 #[tactic(auto, unfolding(calls::specs::Promises::row_step_answer, calls::specs::StepCall::step_answer_by))]
 pub fn judge_noted(held: Held, step: Step, noted: &mut [Option<u16>]) -> Result<u16, Refusal>
     requires { Noted (table_of held.rows.now) noted.old }

@@ -5,3 +5,4 @@ pub mod Promise
 pub mod Listed
 pub mod Lined
 pub mod Counted
+pub mod Clauses

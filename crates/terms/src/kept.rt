@@ -80,7 +80,7 @@ impl KeptRows {
         find_row(self.rows(), row)
     }
 
-    // Puts a row after the rows.
+    // Puts a row after the rows. There is room: who puts a row has judged it, refusal 11 included.
     pub fn put(&mut self, row: Row)
         requires { self.old.count < max_rows }
         ensures { (self.new.numbers ≡ sets self.old.numbers (row_width * self.old.count) (row_numbers (row_of row)))

@@ -8,10 +8,11 @@ use mathlib.Core.Bool.{Bool, true, false, cond, false≢true}
 use mathlib.Core.Logic.{◌⊎◌, inl, inr}
 use mathlib.Core.List.{List, [], ◌∷◌}
 use native.Mathlib.Omega.{arith}
-use Rattle.std.proofs.lemmas.Bool.{eqb-true, ne_eqb}
+use Rattle.std.proofs.lemmas.Bool.{eqb-true, false_from_ne_true, ne_eqb}
+use Rattle.std.proofs.lemmas.List.{drop_more}
 use lib.Dec.{eqb, leb}
 use lib.ListN.{length, get_or, set, drop, drop_of_length-le}
-use lib.Seq.{drop-cons, drop-drop, get_or-set_same, get_or-set_other}
+use lib.Seq.{drop-drop, get_or-set_same, get_or-set_other}
 use Rattle.common.proofs.Reflect.{le_or_lt}
 use Rattle.lines.specs.Line.{lines, same_bytes}
 use Rattle.grammar.specs.Bytes.{Bytes, is_word}
@@ -25,15 +26,10 @@ use Rattle.words.specs.declared.index.IndexedLine.{IndexedLine}
 use Rattle.words.proofs.Named.{first_bytes_lem, first_line}
 use Rattle.words.proofs.Listed.{after_byte_lem, after_end, find_past, numbered_one, next_from, first_hit}
 
-cons_at : (t : Bytes) (i : ℕ) → i < length t → drop i t ≡ byte_at t i ∷ drop (i + 1) t
-cons_at t i h =
-    let e : suc i ≡ i + 1 = omega arith in
-    drop-cons t i 0 h ∙ ap (λ (k : ℕ). byte_at t i ∷ drop k t) e
-
 -- ends_at
 ends_here : (t : Bytes) (at : ℕ) → at < length t → eqb (byte_at t at) 10 ≡ ended (drop at t)
 unfolding ended
-ends_here t at h = rw (cons_at t at h) refl
+ends_here t at h = rw (drop_more t at 0 h) refl
 
 ends_past : (t : Bytes) (at : ℕ) → length t ≤ at → true ≡ ended (drop at t)
 unfolding ended
@@ -68,9 +64,10 @@ module _ (list : Bytes) (at i h : ℕ) (p : LineLeft list at i h) where
   left_more l e =
       let b = ne_eqb (byte_at list i) 10 e in
       let q : signature_of h (line_of (drop i list))
-      ≡ signature_of (signed_by h (byte_at list i)) (line_of (drop (i + 1) list)) = rw (cons_at list i l, b) refl in
+      ≡ signature_of (signed_by h (byte_at list i)) (line_of (drop (i + 1) list)) =
+      rw (drop_more list i 0 l, b) refl in
       record {
-        rest = sym (ap (λ (t : Bytes). drop 1 (lines t)) (cons_at list i l)
+        rest = sym (ap (λ (t : Bytes). drop 1 (lines t)) (drop_more list i 0 l)
             ∙ after_byte_lem (byte_at list i) (drop (i + 1) list) b) ∙ p.rest;
         signed = sym q ∙ p.signed;
       }
@@ -79,11 +76,11 @@ module _ (list : Bytes) (at i h : ℕ) (p : LineLeft list at i h) where
   unfolding line_of signature_of
   left_ends l e f =
       let b : eqb (byte_at list i) 10 ≡ true = rw e refl in
-      let q : signature_of h (line_of (drop i list)) ≡ h = rw (cons_at list i l, b) refl in
+      let q : signature_of h (line_of (drop i list)) ≡ h = rw (drop_more list i 0 l, b) refl in
       record {
         on = omega (arith, f);
         fits = omega (arith, l);
-        rest = sym (ap (λ (t : Bytes). drop 1 (lines t)) (cons_at list i l)
+        rest = sym (ap (λ (t : Bytes). drop 1 (lines t)) (drop_more list i 0 l)
             ∙ after_end (byte_at list i) (drop (i + 1) list) b) ∙ p.rest;
         signed = sym q ∙ p.signed;
       }
@@ -145,17 +142,14 @@ module _ (list : Bytes) where
 module _ (list n : Bytes) (k : ℕ) (l : IndexedLine) (x : LineIndexed list k l) where
   pub line_unlike : is_word n ≡ true → (sought : ℕ) → sought ≡ signature_of 0 n → (l.signature ≡ sought → ⊥)
       → false ≡ first_line_is n (drop k (lines list))
-  line_unlike w sought e h = sym (ap (first_line_is n) (sym x.place.rest) ∙ go (first_line_is n (lines t)) refl)
+  line_unlike w sought e h = sym (ap (first_line_is n) (sym x.place.rest)
+      ∙ false_from_ne_true (first_line_is n (lines t)) (λ q.
+      let s = same_bytes_lem n (line_of t)
+      (sym (first_line n (lines t) w ∙ ap (λ (u : Bytes). same_bytes n u) (first_bytes_lem t)) ∙ q) in
+      h (x.signature ∙ ap (signature_of 0) (sym s) ∙ sym e)))
     where
       t : Bytes
       t = drop l.start list
-
-      go : (b : Bool) → first_line_is n (lines t) ≡ b → first_line_is n (lines t) ≡ false
-      go false q = q
-      go true q =
-          let s = same_bytes_lem n (line_of t)
-          (sym (first_line n (lines t) w ∙ ap (λ (u : Bytes). same_bytes n u) (first_bytes_lem t)) ∙ q) in
-          absurd (h (x.signature ∙ ap (signature_of 0) (sym s) ∙ sym e))
 
 -- search_index
 module _ (list n : Bytes) where

@@ -6,7 +6,8 @@ use mathlib.Core.List.{List, [], ◌∷◌}
 use mathlib.Core.Option.{Option, none, some}
 use native.Mathlib.Nat.{add_assoc}
 use native.Mathlib.Omega.{arith}
-use Rattle.std.proofs.lemmas.Bool.{and_from, and_parts, eqb-true, false≢true, or_parts}
+use Rattle.std.proofs.lemmas.Bool.{and_from, and_parts, eqb-true, false_from_ne_true, false≢true, or_parts}
+use Rattle.std.proofs.lemmas.List.{drop_more}
 use Rattle.std.specs.Prelude.{None, Result, Ok, Err, MatchResult}
 use Rattle.std.specs.Result.{result_ok}
 use lib.Dec.{eqb, leb}
@@ -85,18 +86,23 @@ module _ (list n : Bytes) where
   abbrev Begins : ℕ → Bool
   Begins i = first_line_is n (lines (drop (i + 1) list))
 
-  cons_at : (i : ℕ) → i < length list → drop i list ≡ byte_at list i ∷ drop (i + 1) list
-  cons_at i h =
-      let e : suc i ≡ i + 1 = omega arith in
-      drop-cons list i 0 h ∙ ap (λ (k : ℕ). byte_at list i ∷ drop k list) e
-
   -- may_follow
   pub follows : (i : ℕ) → is_word n ≡ true → i + length n + 1 < length list → (a b r : Bool)
       → a ≡ (eqb (byte_at list i) 10 && eqb (byte_at list (i + length n + 1)) 10)
       → b ≡ (eqb (byte_at list (i + 1)) (get_or n 0 0) && eqb (byte_at list (i + length n)) (get_or n (length n - 1) 0))
       → r ≡ (a && b) → r ≡ false → byte_at list i ≡ 10 → Begins i ≡ false
   unfolding ended
-  follows i w h a b r p q o f e = go (Begins i) refl
+  follows i w h a b r p q o f e =
+      false_from_ne_true (Begins i) (λ x.
+      let u = and_parts (starts_with n (drop (i + 1) list)) (ended (drop (length n) (drop (i + 1) list)))
+      (sym (line_is n list (i + 1) w) ∙ x) in
+      let lined = p ∙ and_from (eqb (byte_at list i) 10) (eqb (byte_at list (i + length n + 1)) 10)
+      (ap (λ (x : ℕ). eqb x 10) e) (at_end u.1) in
+      let edged = q ∙ and_from (eqb (byte_at list (i + 1)) (get_or n 0 0))
+      (eqb (byte_at list (i + length n)) (get_or n (length n - 1) 0))
+      (at_byte 0 (i + 1) (omega arith) size u.0)
+      (at_byte (length n - 1) (i + length n) (omega (arith, size)) (omega (arith, size)) u.0) in
+      false≢true (sym f ∙ o ∙ and_from a b lined edged))
     where
       size : 0 < length n
       size = word_there n w
@@ -113,19 +119,6 @@ module _ (list n : Bytes) where
             x,
             drop-cons list (i + length n + 1) 0 h,
           ) at z
-
-      go : (f : Bool) → Begins i ≡ f → Begins i ≡ false
-      go false x = x
-      go true x =
-          let u = and_parts (starts_with n (drop (i + 1) list)) (ended (drop (length n) (drop (i + 1) list)))
-          (sym (line_is n list (i + 1) w) ∙ x) in
-          let lined = p ∙ and_from (eqb (byte_at list i) 10) (eqb (byte_at list (i + length n + 1)) 10)
-          (ap (λ (x : ℕ). eqb x 10) e) (at_end u.1) in
-          let edged = q ∙ and_from (eqb (byte_at list (i + 1)) (get_or n 0 0))
-          (eqb (byte_at list (i + length n)) (get_or n (length n - 1) 0))
-          (at_byte 0 (i + 1) (omega arith) size u.0)
-          (at_byte (length n - 1) (i + length n) (omega (arith, size)) (omega (arith, size)) u.0) in
-          absurd (false≢true (sym f ∙ o ∙ and_from a b lined edged))
 
   -- where a search stands
   pub sought_first : (at k : ℕ) → LinesPassed list n at k → first_line_is n (lines (drop at list)) ≡ false
@@ -147,7 +140,8 @@ module _ (list n : Bytes) where
     sought_end : eqb (byte_at list i) 10 ≡ true → number_of list n
         ≡ numbered_from (suc k) (next (find n (bytes_of (lines (drop (i + 1) list)))))
     sought_end e = g ∙ ap (λ (ls : List Line). numbered_from (suc k) (next (find n (bytes_of ls))))
-        (ap (λ (t : Bytes). drop 1 (lines t)) (cons_at i h) ∙ after_end (byte_at list i) (drop (i + 1) list) e)
+        (ap (λ (t : Bytes). drop 1 (lines t)) (drop_more list i 0 h)
+        ∙ after_end (byte_at list i) (drop (i + 1) list) e)
 
     sought_byte : (byte_at list i ≡ 10 → Begins i ≡ false)
         → Sought list n (i + 1) (k + cond (eqb (byte_at list i) 10) 1 0)
@@ -157,7 +151,7 @@ module _ (list n : Bytes) where
         go false e =
             let z : k + 0 ≡ k = omega arith in
             rw z (g ∙ ap (λ (ls : List Line). numbered_from (suc k) (next (find n (bytes_of ls))))
-            (ap (λ (t : Bytes). drop 1 (lines t)) (cons_at i h)
+            (ap (λ (t : Bytes). drop 1 (lines t)) (drop_more list i 0 h)
             ∙ after_byte_lem (byte_at list i) (drop (i + 1) list) e))
         go true e =
             let rest = find n (bytes_of (drop 1 (lines (drop (i + 1) list)))) in

@@ -4,7 +4,7 @@ use mathlib.Core.Path.{◌≡◌, refl, sym, ap, ◌∙◌}
 use mathlib.Core.Bool.{Bool, true, false, cond, ◌&&◌}
 use mathlib.Core.List.{List, [], ◌∷◌}
 use native.Mathlib.Omega.{arith}
-use Rattle.std.proofs.lemmas.Bool.{and_parts, eqb-true, false≢true}
+use Rattle.std.proofs.lemmas.Bool.{and_parts, eqb-true, false_from_ne_true, false≢true}
 use lib.Dec.{eqb}
 use lib.ListN.{length, get_or, drop, length-drop}
 use lib.Seq.{drop-drop}
@@ -49,11 +49,7 @@ first_line (b ∷ n) (l ∷ ls) h = refl
 
 name_newline : (b : ℕ) → is_name b ≡ true → eqb 10 b ≡ false
 unfolding is_name is_start
-name_newline b h = go (eqb 10 b) refl
-  where
-    go : (c : Bool) → eqb 10 b ≡ c → eqb 10 b ≡ false
-    go true e = absurd (false≢true (rw (← eqb-true 10 b e) at h))
-    go false e = e
+name_newline b h = false_from_ne_true (eqb 10 b) (λ e. false≢true (rw (← eqb-true 10 b e) at h))
 
 line_same : (n t : Bytes) → all_of is_name n ≡ true
     → same_bytes n (line_of t) ≡ (starts_with n t && ended (drop (length n) t))
@@ -119,11 +115,7 @@ pub same_of : (t u : Bytes) → t ≡ u → same_bytes t u ≡ true
 same_of t u h = rw h (same_itself u)
 
 pub not_same : (t u : Bytes) → (t ≡ u → ⊥) → same_bytes t u ≡ false
-not_same t u h = go (same_bytes t u) refl
-  where
-    go : (b : Bool) → same_bytes t u ≡ b → same_bytes t u ≡ false
-    go true f = absurd (h (same_bytes_lem t u f))
-    go false f = f
+not_same t u h = false_from_ne_true (same_bytes t u) (λ f. h (same_bytes_lem t u f))
 
 module _ {T : Type 0} (n : Bytes) where
   abbrev pub Hit : Bor Bytes × T → Type 0

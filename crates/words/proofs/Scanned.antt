@@ -1,20 +1,20 @@
 -- Bytes passed over. Assumes nothing.
 use Prim.Native.Nat.{ℕ, zero, suc, ◌+◌, ◌-◌, ◌<◌, ◌≤◌}
 use mathlib.Core.Path.{◌≡◌, refl, ap, ◌∙◌}
-use mathlib.Core.Bool.{Bool, true, false, not, cond}
+use mathlib.Core.Bool.{Bool, true, false, not}
 use mathlib.Core.List.{[], ◌∷◌, ◌++◌, append_assoc}
 use native.Mathlib.Omega.{arith}
 use native.Mathlib.Decide.{dec_lt}
 use native.Mathlib.Numerals.{add-one}
 use Rattle.std.proofs.lemmas.Bool.{false≢true}
-use borrow.Author.Tests.{not-true, not-false, ltb-false}
-use Rattle.std.specs.Prelude.{Some, None, unwrap_or}
+use borrow.Author.Tests.{not-true, not-false}
+use Rattle.std.specs.Prelude.{unwrap_or}
 use Rattle.std.specs.List.{position, position_or_len}
 use Rattle.std.proofs.lemmas.List.Sums.{fails_before_first, passes_at_first, prefix_len-le-length}
-use lib.Dec.{ltb}
 use lib.ListN.{length, get_or, drop, length-drop, get_or-eq_default}
 use lib.Seq.{drop-cons, get_or-drop}
 use Rattle.common.specs.Lists.{all_of}
+use Rattle.lines.proofs.First.{first_or_length}
 use Rattle.grammar.specs.Bytes.{Bytes}
 use Rattle.grammar.proofs.Back.{snoc}
 use Rattle.words.specs.code.Scan.{byte_at, PassedOver, Passed}
@@ -74,7 +74,7 @@ module _ (p : ℕ → Bool) (s : Bytes) (at : ℕ) where
   -- the first byte that fails the test, or the end
   pub passed_over : (to : ℕ) → at ≤ length s
       → to ≡ at + unwrap_or (position (λ b. not (p b)) (drop at s)) (length (drop at s)) → PassedOver p s at to
-  passed_over to f e = rw (e, place_or_length) (passed_up_to (at + n) (omega arith) (omega (arith, few, size, f))
+  passed_over to f e = rw (e, first_or_length q xs) (passed_up_to (at + n) (omega arith) (omega (arith, few, size, f))
       (λ k h l. go k h l)
       (λ l. not-true _ (rw (← get_or-drop at s n 0) (passes_at_first q xs 0 (omega (arith, size, l))))))
     where
@@ -92,13 +92,6 @@ module _ (p : ℕ → Bool) (s : Bytes) (at : ℕ) where
 
       size : length xs ≡ length s - at
       size = length-drop at s
-
-      place_or_length : unwrap_or (position q xs) (length xs) ≡ n
-      place_or_length = by (ltb n (length xs)) refl
-        where
-          by : (b : Bool) → ltb n (length xs) ≡ b → unwrap_or (cond b (Some n) None) (length xs) ≡ n
-          by true h = refl
-          by false h = omega (arith, few, ltb-false n (length xs) h)
 
       go : (k : ℕ) → at ≤ k → k < at + n → p (byte_at s k) ≡ true
       go k h l =

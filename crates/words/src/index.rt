@@ -62,7 +62,7 @@ pub fn blank_index() -> [IndexedLine; MAX_LINES] {
 }
 
 // Makes the index of the first lines of the list, as many as there is room for: how many these are, and where the
-// other lines begin.
+// other lines begin. An index has places of 32 bits, so the list's length is asked.
 pub fn index_lines(list: &[u8], index: &mut [IndexedLine]) -> (usize, usize)
     requires { length list.now ≤ max_length }
     ensures { (result.0 ≤ length index.new) × Indexed list.now (take result.0 index.new) result.1 }

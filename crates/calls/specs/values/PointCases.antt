@@ -126,9 +126,11 @@ ninth_refused = refl
 -- a session's points, three numbers each: an incomplete one is none, and past the count none is held
 pub points_read :
     AllRight
-    (counts_of (7 ∷ 1 ∷ 2 ∷ 8 ∷ 3 ∷ []) is (counts 7 1 2 ∷ [])
+    (counts_of (7 ∷ 1 ∷ 2 ∷ 8 ∷ []) is (counts 7 1 2 ∷ [])
+    ∷ counts_of (7 ∷ 1 ∷ 2 ∷ 8 ∷ 3 ∷ []) is (counts 7 1 2 ∷ [])
     ∷ first_points 1 (7 ∷ 1 ∷ 2 ∷ 8 ∷ 3 ∷ 4 ∷ []) is (counts 7 1 2 ∷ [])
     ∷ (point_named (counts 7 1 2 ∷ counts 8 3 4 ∷ []) 8 ∷ []) is (counts 8 3 4 ∷ [])
+    ∷ (point_named (counts 7 1 2 ∷ counts 7 3 4 ∷ []) 7 ∷ []) is (counts 7 1 2 ∷ [])
     ∷ (point_named (counts 7 1 2 ∷ counts 8 3 4 ∷ []) 9 ∷ []) is (counts 0 0 0 ∷ [])
     ∷ [])
 unfolding counts_of place_of

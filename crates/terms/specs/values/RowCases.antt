@@ -2,7 +2,8 @@
 use Rattle.std.specs.Prelude.{ℕ, zero, suc, refl, true, false, List, [], ◌∷◌, ◌++◌, map}
 use Rattle.common.specs.values.Expected.{◌is◌, AllRight}
 use Rattle.xpath.specs.Term.{Void, Root, AxisStep, Union, Composition, Filter, True, False, Not, And, Or, In}
-use Rattle.terms.specs.Row.{Row, row, table_of, entries_from, same_row, find}
+use Rattle.terms.specs.Row.{Row, row, row_of_numbers, table_of, entries_from, same_row, find}
+use Rattle.terms.specs.code.RowTypes.{row_of}
 use Rattle.terms.specs.Fields.{fields_of, is_path, is_qualifier, held_path, held_qualifier, field_ok, bad_place}
 use Rattle.terms.specs.Nesting.{operand_nesting, nesting_by, nestings, nesting}
 use Rattle.terms.specs.Terms.{Term, of_path, of_qualifier, as_path, as_qualifier, term_by, terms}
@@ -11,12 +12,22 @@ use Rattle.terms.specs.AcceptedRows.{is_well_formed}
 -- an incomplete last row is no row
 pub lent :
     AllRight
-    (table_of (2 ∷ 1 ∷ 0 ∷ 7 ∷ 6 ∷ 0 ∷ 0 ∷ []) is (row 2 1 0 7 ∷ [])
+    (table_of (2 ∷ 1 ∷ 0 ∷ 7 ∷ 6 ∷ []) is (row 2 1 0 7 ∷ [])
+    ∷ table_of (2 ∷ 1 ∷ 0 ∷ 7 ∷ 6 ∷ 0 ∷ []) is (row 2 1 0 7 ∷ [])
+    ∷ table_of (2 ∷ 1 ∷ 0 ∷ 7 ∷ 6 ∷ 0 ∷ 0 ∷ []) is (row 2 1 0 7 ∷ [])
     ∷ table_of (2 ∷ 1 ∷ 0 ∷ 7 ∷ 6 ∷ 0 ∷ 0 ∷ 0 ∷ []) is (row 2 1 0 7 ∷ row 6 0 0 0 ∷ [])
     ∷ table_of [] is []
     ∷ [])
 unfolding table_of
 lent = refl
+
+-- a row as the code has it, and of four numbers, field by field
+pub by_fields :
+    AllRight
+    (row_of (record { kind = 2; a = 3; b = 4; c = 5 }) is row 2 3 4 5
+    ∷ row_of_numbers (2 ∷ 3 ∷ 4 ∷ 5 ∷ []) is row 2 3 4 5
+    ∷ [])
+by_fields = refl
 
 -- row 0 is a path, row 1 a qualifier
 abbrev held : List Row
