@@ -19,10 +19,9 @@ fn select_text(
     ensures { TextSelectMade names.now selector.now document.now context limit
         marks.old (answer_of result) marks.new }
 {
-    let fresh = Session::new();
-    let read = fresh.text(names, selector);
-    let row = read.answer?;
-    read.session.select(row, document, context, limit, marks)
+    let mut session = Session::new();
+    let row = session.text(names, selector)?;
+    session.select(row, document, context, limit, marks)
 }
 
 // The number of the answer and its value.

@@ -17,7 +17,8 @@ use Rattle.common.proofs.Refusals.{refusal_some}
 use Rattle.lines.specs.Line.{lines}
 use Rattle.grammar.specs.Bytes.{Bytes}
 use Rattle.calls.specs.Calls.{Call, text}
-use Rattle.calls.specs.code.Answers.{NumberOrRefusal, answer_with, answer_of, refusal_answer, line_answer}
+use Rattle.calls.specs.code.Answers.{NumberOrRefusal, DoneOrRefusal, answer_with, answer_of, done_answer_of, refusal_answer}
+use Rattle.calls.specs.code.Answers.{line_answer}
 use Rattle.calls.specs.declared.answer.LineRefusal.{LineRefusal}
 use Rattle.session.specs.declared.session.Session.{Session}
 use Rattle.session.specs.View.{fresh_session}
@@ -26,27 +27,28 @@ use Rattle.session.specs.WriteCall.{WriteMet}
 use Rattle.script.specs.Rest.{newline_for_space, names_of}
 use Rattle.filing.specs.declared.Filed.{Filed}
 use Rattle.filing.specs.Filing.{makes, lending, lines_filed, filed, file_answer, file_buffer, FileMet}
-use Rattle.filing.specs.code.FilingMade.{lent_by, call_left, ActionDone, LinesMet}
+use Rattle.filing.specs.code.FilingMade.{lent_by, done, ActionDone, LinesMet}
 
 -- a call that met its promise
 pub call_done : (f : Filed) (c : Call) {A : Type 0} (value : A → ℕ) (r : Result A Refusal) (u : Session)
-    → Met f.session c (answer_with value refusal_answer r) u → (q : Result Filed Refusal) → q ≡ call_left f u r
-    → ActionDone f (some (makes c)) q
-call_done f c value (Ok a) u m q is =
-    subst (ActionDone f (some (makes c))) (sym is) (record {
-      number = sym (ap (λ a. a.number) m.answer);
-      session = m.left;
-      list = refl;
-    })
-call_done f c value (Err k) u m q is =
-    subst (ActionDone f (some (makes c))) (sym is) (ap (λ a. a.number) m.answer)
+    → Met f.session c (answer_with value refusal_answer r) u
+    → ActionDone f (some (makes c)) (done r) (record { session = u; names = f.names })
+call_done f c value (Ok a) u m =
+    record { number = sym (ap (λ a. a.number) m.answer); session = m.left; list = refl }
+call_done f c value (Err k) u m = ap (λ a. a.number) m.answer
+
+-- one whose answer has no value
+pub done_by : (f : Filed) (c : Call) (r : DoneOrRefusal) (u : Session) → Met f.session c (done_answer_of r) u
+    → ActionDone f (some (makes c)) r (record { session = u; names = f.names })
+done_by f c (Ok a) u m = call_done f c (λ u. 0) (Ok a) u m
+done_by f c (Err k) u m = call_done f c {A = Unit {0}} (λ u. 0) (Err k) u m
 
 -- a text call with the names that are lent, all of which are put into the list
 pub text_done : (f : Filed) (size : ℕ) (list left : Bytes) → length list ≡ max_bytes
     → (size ≡ min (length f.names.bytes.now) (length list))
     × (take size left ≡ take size (lent_by f)) × (length left ≡ length list)
     → (t : Bytes) (r : NumberOrRefusal) (u : Session) → Met f.session (text (take size left) t) (answer_of r) u
-    → (q : Result Filed Refusal) → q ≡ call_left f u r → ActionDone f (some (makes (text (lent_by f) t))) q
+    → ActionDone f (some (makes (text (lent_by f) t))) (done r) (record { session = u; names = f.names })
 unfolding names_of
 text_done f size list left room put t r u m =
     let same_size : length (lent_by f) ≡ length f.names.bytes.now = length-map f.names.bytes.now newline_for_space in
@@ -59,14 +61,14 @@ module _ (f : Filed) (rest : Bor Bytes) where
   unfolding names_of
   size_is = length-map rest.now newline_for_space
 
-  pub lent : (few : length rest.now ≤ max_bytes) → ActionDone f (lending (names_of rest.now))
-      (Ok (record { session = f.session; names = record { bytes = rest; few = few } }))
+  pub lent : (few : length rest.now ≤ max_bytes) → ActionDone f (lending (names_of rest.now)) (Ok tt)
+      (record { session = f.session; names = record { bytes = rest; few = few } })
   unfolding lending
   lent few =
       rw (le-leb (length (names_of rest.now)) max_bytes (omega (arith, size_is)))
       (record { number = refl; session = refl; list = refl })
 
-  pub not_lent : max_bytes < length rest.now → ActionDone f (lending (names_of rest.now)) (Err refusals.WrongForm)
+  pub not_lent : max_bytes < length rest.now → ActionDone f (lending (names_of rest.now)) (Err refusals.WrongForm) f
   unfolding lending
   not_lent h = rw (lt-leb (length (names_of rest.now)) max_bytes (omega (arith, size_is))) refl
 

@@ -22,14 +22,15 @@ use Rattle.filing.proofs.LinesLaws.{no_action, read_action}
 
 module _ (f : Filed) (piece : Bytes) where
   pub line_not_read : none ≡ first_parts command_of (lines piece)
-      → ActionDone f (first_action (lent_by f) (lines piece)) (Err refusals.WrongForm)
+      → ActionDone f (first_action (lent_by f) (lines piece)) (Err refusals.WrongForm) f
   line_not_read e = sym (ap (line_number f.session) (no_action (lines piece) (lent_by f) e))
 
   pub line_read : (k : Command) → some (written_command k) ≡ first_parts command_of (lines piece) → (rest : Bytes)
-      → rest ≡ rest_of (first_bytes (lines piece)) → (q : Result Filed Refusal)
-      → ActionDone f (command_action k (lent_by f) rest) q → ActionDone f (first_action (lent_by f) (lines piece)) q
-  line_read k e rest is q d =
-      subst (λ o. ActionDone f o q)
+      → rest ≡ rest_of (first_bytes (lines piece)) → (q : Result (Unit {0}) Refusal) (r : Filed)
+      → ActionDone f (command_action k (lent_by f) rest) q r
+      → ActionDone f (first_action (lent_by f) (lines piece)) q r
+  line_read k e rest is q r d =
+      subst (λ o. ActionDone f o q r)
       (ap (command_action k (lent_by f)) is ∙ sym (read_action (lines piece) (lent_by f) k e)) d
 
 -- a command that is not filed

@@ -74,29 +74,28 @@ module _ (f : Filed) (n : ℕ) (ls later : List Line) (piece : Bytes) (l : Line)
         (refused_at (line_number f.session (line_action (lent_by f) l)) n)
     first = ap (lines_filed f.session (lent_by f) n) there ∙ by_first f.session (lent_by f) n l later
 
-    line_refused : (k : Refusal) → ActionDone f done (Err k)
+    line_refused : (k : Refusal) (r : Filed) → ActionDone f done (Err k) r
         → refused_at (refusal_number k) n ≡ lines_filed f.session (lent_by f) n ls
-    line_refused k m =
+    line_refused k r m =
         let number : line_number f.session (line_action (lent_by f) l) ≡ refusal_number k =
         sym (m ∙ ap (line_number f.session) does) in
         sym (first ∙ rw (number, ne_eqb (refusal_number k) 0 (refusal_some k)))
 
     -- of a result that `map_err` gives a line's refusal for
-    pub line_refused_by : (q : Result Filed Refusal) → ActionDone f done q → (e : LineRefusal) (P : Filed → Type 0)
-        (Q : Refusal → Type 0) → MatchResult q P Q → is_ok q ≡ false
+    pub line_refused_by : (q : Result (Unit {0}) Refusal) (r : Filed) → ActionDone f done q r
+        → (e : LineRefusal) (P : Unit {0} → Type 0) (Q : Refusal → Type 0) → MatchResult q P Q → is_ok q ≡ false
         → ((k : Refusal) → Q k → e ≡ record { refusal = k; line = n })
         → refused_by e ≡ lines_filed f.session (lent_by f) n ls
-    line_refused_by (Ok r) m e P Q h failed told = cc failed
-    line_refused_by (Err k) m e P Q h failed told = ap refused_by (told k h) ∙ line_refused k m
+    line_refused_by (Ok u) r m e P Q h failed told = cc failed
+    line_refused_by (Err k) r m e P Q h failed told = ap refused_by (told k h) ∙ line_refused k r m
 
-    pub line_taken : (r : Filed) → ActionTaken f done r
+    line_taken : (r : Filed) → ActionTaken f done r
         → lines_filed f.session (lent_by f) n ls ≡ lines_filed r.session (lent_by r) (n + 1) later
     line_taken r m =
         let t = subst (λ o. ActionTaken f o r) does m in
         first ∙ rw (t.number, t.session, t.list)
 
-    pub line_taken_by : (q : Result Filed Refusal) → ActionDone f done q → (r : Filed) (P : Filed → Type 0)
-        (Q : Refusal → Type 0) → MatchResult q P Q → is_ok q ≡ true → ((x : Filed) → P x → x ≡ r)
+    pub line_taken_by : (q : Result (Unit {0}) Refusal) (r : Filed) → ActionDone f done q r → is_ok q ≡ true
         → lines_filed f.session (lent_by f) n ls ≡ lines_filed r.session (lent_by r) (n + 1) later
-    line_taken_by (Ok x) m r P Q h taken told = line_taken r (subst (ActionTaken f done) (told x h) m)
-    line_taken_by (Err k) m r P Q h taken told = cc taken
+    line_taken_by (Ok u) r m taken = line_taken r m
+    line_taken_by (Err k) r m taken = cc taken

@@ -11,7 +11,7 @@ ghost use Rattle.calls.specs.code.Answers.{answer_with};
 ghost use Rattle.session.specs.View.{fresh_session};
 ghost use Rattle.script.specs.Rest.{names_of};
 ghost use Rattle.filing.specs.Filing.{lending, makes, FileMet};
-ghost use Rattle.filing.specs.code.FilingMade.{lent_by, call_left, command_action, first_action};
+ghost use Rattle.filing.specs.code.FilingMade.{lent_by, done, command_action, first_action};
 ghost use Rattle.filing.specs.code.FilingMade.{ActionDone, LinesMet, file_refusal_answer};
 ghost use Rattle.filing.specs.declared.FileRefusal.TheVariants as FILE;
 
@@ -19,7 +19,7 @@ use crate::lent_names::LentNames;
 use calls::Answer;
 use common::Refusal;
 use script::Command;
-use session::{Answered, LineRefusal, Session};
+use session::{LineRefusal, Session};
 
 // Why a script is refused: its first refused line, or what write refuses.
 #[derive(Clone, Copy, Debug, PartialEq, Eq)]
@@ -63,8 +63,16 @@ impl From<Refusal> for FileRefusal {
     }
 }
 
+// Of a call that is accepted a script has no use for the value.
+fn without_value<T: Copy>(answer: Result<T, Refusal>) -> Result<(), Refusal>
+    ensures { result ≡ done answer }
+{
+    answer?;
+    Ok(())
+}
+
 // What lines leave: the session, and the names that are lent to texts.
-#[derive(Clone, Copy)]
+#[derive(Drop)]
 struct Filed<'a> {
     session: Session,
     names: LentNames<'a>,
@@ -80,50 +88,36 @@ impl<'a> Filed<'a> {
         }
     }
 
-    // What a call leaves, where it is accepted.
-    fn called<T: Copy>(self, made: Answered<Result<T, Refusal>>) -> Result<Filed<'a>, Refusal>
-        ensures { result ≡ call_left self.entry made.session made.answer }
-    {
-        made.answer?;
-        Ok(Filed {
-            session: made.session,
-            ..self
-        })
-    }
-
     // The names that the rest of a line lends, where they are not too many.
-    fn lending(self, rest: &'a [u8]) -> Result<Filed<'a>, Refusal>
-        ensures { ActionDone self.entry (lending (names_of rest.now)) result }
+    fn lending(&mut self, rest: &'a [u8]) -> Result<(), Refusal>
+        ensures { ActionDone self.old (lending (names_of rest.now)) result self.new }
     {
         if common::MAX_BYTES < rest.len() {
             return Err(Refusal::WrongForm);
         }
-        Ok(Filed {
-            names: LentNames { bytes: rest },
-            ..self
-        })
+        self.names = LentNames { bytes: rest };
+        Ok(())
     }
 
     // The text that the rest of a line is, with the names that are lent.
-    fn text(self, rest: &[u8]) -> Result<Filed<'a>, Refusal>
-        ensures { ActionDone self.entry (some (makes (Call.text (lent_by self.entry) rest.now))) result }
+    fn text(&mut self, rest: &[u8]) -> Result<(), Refusal>
+        ensures { ActionDone self.old (some (makes (Call.text (lent_by self.old) rest.now))) result self.new }
     {
         // Fixed memory without a heap. A plain array: `script::put_names` writes into a lent buffer.
         let mut list = [0u8; common::MAX_BYTES];
         let size = script::put_names(self.names.bytes, &mut list);
-        self.called(self.session.text(&list[..size], rest))
+        without_value(self.session.text(&list[..size], rest))
     }
 
     // What a command does, with the rest of its line.
-    fn command(self, command: Command, rest: &'a [u8]) -> Result<Filed<'a>, Refusal>
-        ensures { ActionDone self.entry (command_action command (lent_by self.entry) rest.now) result }
+    fn command(&mut self, command: Command, rest: &'a [u8]) -> Result<(), Refusal>
+        ensures { ActionDone self.old (command_action command (lent_by self.old) rest.now) result self.new }
     {
-        let s = self.session;
         match command {
-            Command::Term(row) => self.called(s.term(row)),
-            Command::Step(step) => self.called(s.step(step)),
-            Command::Point(name) => self.called(s.point(name)),
-            Command::Return(name) => self.called(s.return_to(name)),
+            Command::Term(row) => without_value(self.session.term(row)),
+            Command::Step(step) => without_value(self.session.step(step)),
+            Command::Point(name) => self.session.point(name),
+            Command::Return(name) => self.session.return_to(name),
             Command::Names => self.lending(rest),
             Command::Text => self.text(rest),
             _ => Err(Refusal::WrongForm),
@@ -131,8 +125,8 @@ impl<'a> Filed<'a> {
     }
 
     // What a line does.
-    fn line(self, line: &'a [u8]) -> Result<Filed<'a>, Refusal>
-        ensures { ActionDone self.entry (first_action (lent_by self.entry) (lines line.now)) result }
+    fn line(&mut self, line: &'a [u8]) -> Result<(), Refusal>
+        ensures { ActionDone self.old (first_action (lent_by self.old) (lines line.now)) result self.new }
     {
         let read = script::call_at(line, 0).ok_or(Refusal::WrongForm)?;
         self.command(read.command, script::rest_at(line, 0))
@@ -143,15 +137,15 @@ impl<'a> Filed<'a> {
 fn make_lines(script: &[u8]) -> Result<Session, LineRefusal>
     ensures { LinesMet script.now result }
 {
-    let mut left = Filed::new();
+    let mut filed = Filed::new();
     for (i, line) in script.split_inclusive(|b| *b == lines::NEWLINE).enumerate() {
         let number = i + 1;
-        left = left.line(line).map_err(|refusal| LineRefusal {
+        filed.line(line).map_err(|refusal| LineRefusal {
             refusal,
             line: number,
         })?;
     }
-    Ok(left.session)
+    Ok(filed.session)
 }
 
 // Makes the calls of the script's lines, and writes the bundle of what they leave into the buffer; it gives the

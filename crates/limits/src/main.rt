@@ -12,7 +12,7 @@ use common::axis::Axis;
 use common::node_kind::NodeKind;
 use common::node_test::NodeTest;
 use common::row_kind::RowKind;
-use session::{Answered, Session};
+use session::Session;
 use terms::Row;
 
 const ROWS: u16 = Session::ROWS as u16;
@@ -49,29 +49,29 @@ fn print_limits(rt: &impl Print) {
 }
 
 // A call for each number from 1 up to the limit, and for one more.
-fn pass_limit<A: Answer + Copy, F: Fn(Session, u16) -> Answered<A>>(
+fn pass_limit<A: Answer + Copy, F: Fn(&mut Session, u16) -> A>(
     rt: &impl Print,
-    start: Session,
+    s: &mut Session,
     limit: u16,
     call: F,
 )
     requires { (limit < max_number) × F.IsAlwaysCallable call }
 {
-    let s = (1..limit).fold(start, |s, i| call(s, i).session);
-    let last = call(s, limit);
-    print(rt, last.answer);
-    print(rt, call(last.session, limit + 1).answer);
+    for i in 1..limit {
+        let _ = call(s, i);
+    }
+    print(rt, call(s, limit));
+    print(rt, call(s, limit + 1));
 }
 
 // The deepest nesting: true, and each row `not` of the one before, so that row i + 1 nests i + 2 deep.
 fn nesting(rt: &impl Print) {
-    let s = Session::new()
-        .term(Row::from([RowKind::True.into(), 0, 0, 0]))
-        .session;
-    let s = s.term(Row::from([RowKind::Not.into(), 0, 0, 0])).session;
+    let mut s = Session::new();
+    let _ = s.term(Row::from([RowKind::True.into(), 0, 0, 0]));
+    let _ = s.term(Row::from([RowKind::Not.into(), 0, 0, 0]));
     pass_limit(
         rt,
-        s,
+        &mut s,
         Session::NESTING - 2,
         |s, i| s.term(Row::from([RowKind::Not.into(), i, 0, 0])),
     )
@@ -81,7 +81,7 @@ fn nesting(rt: &impl Print) {
 fn rows(rt: &impl Print) {
     pass_limit(
         rt,
-        Session::new(),
+        &mut Session::new(),
         ROWS,
         |s, i| s.term(Row::from([
             RowKind::Step.into(),
@@ -94,10 +94,11 @@ fn rows(rt: &impl Print) {
 
 // All steps, of the same rule on the same row.
 fn steps(rt: &impl Print) {
-    let s = Session::new().term(ROOT).session;
+    let mut s = Session::new();
+    let _ = s.term(ROOT);
     pass_limit(
         rt,
-        s,
+        &mut s,
         STEPS,
         |s, _| s.step(Step::from([REFLEXIVE, 0, 0, 0, 0])),
     )
@@ -118,16 +119,17 @@ fn texts<const N: usize>() -> [u16; N] {
 }
 
 // Selects from the document's root.
-fn print_select(rt: &impl Print, s: Session, row: u16, document: &[u16], limit: u32) {
+fn print_select(rt: &impl Print, s: &Session, row: u16, document: &[u16], limit: u32) {
     let mut marks = [7u8; Session::NODES];
     print(rt, s.select(row, document, 0, limit, &mut marks));
 }
 
 // All nodes and one more.
 fn nodes(rt: &impl Print) {
-    let s = Session::new().term(ROOT).session;
-    print_select(rt, s, 0, &texts::<LARGEST>(), 1);
-    print_select(rt, s, 0, &texts::<TOO_LARGE>(), 1);
+    let mut s = Session::new();
+    let _ = s.term(ROOT);
+    print_select(rt, &s, 0, &texts::<LARGEST>(), 1);
+    print_select(rt, &s, 0, &texts::<TOO_LARGE>(), 1);
 }
 
 // The visits of descendant::node()/descendant::node() from the root of a document of texts, with as many nodes as there
@@ -136,24 +138,22 @@ const VISITS: u32 = Session::NODES as u32 + 1;
 
 // The limit met, and one too few.
 fn visits(rt: &impl Print) {
-    let path = Session::new().term(Row::from([
+    let mut s = Session::new();
+    let _ = s.term(Row::from([
         RowKind::Step.into(),
         Axis::Descendant.into(),
         NodeTest::Node.into(),
         0,
     ]));
-    let s = path
-        .session
-        .term(Row::from([RowKind::Composition.into(), 0, 0, 0]))
-        .session;
+    let _ = s.term(Row::from([RowKind::Composition.into(), 0, 0, 0]));
     let document = texts::<LARGEST>();
-    print_select(rt, s, 1, &document, VISITS);
-    print_select(rt, s, 1, &document, VISITS - 1);
+    print_select(rt, &s, 1, &document, VISITS);
+    print_select(rt, &s, 1, &document, VISITS - 1);
 }
 
 // All points.
 fn points(rt: &impl Print) {
-    pass_limit(rt, Session::new(), POINTS, |s, i| s.point(i))
+    pass_limit(rt, &mut Session::new(), POINTS, |s, i| s.point(i))
 }
 
 fn main(rt: HostRuntime) {

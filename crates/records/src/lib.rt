@@ -35,15 +35,6 @@ pub struct Records {
     pub count: usize,
 }
 
-// What a call gives: its answer, and the records or the releases that it leaves. Not the type of a session's or of a
-// register's call: session's specs/ReadCall and register's specs/Promises, which are believed, name the fields
-// `session` and `register` of those.
-#[derive(Clone, Copy)]
-pub struct Answered<T> {
-    pub answer: Result<(), Refusal>,
-    pub left: T,
-}
-
 // Which records are released: 1 at the place of each that is. Not as bool, and not in the records: the demand on
 // registers, which is to be believed, reads these numbers as they stand.
 #[derive(Clone, Copy)]
@@ -85,8 +76,8 @@ impl Records {
 
     // How many records are held: a count above the limit is read as the limit. The fields are public, so a fact of the
     // type that bounds it would ask more of whoever makes one.
-    pub fn size(self) -> usize
-        ensures { result ≡ size_of self }
+    pub fn size(&self) -> usize
+        ensures { result ≡ size_of self.now }
     {
         self.count.min(MAX_RECORDS)
     }
@@ -98,15 +89,15 @@ impl Records {
         &self.held[..self.size()]
     }
 
-    fn is_full(self) -> bool
-        ensures { result ≡ leb max_records (length (records_in self)) }
+    fn is_full(&self) -> bool
+        ensures { result ≡ leb max_records (length (records_in self.now)) }
     {
         MAX_RECORDS <= self.size()
     }
 
     // The highest edition of a series, 0 if it has none: editions count from 1, and the next one is due.
-    pub fn current(self, series: u16) -> u16
-        ensures { result ≡ current (records_in self) series }
+    pub fn current(&self, series: u16) -> u16
+        ensures { result ≡ current (records_in self.now) series }
     {
         self.list()
             .iter()
@@ -118,8 +109,8 @@ impl Records {
 
     // The row of an edition of a series; 0 where it is not held, as the definition has it: the edition due is 1 then,
     // of which no row before it is looked at.
-    fn row_of(self, series: u16, edition: u16) -> u16
-        ensures { result ≡ row_of (records_in self) series edition }
+    fn row_of(&self, series: u16, edition: u16) -> u16
+        ensures { result ≡ row_of (records_in self.now) series edition }
     {
         self.list()
             .iter()
@@ -129,16 +120,16 @@ impl Records {
 
     // Whether every row and every step in use is among the first ones, as many as given. Of counts, not of `Held`: no
     // row or step is looked at.
-    pub fn all_kept(self, rows: usize, steps: usize) -> bool
-        ensures { result ≡ all_kept rows steps (records_in self) }
+    pub fn all_kept(&self, rows: usize, steps: usize) -> bool
+        ensures { result ≡ all_kept rows steps (records_in self.now) }
     {
         self.list().iter().all(|r| usize::from(r.row) < rows && usize::from(r.step) <= steps)
     }
 
     // The answer of a record call on lent rows and steps: the first refusal that applies, or acceptance.
-    fn judge(self, held: Held, given: Record) -> Result<(), Refusal>
+    fn judge(&self, held: Held, given: Record) -> Result<(), Refusal>
         ensures { done_answer_of result
-            ≡ record_answer (table_of held.entry.rows.now) (steps_of held.entry.steps.now) (records_in self) given }
+            ≡ record_answer (table_of held.entry.rows.now) (steps_of held.entry.steps.now) (records_in self.now) given }
     {
         let highest = self.current(given.series);
         let due = u32::from(highest) + 1;
@@ -169,22 +160,20 @@ impl Records {
     }
 
     // A record call on lent rows and steps: the answer, and the record after those held where it is accepted.
-    pub fn record(self, held: Held, given: Record) -> Answered<Records>
-        ensures { RecordMade (table_of held.entry.rows.now) (steps_of held.entry.steps.now) self given result }
+    pub fn record(&mut self, held: Held, given: Record) -> Result<(), Refusal>
+        ensures { RecordMade (table_of held.entry.rows.now) (steps_of held.entry.steps.now) self.old given result
+            self.new }
     {
-        let answer = self.judge(held, given);
-        let mut left = self;
-        if answer.is_ok() {
-            left.put(given);
-        }
-        Answered { answer, left }
+        self.judge(held, given)?;
+        self.put(given);
+        Ok(())
     }
 }
 
 impl Records {
     // A listing of the released records, in their order.
-    pub fn released(self, releases: Releases) -> Records
-        ensures { result ≡ listed (released (records_in self) releases.flags) }
+    pub fn released(&self, releases: &Releases) -> Records
+        ensures { result ≡ listed (released (records_in self.now) releases.now.flags) }
     {
         let mut shown = Records::new();
         for (record, flag) in self.list().iter().zip(&releases.flags) {
@@ -196,10 +185,10 @@ impl Records {
     }
 
     // A listing of all records.
-    pub fn listing(self) -> Records
-        ensures { result ≡ listed (records_in self) }
+    pub fn listing(&self) -> Records
+        ensures { result ≡ listed (records_in self.now) }
     {
-        self.released(Releases::all())
+        self.released(&Releases::all())
     }
 }
 
@@ -224,22 +213,15 @@ impl Releases {
     }
 
     // A release of the record at a place, counted from 1: the answer, and the releases left.
-    pub fn release(self, records: Records, place: u16) -> Answered<Releases>
-        ensures { ReleaseMade (records_in records) self place result }
+    pub fn release(&mut self, records: &Records, place: u16) -> Result<(), Refusal>
+        ensures { ReleaseMade (records_in records.now) self.old place result self.new }
     {
         let n = records.size();
         let p = usize::from(place);
-        let mut left = self;
         if p == 0 || n < p {
-            return Answered {
-                answer: Err(Refusal::NoRecord(place)),
-                left,
-            };
+            return Err(Refusal::NoRecord(place));
         }
-        left.flags[p - 1] = 1;
-        Answered {
-            answer: Ok(()),
-            left,
-        }
+        self.flags[p - 1] = 1;
+        Ok(())
     }
 }

@@ -71,62 +71,61 @@ pub data New : Register → Type 0 where
 -- call, has an answer and leaves a register
 pub data Called : Register → OfficeCall → Answer → Register → Type 0 where
   term_called : (κs : _) (a : _) (r : _) (x : _) → term-reads.Post κs a r x
-      → Called a.0 (passed (passed (term (code.row_of a.1.0)))) (answer_of r.answer) r.register
+      → Called a.0.now (passed (passed (term (code.row_of a.1.0)))) (answer_of r) x.0.now
   step_called : (κs : _) (a : _) (r : _) (x : _) → step-reads.Post κs a r x
-      → Called a.0 (passed (passed (step (step_of a.1.0)))) (answer_of r.answer) r.register
+      → Called a.0.now (passed (passed (step (step_of a.1.0)))) (answer_of r) x.0.now
   text_called : (κs : _) (a : _) (r : _) (x : _) → text-reads.Post κs a r x
-      → Called a.0 (passed (passed (text a.1.0.now a.1.1.0.now))) (answer_of r.answer)
-      r.register
+      → Called a.0.now (passed (passed (text a.1.0.now a.1.1.0.now))) (answer_of r) x.0.now
   point_called : (κs : _) (a : _) (r : _) (x : _) → point-reads.Post κs a r x
-      → Called a.0 (passed (passed (point a.1.0))) (done_answer_of r.answer) r.register
+      → Called a.0.now (passed (passed (point a.1.0))) (done_answer_of r) x.0.now
   return_called : (κs : _) (a : _) (r : _) (x : _) → return-reads.Post κs a r x
-      → Called a.0 (passed (passed (return a.1.0))) (done_answer_of r.answer) r.register
+      → Called a.0.now (passed (passed (return a.1.0))) (done_answer_of r) x.0.now
   record_called : (κs : _) (a : _) (r : _) (x : _) → record-reads.Post κs a r x
-      → Called a.0 (passed (own a.1.0)) (done_answer_of r.answer) r.register
+      → Called a.0.now (passed (own a.1.0)) (done_answer_of r) x.0.now
   release_called : (κs : _) (a : _) (r : _) (x : _) → release-reads.Post κs a r x
-      → Called a.0 (own a.1.0) (done_answer_of r.answer) r.register
+      → Called a.0.now (own a.1.0) (done_answer_of r) x.0.now
 
 -- `Register::current` on the register for a series answers the edition r
 pub data Current : Register → (series e : ℕ) → Type 0 where
-  current_called : (κs : _) (a : _) (r : _) (x : _) → current-reads.Post κs a r x → Current a.0 a.1.0 r
+  current_called : (κs : _) (a : _) (r : _) (x : _) → current-reads.Post κs a r x → Current a.0.now a.1.0 r
 
 -- `Register::listing`, `Register::crew_listing` and `Register::crew_current` on the register answer r
 pub data Listing : Register → Records → Type 0 where
-  listing_called : (κs : _) (a : _) (r : _) (x : _) → listing-reads.Post κs a r x → Listing a.0 r
+  listing_called : (κs : _) (a : _) (r : _) (x : _) → listing-reads.Post κs a r x → Listing a.0.now r
 
 pub data CrewListing : Register → Records → Type 0 where
-  crew_listing_called : (κs : _) (a : _) (r : _) (x : _) → crew-listing-reads.Post κs a r x → CrewListing a.0 r
+  crew_listing_called : (κs : _) (a : _) (r : _) (x : _) → crew-listing-reads.Post κs a r x → CrewListing a.0.now r
 
 pub data CrewCurrent : Register → (series e : ℕ) → Type 0 where
   crew_current_called : (κs : _) (a : _) (r : _) (x : _) → crew-current-reads.Post κs a r x
-      → CrewCurrent a.0 a.1.0 r
+      → CrewCurrent a.0.now a.1.0 r
 
 -- `Register::select` on a register of that session, with a row, lent numbers, a node, a limit and a buffer, has the
 -- answer r and leaves bytes
 pub data Selected : Session → (row : ℕ) → List ℕ → (x limit : ℕ) → List ℕ → NumberOrRefusal → List ℕ → Type 0 where
   select_called : (κs : _) (a : _) (r : _) (x : _) → select-reads.Post κs a r x
-      → Selected a.0.session a.1.0 a.1.1.0.now a.1.1.1.0 a.1.1.1.1.0
+      → Selected a.0.now.session a.1.0 a.1.1.0.now a.1.1.1.0 a.1.1.1.1.0
       a.1.1.1.1.1.0.now r x.1.1.1.1.1.0.now
 
 -- `Register::replace` on a register with old rows, new rows and steps has the answer r
 pub data Replaced : Register → (old new by : List ℕ) → DoneOrRefusal → Type 0 where
   replace_called : (κs : _) (a : _) (r : _) (x : _) → replace-reads.Post κs a r x
-      → Replaced a.0 a.1.0.now a.1.1.0.now a.1.1.1.0.now r
+      → Replaced a.0.now a.1.0.now a.1.1.0.now a.1.1.1.0.now r
 
 -- `Register::order` on a register with a row, another register and a row of it has the answer r
 pub data Ordered : Register → (i : ℕ) → Register → (j : ℕ) → OrderOrRefusal → Type 0 where
   order_called : (κs : _) (a : _) (r : _) (x : _) → order-reads.Post κs a r x
-      → Ordered a.0 a.1.0 a.1.1.0 a.1.1.1.0 r
+      → Ordered a.0.now a.1.0 a.1.1.0.now a.1.1.1.0 r
 
 -- `Register::bundle_order` on two registers has the answer r
 pub data BundleOrdered : Register → Register → OrderOrRefusal → Type 0 where
   bundle_order_called : (κs : _) (a : _) (r : _) (x : _) → bundle-order-reads.Post κs a r x
-      → BundleOrdered a.0 a.1.0 r
+      → BundleOrdered a.0.now a.1.0.now r
 
 -- `Register::write` on a register with a buffer has the answer r and leaves bytes
 pub data Write : Register → List ℕ → NumberOrRefusal → List ℕ → Type 0 where
   write_called : (κs : _) (a : _) (r : _) (x : _) → write-reads.Post κs a r x
-      → Write a.0 a.1.0.now r x.1.0.now
+      → Write a.0.now a.1.0.now r x.1.0.now
 
 -- `Register::read` on bytes has the result r
 pub data Read : List ℕ → ReadResult → Type 0 where
@@ -220,43 +219,43 @@ met_called r (passed (passed (term p))) a t m =
     let (o, e) = term_case (view r.session).rows p in
     let told = e ∙ not_barred_twice _ in
     subst (λ a. Called r (passed (passed (term p))) a t) (told ∙ sym m.answer)
-    (term_called tt (r, (given_row p, tt)) (record { answer = o; register = t }) (r, (given_row p, tt))
+    (term_called ([], tt) (lent_to_write r, (given_row p, tt)) o (lent_to_write t, (given_row p, tt))
     (record { answer = told; left = m.left }))
 met_called r (passed (passed (step p))) a t m =
     let (o, e) = step_case (row_yielded (view r.session) p) (view r.session) p in
     let told = e ∙ not_barred_twice _ in
     subst (λ a. Called r (passed (passed (step p))) a t) (told ∙ sym m.answer)
-    (step_called tt (r, (given_step p, tt)) (record { answer = o; register = t }) (r, (given_step p, tt))
+    (step_called ([], tt) (lent_to_write r, (given_step p, tt)) o (lent_to_write t, (given_step p, tt))
     (record { answer = told; left = m.left }))
 met_called r (passed (passed (text names t))) a u m =
     let (o, e) = text_case (view r.session).rows names t in
     let told = e ∙ not_barred_twice _ in
     subst (λ a. Called r (passed (passed (text names t))) a u) (told ∙ sym m.answer)
-    (text_called ([], ([], tt)) (r, (lent names, (lent t, tt))) (record { answer = o; register = u })
-    (r, (lent names, (lent t, tt))) (record { answer = told; left = m.left }))
+    (text_called ([], ([], ([], tt))) (lent_to_write r, (lent names, (lent t, tt))) o
+    (lent_to_write u, (lent names, (lent t, tt))) (record { answer = told; left = m.left }))
 met_called r (passed (passed (point n))) a t m =
     let (o, e) = point_case (point_names (view r.session).points) n in
     let told = e ∙ not_barred_twice _ in
     subst (λ a. Called r (passed (passed (point n))) a t) (told ∙ sym m.answer)
-    (point_called tt (r, (n, tt)) (record { answer = o; register = t }) (r, (n, tt))
+    (point_called ([], tt) (lent_to_write r, (n, tt)) o (lent_to_write t, (n, tt))
     (record { answer = told; left = m.left }))
 met_called r (passed (passed (return n))) a t m =
     let used = drops_in_use (view r.session) (records_in r.records) (return n) in
     let (o, e) = barred_case (point_names (view r.session).points) n used in
     let told = e ∙ not_barred _ (answer no_record 0) in
     subst (λ a. Called r (passed (passed (return n))) a t) (told ∙ sym m.answer)
-    (return_called tt (r, (n, tt)) (record { answer = o; register = t }) (r, (n, tt))
+    (return_called ([], tt) (lent_to_write r, (n, tt)) o (lent_to_write t, (n, tt))
     (record { answer = told; left = m.left }))
 met_called r (passed (own g)) a t m =
     let (o, e) = record_case (view r.session).rows (view r.session).steps (records_in r.records) g in
     let told = e ∙ not_barred _ (answer no_record 0) in
     subst (λ a. Called r (passed (own g)) a t) (told ∙ sym m.answer)
-    (record_called tt (r, (g, tt)) (record { answer = o; register = t }) (r, (g, tt))
+    (record_called ([], tt) (lent_to_write r, (g, tt)) o (lent_to_write t, (g, tt))
     (record { answer = told; left = m.left }))
 met_called r (own p) a t m =
     let (o, e) = release_case (records_in r.records) p in
     subst (λ a. Called r (own p) a t) (e ∙ sym m.answer)
-    (release_called tt (r, (p, tt)) (record { answer = o; register = t }) (r, (p, tt))
+    (release_called ([], tt) (lent_to_write r, (p, tt)) o (lent_to_write t, (p, tt))
     (record { answer = e; left = m.left }))
 
 pub register_demand : DemandOfRegister Selected Current CrewCurrent New Called
@@ -299,19 +298,19 @@ calls_exist =
 pub currents_exist : (r : Register) (series : ℕ) → (e : ℕ) × Current r series e
 currents_exist r series =
     let e = current (records_in r.records) series in
-    (e, current_called tt (r, (series, tt)) e (r, (series, tt)) refl)
+    (e, current_called ([], tt) (lent r, (series, tt)) e (lent r, (series, tt)) refl)
 
 pub listings_exist : (r : Register) → (l : Records) × Listing r l
-listings_exist r = let l = listed (records_in r.records) in (l, listing_called tt (r, tt) l (r, tt) refl)
+listings_exist r = let l = listed (records_in r.records) in (l, listing_called ([], tt) (lent r, tt) l (lent r, tt) refl)
 
 pub crew_listings_exist : (r : Register) → (l : Records) × CrewListing r l
 crew_listings_exist r =
-    let l = listed (crew_listing (released_in r)) in (l, crew_listing_called tt (r, tt) l (r, tt) refl)
+    let l = listed (crew_listing (released_in r)) in (l, crew_listing_called ([], tt) (lent r, tt) l (lent r, tt) refl)
 
 pub crew_currents_exist : (r : Register) (series : ℕ) → (e : ℕ) × CrewCurrent r series e
 crew_currents_exist r series =
     let e = crew_current (released_in r) series in
-    (e, crew_current_called tt (r, (series, tt)) e (r, (series, tt)) refl)
+    (e, crew_current_called ([], tt) (lent r, (series, tt)) e (lent r, (series, tt)) refl)
 
 pub selects_exist : (s : Session) (row : ℕ) (xs : List ℕ) (x limit : ℕ) (buffer : List ℕ)
     → (t : NumberOrRefusal) × (left : List ℕ) × Selected s row xs x limit buffer t left
@@ -320,8 +319,8 @@ selects_exist s row xs x limit buffer =
     let (t, left, m) = below.selects_exist s row xs x limit buffer in (
       t,
       left,
-      select_called ([], ([], tt)) (r, (row, (lent xs, (x, (limit, (lent_to_write buffer, tt)))))) t
-          (r, (row, (lent xs, (x, (limit, (lent_to_write left, tt))))))
+      select_called ([], ([], ([], tt))) (lent r, (row, (lent xs, (x, (limit, (lent_to_write buffer, tt)))))) t
+          (lent r, (row, (lent xs, (x, (limit, (lent_to_write left, tt))))))
           (below.select_tied s row xs x limit buffer t left m),
     )
 
@@ -329,29 +328,29 @@ pub replaces_exist : (r : Register) (old new by : List ℕ) → (t : DoneOrRefus
 replaces_exist r old new by =
     let (t, m) = below.replaces_exist r.session old new by in (
       t,
-      replace_called ([], tt) (r, (lent old, (lent new, (lent by, tt)))) t
-          (r, (lent old, (lent new, (lent by, tt)))) (below.replace_tied r.session old new by t m),
+      replace_called ([], ([], ([], ([], tt)))) (lent r, (lent old, (lent new, (lent by, tt)))) t
+          (lent r, (lent old, (lent new, (lent by, tt)))) (below.replace_tied r.session old new by t m),
     )
 
 pub orders_exist : (q : Register) (i : ℕ) (r : Register) (j : ℕ) → (t : OrderOrRefusal) × Ordered q i r j t
 orders_exist q i r j =
     let (t, m) = below.orders_exist q.session i r.session j in (
       t,
-      order_called tt (q, (i, (r, (j, tt)))) t (q, (i, (r, (j, tt))))
+      order_called ([], ([], tt)) (lent q, (i, (lent r, (j, tt)))) t (lent q, (i, (lent r, (j, tt))))
           (below.order_tied q.session i r.session j t m),
     )
 
 pub bundle_orders_exist : (q r : Register) → (t : OrderOrRefusal) × BundleOrdered q r t
 bundle_orders_exist q r =
     let (t, m) = below.bundle_orders_exist q.session r.session in
-    (t, bundle_order_called tt (q, (r, tt)) t (q, (r, tt)) (below.bundle_order_tied q.session r.session t m))
+    (t, bundle_order_called ([], ([], tt)) (lent q, (lent r, tt)) t (lent q, (lent r, tt)) (below.bundle_order_tied q.session r.session t m))
 
 pub writes_exist : (r : Register) (buffer : List ℕ) → (w : NumberOrRefusal) × (left : List ℕ) × Write r buffer w left
 writes_exist r buffer =
     let (w, left, m) = below.writes_exist r.session buffer in (
       w,
       left,
-      write_called ([], tt) (r, (lent_to_write buffer, tt)) w (r, (lent_to_write left, tt))
+      write_called ([], ([], tt)) (lent r, (lent_to_write buffer, tt)) w (lent r, (lent_to_write left, tt))
           (below.write_tied r.session buffer w left m),
     )
 

@@ -18,7 +18,6 @@ ghost use Rattle.records.specs.Releases.{crew_listing, crew_current};
 ghost use Rattle.records.specs.code.Listed.{listed};
 ghost use Rattle.register.specs.Promises.{fresh_register, released_in, RegisterMet};
 ghost use Rattle.register.specs.Promises.{RegisterReadMet};
-ghost use Rattle.register.specs.code.Results.{over};
 
 use records::Releases;
 use session::Session;
@@ -28,15 +27,15 @@ use std::cmp::Ordering;
 pub use records::{Record, Records};
 pub use session::{Answer, LineRefusal, Refusal, Row, Step};
 
-#[derive(Clone, Copy)]
+#[derive(Drop)]
 pub struct Register {
     session: Session,
     records: Records,
     releases: Releases,
 }
 
-// What a call gives: its answer, and the register that it leaves. Session's `Answered` says why it isn't this type.
-#[derive(Clone, Copy)]
+// What a read gives: its answer, and the register over the session. Session's `Answered` says why it isn't this type.
+#[derive(Drop)]
 pub struct Answered<A> {
     pub answer: A,
     pub register: Register,
@@ -58,157 +57,124 @@ impl Register {
 
     // Records an edition of a series: its path row, and the step by which the previous edition's path is contained in
     // it.
-    pub fn record(self, given: Record) -> Answered<Result<(), Refusal>>
-        ensures { RegisterMet self (Above.passed (Above.own given)) (done_answer_of result.answer) result.register }
+    pub fn record(&mut self, given: Record) -> Result<(), Refusal>
+        ensures { RegisterMet self.old (Above.passed (Above.own given)) (done_answer_of result) self.new }
     {
-        let made = self.session.record(self.records, given);
-        Answered {
-            answer: made.answer,
-            register: Register {
-                records: made.left,
-                ..self
-            },
-        }
+        self.session.record(&mut self.records, given)
     }
 
     // The current edition of a series, 0 if it has none: a number and no Option, since specs/Demand, which is believed,
     // has it so, and editions count from 1.
-    pub fn current(self, series: u16) -> u16
-        ensures { result ≡ current (records_in self.records) series }
+    pub fn current(&self, series: u16) -> u16
+        ensures { result ≡ current (records_in self.now.records) series }
     {
         self.records.current(series)
     }
 
     // Releases the record at a place, counted from 1.
-    pub fn release(self, place: u16) -> Answered<Result<(), Refusal>>
-        ensures { RegisterMet self (Above.own place) (done_answer_of result.answer) result.register }
+    pub fn release(&mut self, place: u16) -> Result<(), Refusal>
+        ensures { RegisterMet self.old (Above.own place) (done_answer_of result) self.new }
     {
-        let made = self.releases.release(self.records, place);
-        Answered {
-            answer: made.answer,
-            register: Register {
-                releases: made.left,
-                ..self
-            },
-        }
+        self.releases.release(&self.records, place)
     }
 
     // All records, in the order of recording.
-    pub fn listing(self) -> Records
-        ensures { result ≡ listed (records_in self.records) }
+    pub fn listing(&self) -> Records
+        ensures { result ≡ listed (records_in self.now.records) }
     {
         self.records.listing()
     }
 
     // The released records, in that order.
-    pub fn crew_listing(self) -> Records
-        ensures { result ≡ listed (crew_listing (released_in self)) }
+    pub fn crew_listing(&self) -> Records
+        ensures { result ≡ listed (crew_listing (released_in self.now)) }
     {
-        self.records.released(self.releases)
+        self.records.released(&self.releases)
     }
 
     // The highest released edition of a series; 0 if it has none, as of `current`.
-    pub fn crew_current(self, series: u16) -> u16
-        ensures { result ≡ crew_current (released_in self) series }
+    pub fn crew_current(&self, series: u16) -> u16
+        ensures { result ≡ crew_current (released_in self.now) series }
     {
-        let shown = self.records.released(self.releases);
+        let shown = self.records.released(&self.releases);
         shown.current(series)
     }
 
     // Returns to the point of that name, where that drops no row and no step in use.
-    pub fn return_to(self, name: u16) -> Answered<Result<(), Refusal>>
-        ensures { RegisterMet self (Above.passed (Above.passed (Call.return name)))
-            (done_answer_of result.answer) result.register }
+    pub fn return_to(&mut self, name: u16) -> Result<(), Refusal>
+        ensures { RegisterMet self.old (Above.passed (Above.passed (Call.return name)))
+            (done_answer_of result) self.new }
     {
-        let made = self.session.return_to(name);
-        if made.answer.is_ok() && self.session.drops_in_use(self.records, name) {
-            return Answered {
-                answer: Err(Refusal::FullOrInUse),
-                register: self,
-            };
+        self.session.judge_return(name)?;
+        if self.session.drops_in_use(&self.records, name) {
+            return Err(Refusal::FullOrInUse);
         }
-        self.passed_on(made)
+        self.session.return_to(name)
     }
 
-    // The answer of a call of the session's, and the register over the session that it leaves: what `return_to` and the
-    // calls below share. These stay apart, since the contract of each names its own `Call`.
-    fn passed_on<A>(self, made: session::Answered<A>) -> Answered<A>
-        ensures answer { result.answer ≡ made.answer }
-        ensures register { result.register ≡ over self made.session }
+    pub fn term(&mut self, row: Row) -> Result<u16, Refusal>
+        ensures { RegisterMet self.old (Above.passed (Above.passed (Call.term (row_of row))))
+            (answer_of result) self.new }
     {
-        Answered {
-            answer: made.answer,
-            register: Register {
-                session: made.session,
-                ..self
-            },
-        }
+        self.session.term(row)
     }
 
-    pub fn term(self, row: Row) -> Answered<Result<u16, Refusal>>
-        ensures { RegisterMet self (Above.passed (Above.passed (Call.term (row_of row))))
-            (answer_of result.answer) result.register }
+    pub fn step(&mut self, step: Step) -> Result<u16, Refusal>
+        ensures { RegisterMet self.old (Above.passed (Above.passed (Call.step (step_of step))))
+            (answer_of result) self.new }
     {
-        self.passed_on(self.session.term(row))
+        self.session.step(step)
     }
 
-    pub fn step(self, step: Step) -> Answered<Result<u16, Refusal>>
-        ensures { RegisterMet self (Above.passed (Above.passed (Call.step (step_of step))))
-            (answer_of result.answer) result.register }
+    pub fn text(&mut self, names: &[u8], selector: &[u8]) -> Result<u16, Refusal>
+        ensures { RegisterMet self.old (Above.passed (Above.passed (Call.text names.now selector.now)))
+            (answer_of result) self.new }
     {
-        self.passed_on(self.session.step(step))
+        self.session.text(names, selector)
     }
 
-    pub fn text(self, names: &[u8], selector: &[u8]) -> Answered<Result<u16, Refusal>>
-        ensures { RegisterMet self
-            (Above.passed (Above.passed (Call.text names.now selector.now)))
-            (answer_of result.answer) result.register }
+    pub fn point(&mut self, name: u16) -> Result<(), Refusal>
+        ensures { RegisterMet self.old (Above.passed (Above.passed (Call.point name)))
+            (done_answer_of result) self.new }
     {
-        self.passed_on(self.session.text(names, selector))
-    }
-
-    pub fn point(self, name: u16) -> Answered<Result<(), Refusal>>
-        ensures { RegisterMet self (Above.passed (Above.passed (Call.point name)))
-            (done_answer_of result.answer) result.register }
-    {
-        self.passed_on(self.session.point(name))
+        self.session.point(name)
     }
 
     // With the parameters of `Session::select`, which says why they are no struct.
     pub fn select(
-        self,
+        &self,
         row: u16,
         document: &[u16],
         context: u16,
         limit: u32,
         marks: &mut [u8],
     ) -> Result<u32, Refusal>
-        ensures { SelectMet self.session row document.now context limit
+        ensures { SelectMet self.now.session row document.now context limit
             marks.old result marks.new }
     {
         self.session.select(row, document, context, limit, marks)
     }
 
-    pub fn replace<'a>(self, old: &'a [u16], new: &'a [u16], by: &'a [u16]) -> Result<(), Refusal>
-        ensures { ReplaceMet self.session old.now new.now by.now result }
+    pub fn replace(&self, old: &[u16], new: &[u16], by: &[u16]) -> Result<(), Refusal>
+        ensures { ReplaceMet self.now.session old.now new.now by.now result }
     {
         self.session.replace(old, new, by)
     }
 
-    pub fn order(self, row: u16, other: Register, other_row: u16) -> Result<Ordering, Refusal>
-        ensures { OrderMet self.session row other.session other_row result }
+    pub fn order(&self, row: u16, other: &Register, other_row: u16) -> Result<Ordering, Refusal>
+        ensures { OrderMet self.now.session row other.now.session other_row result }
     {
-        self.session.order(row, other.session, other_row)
+        self.session.order(row, &other.session, other_row)
     }
 
-    pub fn bundle_order(self, other: Register) -> Result<Ordering, Refusal>
-        ensures { BundleOrderMet self.session other.session result }
+    pub fn bundle_order(&self, other: &Register) -> Result<Ordering, Refusal>
+        ensures { BundleOrderMet self.now.session other.now.session result }
     {
-        self.session.bundle_order(other.session)
+        self.session.bundle_order(&other.session)
     }
 
-    pub fn write(self, out: &mut [u8]) -> Result<usize, Refusal>
-        ensures { WriteMet self.session out.old result out.new }
+    pub fn write(&self, out: &mut [u8]) -> Result<usize, Refusal>
+        ensures { WriteMet self.now.session out.old result out.new }
     {
         self.session.write(out)
     }

@@ -64,21 +64,21 @@ pub data New : Session → Type 0 where
 -- leaves a session
 pub data Called : Session → Call → Answer → Session → Type 0 where
   term_called : (κs : _) (a : _) (r : _) (x : _) → term-reads.Post κs a r x
-      → Called a.0 (term (row_of a.1.0)) (answer_of r.answer) r.session
+      → Called a.0.now (term (row_of a.1.0)) (answer_of r) x.0.now
   step_called : (κs : _) (a : _) (r : _) (x : _) → step-reads.Post κs a r x
-      → Called a.0 (step (step_of a.1.0)) (answer_of r.answer) r.session
+      → Called a.0.now (step (step_of a.1.0)) (answer_of r) x.0.now
   text_called : (κs : _) (a : _) (r : _) (x : _) → text-reads.Post κs a r x
-      → Called a.0 (text a.1.0.now a.1.1.0.now) (answer_of r.answer) r.session
+      → Called a.0.now (text a.1.0.now a.1.1.0.now) (answer_of r) x.0.now
   point_called : (κs : _) (a : _) (r : _) (x : _) → point-reads.Post κs a r x
-      → Called a.0 (point a.1.0) (done_answer_of r.answer) r.session
+      → Called a.0.now (point a.1.0) (done_answer_of r) x.0.now
   return_called : (κs : _) (a : _) (r : _) (x : _) → return-reads.Post κs a r x
-      → Called a.0 (return a.1.0) (done_answer_of r.answer) r.session
+      → Called a.0.now (return a.1.0) (done_answer_of r) x.0.now
 
 -- `Session::select` on a session with a row, lent numbers, a node, a limit and a buffer has the answer r and leaves
 -- bytes
 pub data Selected : Session → (row : ℕ) → List ℕ → (x limit : ℕ) → List ℕ → NumberOrRefusal → List ℕ → Type 0 where
   select_called : (κs : _) (a : _) (r : _) (x : _) → select-reads.Post κs a r x
-      → Selected a.0 a.1.0 a.1.1.0.now a.1.1.1.0 a.1.1.1.1.0
+      → Selected a.0.now a.1.0 a.1.1.0.now a.1.1.1.0 a.1.1.1.1.0
       a.1.1.1.1.1.0.now r x.1.1.1.1.1.0.now
 
 -- `Session::read` on bytes has the result r
@@ -88,22 +88,22 @@ pub data Read : List ℕ → ReadResult → Type 0 where
 -- `Session::replace` on a session with old rows, new rows and steps has the answer r
 pub data Replaced : Session → (old new by : List ℕ) → DoneOrRefusal → Type 0 where
   replace_called : (κs : _) (a : _) (r : _) (x : _) → replace-reads.Post κs a r x
-      → Replaced a.0 a.1.0.now a.1.1.0.now a.1.1.1.0.now r
+      → Replaced a.0.now a.1.0.now a.1.1.0.now a.1.1.1.0.now r
 
 -- `Session::order` on a session with a row, another session and a row of it has the answer r
 pub data Ordered : Session → (i : ℕ) → Session → (j : ℕ) → OrderOrRefusal → Type 0 where
   order_called : (κs : _) (a : _) (r : _) (x : _) → order-reads.Post κs a r x
-      → Ordered a.0 a.1.0 a.1.1.0 a.1.1.1.0 r
+      → Ordered a.0.now a.1.0 a.1.1.0.now a.1.1.1.0 r
 
 -- `Session::bundle_order` on two sessions has the answer r
 pub data BundleOrdered : Session → Session → OrderOrRefusal → Type 0 where
   bundle_order_called : (κs : _) (a : _) (r : _) (x : _) → bundle-order-reads.Post κs a r x
-      → BundleOrdered a.0 a.1.0 r
+      → BundleOrdered a.0.now a.1.0.now r
 
 -- `Session::write` on a session with a buffer has the answer r and leaves bytes
 pub data Write : Session → List ℕ → NumberOrRefusal → List ℕ → Type 0 where
   write_called : (κs : _) (a : _) (r : _) (x : _) → write-reads.Post κs a r x
-      → Write a.0 a.1.0.now r x.1.0.now
+      → Write a.0.now a.1.0.now r x.1.0.now
 
 -- the contracts promise what the specifications say, word for word
 pub new_tied : (s : Session) → New s → s ≡ fresh_session
@@ -148,32 +148,28 @@ unfolding row_step_answer
 met_called s (term r) a t m =
     let (o, e) = term_case (view s).rows r in
     subst (λ a. Called s (term r) a t) (e ∙ sym m.answer)
-    (term_called tt (s, (given_row r, tt)) (record { answer = o; session = t }) (s, (given_row r, tt))
+    (term_called ([], tt) (lent_to_write s, (given_row r, tt)) o (lent_to_write t, (given_row r, tt))
     (record { answer = e; left = m.left }))
 met_called s (step p) a t m =
     let (o, e) = step_case (row_yielded (view s) p) (view s) p in
     subst (λ a. Called s (step p) a t) (e ∙ sym m.answer)
-    (step_called tt (s, (given_step p, tt)) (record { answer = o; session = t }) (s, (given_step p, tt))
+    (step_called ([], tt) (lent_to_write s, (given_step p, tt)) o (lent_to_write t, (given_step p, tt))
     (record { answer = e; left = m.left }))
 met_called s (text names t) a u m =
     let (o, e) = text_case (view s).rows names t in
     subst (λ a. Called s (text names t) a u) (e ∙ sym m.answer)
-    (text_called ([], ([], tt)) (s, (lent names, (lent t, tt))) (record { answer = o; session = u })
-    (s, (lent names, (lent t, tt))) (record { answer = e; left = m.left }))
+    (text_called ([], ([], ([], tt))) (lent_to_write s, (lent names, (lent t, tt))) o
+    (lent_to_write u, (lent names, (lent t, tt))) (record { answer = e; left = m.left }))
 met_called s (point n) a t m =
     let (o, e) = point_case (point_names (view s).points) n in
     subst (λ a. Called s (point n) a t) (e ∙ sym m.answer)
-    (point_called tt (s, (n, tt)) (record {
-      answer = o;
-      session = t;
-    }) (s, (n, tt)) (record { answer = e; left = m.left }))
+    (point_called ([], tt) (lent_to_write s, (n, tt)) o (lent_to_write t, (n, tt))
+    (record { answer = e; left = m.left }))
 met_called s (return n) a t m =
     let (o, e) = return_case (point_names (view s).points) n in
     subst (λ a. Called s (return n) a t) (e ∙ sym m.answer)
-    (return_called tt (s, (n, tt)) (record {
-      answer = o;
-      session = t;
-    }) (s, (n, tt)) (record { answer = e; left = m.left }))
+    (return_called ([], tt) (lent_to_write s, (n, tt)) o (lent_to_write t, (n, tt))
+    (record { answer = e; left = m.left }))
 
 pub demand3 : DemandThree Selected New Called
 demand3 = demand3_by Selected select_tied New Called new_tied call_tied
@@ -203,8 +199,8 @@ selects_exist s row xs x limit buffer =
     let left = select_buffer (view s).rows row xs x limit buffer in (
       t,
       left,
-      select_called ([], ([], tt)) (s, (row, (lent xs, (x, (limit, (lent_to_write buffer, tt))))))
-          t (s, (row, (lent xs, (x, (limit, (lent_to_write left, tt)))))) (record { answer = e; bytes = refl }),
+      select_called ([], ([], ([], tt))) (lent s, (row, (lent xs, (x, (limit, (lent_to_write buffer, tt))))))
+          t (lent s, (row, (lent xs, (x, (limit, (lent_to_write left, tt)))))) (record { answer = e; bytes = refl }),
     )
 
 pub reads_exist : (bytes : List ℕ) → (t : ReadResult) × Read bytes t
@@ -220,8 +216,8 @@ pub replaces_exist : (s : Session) (old new by : List ℕ) → (t : DoneOrRefusa
 replaces_exist s old new by =
     let (t, e) = replace_case (view s) old new by in (
       t,
-      replace_called ([], tt) (s, (lent old, (lent new, (lent by, tt)))) t
-          (s, (lent old, (lent new, (lent by, tt)))) e,
+      replace_called ([], ([], ([], ([], tt)))) (lent s, (lent old, (lent new, (lent by, tt)))) t
+          (lent s, (lent old, (lent new, (lent by, tt)))) e,
     )
 
 pub replace_demand : ReplaceDemand Replaced New Called
@@ -230,12 +226,12 @@ replace_demand = replace_demand_by Replaced replace_tied New Called new_tied cal
 pub orders_exist : (s : Session) (i : ℕ) (t : Session) (j : ℕ) → (r : OrderOrRefusal) × Ordered s i t j r
 orders_exist s i t j =
     let (r, e) = order_case (view s).rows i (view t).rows j in
-    (r, order_called tt (s, (i, (t, (j, tt)))) r (s, (i, (t, (j, tt)))) e)
+    (r, order_called ([], ([], tt)) (lent s, (i, (lent t, (j, tt)))) r (lent s, (i, (lent t, (j, tt)))) e)
 
 pub bundle_orders_exist : (s t : Session) → (r : OrderOrRefusal) × BundleOrdered s t r
 bundle_orders_exist s t =
     let (r, e) = bundle_order_case (view s) (view t) in
-    (r, bundle_order_called tt (s, (t, tt)) r (s, (t, tt)) e)
+    (r, bundle_order_called ([], ([], tt)) (lent s, (lent t, tt)) r (lent s, (lent t, tt)) e)
 
 pub order_demand : OrderDemand Ordered BundleOrdered New Called
 order_demand = order_demand_by Ordered order_tied BundleOrdered bundle_order_tied New Called new_tied call_tied
@@ -251,7 +247,7 @@ writes_exist s buffer =
     let left = write_buffer (session_text s) buffer in (
       w,
       left,
-      write_called ([], tt) (s, (lent_to_write buffer, tt)) w (s, (lent_to_write left, tt))
+      write_called ([], ([], tt)) (lent s, (lent_to_write buffer, tt)) w (lent s, (lent_to_write left, tt))
           (record { answer = e; bytes = refl }),
     )
 

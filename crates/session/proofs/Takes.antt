@@ -13,6 +13,7 @@ use Rattle.session.proofs.session.Session.step_saying.Reads as step-saying-reads
 use Rattle.session.proofs.session.Session.order.Reads as order-reads
 use Rattle.session.proofs.session.Session.bundle_order.Reads as bundle-order-reads
 use Rattle.session.proofs.session.Session.record.Reads as record-reads
+use Rattle.session.proofs.session.Session.judge_return.Reads as judge-return-reads
 use Rattle.session.proofs.session.Session.drops_in_use.Reads as drops-in-use-reads
 use Rattle.session.proofs.session.Session.steps_held.Reads as steps-held-reads
 use Rattle.session.proofs.session.Session.rule_uses.Reads as rule-uses-reads
@@ -33,6 +34,7 @@ pub record Takes : Type 0 where
   pub order_takes : (κs : _) (a : _) → order-reads.Pre κs a
   pub bundle_order_takes : (κs : _) (a : _) → bundle-order-reads.Pre κs a
   pub record_takes : (κs : _) (a : _) → record-reads.Pre κs a
+  pub judge_return_takes : (κs : _) (a : _) → judge-return-reads.Pre κs a
   pub drops_in_use_takes : (κs : _) (a : _) → drops-in-use-reads.Pre κs a
   pub steps_held_takes : (κs : _) (a : _) → steps-held-reads.Pre κs a
   pub rule_uses_takes : (κs : _) (a : _) → rule-uses-reads.Pre κs a
@@ -55,6 +57,7 @@ takes =
       order_takes = λ κs a. tt;
       bundle_order_takes = λ κs a. tt;
       record_takes = λ κs a. tt;
+      judge_return_takes = λ κs a. tt;
       drops_in_use_takes = λ κs a. tt;
       steps_held_takes = λ κs a. tt;
       rule_uses_takes = λ κs a. tt;

@@ -11,16 +11,16 @@ use matching::Sides;
 
 impl Session {
     #[tactic(auto, using(crate::proofs::Views::steps_viewed))]
-    pub fn steps_held(self) -> u16
-        ensures { result ≡ length (view self).steps }
+    pub fn steps_held(&self) -> u16
+        ensures { result ≡ length (view self.now).steps }
     {
         self.steps_counted() as u16
     }
 
     // How many of the steps are held by the rule.
     #[tactic(auto, unfolding(crate::specs::View::view))]
-    pub fn rule_uses(self, rule: u16) -> usize
-        ensures { result ≡ uses_of rule (view self).steps }
+    pub fn rule_uses(&self, rule: u16) -> usize
+        ensures { result ≡ uses_of rule (view self.now).steps }
     {
         let steps = self.held_steps();
         step_calls::rule_uses(steps, rule)
@@ -28,8 +28,8 @@ impl Session {
 
     // The rows of the last step; zeros if there is none, as `report` of auditing's specs has them, which is believed.
     #[tactic(auto, using(crate::proofs::Views::steps_viewed), unfolding(crate::specs::View::view))]
-    pub fn last_step(self) -> Sides
-        ensures { sides_in result ≡ sides_of (step_numbered (view self).steps (length (view self).steps)) }
+    pub fn last_step(&self) -> Sides
+        ensures { sides_in result ≡ sides_of (step_numbered (view self.now).steps (length (view self.now).steps)) }
     {
         let held = self.steps_counted();
         let steps = self.held_steps();

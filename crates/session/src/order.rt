@@ -8,14 +8,14 @@ use std::cmp::Ordering;
 impl Session {
     // Row `row` against row `other_row` of the other session.
     #[tactic(auto, unfolding(crate::specs::View::view))]
-    pub fn order(self, row: u16, other: Session, other_row: u16) -> Result<Ordering, Refusal>
-        ensures { OrderMet self row other other_row result }
+    pub fn order(&self, row: u16, other: &Session, other_row: u16) -> Result<Ordering, Refusal>
+        ensures { OrderMet self.now row other.now other_row result }
     {
         ordering::order_on(self.held_rows(), row, other.held_rows(), other_row)
     }
 
-    pub fn bundle_order(self, other: Session) -> Result<Ordering, Refusal>
-        ensures { BundleOrderMet self other result }
+    pub fn bundle_order(&self, other: &Session) -> Result<Ordering, Refusal>
+        ensures { BundleOrderMet self.now other.now result }
     {
         ordering::bundle_order_on(self.held(), other.held())
     }

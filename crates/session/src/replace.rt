@@ -10,16 +10,16 @@ use common::Refusal;
 impl Session {
     // `by` has the number of a step for each old row. Three lists, and no struct: a caller has them apart, and would
     // make one for the call alone.
-    pub fn replace<'a>(self, old: &'a [u16], new: &'a [u16], by: &'a [u16]) -> Result<(), Refusal>
-        ensures { ReplaceMet self old.now new.now by.now result }
+    pub fn replace(&self, old: &[u16], new: &[u16], by: &[u16]) -> Result<(), Refusal>
+        ensures { ReplaceMet self.now old.now new.now by.now result }
     {
         replacing::replace_on(self.held(), old, new, by)
     }
 
     // The first step, counted from 1 and so at most `Session::STEPS`, that says that row `old`, a path, is contained in
     // row `new`.
-    pub fn step_saying(self, old: u16, new: u16) -> Option<usize>
-        ensures { PlaceIs result (step_saying (view self) old new) }
+    pub fn step_saying(&self, old: u16, new: u16) -> Option<usize>
+        ensures { PlaceIs result (step_saying (view self.now) old new) }
     {
         replacing::step_saying(self.held(), old, new)
     }

@@ -21,7 +21,7 @@ const POINT_NUMBERS: usize = calls::POINT_WIDTH * calls::MAX_POINTS;
 // counts say. Numbers, and no arrays of Row or Step: specs/View, which is believed, reads numbers, and calls on tables
 // take any numbers that are lent, an incomplete last row among them. Fixed memory without a heap: no call can fail for
 // want of it. No ArrayVec: calls copy sessions.
-#[derive(Clone, Copy)]
+#[derive(Drop)]
 pub struct Session {
     pub(crate) rows: [u16; TABLE_NUMBERS],
     pub(crate) row_count: usize,
@@ -33,7 +33,7 @@ pub struct Session {
 
 // What a call gives: its answer, and the session that it leaves. No one type for sessions and registers: specs/ReadCall
 // and register's specs/Promises, which are believed, name the fields `session` and `register`.
-#[derive(Clone, Copy)]
+#[derive(Drop)]
 pub struct Answered<A> {
     pub answer: A,
     pub session: Session,
@@ -112,95 +112,69 @@ impl Session {
         Held::first(&self.rows, self.row_count, &self.steps, self.step_count)
     }
 
-    pub fn term(mut self, row: Row) -> Answered<Result<u16, Refusal>>
-        ensures { Met self (Call.term (row_of row)) (answer_of result.answer) result.session }
+    pub fn term(&mut self, row: Row) -> Result<u16, Refusal>
+        ensures { Met self.old (Call.term (row_of row)) (answer_of result) self.new }
     {
         let n = self.rows_counted();
-        let answer = term_calls::term_in_place(&mut self.rows, n, row);
-        if answer.is_ok() {
-            self.row_count = n + 1;
-        }
-        Answered {
-            answer,
-            session: self,
-        }
+        let number = term_calls::term_in_place(&mut self.rows, n, row)?;
+        self.row_count = n + 1;
+        Ok(number)
     }
 
-    pub fn step(mut self, step: Step) -> Answered<Result<u16, Refusal>>
-        ensures { Met self (Call.step (step_of step)) (answer_of result.answer) result.session }
+    pub fn step(&mut self, step: Step) -> Result<u16, Refusal>
+        ensures { Met self.old (Call.step (step_of step)) (answer_of result) self.new }
     {
         let m = self.steps_counted();
-        let judged = step_calls::judge_step(self.held(), step);
-        if judged.is_ok() {
-            common::put_record(&mut self.steps, m, step.into());
-            self.step_count = m + 1;
-        }
-        Answered {
-            answer: judged,
-            session: self,
-        }
+        let number = step_calls::judge_step(self.held(), step)?;
+        common::put_record(&mut self.steps, m, step.into());
+        self.step_count = m + 1;
+        Ok(number)
     }
 
     // Sets a point of that name.
-    pub fn point(mut self, name: u16) -> Answered<Result<(), Refusal>>
-        ensures { Met self (Call.point name) (done_answer_of result.answer) result.session }
+    pub fn point(&mut self, name: u16) -> Result<(), Refusal>
+        ensures { Met self.old (Call.point name) (done_answer_of result) self.new }
     {
         let n = self.rows_counted();
         let m = self.steps_counted();
         let k = self.points_counted();
-        let told = point_calls::judge_point(self.held_points(), name);
-        if told.is_ok() {
-            let point = PointCounts {
-                name,
-                rows: n as u16,
-                steps: m as u16,
-            };
-            common::put_record(&mut self.points, k, point.into());
-            self.point_count = k + 1;
-        }
-        Answered {
-            answer: told,
-            session: self,
-        }
+        point_calls::judge_point(self.held_points(), name)?;
+        let point = PointCounts {
+            name,
+            rows: n as u16,
+            steps: m as u16,
+        };
+        common::put_record(&mut self.points, k, point.into());
+        self.point_count = k + 1;
+        Ok(())
     }
 
     // Returns to the point of that name: just the rows and steps held when it was set are left, and later points are
     // forgotten.
-    pub fn return_to(mut self, name: u16) -> Answered<Result<(), Refusal>>
-        ensures { Met self (Call.return name) (done_answer_of result.answer) result.session }
+    pub fn return_to(&mut self, name: u16) -> Result<(), Refusal>
+        ensures { Met self.old (Call.return name) (done_answer_of result) self.new }
     {
-        let found = point_calls::judge_return(self.held_points(), name);
-        if let Ok((place, point)) = found {
-            let n = usize::from(point.rows);
-            let m = usize::from(point.steps);
-            point_calls::clear(&mut self.rows, terms::ROW_WIDTH * n);
-            self.row_count = n;
-            point_calls::clear(&mut self.steps, calls::STEP_WIDTH * m);
-            self.step_count = m;
-            point_calls::clear(&mut self.points, calls::POINT_WIDTH * (place + 1));
-            self.point_count = place + 1;
-        }
-        Answered {
-            answer: found.map(|_| ()),
-            session: self,
-        }
+        let (place, point) = point_calls::judge_return(self.held_points(), name)?;
+        let n = usize::from(point.rows);
+        let m = usize::from(point.steps);
+        point_calls::clear(&mut self.rows, terms::ROW_WIDTH * n);
+        self.row_count = n;
+        point_calls::clear(&mut self.steps, calls::STEP_WIDTH * m);
+        self.step_count = m;
+        point_calls::clear(&mut self.points, calls::POINT_WIDTH * (place + 1));
+        self.point_count = place + 1;
+        Ok(())
     }
 
     // Holds the rows that the term of the selector needs, with the numbers that the lent list gives to names.
-    pub fn text(mut self, names: &[u8], selector: &[u8]) -> Answered<Result<u16, Refusal>>
-        ensures { Met self (Call.text names.now selector.now) (answer_of result.answer)
-            result.session }
+    pub fn text(&mut self, names: &[u8], selector: &[u8]) -> Result<u16, Refusal>
+        ensures { Met self.old (Call.text names.now selector.now) (answer_of result) self.new }
     {
-        let read = text::read_text(selector, names, self.rows, self.row_count);
-        if let Ok(held) = read {
-            let rows = held.rows;
-            self.rows = rows;
-            self.row_count = held.count;
-        }
-        Answered {
-            answer: read.map(|held| held.row),
-            session: self,
-        }
+        let held = text::read_text(selector, names, self.rows, self.row_count)?;
+        let rows = held.rows;
+        self.rows = rows;
+        self.row_count = held.count;
+        Ok(held.row)
     }
 
     // Marks the nodes that the path in row `row` selects from the context node, in bytes, as C lends them. Five
@@ -208,14 +182,14 @@ impl Session {
     // `select_on` would take it apart again.
     #[tactic(auto, unfolding(crate::specs::View::view))]
     pub fn select(
-        self,
+        &self,
         row: u16,
         document: &[u16],
         context: u16,
         limit: u32,
         marks: &mut [u8],
     ) -> Result<u32, Refusal>
-        ensures { SelectMet self row document.now context limit marks.old result
+        ensures { SelectMet self.now row document.now context limit marks.old result
             marks.new }
     {
         select_calls::select_on(self.held_rows(), row, document, context, limit, marks)

@@ -15,8 +15,8 @@ pub struct Writer<'a> {
 
 // Writes the session's bundle at `at`, where there is room for all of it. It gives the bundle's length.
 #[tactic(auto, using(crate::proofs::Written::session_tables))]
-fn write_at(out: &mut [u8], at: usize, s: Session) -> usize
-    ensures { TextWritten out.old at (session_text s) result out.new }
+fn write_at(out: &mut [u8], at: usize, s: &Session) -> usize
+    ensures { TextWritten out.old at (session_text s.now) result out.new }
 {
     bundles::write_tables(out, at, s.held())
 }
@@ -30,8 +30,8 @@ impl<'a> Writer<'a> {
     }
 
     // Appends the lines of the session's bundle, where there is room for all. It gives their length.
-    fn append(self, s: Session) -> usize
-        ensures { TextWritten self.entry.out.now self.entry.at (session_text s) result self.exit.0.now }
+    fn append(self, s: &Session) -> usize
+        ensures { TextWritten self.entry.out.now self.entry.at (session_text s.now) result self.exit.0.now }
     {
         let at = self.at;
         write_at(self.out, at, s)
@@ -39,8 +39,8 @@ impl<'a> Writer<'a> {
 }
 
 // The lines of the session's bundle, the first at byte 0. Its contract says nothing of a writer.
-fn write_lines(out: &mut [u8], s: Session) -> usize
-    ensures { TextWritten out.old 0 (session_text s) result out.new }
+fn write_lines(out: &mut [u8], s: &Session) -> usize
+    ensures { TextWritten out.old 0 (session_text s.now) result out.new }
 {
     Writer::at_start(out).append(s)
 }
@@ -48,8 +48,8 @@ fn write_lines(out: &mut [u8], s: Session) -> usize
 impl Session {
     // Writes the bundle of the rows and steps held into the buffer.
     #[tactic(auto, using(crate::proofs::Written::write_refused))]
-    pub fn write(self, out: &mut [u8]) -> Result<usize, Refusal>
-        ensures { WriteMet self out.old result out.new }
+    pub fn write(&self, out: &mut [u8]) -> Result<usize, Refusal>
+        ensures { WriteMet self.now out.old result out.new }
     {
         let room = out.len();
         let size = write_lines(out, self);

@@ -64,8 +64,8 @@ pub fn judge_list(list: &[u8], opened: &[bool]) -> Result<(), Refusal>
 }
 
 // The uses, and those among the session's steps.
-fn plus_uses(mut uses: [u64; RULES], session: Session) -> [u64; RULES]
-    ensures { result ≡ plus_each uses (column_of (view session).steps) }
+fn plus_uses(mut uses: [u64; RULES], session: &Session) -> [u64; RULES]
+    ensures { result ≡ plus_each uses (column_of (view session.now).steps) }
 {
     for (i, count) in uses.iter_mut().enumerate() {
         let more = session.rule_uses(i as u16 + 1);
@@ -99,7 +99,7 @@ impl Tally {
         if read.answer.is_err() {
             return self;
         }
-        let session = read.session;
+        let session = &read.session;
         Tally {
             uses: plus_uses(self.uses, session),
             total: self.total.saturating_add(u64::from(session.steps_held())),

@@ -118,13 +118,13 @@ pub record SessionTheorems : Type 0 where
   -- the first step that says that one row is contained in another, if there is one, the number of steps, that of a
   -- rule's steps, and the rows of the last step are those of the steps held
   pub step_saying_lem : (κs : _) (a : _) (r : _) (x : _) → step-saying-reads.Post κs a r x
-      → PlaceIs r (step_saying (view a.0) a.1.0 a.1.1.0)
+      → PlaceIs r (step_saying (view a.0.now) a.1.0 a.1.1.0)
   pub steps_held_lem : (κs : _) (a : _) (r : _) (x : _) → steps-held-reads.Post κs a r x
-      → r ≡ length (view a.0).steps
+      → r ≡ length (view a.0.now).steps
   pub rule_uses : (κs : _) (a : _) (r : _) (x : _) → rule-uses-reads.Post κs a r x
-      → r ≡ uses_of a.1.0 (view a.0).steps
+      → r ≡ uses_of a.1.0 (view a.0.now).steps
   pub last_step : (κs : _) (a : _) (r : _) (x : _) → last-step-reads.Post κs a r x
-      → sides_in r ≡ sides_of (step_numbered (view a.0).steps (length (view a.0).steps))
+      → sides_in r ≡ sides_of (step_numbered (view a.0.now).steps (length (view a.0.now).steps))
   -- demand 3: after every list of calls from a fresh session all is as in the plain book, what is held is true on every
   -- document, and select marks by it
   pub demand3 : DemandThree session.Selected session.New session.Called

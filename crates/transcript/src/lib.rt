@@ -12,7 +12,7 @@ use answer_lines::AnswerLine;
 use arrayvec::ArrayString;
 use calls::{Answer, LineRefusal};
 use common::Refusal;
-use register::{Answered, Records, Register};
+use register::{Records, Register};
 use script::{Command, NumberList};
 use std::fmt::Write;
 
@@ -84,7 +84,7 @@ fn print_wrong_form(style: Style, line: usize) {
 }
 
 // How many records are listed, and their numbers.
-fn print_listing(listing: Records) {
+fn print_listing(listing: &Records) {
     let size = listing.size();
     let mut line = answer_line::<Result<usize, Refusal>>(Style::Answers, Ok(size));
     for record in listing.list() {
@@ -99,7 +99,7 @@ fn print_listing(listing: Records) {
 }
 
 // The bundle's own lines, behind the answer.
-fn write(r: Register, room: usize) {
+fn write(r: &Register, room: usize) {
     let mut buffer = [FILL; script::MAX_ROOM];
     let size = room.min(script::MAX_ROOM);
     let answer = r.write(&mut buffer[..size]);
@@ -135,60 +135,39 @@ impl<'a> State<'a> {
         }
     }
 
-    // What a call leaves, whose answer is printed.
-    fn after<A: Answer + Copy>(self, made: Answered<A>) -> State<'a> {
-        print(self.style, made.answer);
-        State {
-            register: made.register,
-            ..self
-        }
-    }
-
     // The selector of a line, with the names that are lent.
-    fn text(self, selector: &[u8]) -> State<'a> {
+    fn text(&mut self, selector: &[u8]) {
         let mut list = [0u8; common::MAX_BYTES];
         let size = script::put_names(self.names, &mut list);
-        let made = self.register.text(&list[..size], selector);
-        self.after(made)
+        print(self.style, self.register.text(&list[..size], selector));
     }
 
     // Makes a command, with the rest of its line, and prints its answer.
-    fn make(self, command: Command, rest: &'a [u8]) -> State<'a> {
-        let r = self.register;
+    fn make(&mut self, command: Command, rest: &'a [u8]) {
+        let style = self.style;
         match command {
-            Command::Term(row) => self.after(r.term(row)),
-            Command::Step(step) => self.after(r.step(step)),
-            Command::Point(name) => self.after(r.point(name)),
-            Command::Return(name) => self.after(r.return_to(name)),
+            Command::Term(row) => print(style, self.register.term(row)),
+            Command::Step(step) => print(style, self.register.step(step)),
+            Command::Point(name) => print(style, self.register.point(name)),
+            Command::Return(name) => print(style, self.register.return_to(name)),
             Command::Text => self.text(rest),
-            Command::Record(record) => self.after(r.record(record)),
-            Command::Release(place) => self.after(r.release(place)),
-            Command::Document(document) => State { document, ..self },
-            Command::Old(old) => State { old, ..self },
-            Command::New(new) => State { new, ..self },
-            Command::Names => State {
-                names: rest,
-                ..self
-            },
-            Command::Other => State {
-                register: Register::new(),
-                other: r,
-                ..self
-            },
-            Command::Fresh => State {
-                register: Register::new(),
-                ..self
-            },
-            asked => {
-                self.ask(asked);
-                self
+            Command::Record(record) => print(style, self.register.record(record)),
+            Command::Release(place) => print(style, self.register.release(place)),
+            Command::Document(document) => self.document = document,
+            Command::Old(old) => self.old = old,
+            Command::New(new) => self.new = new,
+            Command::Names => self.names = rest,
+            Command::Other => {
+                self.other = std::mem::replace(&mut self.register, Register::new());
             }
+            Command::Fresh => self.register = Register::new(),
+            asked => self.ask(asked),
         }
     }
 
     // Makes a command that changes nothing.
     fn ask(&self, command: Command) {
-        let r = self.register;
+        let r = &self.register;
         let style = self.style;
         match command {
             Command::Select(row, context, limit, marks) => self.select(row, context, limit, marks),
@@ -200,8 +179,8 @@ impl<'a> State<'a> {
             Command::Order(other, row) => print(style, self.other.order(other, r, row)),
             Command::BundleOrder => print(style, self.other.bundle_order(r)),
             Command::Current(series) => print_given(style, usize::from(r.current(series))),
-            Command::Records => print_listing(r.listing()),
-            Command::Released => print_listing(r.crew_listing()),
+            Command::Records => print_listing(&r.listing()),
+            Command::Released => print_listing(&r.crew_listing()),
             Command::CrewCurrent(series) => print_given(style, usize::from(r.crew_current(series))),
             _ => {}
         }
@@ -257,7 +236,7 @@ pub fn run(input: &[u8], style: Style) -> Result<(), usize>
         let read = script::call_at(line, 0)
             .filter(|read| is_taken(&read.command, style))
             .ok_or(i + 1)?;
-        state = state.make(read.command, script::rest_at(line, 0));
+        state.make(read.command, script::rest_at(line, 0));
     }
     Ok(())
 }

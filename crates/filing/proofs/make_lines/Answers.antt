@@ -14,18 +14,18 @@ use Rattle.filing.proofs.CallLaws.{filed_from_start}
 use Rattle.filing.proofs.make_lines.Goals as goal
 
 pub loop-i-init : goal.loop-i-init
-loop-i-init c = filed_from_start c.args.script.now c.new-left.result c.new-left.ensures
+loop-i-init c = filed_from_start c.args.script.now c.new-filed.result c.new-filed.ensures
 
-pub returns-in_err-left : goal.returns-in_err-left
-returns-in_err-left c =
+pub returns-in_err-map_err : goal.returns-in_err-map_err
+returns-in_err-map_err c =
     let l = c.loop-i in
     let t = turn _ split_inclusive_rest split_inclusive_callee c.args.script.now _ (cc) (cc)
     (answers_always _ _ _ (λ f a r q k. search (rules, tests))) l.yielded _ l.yielded_by _ _ _ c.in-Some.is
     c.next.ensures.steps in
-    let refused = c.in_err-left.ensures in
-    let told = line_refused_by (record { session = l.left.0; names = l.left.1.0 }) (c.in-Some.i + 1) _ _
-    c.in-Some.line.now _ t.line.alone t.line.there c.line.result c.line.ensures c.in_err-left.field-0.0 _ _
-    refused.cases (sym refused.variant) (λ k h. search rules) in
+    let refused = c.in_err-map_err.ensures in
+    let told = line_refused_by l.filed (c.in-Some.i + 1) _ _ c.in-Some.line.now _ t.line.alone t.line.there
+    c.line.result _ c.line.ensures c.in_err-map_err.field-0.0 _ _ refused.cases (sym refused.variant)
+    (λ k h. search rules) in
     rw (err_is c.from_residual.result c.from_residual.ensures.1) ((rw t.place at told) ∙ sym l.invariant)
 
 pub loop-i-preserved : goal.loop-i-preserved
@@ -34,10 +34,8 @@ loop-i-preserved c =
     let t = turn _ split_inclusive_rest split_inclusive_callee c.args.script.now _ (cc) (cc)
     (answers_always _ _ _ (λ f a r q k. search (rules, tests))) l.yielded _ l.yielded_by _ _ _ c.in-Some.is
     c.next.ensures.steps in
-    let taken = c.in_ok-left.ensures in
-    let passed = line_taken_by (record { session = l.left.0; names = l.left.1.0 }) (length l.yielded + 1) _ _
-    c.in-Some.line.now _ t.line.alone t.line.there c.line.result c.line.ensures c.in_ok-left.left _ _ taken.cases
-    (sym taken.variant) (λ x h. search rules) in
+    let passed = line_taken_by l.filed (length l.yielded + 1) _ _ c.in-Some.line.now _ t.line.alone t.line.there
+    c.line.result _ c.line.ensures (sym c.in_ok-map_err.ensures.variant) in
     rw (length_push l.yielded (c.in-Some.i, c.in-Some.line)) (l.invariant ∙ passed)
 
 pub returns : goal.returns

@@ -33,10 +33,10 @@ lent_by f = names_of f.names.bytes.now
 abbrev pub command_action : Command → (names rest : Bytes) → Option Action
 command_action k names rest = action_of (written_command k).word (written_command k).numbers names rest
 
--- what a call leaves that is answered so, with the session u
-abbrev pub call_left : {A : Type 0} → Filed → (u : Session) → Result A Refusal → Result Filed Refusal
-call_left f u (Ok a) = Ok (record { session = u; names = f.names })
-call_left f u (Err k) = Err k
+-- an answer without its value
+abbrev pub done : {A : Type 0} → Result A Refusal → Result (Unit {0}) Refusal
+done (Ok a) = Ok tt
+done (Err k) = Err k
 
 -- an action that is taken
 pub record ActionTaken (f : Filed) (o : Option Action) (r : Filed) : Type 0 where
@@ -44,10 +44,10 @@ pub record ActionTaken (f : Filed) (o : Option Action) (r : Filed) : Type 0 wher
   pub session : r.session ≡ line_session f.session o
   pub list : lent_by r ≡ line_names (lent_by f) o
 
--- an action: what it leaves, or its refusal
-abbrev pub ActionDone : Filed → Option Action → Result Filed Refusal → Type 0
-ActionDone f o (Ok r) = ActionTaken f o r
-ActionDone f o (Err k) = refusal_number k ≡ line_number f.session o
+-- an action on f: what it leaves, or its refusal
+abbrev pub ActionDone : (f : Filed) → Option Action → Result (Unit {0}) Refusal → (r : Filed) → Type 0
+ActionDone f o (Ok u) r = ActionTaken f o r
+ActionDone f o (Err k) r = refusal_number k ≡ line_number f.session o
 
 -- what the first of some lines does; none does nothing
 abbrev pub first_action : (names : Bytes) → List Line → Option Action

@@ -88,7 +88,7 @@ module _ (s : Session) (name : ℕ) (t : DoneOrRefusal) where
 
 -- returning to one
 module _ (s : Session) (name : ℕ) where
-  return_judged : (t : Answer) → t ≡ return_answer (counts_names (points_in s)) name
+  pub return_judged : (t : Answer) → t ≡ return_answer (counts_names (points_in s)) name
       → t ≡ return_answer (point_names (view s).points) name
   return_judged t e = e ∙ ap (λ ns. return_answer ns name) (sym (names_viewed s))
 

@@ -11,7 +11,7 @@ use Rattle.tallies.proofs.plus_uses.Goals as goal
 pub loop-i-init : goal.loop-i-init
 loop-i-init c =
     let size : length c.args.uses ≡ max_rule = search rules in
-    none_added c.args.uses (view c.args.session).steps size
+    none_added c.args.uses (view c.args.session.now).steps size
 
 pub loop-i-preserved : goal.loop-i-preserved
 unfolding plus
@@ -19,10 +19,10 @@ loop-i-preserved c =
     let l = c.loop-i in
     let a = c.args in
     let sum = c.saturating_add.ensures ∙ ap (plus (get_or l.count-items l.i 0)) c.rule_uses-more.ensures in
-    one_added a.uses (view a.session).steps l.i l.count-items _ l.invariant c.loop-i-test.true sum
+    one_added a.uses (view a.session.now).steps l.i l.count-items _ l.invariant c.loop-i-test.true sum
 
 pub returns : goal.returns
 returns c =
     let l = c.loop-i in
     let a = c.args in
-    all_added a.uses (view a.session).steps l.i l.count-items l.invariant c.loop-i-test.false
+    all_added a.uses (view a.session.now).steps l.i l.count-items l.invariant c.loop-i-test.false

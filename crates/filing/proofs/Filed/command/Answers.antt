@@ -1,25 +1,25 @@
 -- `Filed::command` meets its contract, word by word. Assumes nothing.
 use mathlib.Core.Path.{sym, ap}
 use Rattle.filing.specs.Filing.{line_number}
-use Rattle.filing.proofs.CallLaws.{call_done}
+use Rattle.filing.proofs.CallLaws.{call_done, done_by}
 use Rattle.filing.proofs.LineLaws.{other_command}
 use Rattle.filing.proofs.Filed.command.Goals as goal
 
 pub returns-in-Term : goal.returns-in-Term
 returns-in-Term c =
-    rw c.in-Term.is (call_done c.args.self _ (λ n. n) _ _ c.term.ensures _ c.called.ensures)
+    rw (c.in-Term.is, c.without_value.ensures) (call_done c.args.self.now _ (λ n. n) _ _ c.term.ensures)
 
 pub returns-in-Step : goal.returns-in-Step
 returns-in-Step c =
-    rw c.in-Step.is (call_done c.args.self _ (λ n. n) _ _ c.step.ensures _ c.called-in-Step.ensures)
+    rw (c.in-Step.is, c.without_value-in-Step.ensures) (call_done c.args.self.now _ (λ n. n) _ _ c.step.ensures)
 
 pub returns-in-Point : goal.returns-in-Point
 returns-in-Point c =
-    rw c.in-Point.is (call_done c.args.self _ (λ u. 0) _ _ c.point.ensures _ c.called-in-Point.ensures)
+    rw c.in-Point.is (done_by c.args.self.now _ _ _ c.point.ensures)
 
 pub returns-in-Return : goal.returns-in-Return
 returns-in-Return c =
-    rw c.in-Return.is (call_done c.args.self _ (λ u. 0) _ _ c.return_to.ensures _ c.called-in-Return.ensures)
+    rw c.in-Return.is (done_by c.args.self.now _ _ _ c.return_to.ensures)
 
 pub returns-in-Names : goal.returns-in-Names
 returns-in-Names c = rw c.in-Names.is c.lending.ensures
@@ -30,5 +30,5 @@ returns-in-Text c = rw c.in-Text.is c.text.ensures
 pub returns-in_default : goal.returns-in_default
 returns-in_default c =
     let d = c.in_default in
-    sym (ap (line_number c.args.self.session) (other_command _ d.not-Term d.not-Step d.not-Point d.not-Return
+    sym (ap (line_number c.args.self.now.session) (other_command _ d.not-Term d.not-Step d.not-Point d.not-Return
     d.not-Names d.not-Text _ _))

@@ -13,10 +13,10 @@ returns-in_err-read c =
     let a = c.args in
     let no = none_by_ok_or c.call_at.result refusals.WrongForm _ c.in_err-read.ensures.value in
     rw (err_is c.from_residual.result c.from_residual.ensures.1, no.1)
-    (line_not_read a.self a.line.now (subst (CallRead command_of a.line.now 0) no.0 c.call_at.ensures))
+    (line_not_read a.self.now a.line.now (subst (CallRead command_of a.line.now 0) no.0 c.call_at.ensures))
 
 pub returns : goal.returns
 returns c =
     let a = c.args in
     let met = subst (CallRead command_of a.line.now 0) c.in_ok-read.ensures.ok_part c.call_at.ensures in
-    line_read a.self a.line.now c.in_ok-read.read.command met.line _ c.rest_at.ensures _ c.command.ensures
+    line_read a.self.now a.line.now c.in_ok-read.read.command met.line _ c.rest_at.ensures _ _ c.command.ensures

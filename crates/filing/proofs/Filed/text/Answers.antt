@@ -18,5 +18,6 @@ slice_bounds-text-end c =
 
 pub returns : goal.returns
 returns c =
-    text_done c.args.self _ (replicate max_bytes 0) _ (length-replicate {A = ℕ} max_bytes 0) c.put_names-size.ensures _
-    _ _ c.text.ensures _ c.called.ensures
+    rw c.without_value.ensures
+    (text_done c.args.self.now _ (replicate max_bytes 0) _ (length-replicate {A = ℕ} max_bytes 0)
+    c.put_names-size.ensures _ _ _ c.text.ensures)

@@ -14,5 +14,5 @@ pub returns : goal.returns
 returns c =
     let a = c.args in
     all_from_yields_List (λ r. ltb r.row a.rows && leb r.step a.steps) _ _ c.all.result c.all.ensures.ran
-    (YieldsList-from_slice (records_in a.self) cc) (λ x b q k. search (rules, tests))
-    ∙ kept_is a.rows a.steps (records_in a.self)
+    (YieldsList-from_slice (records_in a.self.now) cc) (λ x b q k. search (rules, tests))
+    ∙ kept_is a.rows a.steps (records_in a.self.now)

@@ -18,7 +18,7 @@ returns c =
     sym (option_map_id c.max.result)
     ∙ max_from_yields_List _ _ c.max.ensures.ran
     (YieldsList-from_map _ (λ (r : Record). r.edition)
-    (YieldsList-from_filter _ (of_series a.series) (YieldsList-from_slice (records_in a.self) cc)
+    (YieldsList-from_filter _ (of_series a.series) (YieldsList-from_slice (records_in a.self.now) cc)
     (ap (λ m. m.p) c.map.ensures.source ∙ c.filter.ensures.closure) (λ x b q k. search (rules, tests)))
     c.map.ensures.closure (λ x r q k. search rules)) in
-    c.unwrap_or.ensures ∙ ap (λ o. unwrap_or o 0) found ∙ current_is a.series (records_in a.self)
+    c.unwrap_or.ensures ∙ ap (λ o. unwrap_or o 0) found ∙ current_is a.series (records_in a.self.now)

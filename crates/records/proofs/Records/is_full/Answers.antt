@@ -12,6 +12,6 @@ use Rattle.records.proofs.Records.is_full.Goals as goal
 
 pub returns : goal.returns
 returns c =
-    let s = c.args.self in
+    let s = c.args.self.now in
     let size : length s.held ≡ max_records = search (rules, length_mapped) in
     ap (leb max_records) (c.size.ensures ∙ sym (length-take-le (size_of s) s.held (omega arith)))

@@ -14,7 +14,7 @@ use Rattle.records.proofs.Records.listing.Goals as goal
 pub returns : goal.returns
 unfolding all_releases
 returns c =
-    let s = c.args.self in
+    let s = c.args.self.now in
     let few : length (records_in s) ≤ max_records = omega (arith, length-take (size_of s) s.held) in
     c.released.ensures ∙ ap (λ e. listed (released (records_in s) e.flags)) c.all.ensures
     ∙ ap listed (every_released (records_in s) max_records few)

@@ -17,17 +17,17 @@ use Rattle.records.proofs.Records.released.Goals.{In-Some}
 
 -- the record and the flag at this place, of as many as there is room for
 turn : (c : In-Some) → let k = length c.loop-record.yielded in
-    (k < length (records_in c.args.self)) × (k < length c.args.releases.flags)
-    × ((d : Record) → c.in-Some.record.now ≡ get_or (records_in c.args.self) k d)
-    × ((d : ℕ) → c.in-Some.flag.now ≡ get_or c.args.releases.flags k d)
+    (k < length (records_in c.args.self.now)) × (k < length c.args.releases.now.flags)
+    × ((d : Record) → c.in-Some.record.now ≡ get_or (records_in c.args.self.now) k d)
+    × ((d : ℕ) → c.in-Some.flag.now ≡ get_or c.args.releases.now.flags k d)
 turn c =
-    zip_turn (records_in c.args.self) c.args.releases.flags c.loop-record.yielded c.into_iter-record-iterator.result
+    zip_turn (records_in c.args.self.now) c.args.releases.now.flags c.loop-record.yielded c.into_iter-record-iterator.result
     c.loop-record.record-iterator c.next.new.self c.next.result (cc) (cc) c.loop-record.yielded_by
     (c.in-Some.record, c.in-Some.flag) c.in-Some.is c.next.ensures.steps
 
 room : (c : In-Some) → length c.loop-record.yielded < max_records
 room c =
-    let s = c.args.self in
+    let s = c.args.self.now in
     let t = turn c in
     omega (arith, t.0, length-take (size_of s) s.held)
 
@@ -54,11 +54,11 @@ loop-record-preserved c =
 pub returns : goal.returns
 returns c =
     let a = c.args in
-    let rs = records_in a.self in
-    let flags : length a.releases.flags ≡ max_records = search (rules, length_mapped) in
-    let few = length-take (size_of a.self) a.self.held in
+    let rs = records_in a.self.now in
+    let flags : length a.releases.now.flags ≡ max_records = search (rules, length_mapped) in
+    let few = length-take (size_of a.self.now) a.self.now.held in
     let t =
-    zip_end rs a.releases.flags c.loop-record.yielded c.into_iter-record-iterator.result
+    zip_end rs a.releases.now.flags c.loop-record.yielded c.into_iter-record-iterator.result
     c.loop-record.record-iterator c.next.new.self c.next.result (cc) (cc) c.loop-record.yielded_by c.in-None.is
     c.next.ensures.steps in
     all_shown _ _ _ _ (omega (arith, t, few)) c.loop-record.invariant

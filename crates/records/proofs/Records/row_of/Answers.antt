@@ -14,6 +14,6 @@ returns c =
     let a = c.args in
     let found =
     find_from_yields_List (λ r. eqb r.series a.series && eqb r.edition a.edition) _ _ c.find.result c.find.ensures.ran
-    (YieldsList-from_slice (records_in a.self) cc) (λ x b q k. search (rules, tests)) in
-    row_is a.series a.edition (records_in a.self) c.find.result c.map_or.result _ found c.map_or.ensures
+    (YieldsList-from_slice (records_in a.self.now) cc) (λ x b q k. search (rules, tests)) in
+    row_is a.series a.edition (records_in a.self.now) c.find.result c.map_or.result _ found c.map_or.ensures
     (λ x q. search rules)

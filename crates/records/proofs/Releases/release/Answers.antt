@@ -17,28 +17,28 @@ use Rattle.records.proofs.Releases.release.Goals.{then-p-eq0-via-then-p-eq0, the
 pub returns-then-p-eq0 : goal.returns-then-p-eq0
 returns-then-p-eq0 c =
     let a = c.args in
-    let size : length a.records.held ≡ max_records = search (rules, length_mapped) in
-    let count = length-take-le (size_of a.records) a.records.held (omega arith) in
+    let size : length a.records.now.held ≡ max_records = search (rules, length_mapped) in
+    let count = length-take-le (size_of a.records.now) a.records.now.held (omega arith) in
     let is-n = c.size-n.ensures ∙ sym count in
     elim c.then-p-eq0.branch [
       | then-p-eq0-via-then-p-eq0 w ↦
-          let told = place_0 (records_in a.records) _ is-n a.place (omega arith) in
+          let told = place_0 (records_in a.records.now) _ is-n a.place (omega arith) in
           record { answer = told; left = if_refused _ _ told _ _ (λ e. omega arith) }
       | then-p-eq0-via-else-p-eq0+then-n-p w ↦
-          let told = past_last (records_in a.records) _ is-n a.place (omega arith) in
+          let told = past_last (records_in a.records.now) _ is-n a.place (omega arith) in
           record { answer = told; left = if_refused _ _ told _ _ (λ e. omega arith) }
     ]
 
 pub returns : goal.returns
 returns c =
     let a = c.args in
-    let size : length a.records.held ≡ max_records = search (rules, length_mapped) in
-    let count = length-take-le (size_of a.records) a.records.held (omega arith) in
+    let size : length a.records.now.held ≡ max_records = search (rules, length_mapped) in
+    let count = length-take-le (size_of a.records.now) a.records.now.held (omega arith) in
     let told =
-    of_a_record (records_in a.records) _ (c.size-n.ensures ∙ sym count) a.place
+    of_a_record (records_in a.records.now) _ (c.size-n.ensures ∙ sym count) a.place
     (λ e. c.if-p-eq0.false (omega arith)) (omega arith) in
     record {
       answer = told;
       left =
-          ap (λ k. flagged (set a.self.flags (k - 1) 1)) c.from-p.ensures ∙ if_accepted _ _ told _ _ (omega arith);
+          ap (λ k. flagged (set a.self.now.flags (k - 1) 1)) c.from-p.ensures ∙ if_accepted _ _ told _ _ (omega arith);
     }

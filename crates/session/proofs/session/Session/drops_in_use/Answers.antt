@@ -12,7 +12,7 @@ use Rattle.session.proofs.session.Session.drops_in_use.Goals as goal
 pub returns : goal.returns
 returns c =
     let a = c.args in
-    let s = a.self in
+    let s = a.self.now in
     let told = rw c.held_points.ensures at c.point_named-point.ensures in
     let rows = c.row_count.ensures
     ∙ ap (λ xs. length (table_of xs)) c.first-kept.ensures.0
@@ -22,4 +22,4 @@ returns c =
     ∙ ap (λ xs. length (steps_of xs)) c.first-kept.ensures.1
     ∙ ap (λ k. length (first_steps k s.steps)) c.from-m.ensures
     ∙ steps_there s a.name _ told in
-    ap not (c.all_kept.ensures ∙ ap₂ (λ n m. all_kept n m (records_in a.records)) rows steps)
+    ap not (c.all_kept.ensures ∙ ap₂ (λ n m. all_kept n m (records_in a.records.now)) rows steps)

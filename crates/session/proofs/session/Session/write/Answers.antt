@@ -5,4 +5,4 @@ use Rattle.session.proofs.session.Session.write.Goals as goal
 pub returns : goal.returns
 returns c =
     let a = c.args in
-    write_held a.self a.out.now _ _ c.write_lines-size.ensures c.if-room-size.false
+    write_held a.self.now a.out.now _ _ c.write_lines-size.ensures c.if-room-size.false
