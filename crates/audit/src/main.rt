@@ -2,8 +2,6 @@
 // the last step, or zeros, under a heading.
 #![tactic(auto)]
 
-use std::os::fd::AsRawFd;
-
 fn main(rt: HostRuntime) {
-    reports::print_report(rt.stdin().as_raw_fd());
+    reports::print_report(rt.alloc(), rt.stdin());
 }

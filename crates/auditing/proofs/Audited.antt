@@ -16,10 +16,10 @@ use Rattle.calls.specs.Promises.{sides_of}
 use Rattle.common.specs.Refusals.{wrong_form}
 use Rattle.session.specs.Reading.{reading}
 use Rattle.session.specs.ReadCall.{read_answer_of, reading_of, ReadMet}
-use Rattle.auditing.specs.Audit.{report_by, read_report, report}
+use Rattle.auditing.specs.Audit.{report_by, unread, read_report, report}
 
 module _ (bytes : List ℕ) where
-  pub too_long : max_bytes < length bytes → report_by wrong_form 0 0 0 0 ≡ report bytes
+  pub too_long : max_bytes < length bytes → unread ≡ report bytes
   unfolding report
   too_long h = rw (lt-ltb max_bytes (length bytes) h)
 

@@ -26,5 +26,9 @@ read_report r =
     report_by r.answer.number (cond (accepted r.answer) 0 r.answer.value) (length held) last.left
     last.right
 
+-- what is printed where no bundle was read: the bytes are too many, or their reading failed
+abbrev pub unread : Report
+unread = report_by wrong_form 0 0 0 0
+
 unfoldable pub report : List ℕ → Report
-report bytes = cond (ltb max_bytes (length bytes)) (report_by wrong_form 0 0 0 0) (read_report (reading bytes))
+report bytes = cond (ltb max_bytes (length bytes)) unread (read_report (reading bytes))

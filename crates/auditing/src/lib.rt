@@ -3,7 +3,7 @@
 
 ghost use Rattle.std.specs.Prelude.{◌≡◌, cond, is_ok};
 ghost use Rattle.session.specs.ReadCall.{read_answer_of};
-ghost use Rattle.auditing.specs.Audit.{report};
+ghost use Rattle.auditing.specs.Audit.{report, unread};
 
 use calls::Answer;
 use common::Refusal;
@@ -39,18 +39,25 @@ fn refused_line(answer: Result<u16, LineRefusal>) -> usize
     answer.err().map_or(0, |refused| refused.line)
 }
 
+// What the program audit prints where no bundle was read: too many bytes, or a read that failed.
+pub fn unread() -> Report
+    ensures { result ≡ unread }
+{
+    Report {
+        answer: Refusal::WrongForm.number(),
+        line: 0,
+        steps: 0,
+        left: 0,
+        right: 0,
+    }
+}
+
 // What the program audit prints of a bundle.
 pub fn audit(bytes: &[u8]) -> Report
     ensures { result ≡ report bytes.now }
 {
     if common::MAX_BYTES < bytes.len() {
-        return Report {
-            answer: Refusal::WrongForm.number(),
-            line: 0,
-            steps: 0,
-            left: 0,
-            right: 0,
-        };
+        return unread();
     }
     let read = Session::read(bytes);
     let last = read.session.last_step();

@@ -1,9 +1,17 @@
-// What the program audit prints, of any open file.
+// What the program audit prints, of any reader.
 #![tactic(auto)]
+
+ghost use Rattle.std.specs.Prelude.{◌≡◌, ◌⊎◌, IfSome};
+ghost use Rattle.auditing.specs.Audit.{report, unread};
 
 use arrayvec::ArrayString;
 use auditing::Report;
+use std::alloc::Global;
 use std::fmt::Write;
+use std::io::Read;
+
+#[cfg(test)]
+mod tests;
 
 // Longer than the heading and five numbers of at most twenty digits.
 const LONGEST_REPORT: usize = 256;
@@ -17,11 +25,18 @@ fn print(report: Report) {
     io::write_all(1, text.as_str().as_bytes());
 }
 
-// Reads a bundle from an open file and prints the report of it. The file is a number, since crate io reads files by
-// theirs. No contract can speak of what is read or printed; the report is that of `auditing::audit`.
-pub fn print_report(file: i32) {
-    // One byte more than audit takes, so that longer input shows.
-    let mut bytes = [0u8; common::MAX_BYTES + 1];
-    let n = io::read_full(file, &mut bytes);
-    print(auditing::audit(&bytes[..n]));
+/// The report of the bundle that the reader gives. A reading that fails, also in the middle, has that of no bundle.
+pub fn report_of<R: Read + Drop>(alloc: Global, reader: R) -> Report
+    ensures { IfSome (R.remaining reader) (λ xs. (result ≡ report xs) ⊎ (result ≡ unread)) }
+{
+    match inputs::read_bundle(alloc, reader) {
+        Ok(bytes) => auditing::audit(&bytes),
+        Err(_) => auditing::unread(),
+    }
+}
+
+/// Reads a bundle and prints the report of it. No contract can speak of what is printed; the report is that of
+/// `report_of`.
+pub fn print_report<R: Read + Drop>(alloc: Global, reader: R) {
+    print(report_of(alloc, reader));
 }
