@@ -1,20 +1,21 @@
 #!/usr/bin/env python3
-"""Holds the tables of docs/FORMAT.md against the specifications, and host/ against both. Run it at the repository's
-root:
+"""Holds the tables of docs/FORMAT.md and of docs/SPECIFICATION.md against the specifications, and host/ against these.
+Run it at the repository's root:
 
     python3 tools/format_check.py
 
 Compared: kinds of rows (common RowKinds, terms Fields), axes, tests, kinds of nodes (common), the axis order (rules
 Order), opposite axes (rules WayBack), the rules form by form (rules RuleTable, read by tools/rule_table.py),
-refusals (common Refusals), limits, and that host/rules.c, host/terms.c, host/bundle.h, host/document.h and
-include/spinebriar.h say the same. Not compared: the page's sentences, the columns `written` of kinds, `selects`, `its
+refusals (common Refusals), limits, of docs/SPECIFICATION.md the kinds, the numbers of refusals and the limits (its rule
+table is tools/rule_table.py's), and that host/rules.c, host/terms.c, host/bundle.h, host/document.h and
+include/spinebriar.h say the same. Not compared: the pages' sentences, the columns `written` of kinds, `selects`, `its
 name` and `when`, the test order, the table of selectors and rule 59's way back but for its axes.
 """
 import re, sys
 
 import rule_table
 
-PAGE = 'docs/FORMAT.md'
+PAGE, NORMATIVE = 'docs/FORMAT.md', 'docs/SPECIFICATION.md'
 problems = []
 
 
@@ -30,19 +31,27 @@ def same(what, page, specification):
     print('%s: DIFFERENT\n  %s\n  %s' % (what, page, specification))
 
 
-def table(first):
-    """The rows of the page's table whose heading begins with these words."""
-    lines = text_of(PAGE).split('\n')
-    at = [i for i, line in enumerate(lines) if line.startswith('| %s |' % first)]
-    if len(at) != 1:
-        raise SystemExit('%s: %d tables %r' % (PAGE, len(at), first))
-    rows = []
-    for line in lines[at[0] + 2:]:
-        if not line.startswith('|'):
-            break
-        cells = re.split(r'(?<!\\)\|', line)[1:-1]
-        rows.append([cell.strip().replace('\\|', '|') for cell in cells])
-    return rows
+def tables(page, first):
+    """The rows of each table of a page whose heading begins with these words."""
+    lines = text_of(page).split('\n')
+    found = []
+    for at in [i for i, line in enumerate(lines) if line.startswith('| %s' % first)]:
+        rows = []
+        for line in lines[at + 2:]:
+            if not line.startswith('|'):
+                break
+            cells = re.split(r'(?<!\\)\|', line)[1:-1]
+            rows.append([cell.strip().replace('\\|', '|') for cell in cells])
+        found.append(rows)
+    return found
+
+
+def table(first, page=PAGE):
+    """The rows of the page's one table of these words."""
+    found = tables(page, first + ' |')
+    if len(found) != 1:
+        raise SystemExit('%s: %d tables %r' % (page, len(found), first))
+    return found[0]
 
 
 def numbered(crate, file, ending=''):
@@ -99,14 +108,21 @@ def nodes():
     same('host/document.h: kinds of nodes', words, [name for _, name in page])
 
 
-# the phrase of the page beside those of the papers
-STAR = ' if N is a name or *'
+# the phrases of the page that are side conditions
+PHRASES = [(' if a is below b, N below M', ['a_below_b', 'N_below_M']), (', b from 3 to 10,', ['b_from_3_to_10']),
+           (" if N is below M, N isn't node() and a isn't 11", ['N_below_M', 'N_not_node', 'a_not_attribute']),
+           (' if N is a name or *', ['N_a_name_or_star']), (" if a isn't 11", ['a_not_attribute'])]
 
 
-def forms_of(rule, form):
-    if form.endswith(STAR):
-        return [(n, c, ps, ['N_a_name_or_star']) for n, c, ps, _ in rule_table.forms_of(rule, form[:-len(STAR)], None)]
-    return rule_table.forms_of(rule, form, None)
+def forms_of(rule, text):
+    """The forms of a rule's text."""
+    conditions = []
+    for phrase, names in PHRASES:
+        if phrase in text:
+            text, conditions = text.replace(phrase, ''), names
+    concluded, _, premises = text.partition(' from ')
+    premises = [rule_table.claim(x) for x in premises.split(',')] if premises else []
+    return [(rule, c, premises, conditions) for c in rule_table.conclusions(concluded)]
 
 
 def rules():
@@ -147,10 +163,41 @@ def limits():
     same('include/spinebriar.h: limits', header, [specified[i] for i in (0, 1, 3, 4, 5, 6)])
 
 
+# the limits of docs/SPECIFICATION.md, in its order: the row of a table, and the constant of the specifications
+LIMITS = [('rows held', 'terms/specs/Row', 'max_rows'), ('nesting of a row', 'terms/specs/Nesting', 'max_nesting'),
+          ('rows', 'xpath/specs/Document', 'max_nodes'), ('steps held', 'calls/specs/Book', 'max_steps'),
+          ('levels of an expression', 'grammar/specs/Grammar', 'max_levels'),
+          ('number of a name', 'common/specs/Limits', 'max_number'), ('points held', 'calls/specs/Book', 'max_points'),
+          ('name of a point', 'common/specs/Limits', 'max_number'),
+          ('records held', 'records/specs/Records', 'max_records'),
+          ('old rows', 'replacing/specs/ReplaceCall', 'max_list'),
+          ('new rows', 'replacing/specs/ReplaceCall', 'max_list'),
+          ('file names', 'tallies/specs/NameList', 'max_files'),
+          ('bytes of a file', 'common/specs/Limits', 'max_bytes'),
+          ('bytes', 'common/specs/Limits', 'max_bytes')]
+
+
+def normative():
+    rows = table('kind | sort', NORMATIVE)
+    wanted = re.findall(r'(no_fields|fields (\w+) (\w+) (\w+))  -- (\d+) \w+',
+                        text_of('crates/terms/specs/Fields.antt'))
+    same(NORMATIVE + ': fields', [[row[0]] + [cell or 'unused' for cell in row[3:6]] for row in rows],
+         [[number] + (['unused'] * 3 if whole == 'no_fields' else [a, b, c]) for whole, a, b, c, number in wanted])
+    last_path = constant('crates/common/specs/RowKinds.antt', 'filter_row')
+    same(NORMATIVE + ': sorts', [row[1] == 'path' for row in rows], [int(row[0]) <= last_path for row in rows])
+    same(NORMATIVE + ': kinds of nodes', [(int(row[0]), row[1].split()[-1]) for row in table('kind | node', NORMATIVE)],
+         numbered('common', 'NodeKinds', '-kind'))
+    numbers = [int(row[0]) for rows in tables(NORMATIVE, 'number | call') for row in rows]
+    same(NORMATIVE + ': refusals', sorted(set(numbers)), [n for n, _ in numbered('common', 'Refusals')])
+    limits = [(row[0], int(row[-1])) for rows in tables(NORMATIVE, 'limit') for row in rows]
+    specified = [(what, constant('crates/%s.antt' % path, name)) for what, path, name in LIMITS]
+    same(NORMATIVE + ': limits', limits, specified)
+
+
 def main():
     if len(sys.argv) != 1:
         raise SystemExit(__doc__)
-    for part in (kinds, axes_and_tests, nodes, rules, refusals, limits):
+    for part in (kinds, axes_and_tests, nodes, rules, refusals, limits, normative):
         part()
     sys.exit(1 if problems else 0)
 
