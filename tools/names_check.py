@@ -4,14 +4,15 @@
     python3 tools/names_check.py [PAGE ..]
     python3 tools/names_check.py --selftest
 
-Without pages it takes README.md, CONTRIBUTING.md and docs/*.md (the notes in docs/changes/ speak of their own time). What
-must be there, of the text that is no block of code:
+Without pages it takes README.md, CONTRIBUTING.md and docs/*.md (the notes in docs/changes/ speak of their own time).
+What must be there, of the text that is no block of code:
   - a path: a file with one of the endings below, or what begins with a folder of the repository; below crates/ where it
     isn't at the root; a file's name alone is that of some file;
-  - `crate::name` and `Type::name`, and `crate/name`, which is an edit of the crate's must-fail/ or a file or folder of it;
+  - `crate::name` and `Type::name`, and `crate/name`, which is an edit of the crate's must-fail/, or a file or folder of
+    it;
   - names in backticks that look like code, with `_` or a capital within: they are words of some specification, proof,
     source or script, comments left out;
-  - in `a`, `b` in FILE: the names are words of that file.
+  - in `a`, `b` in FILE, a folder too: the names are words of it.
 Of docs/TRACE.md beside that: every name in backticks, the names in columns headed Theorem as fields of the page of
 theorems, a section for each of docs/SPECIFICATION.md, and in its last table each edit of the tree once.
 
@@ -144,12 +145,12 @@ def name_problems(text, strict):
 
 
 def placed_problems(text):
-    """Names that are cited with a file."""
-    for names, path in re.findall(r'((?:`[^`\n]+`(?:, | and |, and ))*`[^`\n]+`) in ([\w./-]+\.(?:antt|rt))', text):
-        files = [p for p in (path, 'crates/' + path) if os.path.isfile(p)]
-        if not files and '/' not in path:
-            files = [p for p in FILES if p.endswith('/' + path)]
-        words = set().union(*[words_of(p) for p in files]) if files else set()
+    """Names that are cited with a file or folder."""
+    for names, path in re.findall(r'((?:`[^`\n]+`(?:, | and |, and ))*`[^`\n]+`) in ([\w./-]*[\w/])', text):
+        if not path.endswith(('.antt', '.rt')) and 'crates/' + path not in FOLDERS:
+            continue
+        files = [p for p in FILES if ('/' + p).endswith('/' + path) or p.startswith('crates/%s/' % path) and code(p)]
+        words = set().union(*[words_of(p) for p in files])
         for name in re.findall(r'`([^`]+)`', names):
             if re.fullmatch(r"[A-Za-z_][\w']*", name) and name not in words:
                 yield '%s in %s' % (name, path)
