@@ -3,24 +3,31 @@
 Run it at the repository's root:
 
     python3 tools/format_check.py
+    python3 tools/format_check.py --selftest
+
+The second changes the numbers of docs/SPECIFICATION.md's tables in a copy, one at a time, and fails if a change goes
+unseen.
 
 Compared: kinds of rows (common RowKinds, terms Fields), axes, tests, kinds of nodes (common), the axis order (rules
 Order), opposite axes (rules WayBack), the rules form by form (rules RuleTable, read by tools/rule_table.py),
-refusals (common Refusals), limits, of docs/SPECIFICATION.md the kinds, the numbers of refusals and the limits (its rule
-table is tools/rule_table.py's), and that host/rules.c, host/terms.c, host/bundle.h, host/document.h and
+refusals (common Refusals), limits, of docs/SPECIFICATION.md the kinds, the numbers of refusals, their orders (the
+definitions of the calls' answers), the limits and the log cases (xpath LogCases), while its rule table is
+tools/rule_table.py's, and that host/rules.c, host/terms.c, host/bundle.h, host/document.h and
 include/spinebriar.h say the same. Not compared: the pages' sentences, the columns `written` of kinds, `selects`, `its
 name` and `when`, the test order, the table of selectors and rule 59's way back but for its axes.
 """
-import re, sys
+import contextlib, io, re, sys
 
 import rule_table
 
 PAGE, NORMATIVE = 'docs/FORMAT.md', 'docs/SPECIFICATION.md'
+# texts that stand for those of files
+changed = {}
 problems = []
 
 
 def text_of(path):
-    return open(path, encoding='utf-8').read()
+    return changed[path] if path in changed else open(path, encoding='utf-8').read()
 
 
 def same(what, page, specification):
@@ -177,7 +184,59 @@ LIMITS = [('rows held', 'terms/specs/Row', 'max_rows'), ('nesting of a row', 'te
           ('bytes', 'common/specs/Limits', 'max_bytes')]
 
 
+# where a call's refusals are tried in turn: the call, the file, the definition
+ORDERS = [('term', 'calls/specs/TermCall', 'term_answer'), ('step', 'calls/specs/StepCall', 'step_answer_by'),
+          ('text', 'grammar/specs/Answer', 'data Answers'), ('select', 'calls/specs/SelectCall', 'select_answer'),
+          ('write', 'session/specs/WriteCall', 'write_answer'), ('point', 'calls/specs/PointCall', 'point_answer'),
+          ('return', 'calls/specs/PointCall', 'return_answer'), ('record', 'records/specs/Records', 'record_answer'),
+          ('release', 'records/specs/Releases', 'release_answer'),
+          ('replace', 'replacing/specs/ReplaceCall', 'replace_answer'),
+          ('order', 'ordering/specs/OrderCall', 'order_answer')]
+
+
+# refusals whose definitions have no order: of a line, of a list of files, and of a return that a register bars
+OTHER_REFUSALS = [(10, 'read'), (17, 'program tally'), (24, 'return')]
+
+
+def order_of(file, definition):
+    """The numbers of the refusals of a definition, in the order in which it has them."""
+    numbers = {name.replace('-', '_'): n for n, name in numbered('common', 'Refusals')}
+    body = text_of('crates/%s.antt' % file).split('pub %s ' % definition, 1)[1].split('\n\n')[0]
+    found = [numbers[word] for word in re.findall(r'\w+', body) if word in numbers]
+    # what a document is refused with stands last: it is the case of an Option that has a value
+    return sorted(dict.fromkeys(found), key=lambda n: n != 8)
+
+
+def log_case(text):
+    """A path of LogCases.antt as the page writes it."""
+    text = re.sub(r'\((\w+) :: (\w+)\)', r'\1::\2', text)
+    text = re.sub(r'\((\w+) ::node\)', r'\1::node()', text)
+    text = re.sub(r'\(some_of (\S+?)\)', r'[some \1]', text).replace('Root', 'R')
+    text = re.sub(r'\(Composition (\S+) (\S+)\)', r'\1/\2', text)
+    return re.sub(r'\(Filter (\S+) (\[.*\])\)', r'\1\2', text).replace('_', '-')
+
+
+def log_cases():
+    text = text_of('crates/xpath/specs/values/LogCases.antt').split('AllRight\n')[1].split('unfolding')[0]
+    cases = []
+    for path, node, found in re.findall(r'nodes log_document (\S+|\(.*\)) (\d+) is (.*)', text):
+        listed = re.findall(r'\d+', found)
+        cases.append([log_case(path), node, ', '.join(listed) or 'none', ''])
+    for path, node, count in re.findall(r'visits log_document (\(.*\)) (\d+) ∷ \[\]\) is \((\d+)', text):
+        for case in cases:
+            if case[:2] == [log_case(path), node]:
+                case[3] = count
+    return cases
+
+
 def normative():
+    orders = [(row[0], [int(n) for n in row[1].split(', ')]) for row in table('call | order', NORMATIVE)]
+    wanted = [(call, order_of(file, definition)) for call, file, definition in ORDERS]
+    # a register bars a return that its session would accept
+    wanted += [('return, on a register', dict(wanted)['return'] + [24])]
+    same(NORMATIVE + ': orders of refusals', sorted(orders), sorted(wanted))
+    cases = [[row[0].strip('`')] + row[1:] for row in table('selector | from', NORMATIVE)]
+    same(NORMATIVE + ': log cases', cases, log_cases())
     rows = table('kind | sort', NORMATIVE)
     wanted = re.findall(r'(no_fields|fields (\w+) (\w+) (\w+))  -- (\d+) \w+',
                         text_of('crates/terms/specs/Fields.antt'))
@@ -187,14 +246,53 @@ def normative():
     same(NORMATIVE + ': sorts', [row[1] == 'path' for row in rows], [int(row[0]) <= last_path for row in rows])
     same(NORMATIVE + ': kinds of nodes', [(int(row[0]), row[1].split()[-1]) for row in table('kind | node', NORMATIVE)],
          numbered('common', 'NodeKinds', '-kind'))
-    numbers = [int(row[0]) for rows in tables(NORMATIVE, 'number | call') for row in rows]
-    same(NORMATIVE + ': refusals', sorted(set(numbers)), [n for n, _ in numbered('common', 'Refusals')])
+    rows = [row for rows in tables(NORMATIVE, 'number | call') for row in rows]
+    pairs = [(int(row[0]), call) for row in rows for call in row[1].replace(', on a register', '').split(', ')]
+    same(NORMATIVE + ': refusals', sorted(pairs), sorted(
+        [(n, call) for call, file, definition in ORDERS for n in order_of(file, definition)] + OTHER_REFUSALS))
     limits = [(row[0], int(row[-1])) for rows in tables(NORMATIVE, 'limit') for row in rows]
     specified = [(what, constant('crates/%s.antt' % path, name)) for what, path, name in LIMITS]
     same(NORMATIVE + ': limits', limits, specified)
 
 
+# the headings of the page's tables that are compared
+COMPARED = ['kind | sort', 'kind | node', 'number | call', 'call | order', 'limit', 'selector | from']
+
+
+def selftest():
+    """Changes the numbers in the rows of the page's tables that are compared; how many, and which went unseen."""
+    text, count, unseen = text_of(NORMATIVE), 0, []
+    lines, within = text.split('\n'), False
+    for i, line in enumerate(lines):
+        if not line.startswith('|'):
+            within = False
+        elif lines[i + 1].startswith('|---'):
+            within = re.match(r'\| (%s)' % '|'.join(map(re.escape, COMPARED)), line)
+        elif within and not line.startswith('|---'):
+            last = line.index(' |', 3) if within.group(1) in COMPARED[1:3] else len(line)
+            for match in re.finditer(r'\b\d+\b', line[:last]):
+                if within.group(1) == 'limit' and '| ' in line[match.end() + 1:]:
+                    continue
+                count += 1
+                changed[NORMATIVE] = text.replace(line, line[:match.start()] + str(int(match.group()) + 1) +
+                                                  line[match.end():])
+                problems.clear()
+                try:
+                    normative()
+                except (KeyError, IndexError, ValueError, SystemExit):
+                    problems.append('unreadable')
+                if not problems:
+                    unseen.append((line, match.group()))
+    changed.clear()
+    return count, unseen
+
+
 def main():
+    if sys.argv[1:] == ['--selftest']:
+        with contextlib.redirect_stdout(io.StringIO()):
+            count, unseen = selftest()
+        print('%d changes, %d seen' % (count, count - len(unseen)), *unseen, sep='\n  ')
+        sys.exit(1 if unseen else 0)
     if len(sys.argv) != 1:
         raise SystemExit(__doc__)
     for part in (kinds, axes_and_tests, nodes, rules, refusals, limits, normative):
