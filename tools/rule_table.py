@@ -235,11 +235,11 @@ def conditions_of(cell):
     return [PHRASES[phrase] for phrase in found]
 
 
-def page_table(first, last=None):
-    """The rows of the page's one table whose heading row begins with these cells (and has no others)."""
+def page_table(*cells):
+    """The rows of the page's one table that is headed by these cells."""
     lines = text_of(PAGE).split('\n')
-    heading = '| %s |' % first if last is None else '| %s | %s |' % (first, last)
-    at = [i for i, line in enumerate(lines) if (line == heading if last else line.startswith(heading))]
+    heading = '| %s |' % ' | '.join(cells)
+    at = [i for i, line in enumerate(lines) if line == heading]
     if len(at) != 1:
         raise Wrong('%d tables %r' % (len(at), heading))
     rows = []
@@ -252,14 +252,15 @@ def page_table(first, last=None):
 
 
 def page_forms():
-    """The forms of the page's table, rule 59's last."""
-    forms, numbers = [], []
-    for row in page_table('rule | conclusion'):
+    """The forms of the page's table, rule 59's last, and the rules that are withdrawn."""
+    forms, numbers, withdrawn = [], [], []
+    for row in page_table('rule', 'conclusion', 'premises', 'conditions'):
         if len(row) != 4 or not row[0].isdigit():
             raise Wrong('no row of the rule table: %s' % row)
         rule = int(row[0])
         numbers.append(rule)
         if row[1:] == ['withdrawn', '', '']:
+            withdrawn.append(rule)
             continue
         concluded, premises, conditions = quoted(row[1]), [claim(x) for x in quoted(row[2])], conditions_of(row[3])
         if len(concluded) != 1:
@@ -267,16 +268,17 @@ def page_forms():
         forms += [(rule, c, premises, conditions) for c in conclusions(concluded[0])]
     if sorted(set(numbers)) != list(range(1, WAY_BACK_RULE + 1)) or numbers != sorted(numbers):
         raise Wrong('rules are not 1 to %d in order' % WAY_BACK_RULE)
-    withdrawn = sorted(set(numbers) - {form[0] for form in forms})
+    if set(withdrawn) & {form[0] for form in forms}:
+        raise Wrong('a rule is withdrawn and has a form: %s' % withdrawn)
     return forms, withdrawn
 
 
 def page_axes():
-    return [(int(n), name) for n, name in page_table('axis | name')]
+    return [(int(n), name) for n, name in page_table('axis', 'name')]
 
 
 def page_tests():
-    return [(int(row[0]), row[1].strip('`')) for row in page_table('test | written')]
+    return [(int(row[0]), row[1].strip('`')) for row in page_table('test', 'written', 'c')]
 
 
 def page_axis_pairs():
@@ -301,7 +303,8 @@ def page_test_pairs():
     return sorted([('same', 'same')] + [(named(low), named(high)) for low, high in page_table('test', 'is below')])
 
 
-# 2. The specifications.
+# 2. specs/RuleTable.antt.
+
 LIBRARY = {'∷': (67, 'r'), '++': (65, 'l')}
 
 
@@ -803,6 +806,7 @@ def changed_cells(row):
     yield line(str(int(rule) + 1), concluded, premises, conditions)
     if concluded != 'withdrawn':
         yield line(rule, 'withdrawn', '', '')
+        yield row + '\n' + line(rule, 'withdrawn', '', '')
         yield row + '\n' + row
     yield None
 
