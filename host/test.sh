@@ -300,5 +300,6 @@ deep >"$out/deep"
 python3 tools/differential/cases.py full-bundle 1 >"$out/full"
 passes "$out/stack" "$out/deep" "$out/full"
 passes python3 tools/format_check.py
+passes python3 tools/rule_table.py
 echo "$((tried - failed)) passed, $failed failed"
 [ "$failed" = 0 ]

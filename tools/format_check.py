@@ -1,25 +1,33 @@
 #!/usr/bin/env python3
-"""Holds the tables of docs/FORMAT.md against the specifications, and host/ against both. Run it at the repository's
-root:
+"""Holds the tables of docs/FORMAT.md and of docs/SPECIFICATION.md against the specifications, and host/ against these.
+Run it at the repository's root:
 
     python3 tools/format_check.py
+    python3 tools/format_check.py --selftest
+
+The second changes the numbers of docs/SPECIFICATION.md's tables in a copy, one at a time, and fails if a change goes
+unseen.
 
 Compared: kinds of rows (common RowKinds, terms Fields), axes, tests, kinds of nodes (common), the axis order (rules
 Order), opposite axes (rules WayBack), the rules form by form (rules RuleTable, read by tools/rule_table.py),
-refusals (common Refusals), limits, and that host/rules.c, host/terms.c, host/bundle.h, host/document.h and
-include/spinebriar.h say the same. Not compared: the page's sentences, the columns `written` of kinds, `selects`, `its
+refusals (common Refusals), limits, of docs/SPECIFICATION.md the kinds, the numbers of refusals, their orders (the
+definitions of the calls' answers), the limits and the log cases (xpath LogCases), while its rule table is
+tools/rule_table.py's, and that host/rules.c, host/terms.c, host/bundle.h, host/document.h and
+include/spinebriar.h say the same. Not compared: the pages' sentences, the columns `written` of kinds, `selects`, `its
 name` and `when`, the test order, the table of selectors and rule 59's way back but for its axes.
 """
-import re, sys
+import contextlib, io, re, sys
 
 import rule_table
 
-PAGE = 'docs/FORMAT.md'
+PAGE, NORMATIVE = 'docs/FORMAT.md', 'docs/SPECIFICATION.md'
+# texts that stand for those of files
+changed = {}
 problems = []
 
 
 def text_of(path):
-    return open(path, encoding='utf-8').read()
+    return changed[path] if path in changed else open(path, encoding='utf-8').read()
 
 
 def same(what, page, specification):
@@ -30,19 +38,27 @@ def same(what, page, specification):
     print('%s: DIFFERENT\n  %s\n  %s' % (what, page, specification))
 
 
-def table(first):
-    """The rows of the page's table whose heading begins with these words."""
-    lines = text_of(PAGE).split('\n')
-    at = [i for i, line in enumerate(lines) if line.startswith('| %s |' % first)]
-    if len(at) != 1:
-        raise SystemExit('%s: %d tables %r' % (PAGE, len(at), first))
-    rows = []
-    for line in lines[at[0] + 2:]:
-        if not line.startswith('|'):
-            break
-        cells = re.split(r'(?<!\\)\|', line)[1:-1]
-        rows.append([cell.strip().replace('\\|', '|') for cell in cells])
-    return rows
+def tables(page, first):
+    """The rows of each table of a page whose heading begins with these words."""
+    lines = text_of(page).split('\n')
+    found = []
+    for at in [i for i, line in enumerate(lines) if line.startswith('| %s' % first)]:
+        rows = []
+        for line in lines[at + 2:]:
+            if not line.startswith('|'):
+                break
+            cells = re.split(r'(?<!\\)\|', line)[1:-1]
+            rows.append([cell.strip().replace('\\|', '|') for cell in cells])
+        found.append(rows)
+    return found
+
+
+def table(first, page=PAGE):
+    """The rows of the page's one table of these words."""
+    found = tables(page, first + ' |')
+    if len(found) != 1:
+        raise SystemExit('%s: %d tables %r' % (page, len(found), first))
+    return found[0]
 
 
 def numbered(crate, file, ending=''):
@@ -99,14 +115,21 @@ def nodes():
     same('host/document.h: kinds of nodes', words, [name for _, name in page])
 
 
-# the phrase of the page beside those of the papers
-STAR = ' if N is a name or *'
+# the phrases of the page that are side conditions
+PHRASES = [(' if a is below b, N below M', ['a_below_b', 'N_below_M']), (', b from 3 to 10,', ['b_from_3_to_10']),
+           (" if N is below M, N isn't node() and a isn't 11", ['N_below_M', 'N_not_node', 'a_not_attribute']),
+           (' if N is a name or *', ['N_a_name_or_star']), (" if a isn't 11", ['a_not_attribute'])]
 
 
-def forms_of(rule, form):
-    if form.endswith(STAR):
-        return [(n, c, ps, ['N_a_name_or_star']) for n, c, ps, _ in rule_table.forms_of(rule, form[:-len(STAR)], None)]
-    return rule_table.forms_of(rule, form, None)
+def forms_of(rule, text):
+    """The forms of a rule's text."""
+    conditions = []
+    for phrase, names in PHRASES:
+        if phrase in text:
+            text, conditions = text.replace(phrase, ''), names
+    concluded, _, premises = text.partition(' from ')
+    premises = [rule_table.claim(x) for x in premises.split(',')] if premises else []
+    return [(rule, c, premises, conditions) for c in rule_table.conclusions(concluded)]
 
 
 def rules():
@@ -147,10 +170,132 @@ def limits():
     same('include/spinebriar.h: limits', header, [specified[i] for i in (0, 1, 3, 4, 5, 6)])
 
 
+# the limits of docs/SPECIFICATION.md, in its order: the row of a table, and the constant of the specifications
+LIMITS = [('rows held', 'terms/specs/Row', 'max_rows'), ('nesting of a row', 'terms/specs/Nesting', 'max_nesting'),
+          ('rows', 'xpath/specs/Document', 'max_nodes'), ('steps held', 'calls/specs/Book', 'max_steps'),
+          ('levels of an expression', 'grammar/specs/Grammar', 'max_levels'),
+          ('number of a name', 'common/specs/Limits', 'max_number'), ('points held', 'calls/specs/Book', 'max_points'),
+          ('name of a point', 'common/specs/Limits', 'max_number'),
+          ('records held', 'records/specs/Records', 'max_records'),
+          ('old rows', 'replacing/specs/ReplaceCall', 'max_list'),
+          ('new rows', 'replacing/specs/ReplaceCall', 'max_list'),
+          ('file names', 'tallies/specs/NameList', 'max_files'),
+          ('bytes of a file', 'common/specs/Limits', 'max_bytes'),
+          ('bytes', 'common/specs/Limits', 'max_bytes')]
+
+
+# where a call's refusals are tried in turn: the call, the file, the definition
+ORDERS = [('term', 'calls/specs/TermCall', 'term_answer'), ('step', 'calls/specs/StepCall', 'step_answer_by'),
+          ('text', 'grammar/specs/Answer', 'data Answers'), ('select', 'calls/specs/SelectCall', 'select_answer'),
+          ('write', 'session/specs/WriteCall', 'write_answer'), ('point', 'calls/specs/PointCall', 'point_answer'),
+          ('return', 'calls/specs/PointCall', 'return_answer'), ('record', 'records/specs/Records', 'record_answer'),
+          ('release', 'records/specs/Releases', 'release_answer'),
+          ('replace', 'replacing/specs/ReplaceCall', 'replace_answer'),
+          ('order', 'ordering/specs/OrderCall', 'order_answer')]
+
+
+# refusals whose definitions have no order: of a line, of a list of files, and of a return that a register bars
+OTHER_REFUSALS = [(10, 'read'), (17, 'program tally'), (24, 'return')]
+
+
+def order_of(file, definition):
+    """The numbers of the refusals of a definition, in the order in which it has them."""
+    numbers = {name.replace('-', '_'): n for n, name in numbered('common', 'Refusals')}
+    body = text_of('crates/%s.antt' % file).split('pub %s ' % definition, 1)[1].split('\n\n')[0]
+    found = [numbers[word] for word in re.findall(r'\w+', body) if word in numbers]
+    # what a document is refused with stands last: it is the case of an Option that has a value
+    return sorted(dict.fromkeys(found), key=lambda n: n != 8)
+
+
+def log_case(text):
+    """A path of LogCases.antt as the page writes it."""
+    text = re.sub(r'\((\w+) :: (\w+)\)', r'\1::\2', text)
+    text = re.sub(r'\((\w+) ::node\)', r'\1::node()', text)
+    text = re.sub(r'\(some_of (\S+?)\)', r'[some \1]', text).replace('Root', 'R')
+    text = re.sub(r'\(Composition (\S+) (\S+)\)', r'\1/\2', text)
+    return re.sub(r'\(Filter (\S+) (\[.*\])\)', r'\1\2', text).replace('_', '-')
+
+
+def log_cases():
+    text = text_of('crates/xpath/specs/values/LogCases.antt').split('AllRight\n')[1].split('unfolding')[0]
+    cases = []
+    for path, node, found in re.findall(r'nodes log_document (\S+|\(.*\)) (\d+) is (.*)', text):
+        listed = re.findall(r'\d+', found)
+        cases.append([log_case(path), node, ', '.join(listed) or 'none', ''])
+    for path, node, count in re.findall(r'visits log_document (\(.*\)) (\d+) ∷ \[\]\) is \((\d+)', text):
+        for case in cases:
+            if case[:2] == [log_case(path), node]:
+                case[3] = count
+    return cases
+
+
+def normative():
+    orders = [(row[0], [int(n) for n in row[1].split(', ')]) for row in table('call | order', NORMATIVE)]
+    wanted = [(call, order_of(file, definition)) for call, file, definition in ORDERS]
+    # a register bars a return that its session would accept
+    wanted += [('return, on a register', dict(wanted)['return'] + [24])]
+    same(NORMATIVE + ': orders of refusals', sorted(orders), sorted(wanted))
+    cases = [[row[0].strip('`')] + row[1:] for row in table('selector | from', NORMATIVE)]
+    same(NORMATIVE + ': log cases', cases, log_cases())
+    rows = table('kind | sort', NORMATIVE)
+    wanted = re.findall(r'(no_fields|fields (\w+) (\w+) (\w+))  -- (\d+) \w+',
+                        text_of('crates/terms/specs/Fields.antt'))
+    same(NORMATIVE + ': fields', [[row[0]] + [cell or 'unused' for cell in row[3:6]] for row in rows],
+         [[number] + (['unused'] * 3 if whole == 'no_fields' else [a, b, c]) for whole, a, b, c, number in wanted])
+    last_path = constant('crates/common/specs/RowKinds.antt', 'filter_row')
+    same(NORMATIVE + ': sorts', [row[1] == 'path' for row in rows], [int(row[0]) <= last_path for row in rows])
+    same(NORMATIVE + ': kinds of nodes', [(int(row[0]), row[1].split()[-1]) for row in table('kind | node', NORMATIVE)],
+         numbered('common', 'NodeKinds', '-kind'))
+    rows = [row for rows in tables(NORMATIVE, 'number | call') for row in rows]
+    pairs = [(int(row[0]), call) for row in rows for call in row[1].replace(', on a register', '').split(', ')]
+    same(NORMATIVE + ': refusals', sorted(pairs), sorted(
+        [(n, call) for call, file, definition in ORDERS for n in order_of(file, definition)] + OTHER_REFUSALS))
+    limits = [(row[0], int(row[-1])) for rows in tables(NORMATIVE, 'limit') for row in rows]
+    specified = [(what, constant('crates/%s.antt' % path, name)) for what, path, name in LIMITS]
+    same(NORMATIVE + ': limits', limits, specified)
+
+
+# the headings of the page's tables that are compared
+COMPARED = ['kind | sort', 'kind | node', 'number | call', 'call | order', 'limit', 'selector | from']
+
+
+def selftest():
+    """Changes the numbers in the rows of the page's tables that are compared; how many, and which went unseen."""
+    text, count, unseen = text_of(NORMATIVE), 0, []
+    lines, within = text.split('\n'), False
+    for i, line in enumerate(lines):
+        if not line.startswith('|'):
+            within = False
+        elif lines[i + 1].startswith('|---'):
+            within = re.match(r'\| (%s)' % '|'.join(map(re.escape, COMPARED)), line)
+        elif within and not line.startswith('|---'):
+            last = line.index(' |', 3) if within.group(1) in COMPARED[1:3] else len(line)
+            for match in re.finditer(r'\b\d+\b', line[:last]):
+                if within.group(1) == 'limit' and '| ' in line[match.end() + 1:]:
+                    continue
+                count += 1
+                changed[NORMATIVE] = text.replace(line, line[:match.start()] + str(int(match.group()) + 1) +
+                                                  line[match.end():])
+                problems.clear()
+                try:
+                    normative()
+                except (KeyError, IndexError, ValueError, SystemExit):
+                    problems.append('unreadable')
+                if not problems:
+                    unseen.append((line, match.group()))
+    changed.clear()
+    return count, unseen
+
+
 def main():
+    if sys.argv[1:] == ['--selftest']:
+        with contextlib.redirect_stdout(io.StringIO()):
+            count, unseen = selftest()
+        print('%d changes, %d seen' % (count, count - len(unseen)), *unseen, sep='\n  ')
+        sys.exit(1 if unseen else 0)
     if len(sys.argv) != 1:
         raise SystemExit(__doc__)
-    for part in (kinds, axes_and_tests, nodes, rules, refusals, limits):
+    for part in (kinds, axes_and_tests, nodes, rules, refusals, limits, normative):
         part()
     sys.exit(1 if problems else 0)
 
