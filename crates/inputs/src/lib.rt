@@ -1,22 +1,31 @@
-// What is read of a file or a stream: its bytes, of which no more are taken than tell that it is no bundle.
+// What is read of a file or a stream, of which no more bytes are taken than tell that it is too long.
 #![tactic(auto)]
 
 ghost use Rattle.std.specs.Prelude.{◌≡◌, ◌≢◌, ◌+◌, take, IfOk, IfErr, IfSome};
 ghost use Rattle.std.specs.IoError.{error_kind};
+ghost use Rattle.common.specs.Limits.{max_bytes};
 
 use std::alloc::Global;
 use std::io::{self, ErrorKind, Read};
 
-// One byte more than a bundle may have, so that a longer file shows.
-const MOST: usize = common::MAX_BYTES + 1;
+#[cfg(test)]
+mod tests;
 
-/// The bytes that the reader has left, of a longer input the first `MAX_BYTES + 1` of them. A read that is interrupted
-/// is made again; any other that fails is the error, so that it is never taken for the end.
-pub fn read_bundle<R: Read + Drop>(alloc: Global, reader: R) -> io::Result<Vec<u8>>
-    ensures bytes { IfOk result (λ v. IfSome (R.remaining reader) (λ xs. v.items ≡ take MOST xs)) }
+/// The bytes that the reader has left, of a longer input the first `most` of them. A read that is interrupted is made
+/// again; any other that fails is the error, so that it is never taken for the end.
+pub fn read_up_to<R: Read + Drop>(alloc: Global, reader: R, most: usize) -> io::Result<Vec<u8>>
+    ensures bytes { IfOk result (λ v. IfSome (R.remaining reader) (λ xs. v.items ≡ take most xs)) }
     ensures retried { IfErr result (λ e. error_kind e ≢ ErrorKind.Interrupted) }
 {
     let mut bytes = Vec::new(alloc);
-    reader.take(MOST as u64).read_to_end(&mut bytes)?;
+    reader.take(most as u64).read_to_end(&mut bytes)?;
     Ok(bytes)
+}
+
+/// The same of a bundle or a script: one byte more than it may have, so that a longer one shows.
+pub fn read_bundle<R: Read + Drop>(alloc: Global, reader: R) -> io::Result<Vec<u8>>
+    ensures bytes { IfOk result (λ v. IfSome (R.remaining reader) (λ xs. v.items ≡ take (max_bytes + 1) xs)) }
+    ensures retried { IfErr result (λ e. error_kind e ≢ ErrorKind.Interrupted) }
+{
+    read_up_to(alloc, reader, common::MAX_BYTES + 1)
 }

@@ -10,9 +10,6 @@ use std::alloc::Global;
 use std::fmt::Write;
 use std::io::Read;
 
-#[cfg(test)]
-mod tests;
-
 // Longer than the heading and five numbers of at most twenty digits.
 const LONGEST_REPORT: usize = 256;
 

@@ -1,11 +1,11 @@
 // Reads up to 64 file names from standard input, one a line, and prints the uses of each rule over the bundles in
-// these files.
+// these files. A list whose reading fails is an error, and nothing is printed.
 #![tactic(auto)]
 
-use std::os::fd::AsRawFd;
+use std::io;
 
-fn main(rt: HostRuntime) {
-    let mut list = [0u8; tally_reports::LONGEST_LIST];
-    let length = io::read_full(rt.stdin().as_raw_fd(), &mut list);
-    tally_reports::print_list(&rt, &list[..length]);
+fn main(rt: HostRuntime) -> io::Result<()> {
+    let list = inputs::read_up_to(rt.alloc(), rt.stdin(), tally_reports::LONGEST_LIST)?;
+    tally_reports::print_list(&rt, &list);
+    Ok(())
 }

@@ -1,9 +1,9 @@
 // Prints of lists of the files in data/ what tally prints of them, and last of the list in standard input.
 #![tactic(auto)]
 
-use std::os::fd::AsRawFd;
+use std::io;
 
-fn main(rt: HostRuntime) {
+fn main(rt: HostRuntime) -> io::Result<()> {
     // No name; names with and without the last newline; a name twice.
     tally_reports::print_list(&rt, b"");
     tally_reports::print_list(&rt, b"one\n");
@@ -18,7 +18,7 @@ fn main(rt: HostRuntime) {
     tally_reports::print_list(&rt, b"one\nrefused\nmissing\nmissing\n");
     tally_reports::print_list(&rt, b"one\n\none\n");
     tally_reports::print_list(&rt, b"one\none\0e\n");
-    let mut list = [0u8; 4096];
-    let length = io::read_full(rt.stdin().as_raw_fd(), &mut list);
-    tally_reports::print_list(&rt, &list[..length]);
+    let list = inputs::read_up_to(rt.alloc(), rt.stdin(), tally_reports::LONGEST_LIST)?;
+    tally_reports::print_list(&rt, &list);
+    Ok(())
 }

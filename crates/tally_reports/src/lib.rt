@@ -3,9 +3,6 @@
 
 mod judged;
 
-#[cfg(test)]
-mod tests;
-
 ghost use Rattle.std.specs.Prelude.{◌≡◌, ◌⊎◌, true, false, [], IfSome};
 ghost use Rattle.tallies.specs.Count.{file};
 ghost use Rattle.tallies.specs.code.Tally.{with_file};
@@ -43,11 +40,10 @@ pub fn with_bundle<R: Read + Drop>(alloc: Global, tally: Tally, reader: R) -> Ta
 
 // Reads the files of a list that was judged.
 fn add_all(alloc: Global, files: JudgedFiles) -> Tally {
-    files
-        .into_files()
-        .into_iter()
-        .flatten()
-        .fold(Tally::new(), |tally, file| with_bundle(alloc, tally, file))
+    files.into_files().into_iter().flatten().fold(
+        Tally::new(),
+        |tally, file| with_bundle(alloc, tally, file),
+    )
 }
 
 // Much as `print` of reports, which says why they are two functions.
@@ -67,7 +63,7 @@ fn print_tally(tally: Tally) {
 /// Prints the tally of the bundles in the files that the list names: under the heading `rule uses` a line for each rule
 /// from 1 up, and a last line with 0 and the total; of a list that is refused, `17 LINE` alone, and then no file is
 /// read. No contract can speak of what is opened, read or printed; the numbers are those of crate tallies.
-pub fn print_list(rt: &(impl Files<File = File> + Alloc), list: &[u8]) {
+pub fn print_list(rt: &(impl Files<File = File> + Alloc<A = Global>), list: &[u8]) {
     match JudgedFiles::open(rt, list) {
         Ok(files) => print_tally(add_all(rt.alloc(), files)),
         Err(refused) => print_line(AnswerLine::from(refused)),

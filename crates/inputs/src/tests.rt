@@ -1,10 +1,9 @@
 // Readers that no file is: one that fails in the middle, and one that gives a byte at a time.
-use crate::report_of;
-use auditing::Report;
+use crate::read_bundle;
 use std::io::{self, ErrorKind, Read};
 use std::test::Fail;
 
-const BUNDLE: &[u8] = b"kind a b c\n2 1 0 2\n2 3 1 0\nrule left right first second\n8 0 1 0 0\n";
+const BYTES: &[u8] = b"kind a b c\nrule left right first second\n";
 
 // Gives at most `most` bytes a read, every second read being interrupted first, and fails behind its last byte where
 // `fails`.
@@ -35,7 +34,7 @@ impl Read for Slow<'_> {
 
 fn slow(most: usize, fails: bool) -> Slow<'static> {
     Slow {
-        left: BUNDLE,
+        left: BYTES,
         most,
         fails,
         interrupted: false,
@@ -44,20 +43,15 @@ fn slow(most: usize, fails: bool) -> Slow<'static> {
 
 #[test]
 fn a_byte_at_a_time(rt: HostRuntime) -> Result<(), Fail> {
-    let report = Report {
-        answer: 0,
-        line: 0,
-        steps: 1,
-        left: 0,
-        right: 1,
-    };
-    assert_eq!(rt; report_of(rt.alloc(), slow(1, false)), report);
-    assert_eq!(rt; report_of(rt.alloc(), slow(100, false)), report);
+    let bytes = read_bundle(rt.alloc(), slow(1, false))?;
+    assert_eq!(rt; bytes.as_slice(), BYTES);
+    let bytes = read_bundle(rt.alloc(), slow(100, false))?;
+    assert_eq!(rt; bytes.as_slice(), BYTES);
     Ok(())
 }
 
 #[test]
 fn a_read_that_fails(rt: HostRuntime) -> Result<(), Fail> {
-    assert_eq!(rt; report_of(rt.alloc(), slow(7, true)), auditing::unread());
+    assert!(rt; read_bundle(rt.alloc(), slow(7, true)).is_err());
     Ok(())
 }
