@@ -1,18 +1,23 @@
 /* Measures the proved read and write against the reference's on one bundle, and the proved selection against libxml2's
  * XPath with compiled expressions on a document nested 500 levels and on a flat one: on a tree that stands already, and
  * with the parsing of the document's text. Then the longest time of one visit. After the bundle, one term call and one
- * step call by rules 2 and 59, and the orders of two rows and of two bundles. Then texts of 65,536 bytes. Prints
- * tables in Markdown. run.sh builds and runs it. */
+ * step call by rules 2 and 59, and the orders of two rows and of two bundles. Then texts of 65,536 bytes. The archive's
+ * calls and the program replay stand beside those of an older commit, where run.sh is given one. Prints tables in
+ * Markdown. run.sh builds and runs it. */
 
+#define _POSIX_C_SOURCE 200809L
 #include "spinebriar.h"
 #include <ctype.h>
+#include <fcntl.h>
 #include <libxml/parser.h>
 #include <libxml/tree.h>
 #include <libxml/xpath.h>
+#include <spawn.h>
 #include <stdbool.h>
 #include <stdio.h>
 #include <stdlib.h>
 #include <string.h>
+#include <sys/wait.h>
 #include <time.h>
 
 /* crates/bench_select: rows are four numbers each, a document's nodes three; counts are of numbers. */
@@ -808,9 +813,143 @@ static void bench_texts(void) {
     }
 }
 
+/* The archive's calls, and the program replay; beside each that of an older commit, where its archive is there too,
+ * with `old_` before its names. */
+
+typedef struct {
+    uint16_t (*read)(const uint8_t *, size_t);
+    uint16_t (*file)(const uint8_t *, size_t, uint8_t *, size_t, size_t *);
+    uint16_t (*select)(const uint8_t *, size_t, const uint8_t *, size_t, const uint16_t *, size_t, uint16_t, uint32_t,
+                       uint8_t *, size_t, size_t *);
+} Archive;
+
+static const Archive OURS = {spinebriar_read, spinebriar_file, spinebriar_select};
+
+#ifdef OLD_ARCHIVE
+uint16_t old_spinebriar_read(const uint8_t *bytes, size_t length);
+uint16_t old_spinebriar_file(const uint8_t *calls, size_t length, uint8_t *out, size_t room, size_t *value);
+uint16_t old_spinebriar_select(const uint8_t *names, size_t names_length, const uint8_t *selector,
+                               size_t selector_length, const uint16_t *document, size_t document_numbers,
+                               uint16_t context, uint32_t limit, uint8_t *marks, size_t room, size_t *value);
+static const Archive OLD = {old_spinebriar_read, old_spinebriar_file, old_spinebriar_select};
+#else
+static const Archive OLD;
+#endif
+
+enum { CALLS_ROOM = 1 << 17 };
+
+static Bundle exported, calls; /* a bundle, and the calls that make it as a script */
+
+static void read_by(const Archive *archive) {
+    check(archive->read(exported.bytes, exported.length) == 0, "the bundle is refused");
+}
+
+static void file_by(const Archive *archive) {
+    static uint8_t out[ROOM];
+    size_t length;
+    check(archive->file(calls.bytes, calls.length, out, sizeof out, &length) == 0, "the calls are refused");
+    check(length == exported.length && memcmp(out, exported.bytes, length) == 0, "another bundle is filed");
+}
+
+/* On a chain of nodes of one name, each in the one before. */
+static void select_by(const Archive *archive) {
+    static const char names[] = "e1\n", selector[] = "/descendant::e1[e1]";
+    static uint16_t document[3 * NODES];
+    static uint8_t marks[NODES];
+    size_t value;
+    for (int i = 1; document[3 * (NODES - 1)] == 0 && i < NODES; i++) {
+        document[3 * i] = 1;
+        document[3 * i + 1] = (uint16_t)(i - 1);
+        document[3 * i + 2] = 1;
+    }
+    uint16_t answer = archive->select((const uint8_t *)names, sizeof names - 1, (const uint8_t *)selector,
+                                      sizeof selector - 1, document, 3 * NODES, 0, 1000000, marks, NODES, &value);
+    check(answer == 0 && marks[NODES - 2] == 1 && marks[NODES - 1] == 0, "the selection is another one");
+}
+
+#define SIDES(NAME) \
+    static void NAME##_ours(const void *of) { (void)of, NAME##_by(&OURS); } \
+    static void NAME##_old(const void *of) { (void)of, NAME##_by(&OLD); }
+
+SIDES(read)
+SIDES(file)
+SIDES(select)
+
+static const char *replay_program, *replay_script;
+
+/* The program replay on the script, its answers into a file. */
+static void replay(const char *program) {
+    posix_spawn_file_actions_t files;
+    char *const arguments[] = {(char *)program, NULL}, *const environment[] = {NULL};
+    pid_t child;
+    int status = 1;
+    posix_spawn_file_actions_init(&files);
+    posix_spawn_file_actions_addopen(&files, 0, replay_script, O_RDONLY, 0);
+    posix_spawn_file_actions_addopen(&files, 1, "target/bench/answers", O_WRONLY | O_CREAT | O_TRUNC, 0644);
+    check(posix_spawn(&child, program, &files, NULL, arguments, environment) == 0, "no program replay");
+    posix_spawn_file_actions_destroy(&files);
+    check(waitpid(child, &status, 0) == child && status == 0, "replay fails");
+}
+
+static void replay_ours(const void *of) {
+    (void)of, replay(replay_program);
+}
+
+static void replay_old(const void *of) { replay(of); }
+
+/* The old side is measured where there is one. */
+static Timing print_sides(const char *what, Call *old, Call *ours, const void *of) {
+    Timing sides[2] = {{.call = ours}, {.call = old}};
+    measure(sides, old ? 2 : 1, of);
+    printf("| %s |", what);
+    if (old) print_timings(&sides[1], &sides[0]);
+    else printf(" | | %.2f | %.2f | | |\n", min_us(&sides[0]), median_us(&sides[0]));
+    return sides[0];
+}
+
+/* The calls of the bundle: its rows' and steps' lines, with the word before each. */
+static void make_calls_of(const char *bundle) {
+    static char text[CALLS_ROOM];
+    const char *word = NULL;
+    for (const char *line = bundle; *line; line = strchr(line, '\n') + 1) {
+        if (isdigit((unsigned char)*line)) {
+            int size = (int)(strchr(line, '\n') + 1 - line);
+            calls.length += (size_t)snprintf(text + calls.length, CALLS_ROOM - calls.length, "%s %.*s", word, size, line);
+            check(calls.length < CALLS_ROOM, "too many calls");
+        } else {
+            word = word ? "step" : "term";
+        }
+    }
+    calls.bytes = (uint8_t *)text;
+}
+
+static void bench_exports(const char *bundle, const char *script, const char *program, const char *old_program) {
+    static uint8_t bytes[1 << 20];
+    FILE *file = fopen(bundle, "rb");
+    check(file != NULL, "no bundle");
+    exported = (Bundle){bytes, fread(bytes, 1, sizeof bytes - 1, file)};
+    fclose(file);
+    make_calls_of((const char *)bytes);
+    file = fopen(script, "wb");
+    check(file != NULL && fwrite(calls.bytes, 1, calls.length, file) == calls.length, "no room for the calls");
+    fclose(file);
+    replay_program = program;
+    replay_script = script;
+    bool old = OLD.read != NULL;
+    printf("\nThe archive's calls on the bundle of 1,024 rows and 2,048 steps, and on a chain, in microseconds:\n\n");
+    printf("| call | old min | median | ours min | median | ratio of min | of median |\n|---|---|---|---|---|---|---|\n");
+    Timing read = print_sides("spinebriar_read", old ? read_old : NULL, read_ours, NULL);
+    Timing filed = print_sides("spinebriar_file of its calls", old ? file_old : NULL, file_ours, NULL);
+    print_sides("spinebriar_select on a chain of 512 nodes", old ? select_old : NULL, select_ours, NULL);
+    print_sides("replay of its calls, by the clock", old_program ? replay_old : NULL, replay_ours, old_program);
+    printf("\nspinebriar_file takes %.2f times spinebriar_read by min, %.2f by median.\n", min_us(&filed) / min_us(&read),
+           median_us(&filed) / median_us(&read));
+}
+
 int main(int argc, char **argv) {
-    check(argc == 2, "usage: bench BUNDLE");
+    check(argc == 4 || argc == 5, "usage: bench BUNDLE CALLS REPLAY [OLD_REPLAY]");
     bench_read(argv[1]);
+    bench_exports(argv[1], argv[2], argv[3], argv[4]);
     bench_calls();
     bench_orders();
     bench_texts();

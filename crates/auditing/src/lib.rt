@@ -59,12 +59,13 @@ pub fn audit(bytes: &[u8]) -> Report
     if common::MAX_BYTES < bytes.len() {
         return unread();
     }
-    let read = Session::read(bytes);
-    let last = read.session.last_step();
+    let mut session = Session::new();
+    let answer = session.read(bytes);
+    let last = session.last_step();
     Report {
-        answer: read.answer.number(),
-        line: refused_line(read.answer),
-        steps: read.session.steps_held(),
+        answer: answer.number(),
+        line: refused_line(answer),
+        steps: session.steps_held(),
         left: last.left,
         right: last.right,
     }

@@ -59,13 +59,14 @@ impl Answer for ClaimRefusal {
 fn claim_in(bundle: &[u8], names: &[u8], old: &[u8], new: &[u8]) -> Result<usize, ClaimRefusal>
     ensures { claimed_of result ≡ claim_answer bundle.now names.now old.now new.now }
 {
-    let mut read = Session::read(bundle);
-    read.answer.map_err(ClaimRefusal::Bundle)?;
-    let first = read.session.text(names, old);
+    let mut session = Session::new();
+    let read = session.read(bundle);
+    read.map_err(ClaimRefusal::Bundle)?;
+    let first = session.text(names, old);
     let left = first.map_err(ClaimRefusal::OldSelector)?;
-    let second = read.session.text(names, new);
+    let second = session.text(names, new);
     let right = second.map_err(ClaimRefusal::NewSelector)?;
-    let step = read.session.step_saying(left, right);
+    let step = session.step_saying(left, right);
     step.ok_or(ClaimRefusal::Claim(Refusal::NotCovered(1)))
 }
 

@@ -11,12 +11,14 @@ use session::Session;
 pub fn spinebriar_read(bytes: &[u8]) -> u16
     ensures { result ≡ (reading bytes.now).answer.number }
 {
-    Session::read(bytes).answer.number()
+    let mut session = Session::new();
+    session.read(bytes).number()
 }
 
 // The same, with the answer's value: the number of steps held, or the refused line. Two functions, as C has both names.
 pub fn spinebriar_read_line(bytes: &[u8], value: &mut usize) -> u16
     ensures { answer result value.new ≡ (reading bytes.now).answer }
 {
-    tell(Session::read(bytes).answer, value)
+    let mut session = Session::new();
+    tell(session.read(bytes), value)
 }

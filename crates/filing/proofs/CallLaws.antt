@@ -79,13 +79,14 @@ filed_from_start script f start = rw (start.0, start.1)
 
 -- the bundle is written where no line is refused
 module _ (script buffer : Bytes) where
-  pub file_refused : (e : LineRefusal) → LinesMet script (Err e) → FileMet script buffer (line_answer e) buffer
+  pub file_refused : (e : LineRefusal) (s : Session) → LinesMet script (Err e) s
+      → FileMet script buffer (line_answer e) buffer
   unfolding file_answer file_buffer
-  file_refused e m =
+  file_refused e s m =
       let no = ne_eqb (refusal_number e.refusal) 0 (refusal_some e.refusal) in
       record { answer = rw (← m) (rw no); bytes = rw (← m) (rw no) }
 
-  pub file_written : (s : Session) → LinesMet script (Ok s) → (w : NumberOrRefusal) (left : Bytes)
+  pub file_written : (s : Session) → LinesMet script (Ok tt) s → (w : NumberOrRefusal) (left : Bytes)
       → WriteMet s buffer w left → FileMet script buffer (answer_of w) left
   unfolding file_answer file_buffer
   file_written s m w left written =

@@ -133,11 +133,11 @@ impl<'a> Filed<'a> {
     }
 }
 
-// The lines' calls, from a fresh session on.
-fn make_lines(script: &[u8]) -> Result<Session, LineRefusal>
-    ensures { LinesMet script.now result }
+// The lines' calls. No line is made yet: what a script files is told from a fresh session on.
+fn make_lines<'a>(script: &'a [u8], filed: &mut Filed<'a>) -> Result<(), LineRefusal>
+    requires { (filed.old.session ≡ fresh_session) × (filed.old.names.bytes.now ≡ []) }
+    ensures { LinesMet script.now result filed.new.session }
 {
-    let mut filed = Filed::new();
     for (i, line) in script.split_inclusive(|b| *b == lines::NEWLINE).enumerate() {
         let number = i + 1;
         filed.line(line).map_err(|refusal| LineRefusal {
@@ -145,7 +145,7 @@ fn make_lines(script: &[u8]) -> Result<Session, LineRefusal>
             line: number,
         })?;
     }
-    Ok(filed.session)
+    Ok(())
 }
 
 // Makes the calls of the script's lines, and writes the bundle of what they leave into the buffer; it gives the
@@ -153,7 +153,8 @@ fn make_lines(script: &[u8]) -> Result<Session, LineRefusal>
 pub fn file(script: &[u8], out: &mut [u8]) -> Result<usize, FileRefusal>
     ensures { FileMet script.now out.old (answer_with (λ n. n) file_refusal_answer result) out.new }
 {
-    let session = make_lines(script)?;
-    let length = session.write(out)?;
+    let mut filed = Filed::new();
+    make_lines(script, &mut filed)?;
+    let length = filed.session.write(out)?;
     Ok(length)
 }

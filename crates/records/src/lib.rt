@@ -2,7 +2,7 @@
 // calls record, current and release, and listings.
 #![tactic(auto)]
 
-ghost use Rattle.std.specs.Prelude.{◌≡◌, ◌<◌, leb, length};
+ghost use Rattle.std.specs.Prelude.{◌≡◌, ◌<◌, leb, length, OnErr};
 ghost use Rattle.terms.specs.Row.{table_of};
 ghost use Rattle.calls.specs.code.Answers.{done_answer_of};
 ghost use Rattle.calls.specs.code.Tables.{steps_of};
@@ -161,8 +161,9 @@ impl Records {
 
     // A record call on lent rows and steps: the answer, and the record after those held where it is accepted.
     pub fn record(&mut self, held: Held, given: Record) -> Result<(), Refusal>
-        ensures { RecordMade (table_of held.entry.rows.now) (steps_of held.entry.steps.now) self.old given result
+        ensures met { RecordMade (table_of held.entry.rows.now) (steps_of held.entry.steps.now) self.old given result
             self.new }
+        ensures refused { OnErr result (self.new ≡ self.old) }
     {
         self.judge(held, given)?;
         self.put(given);
@@ -214,7 +215,8 @@ impl Releases {
 
     // A release of the record at a place, counted from 1: the answer, and the releases left.
     pub fn release(&mut self, records: &Records, place: u16) -> Result<(), Refusal>
-        ensures { ReleaseMade (records_in records.now) self.old place result self.new }
+        ensures met { ReleaseMade (records_in records.now) self.old place result self.new }
+        ensures refused { OnErr result (self.new ≡ self.old) }
     {
         let n = records.size();
         let p = usize::from(place);

@@ -10,11 +10,13 @@ use Rattle.terms.specs.code.RowTypes as code
 use Rattle.terms.specs.Fields.{held_path}
 use Rattle.session.specs.declared.session.Session.{Session}
 use Rattle.records.specs.declared.Record.{Record}
-use Rattle.std.specs.Prelude.{Ok, Err}
+use Rattle.std.specs.Prelude.{Result, Ok, Err, OnErr}
+use Rattle.common.specs.declared.refusal.Refusal.{Refusal}
+use Rattle.calls.specs.declared.answer.LineRefusal.{LineRefusal}
 use Rattle.records.specs.declared.Records.{Records}
 use Rattle.common.specs.declared.refusal.Refusal.TheVariants as Refused
 use Rattle.register.specs.declared.Register.{Register}
-use Rattle.register.specs.code.Results.{ReadResult}
+use Rattle.register.specs.code.Results.{ReadResult, read_result}
 use Rattle.calls.specs.Book.{Step, Answer, answer, accepted}
 use Rattle.common.specs.Refusals.{full_or_in_use, no_record}
 use Rattle.common.proofs.Lent.{lent, lent_to_write}
@@ -24,6 +26,7 @@ use Rattle.calls.specs.Runs.{next, Run}
 use Rattle.calls.specs.Calls.{term, step, text, point, return}
 use Rattle.calls.specs.Above.{passed, own}
 use Rattle.calls.specs.code.Answers.{NumberOrRefusal, DoneOrRefusal, OrderOrRefusal, step_of, answer_of, done_answer_of}
+use Rattle.calls.specs.code.Answers.{answer_with, refusal_answer}
 use Rattle.calls.proofs.Runs.{made, run_exists}
 use Rattle.calls.proofs.Cases.{HasCase, either_case, term_case, step_case, text_case, point_case, return_case}
 use Rattle.records.specs.Records.{max_records, current, row_of, is_fit_step, record_answer}
@@ -31,7 +34,11 @@ use Rattle.records.specs.code.Held.{records_in, no_records}
 use Rattle.records.specs.Register.{drops_in_use}
 use Rattle.records.specs.Releases.{release_answer, crew_listing, crew_current, OfficeCall, OfficeSeen}
 use Rattle.records.specs.code.Listed.{listed, no_releases}
-use Rattle.session.specs.View.{view}
+use Rattle.session.specs.View.{view, fresh_session}
+use Rattle.session.specs.code.Results as session-read
+use Rattle.session.specs.ReadCall.{ReadMet}
+use Rattle.session.proofs.Refused.{refused_kept}
+use Rattle.session.proofs.ReadCalls.{refused_fresh}
 use Rattle.session.specs.Promises.{SelectMet}
 use Rattle.session.specs.ReplaceDemand.{ReplaceMet}
 use Rattle.session.specs.OrderDemand.{OrderMet, BundleOrderMet}
@@ -127,22 +134,22 @@ pub data Write : Register → List ℕ → NumberOrRefusal → List ℕ → Type
   write_called : (κs : _) (a : _) (r : _) (x : _) → write-reads.Post κs a r x
       → Write a.0.now a.1.0.now r x.1.0.now
 
--- `Register::read` on bytes has the result r
+-- `Register::read` on a register with bytes has the result
 pub data Read : List ℕ → ReadResult → Type 0 where
-  read_called : (κs : _) (a : _) (r : _) (x : _) → read-reads.Post κs a r x → Read a.0.now r
+  read_called : (κs : _) (a : _) (r : _) (x : _) → read-reads.Post κs a r x → Read a.1.0.now (read_result r x.0.now)
 
 -- the contracts promise what the specifications say, word for word
 pub new_tied : (r : Register) → New r → r ≡ fresh_register
 new_tied r (new_called κs a s x m) = m
 
 pub call_tied : (r : Register) (c : OfficeCall) (a : Answer) (t : Register) → Called r c a t → RegisterMet r c a t
-call_tied r c a t (term_called κs args s x m) = m
-call_tied r c a t (step_called κs args s x m) = m
-call_tied r c a t (text_called κs args s x m) = m
-call_tied r c a t (point_called κs args s x m) = m
-call_tied r c a t (return_called κs args s x m) = m
-call_tied r c a t (record_called κs args s x m) = m
-call_tied r c a t (release_called κs args s x m) = m
+call_tied r c a t (term_called κs args s x m) = m.0
+call_tied r c a t (step_called κs args s x m) = m.0
+call_tied r c a t (text_called κs args s x m) = m.0
+call_tied r c a t (point_called κs args s x m) = m.0
+call_tied r c a t (return_called κs args s x m) = m.0
+call_tied r c a t (record_called κs args s x m) = m.0
+call_tied r c a t (release_called κs args s x m) = m.0
 
 pub current_tied : (r : Register) (series e : ℕ) → Current r series e → e ≡ current (records_in r.records) series
 current_tied r series e (current_called κs a s x m) = m
@@ -176,7 +183,7 @@ pub write_tied : (r : Register) (buffer : List ℕ) (w : NumberOrRefusal) (left 
 write_tied r buffer w left (write_called κs a s x m) = m
 
 pub read_tied : (bytes : List ℕ) (t : ReadResult) → Read bytes t → RegisterReadMet bytes t
-read_tied bytes t (read_called κs a r x m) = m
+read_tied bytes t (read_called κs a r x m) = m.0
 
 record_case : (rows : List Row) (ps : List Step) (rs : List Record) (r : Record)
     → HasCase done_answer_of (record_answer rows ps rs r)
@@ -212,6 +219,16 @@ not_barred_twice : (t : Answer) → t ≡ cond (accepted (cond (accepted t && fa
     (answer no_record 0) (cond (accepted t && false) (answer full_or_in_use 0) t)
 not_barred_twice t = not_barred t (answer full_or_in_use 0) ∙ not_barred _ (answer no_record 0)
 
+-- what a call with the case o of an answer promises, where it meets what the specifications say
+module _ {r : Register} {c : OfficeCall} {a : Answer} {t : Register} {A : Type 0} (f : A → ℕ) (o : Result A Refusal)
+    (e : answer_with f refusal_answer o ≡ register.answer r c) (m : RegisterMet r c a t)
+  where
+    with_case : RegisterMet r c (answer_with f refusal_answer o) t
+    with_case = record { answer = e; left = m.left }
+
+    kept_case : OnErr o (t ≡ r)
+    kept_case = refused_kept register r c t f o with_case
+
 -- and no more: a call that meets what they say can be made
 met_called : (r : Register) (c : OfficeCall) (a : Answer) (t : Register) → RegisterMet r c a t → Called r c a t
 unfolding row_step_answer
@@ -220,43 +237,43 @@ met_called r (passed (passed (term p))) a t m =
     let told = e ∙ not_barred_twice _ in
     subst (λ a. Called r (passed (passed (term p))) a t) (told ∙ sym m.answer)
     (term_called ([], tt) (lent_to_write r, (given_row p, tt)) o (lent_to_write t, (given_row p, tt))
-    (record { answer = told; left = m.left }))
+    (with_case (λ n. n) o told m, kept_case (λ n. n) o told m))
 met_called r (passed (passed (step p))) a t m =
     let (o, e) = step_case (row_yielded (view r.session) p) (view r.session) p in
     let told = e ∙ not_barred_twice _ in
     subst (λ a. Called r (passed (passed (step p))) a t) (told ∙ sym m.answer)
     (step_called ([], tt) (lent_to_write r, (given_step p, tt)) o (lent_to_write t, (given_step p, tt))
-    (record { answer = told; left = m.left }))
+    (with_case (λ n. n) o told m, kept_case (λ n. n) o told m))
 met_called r (passed (passed (text names t))) a u m =
     let (o, e) = text_case (view r.session).rows names t in
     let told = e ∙ not_barred_twice _ in
     subst (λ a. Called r (passed (passed (text names t))) a u) (told ∙ sym m.answer)
     (text_called ([], ([], ([], tt))) (lent_to_write r, (lent names, (lent t, tt))) o
-    (lent_to_write u, (lent names, (lent t, tt))) (record { answer = told; left = m.left }))
+    (lent_to_write u, (lent names, (lent t, tt))) (with_case (λ n. n) o told m, kept_case (λ n. n) o told m))
 met_called r (passed (passed (point n))) a t m =
     let (o, e) = point_case (point_names (view r.session).points) n in
     let told = e ∙ not_barred_twice _ in
     subst (λ a. Called r (passed (passed (point n))) a t) (told ∙ sym m.answer)
     (point_called ([], tt) (lent_to_write r, (n, tt)) o (lent_to_write t, (n, tt))
-    (record { answer = told; left = m.left }))
+    (with_case (λ u. 0) o told m, kept_case (λ u. 0) o told m))
 met_called r (passed (passed (return n))) a t m =
     let used = drops_in_use (view r.session) (records_in r.records) (return n) in
     let (o, e) = barred_case (point_names (view r.session).points) n used in
     let told = e ∙ not_barred _ (answer no_record 0) in
     subst (λ a. Called r (passed (passed (return n))) a t) (told ∙ sym m.answer)
     (return_called ([], tt) (lent_to_write r, (n, tt)) o (lent_to_write t, (n, tt))
-    (record { answer = told; left = m.left }))
+    (with_case (λ u. 0) o told m, kept_case (λ u. 0) o told m))
 met_called r (passed (own g)) a t m =
     let (o, e) = record_case (view r.session).rows (view r.session).steps (records_in r.records) g in
     let told = e ∙ not_barred _ (answer no_record 0) in
     subst (λ a. Called r (passed (own g)) a t) (told ∙ sym m.answer)
     (record_called ([], tt) (lent_to_write r, (g, tt)) o (lent_to_write t, (g, tt))
-    (record { answer = told; left = m.left }))
+    (with_case (λ u. 0) o told m, kept_case (λ u. 0) o told m))
 met_called r (own p) a t m =
     let (o, e) = release_case (records_in r.records) p in
     subst (λ a. Called r (own p) a t) (e ∙ sym m.answer)
     (release_called ([], tt) (lent_to_write r, (p, tt)) o (lent_to_write t, (p, tt))
-    (record { answer = e; left = m.left }))
+    (with_case (λ u. 0) o e m, kept_case (λ u. 0) o e m))
 
 pub register_demand : DemandOfRegister Selected Current CrewCurrent New Called
 register_demand =
@@ -278,6 +295,16 @@ crew_isolated =
           crew_current_tied q series d x ∙ ap (λ rs. crew_current rs series) same
           ∙ sym (crew_current_tied r series e y);
     }
+
+-- a refused reading leaves a fresh register
+fresh_read : (bytes : List ℕ) (t : session-read.ReadResult) → ReadMet bytes t
+    → OnErr t.answer (record { session = t.session; records = no_records; releases = no_releases } ≡ fresh_register)
+fresh_read bytes t m = by_case t.answer (refused_fresh bytes t m)
+  where
+    by_case : (o : Result ℕ LineRefusal) → OnErr o (t.session ≡ fresh_session)
+        → OnErr o (record { session = t.session; records = no_records; releases = no_releases } ≡ fresh_register)
+    by_case (Ok n) is = tt
+    by_case (Err e) is = ap (λ s. record { session = s; records = no_records; releases = no_releases }) is
 
 -- a fresh register can be made, and from it every list of calls: the demand is about something
 pub new_exists : New fresh_register
@@ -357,9 +384,10 @@ writes_exist r buffer =
 pub reads_exist : (bytes : List ℕ) → (t : ReadResult) × Read bytes t
 reads_exist bytes =
     let (read, m) = below.reads_exist bytes in
-    let r : Register = record { session = read.session; records = no_records; releases = no_releases } in
-    let t : ReadResult = record { answer = read.answer; register = r } in (
-      t,
-      read_called ([], tt) (lent bytes, tt) t (lent bytes, tt)
-          (record { read = below.read_tied bytes read m; records = refl; releases = refl }),
+    let met = below.read_tied bytes read m in
+    let r : Register = record { session = read.session; records = no_records; releases = no_releases } in (
+      read_result read.answer r,
+      read_called ([], ([], tt)) (lent_to_write fresh_register, (lent bytes, tt)) read.answer
+          (lent_to_write r, (lent bytes, tt))
+          (record { read = met; records = refl; releases = refl }, fresh_read bytes read met),
     )

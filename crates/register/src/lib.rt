@@ -3,7 +3,7 @@
 // office's.
 #![tactic(auto)]
 
-ghost use Rattle.std.specs.Prelude.{◌≡◌};
+ghost use Rattle.std.specs.Prelude.{◌≡◌, OnErr};
 ghost use Rattle.terms.specs.code.RowTypes.{row_of};
 ghost use Rattle.calls.specs.Calls.{Call};
 ghost use Rattle.calls.specs.Above.{Above};
@@ -18,6 +18,7 @@ ghost use Rattle.records.specs.Releases.{crew_listing, crew_current};
 ghost use Rattle.records.specs.code.Listed.{listed};
 ghost use Rattle.register.specs.Promises.{fresh_register, released_in, RegisterMet};
 ghost use Rattle.register.specs.Promises.{RegisterReadMet};
+ghost use Rattle.register.specs.code.Results.{read_result};
 
 use records::Releases;
 use session::Session;
@@ -32,13 +33,6 @@ pub struct Register {
     session: Session,
     records: Records,
     releases: Releases,
-}
-
-// What a read gives: its answer, and the register over the session. Session's `Answered` says why it isn't this type.
-#[derive(Drop)]
-pub struct Answered<A> {
-    pub answer: A,
-    pub register: Register,
 }
 
 impl Register {
@@ -58,7 +52,8 @@ impl Register {
     // Records an edition of a series: its path row, and the step by which the previous edition's path is contained in
     // it.
     pub fn record(&mut self, given: Record) -> Result<(), Refusal>
-        ensures { RegisterMet self.old (Above.passed (Above.own given)) (done_answer_of result) self.new }
+        ensures met { RegisterMet self.old (Above.passed (Above.own given)) (done_answer_of result) self.new }
+        ensures refused { OnErr result (self.new ≡ self.old) }
     {
         self.session.record(&mut self.records, given)
     }
@@ -73,7 +68,8 @@ impl Register {
 
     // Releases the record at a place, counted from 1.
     pub fn release(&mut self, place: u16) -> Result<(), Refusal>
-        ensures { RegisterMet self.old (Above.own place) (done_answer_of result) self.new }
+        ensures met { RegisterMet self.old (Above.own place) (done_answer_of result) self.new }
+        ensures refused { OnErr result (self.new ≡ self.old) }
     {
         self.releases.release(&self.records, place)
     }
@@ -102,8 +98,9 @@ impl Register {
 
     // Returns to the point of that name, where that drops no row and no step in use.
     pub fn return_to(&mut self, name: u16) -> Result<(), Refusal>
-        ensures { RegisterMet self.old (Above.passed (Above.passed (Call.return name)))
+        ensures met { RegisterMet self.old (Above.passed (Above.passed (Call.return name)))
             (done_answer_of result) self.new }
+        ensures refused { OnErr result (self.new ≡ self.old) }
     {
         self.session.judge_return(name)?;
         if self.session.drops_in_use(&self.records, name) {
@@ -113,29 +110,33 @@ impl Register {
     }
 
     pub fn term(&mut self, row: Row) -> Result<u16, Refusal>
-        ensures { RegisterMet self.old (Above.passed (Above.passed (Call.term (row_of row))))
+        ensures met { RegisterMet self.old (Above.passed (Above.passed (Call.term (row_of row))))
             (answer_of result) self.new }
+        ensures refused { OnErr result (self.new ≡ self.old) }
     {
         self.session.term(row)
     }
 
     pub fn step(&mut self, step: Step) -> Result<u16, Refusal>
-        ensures { RegisterMet self.old (Above.passed (Above.passed (Call.step (step_of step))))
+        ensures met { RegisterMet self.old (Above.passed (Above.passed (Call.step (step_of step))))
             (answer_of result) self.new }
+        ensures refused { OnErr result (self.new ≡ self.old) }
     {
         self.session.step(step)
     }
 
     pub fn text(&mut self, names: &[u8], selector: &[u8]) -> Result<u16, Refusal>
-        ensures { RegisterMet self.old (Above.passed (Above.passed (Call.text names.now selector.now)))
+        ensures met { RegisterMet self.old (Above.passed (Above.passed (Call.text names.now selector.now)))
             (answer_of result) self.new }
+        ensures refused { OnErr result (self.new ≡ self.old) }
     {
         self.session.text(names, selector)
     }
 
     pub fn point(&mut self, name: u16) -> Result<(), Refusal>
-        ensures { RegisterMet self.old (Above.passed (Above.passed (Call.point name)))
+        ensures met { RegisterMet self.old (Above.passed (Above.passed (Call.point name)))
             (done_answer_of result) self.new }
+        ensures refused { OnErr result (self.new ≡ self.old) }
     {
         self.session.point(name)
     }
@@ -179,17 +180,13 @@ impl Register {
         self.session.write(out)
     }
 
-    // A register without records over the session that a bundle reads as.
-    pub fn read(bytes: &[u8]) -> Answered<Result<u16, LineRefusal>>
-        ensures { RegisterReadMet bytes.now result }
+    // Makes the calls of a bundle's lines, from a fresh register whatever was held. A refused bundle leaves a fresh one.
+    pub fn read(&mut self, bytes: &[u8]) -> Result<u16, LineRefusal>
+        ensures met { RegisterReadMet bytes.now (read_result result self.new) }
+        ensures refused { OnErr result (self.new ≡ fresh_register) }
     {
-        let read = Session::read(bytes);
-        Answered {
-            answer: read.answer,
-            register: Register {
-                session: read.session,
-                ..Register::new()
-            },
-        }
+        self.records = Records::new();
+        self.releases = Releases::new();
+        self.session.read(bytes)
     }
 }

@@ -1,6 +1,7 @@
 pub mod Takes
 pub mod Source
 pub mod Clauses
+pub mod Refused
 pub mod Views
 pub mod PointsHeld
 pub mod Whole

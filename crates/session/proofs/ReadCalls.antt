@@ -8,11 +8,14 @@ use mathlib.Core.Option.{Option, none, some, Option-elim}
 use native.Mathlib.Omega.{arith}
 use lib.ListN.{length}
 use borrow.Author.Tests.{eqb-true, eqb-false}
+use Rattle.std.specs.Prelude.{Result, Ok, Err, OnErr}
+use Rattle.common.proofs.Refusals.{refusal_some}
 use Rattle.terms.specs.Row.{Row}
 use Rattle.lines.specs.Line.{Line, line, lines, same_bytes, is_line}
 use Rattle.lines.proofs.SameBytes.{same_bytes_lem}
 use Rattle.session.specs.declared.session.Session.{Session}
 use Rattle.session.specs.code.Results.{ReadResult}
+use Rattle.calls.specs.declared.answer.LineRefusal.{LineRefusal}
 use Rattle.calls.specs.Book.{Step, Answer, answer, accepted}
 use Rattle.calls.specs.TermCall.{term_answer}
 use Rattle.calls.specs.Runs.{seen, done, then}
@@ -307,3 +310,11 @@ read_refused bytes t m f =
     let by_rows = reading_by_rows bytes in
     m.session ∙ ap (λ r. r.session) by_rows
     ∙ (lines_settled (lines bytes)).fresh (λ e. f (ap (λ a. a.number) (m.answer ∙ ap (λ r. r.answer) by_rows) ∙ e))
+
+pub refused_fresh : (bytes : List ℕ) (t : ReadResult) → ReadMet bytes t → OnErr t.answer (t.session ≡ fresh_session)
+refused_fresh bytes t m = by_case t.answer refl
+  where
+    by_case : (o : Result ℕ LineRefusal) → o ≡ t.answer → OnErr o (t.session ≡ fresh_session)
+    by_case (Ok n) is = tt
+    by_case (Err e) is =
+        read_refused bytes t m (λ z. refusal_some e.refusal (ap (λ o. (read_answer_of o).number) is ∙ z))

@@ -1,6 +1,7 @@
 -- What the contracts in the source say of each call, as the toolchain reads them off it, and demand 3 of them.
 -- Assumes nothing.
 use Rattle.calls.specs.code.Answers.{NumberOrRefusal, DoneOrRefusal, OrderOrRefusal, step_of, answer_of, done_answer_of}
+use Rattle.calls.specs.code.Answers.{answer_with, refusal_answer}
 use Prim.Native.Nat.{ℕ}
 use mathlib.Core.Path.{◌≡◌, refl, sym, subst, ◌∙◌}
 use mathlib.Core.List.{List, []}
@@ -10,7 +11,7 @@ use Rattle.terms.specs.Row.{Row}
 use Rattle.terms.specs.declared.Row.{Row as CodeRow}
 use Rattle.terms.specs.code.RowTypes.{row_of}
 use Rattle.session.specs.declared.session.Session.{Session}
-use Rattle.session.specs.code.Results.{ReadResult}
+use Rattle.session.specs.code.Results.{ReadResult, read_result}
 use Rattle.calls.specs.declared.step.Step.{Step as CodeStep}
 use Rattle.calls.specs.Book.{Step, Answer}
 use Rattle.calls.specs.Calls.{Call, term, step, text, point, return, CallSeen}
@@ -22,7 +23,8 @@ use Rattle.session.specs.View.{view, fresh_session}
 use Rattle.session.specs.Promises.{session_answer, session, Met, SelectMet}
 use Rattle.session.specs.Demand3.{DemandThree}
 use Rattle.session.specs.SessionLaws.{WholeSession, NoPointLeft, SessionRestored}
-use Rattle.std.specs.Prelude.{Ok, Err}
+use Rattle.std.specs.Prelude.{Result, Ok, Err, OnErr}
+use Rattle.common.specs.declared.refusal.Refusal.{Refusal}
 use Rattle.common.specs.declared.refusal.Refusal.TheVariants.{ShortBuffer}
 use Rattle.common.proofs.Lent.{lent, lent_to_write}
 use Rattle.session.specs.Reading.{reading}
@@ -38,7 +40,9 @@ use Rattle.calls.proofs.Cases.{HasCase, either_case, term_case, step_case, text_
 use Rattle.calls.proofs.Cases.{select_case}
 use Rattle.session.proofs.Demand3.{CallsKept, SelectsKept, demand3_by}
 use Rattle.session.proofs.Restored.{whole_by, no_point_left_by, restored_by}
+use Rattle.session.proofs.Refused.{refused_kept}
 use Rattle.session.proofs.ReadMade.{read_met}
+use Rattle.session.proofs.ReadCalls.{refused_fresh}
 use Rattle.session.proofs.ReadCases.{reading_case}
 use Rattle.session.proofs.Bundles.{read_demand_by}
 use Rattle.session.proofs.SetsReplaced.{ReplacesKept, replace_demand_by}
@@ -81,9 +85,9 @@ pub data Selected : Session → (row : ℕ) → List ℕ → (x limit : ℕ) →
       → Selected a.0.now a.1.0 a.1.1.0.now a.1.1.1.0 a.1.1.1.1.0
       a.1.1.1.1.1.0.now r x.1.1.1.1.1.0.now
 
--- `Session::read` on bytes has the result r
+-- `Session::read` on a session with bytes has the result
 pub data Read : List ℕ → ReadResult → Type 0 where
-  read_called : (κs : _) (a : _) (r : _) (x : _) → read-reads.Post κs a r x → Read a.0.now r
+  read_called : (κs : _) (a : _) (r : _) (x : _) → read-reads.Post κs a r x → Read a.1.0.now (read_result r x.0.now)
 
 -- `Session::replace` on a session with old rows, new rows and steps has the answer r
 pub data Replaced : Session → (old new by : List ℕ) → DoneOrRefusal → Type 0 where
@@ -110,17 +114,17 @@ pub new_tied : (s : Session) → New s → s ≡ fresh_session
 new_tied s (new_called κs a r x m) = m
 
 pub call_tied : CallsKept Called Met
-call_tied s c a t (term_called κs args r x m) = m
-call_tied s c a t (step_called κs args r x m) = m
-call_tied s c a t (text_called κs args r x m) = m
-call_tied s c a t (point_called κs args r x m) = m
-call_tied s c a t (return_called κs args r x m) = m
+call_tied s c a t (term_called κs args r x m) = m.0
+call_tied s c a t (step_called κs args r x m) = m.0
+call_tied s c a t (text_called κs args r x m) = m.0
+call_tied s c a t (point_called κs args r x m) = m.0
+call_tied s c a t (return_called κs args r x m) = m.0
 
 pub select_tied : SelectsKept Selected SelectMet
 select_tied s row xs x limit buffer t left (select_called κs a r y m) = m
 
 pub read_tied : (bytes : List ℕ) (t : ReadResult) → Read bytes t → ReadMet bytes t
-read_tied bytes t (read_called κs a r x m) = m
+read_tied bytes t (read_called κs a r x m) = m.0
 
 pub replace_tied : ReplacesKept Replaced ReplaceMet
 replace_tied s old new by t (replace_called κs a r x m) = m
@@ -142,6 +146,16 @@ given_row r = record { kind = r.kind; a = r.a; b = r.b; c = r.c }
 abbrev pub given_step : Step → CodeStep
 given_step p = record { rule = p.rule; left = p.left; right = p.right; first = p.first; second = p.second }
 
+-- what a call with the case o of an answer promises, where it meets what the specifications say
+module _ {s : Session} {c : Call} {a : Answer} {t : Session} {A : Type 0} (f : A → ℕ) (o : Result A Refusal)
+    (e : answer_with f refusal_answer o ≡ session_answer s c) (m : Met s c a t)
+  where
+    with_case : Met s c (answer_with f refusal_answer o) t
+    with_case = record { answer = e; left = m.left }
+
+    kept_case : OnErr o (t ≡ s)
+    kept_case = refused_kept session s c t f o with_case
+
 -- and no more: a call that meets what they say can be made
 met_called : CallsKept Met Called
 unfolding row_step_answer
@@ -149,27 +163,28 @@ met_called s (term r) a t m =
     let (o, e) = term_case (view s).rows r in
     subst (λ a. Called s (term r) a t) (e ∙ sym m.answer)
     (term_called ([], tt) (lent_to_write s, (given_row r, tt)) o (lent_to_write t, (given_row r, tt))
-    (record { answer = e; left = m.left }))
+    (with_case (λ n. n) o e m, kept_case (λ n. n) o e m))
 met_called s (step p) a t m =
     let (o, e) = step_case (row_yielded (view s) p) (view s) p in
     subst (λ a. Called s (step p) a t) (e ∙ sym m.answer)
     (step_called ([], tt) (lent_to_write s, (given_step p, tt)) o (lent_to_write t, (given_step p, tt))
-    (record { answer = e; left = m.left }))
+    (with_case (λ n. n) o e m, kept_case (λ n. n) o e m))
 met_called s (text names t) a u m =
     let (o, e) = text_case (view s).rows names t in
     subst (λ a. Called s (text names t) a u) (e ∙ sym m.answer)
     (text_called ([], ([], ([], tt))) (lent_to_write s, (lent names, (lent t, tt))) o
-    (lent_to_write u, (lent names, (lent t, tt))) (record { answer = e; left = m.left }))
+    (lent_to_write u, (lent names, (lent t, tt)))
+    (with_case (λ n. n) o e m, kept_case (λ n. n) o e m))
 met_called s (point n) a t m =
     let (o, e) = point_case (point_names (view s).points) n in
     subst (λ a. Called s (point n) a t) (e ∙ sym m.answer)
     (point_called ([], tt) (lent_to_write s, (n, tt)) o (lent_to_write t, (n, tt))
-    (record { answer = e; left = m.left }))
+    (with_case (λ u. 0) o e m, kept_case (λ u. 0) o e m))
 met_called s (return n) a t m =
     let (o, e) = return_case (point_names (view s).points) n in
     subst (λ a. Called s (return n) a t) (e ∙ sym m.answer)
     (return_called ([], tt) (lent_to_write s, (n, tt)) o (lent_to_write t, (n, tt))
-    (record { answer = e; left = m.left }))
+    (with_case (λ u. 0) o e m, kept_case (λ u. 0) o e m))
 
 pub demand3 : DemandThree Selected New Called
 demand3 = demand3_by Selected select_tied New Called new_tied call_tied
@@ -206,10 +221,12 @@ selects_exist s row xs x limit buffer =
 pub reads_exist : (bytes : List ℕ) → (t : ReadResult) × Read bytes t
 reads_exist bytes =
     let (o, e) = reading_case bytes in
-    let t : ReadResult = record { answer = o; session = (reading bytes).session } in (
+    let t : ReadResult = record { answer = o; session = (reading bytes).session } in
+    let met = read_met bytes t (λ i. record { answer = e i; session = t.session }) in (
       t,
-      read_called ([], tt) (lent bytes, tt) t (lent bytes, tt)
-          (read_met bytes t (λ i. record { answer = e i; session = t.session })),
+      read_called ([], ([], tt)) (lent_to_write fresh_session, (lent bytes, tt)) o
+          (lent_to_write t.session, (lent bytes, tt))
+          (met, refused_fresh bytes t met),
     )
 
 pub replaces_exist : (s : Session) (old new by : List ℕ) → (t : DoneOrRefusal) × Replaced s old new by t

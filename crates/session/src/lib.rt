@@ -12,5 +12,5 @@ mod write;
 // With what calls take and answer, so that callers name no crate below.
 pub use calls::{Answer, LineRefusal, Step};
 pub use common::Refusal;
-pub use session::{Answered, Session};
+pub use session::Session;
 pub use terms::Row;

@@ -1,12 +1,13 @@
 // The reading of a bundle: its lines are the calls, made from a fresh session.
-ghost use Rattle.std.specs.Prelude.{◌≡◌, ◌*◌, ◌≤◌, length};
+ghost use Rattle.std.specs.Prelude.{◌≡◌, ◌*◌, ◌≤◌, length, OnErr};
 ghost use Rattle.calls.specs.Book.{max_steps};
 ghost use Rattle.calls.specs.code.Tables.{step_width};
 ghost use Rattle.session.specs.View.{fresh_session};
 ghost use Rattle.session.specs.ReadCall.{ReadMet};
+ghost use Rattle.session.specs.code.Results.{read_result};
 ghost use Rattle.session.specs.code.Parts.{wrong_form_at, RowsReadMet, StepsReadMet, CallsReadMet};
 
-use crate::session::{Answered, Session};
+use crate::session::Session;
 use bundles::{ROW_NAMES, STEP_NAMES};
 use calls::{Held, LineRefusal, Step};
 use common::Refusal;
@@ -105,20 +106,18 @@ impl Session {
         Ok(())
     }
 
-    // Makes the calls of a bundle's lines, from a fresh session.
-    pub fn read(bytes: &[u8]) -> Answered<Result<u16, LineRefusal>>
-        ensures { ReadMet bytes.now result }
+    // Makes the calls of a bundle's lines, from a fresh session whatever was held. A refused bundle leaves a fresh one.
+    pub fn read(&mut self, bytes: &[u8]) -> Result<u16, LineRefusal>
+        ensures met { ReadMet bytes.now (read_result result self.new) }
+        ensures refused { OnErr result (self.new ≡ fresh_session) }
     {
-        let mut session = Session::new();
-        match session.make_calls(bytes) {
-            Ok(()) => Answered {
-                answer: Ok(session.step_count as u16),
-                session,
-            },
-            Err(refused) => Answered {
-                answer: Err(refused),
-                session: Session::new(),
-            },
+        *self = Session::new();
+        match self.make_calls(bytes) {
+            Ok(()) => Ok(self.step_count as u16),
+            Err(refused) => {
+                *self = Session::new();
+                Err(refused)
+            }
         }
     }
 }

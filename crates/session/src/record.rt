@@ -1,6 +1,6 @@
 // What a register above the session asks of it: a record judged by the rows and steps held, and whether a return would
 // drop one in use.
-ghost use Rattle.std.specs.Prelude.{◌≡◌};
+ghost use Rattle.std.specs.Prelude.{◌≡◌, OnErr};
 ghost use Rattle.calls.specs.Calls.{Call};
 ghost use Rattle.calls.specs.code.Answers.{done_answer_of};
 ghost use Rattle.records.specs.code.Held.{records_in};
@@ -18,7 +18,8 @@ impl Session {
     // A record call on the caller's records.
     #[tactic(auto, unfolding(crate::specs::View::view))]
     pub fn record(&self, records: &mut Records, given: Record) -> Result<(), Refusal>
-        ensures { RecordMade (view self.now).rows (view self.now).steps records.old given result records.new }
+        ensures met { RecordMade (view self.now).rows (view self.now).steps records.old given result records.new }
+        ensures refused { OnErr result (records.new ≡ records.old) }
     {
         records.record(self.held(), given)
     }

@@ -1,6 +1,6 @@
 // A session: rows of terms, steps of derivations and named points, held by value, and the calls on it.
 ghost use Rattle.calls.specs.code.Answers.{answer_of, done_answer_of, step_of};
-ghost use Rattle.std.specs.Prelude.{◌≡◌};
+ghost use Rattle.std.specs.Prelude.{◌≡◌, OnErr};
 ghost use Rattle.terms.specs.code.RowTypes.{row_of};
 ghost use Rattle.calls.specs.Calls.{Call};
 ghost use Rattle.calls.specs.code.Points.{first_point_numbers};
@@ -29,14 +29,6 @@ pub struct Session {
     pub(crate) step_count: usize,
     pub(crate) points: [u16; POINT_NUMBERS],
     pub(crate) point_count: usize,
-}
-
-// What a call gives: its answer, and the session that it leaves. No one type for sessions and registers: specs/ReadCall
-// and register's specs/Promises, which are believed, name the fields `session` and `register`.
-#[derive(Drop)]
-pub struct Answered<A> {
-    pub answer: A,
-    pub session: Session,
 }
 
 impl Session {
@@ -113,7 +105,8 @@ impl Session {
     }
 
     pub fn term(&mut self, row: Row) -> Result<u16, Refusal>
-        ensures { Met self.old (Call.term (row_of row)) (answer_of result) self.new }
+        ensures met { Met self.old (Call.term (row_of row)) (answer_of result) self.new }
+        ensures refused { OnErr result (self.new ≡ self.old) }
     {
         let n = self.rows_counted();
         let number = term_calls::term_in_place(&mut self.rows, n, row)?;
@@ -122,7 +115,8 @@ impl Session {
     }
 
     pub fn step(&mut self, step: Step) -> Result<u16, Refusal>
-        ensures { Met self.old (Call.step (step_of step)) (answer_of result) self.new }
+        ensures met { Met self.old (Call.step (step_of step)) (answer_of result) self.new }
+        ensures refused { OnErr result (self.new ≡ self.old) }
     {
         let m = self.steps_counted();
         let number = step_calls::judge_step(self.held(), step)?;
@@ -133,7 +127,8 @@ impl Session {
 
     // Sets a point of that name.
     pub fn point(&mut self, name: u16) -> Result<(), Refusal>
-        ensures { Met self.old (Call.point name) (done_answer_of result) self.new }
+        ensures met { Met self.old (Call.point name) (done_answer_of result) self.new }
+        ensures refused { OnErr result (self.new ≡ self.old) }
     {
         let n = self.rows_counted();
         let m = self.steps_counted();
@@ -152,7 +147,8 @@ impl Session {
     // Returns to the point of that name: just the rows and steps held when it was set are left, and later points are
     // forgotten.
     pub fn return_to(&mut self, name: u16) -> Result<(), Refusal>
-        ensures { Met self.old (Call.return name) (done_answer_of result) self.new }
+        ensures met { Met self.old (Call.return name) (done_answer_of result) self.new }
+        ensures refused { OnErr result (self.new ≡ self.old) }
     {
         let (place, point) = point_calls::judge_return(self.held_points(), name)?;
         let n = usize::from(point.rows);
@@ -168,7 +164,8 @@ impl Session {
 
     // Holds the rows that the term of the selector needs, with the numbers that the lent list gives to names.
     pub fn text(&mut self, names: &[u8], selector: &[u8]) -> Result<u16, Refusal>
-        ensures { Met self.old (Call.text names.now selector.now) (answer_of result) self.new }
+        ensures met { Met self.old (Call.text names.now selector.now) (answer_of result) self.new }
+        ensures refused { OnErr result (self.new ≡ self.old) }
     {
         let held = text::read_text(selector, names, self.rows, self.row_count)?;
         let rows = held.rows;

@@ -95,13 +95,13 @@ impl Tally {
         if common::MAX_BYTES < bytes.len() {
             return self;
         }
-        let read = Session::read(bytes);
-        if read.answer.is_err() {
+        let mut session = Session::new();
+        let read = session.read(bytes);
+        if read.is_err() {
             return self;
         }
-        let session = &read.session;
         Tally {
-            uses: plus_uses(self.uses, session),
+            uses: plus_uses(self.uses, &session),
             total: self.total.saturating_add(u64::from(session.steps_held())),
         }
     }

@@ -23,6 +23,9 @@ const FILL: u8 = 7;
 // Longer than the longest line: two numbers, and 256 records of four numbers of at most five digits.
 const LINE: usize = 8192;
 
+// Longer than the longest answer: a word and two numbers of at most 5 and 20 digits.
+const ANSWER: usize = 64;
+
 // What is printed. `Answers`: `NUMBER VALUE` for each call but document, old and new, after an accepted select the
 // marked nodes, after a listing the records' numbers, and after an accepted write the bundle's lines; `other` sets
 // the register aside and starts a new one, `order` and `bundle-order` compare the one set aside with it, and `fresh`
@@ -49,8 +52,8 @@ fn put_node(line: &mut Line, node: usize) {
 
 // An answer in a style: nothing where it is an accepted one that `Nodes` leaves out. It is accepted where its number is
 // 0, as `accepted` of calls' specs/Book, which is believed, has it.
-fn answer_line<A: Answer + Copy>(style: Style, answer: A) -> Line {
-    let mut line = Line::new();
+fn answer_line<A: Answer + Copy>(style: Style, answer: A) -> ArrayString<ANSWER> {
+    let mut line = ArrayString::new();
     let told = AnswerLine::from(answer);
     let _ = match style {
         Style::Answers => write!(line, "{told}"),
@@ -60,16 +63,23 @@ fn answer_line<A: Answer + Copy>(style: Style, answer: A) -> Line {
     line
 }
 
-fn write_line(mut line: Line) {
+// The line that begins with an answer.
+fn begin_line(answer: &ArrayString<ANSWER>) -> Line {
+    let mut line = Line::new();
+    let _ = line.try_push_str(answer.as_str());
+    line
+}
+
+fn write_line<const SIZE: usize>(line: &mut ArrayString<SIZE>) {
     let _ = line.try_push('\n');
     io::write_all(1, line.as_str().as_bytes());
 }
 
 // No line where the style leaves the answer out.
 fn print<A: Answer + Copy>(style: Style, answer: A) {
-    let line = answer_line(style, answer);
+    let mut line = answer_line(style, answer);
     if !line.is_empty() {
-        write_line(line);
+        write_line(&mut line);
     }
 }
 
@@ -86,7 +96,8 @@ fn print_wrong_form(style: Style, line: usize) {
 // How many records are listed, and their numbers.
 fn print_listing(listing: &Records) {
     let size = listing.size();
-    let mut line = answer_line::<Result<usize, Refusal>>(Style::Answers, Ok(size));
+    let answer = answer_line::<Result<usize, Refusal>>(Style::Answers, Ok(size));
+    let mut line = begin_line(&answer);
     for record in listing.list() {
         // By its fields: a record is printed here alone, and a Display of it would name the same four.
         let _ = write!(
@@ -95,7 +106,7 @@ fn print_listing(listing: &Records) {
             record.series, record.edition, record.row, record.step
         );
     }
-    write_line(line);
+    write_line(&mut line);
 }
 
 // The bundle's own lines, behind the answer.
@@ -197,7 +208,7 @@ impl<'a> State<'a> {
             limit,
             &mut marks[..size],
         );
-        let mut line = answer_line(self.style, answer);
+        let mut line = begin_line(&answer_line(self.style, answer));
         if answer.is_ok() {
             for (node, mark) in marks.iter().enumerate() {
                 if *mark == 1 {
@@ -205,7 +216,7 @@ impl<'a> State<'a> {
                 }
             }
         }
-        write_line(line);
+        write_line(&mut line);
     }
 }
 

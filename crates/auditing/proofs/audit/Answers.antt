@@ -8,5 +8,5 @@ returns-then-bytes-gt-MAX_BYTES c = c.unread.ensures ∙ too_long c.args.bytes.n
 
 pub returns : goal.returns
 returns c =
-    reported c.args.bytes.now c.if-bytes-gt-MAX_BYTES.false _ c.read-read.ensures _ _ _ _ c.number.ensures
+    reported c.args.bytes.now c.if-bytes-gt-MAX_BYTES.false _ c.read-answer.ensures.met _ _ _ _ c.number.ensures
     c.refused_line.ensures c.steps_held.ensures c.last_step-last.ensures

@@ -14,7 +14,7 @@ use Rattle.filing.proofs.CallLaws.{filed_from_start}
 use Rattle.filing.proofs.make_lines.Goals as goal
 
 pub loop-i-init : goal.loop-i-init
-loop-i-init c = filed_from_start c.args.script.now c.new-filed.result c.new-filed.ensures
+loop-i-init c = filed_from_start c.args.script.now c.args.filed.now c.requires
 
 pub returns-in_err-map_err : goal.returns-in_err-map_err
 returns-in_err-map_err c =

@@ -54,10 +54,10 @@ abbrev pub first_action : (names : Bytes) → List Line → Option Action
 first_action names [] = none
 first_action names (l ∷ ls) = line_action names l
 
--- what the lines leave
-abbrev pub filed_of : Result Session LineRefusal → Reading
-filed_of (Ok s) = record { answer = answer 0 0; session = s }
-filed_of (Err e) = refused_by e
+-- what the lines leave in the session s
+abbrev pub filed_of : Result (Unit {0}) LineRefusal → (s : Session) → Reading
+filed_of (Ok u) s = record { answer = answer 0 0; session = s }
+filed_of (Err e) s = refused_by e
 
-abbrev pub LinesMet : (script : Bytes) → Result Session LineRefusal → Type 0
-LinesMet script r = filed_of r ≡ filed script
+abbrev pub LinesMet : (script : Bytes) → Result (Unit {0}) LineRefusal → (s : Session) → Type 0
+LinesMet script r s = filed_of r s ≡ filed script

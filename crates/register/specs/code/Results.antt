@@ -1,12 +1,12 @@
--- The result of a read call; a register over another session. Assumes nothing.
-use Rattle.session.specs.declared.session.Session.{Session}
+-- What a read call gives. Assumes nothing.
 use Rattle.std.specs.Prelude.{ℕ, Result}
 use Rattle.calls.specs.declared.answer.LineRefusal.{LineRefusal}
 use Rattle.register.specs.declared.Register.{Register}
-use Rattle.register.specs.declared.Answered.{Answered}
 
-abbrev pub ReadResult : Type 0
-ReadResult = Answered (Result ℕ LineRefusal)
+-- its answer, and the register that it leaves
+pub record ReadResult : Type 0 where
+  pub answer : Result ℕ LineRefusal
+  pub register : Register
 
-abbrev pub over : Register → Session → Register
-over r s = record { session = s; records = r.records; releases = r.releases }
+abbrev pub read_result : Result ℕ LineRefusal → Register → ReadResult
+read_result o r = record { answer = o; register = r }

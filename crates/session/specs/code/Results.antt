@@ -1,7 +1,12 @@
--- The result of a read call. Assumes nothing.
-use Rattle.session.specs.declared.session.Answered.{Answered}
+-- What a read call gives. Assumes nothing.
+use Rattle.session.specs.declared.session.Session.{Session}
 use Rattle.std.specs.Prelude.{ℕ, Result}
 use Rattle.calls.specs.declared.answer.LineRefusal.{LineRefusal}
 
-abbrev pub ReadResult : Type 0
-ReadResult = Answered (Result ℕ LineRefusal)
+-- its answer, and the session that it leaves
+pub record ReadResult : Type 0 where
+  pub answer : Result ℕ LineRefusal
+  pub session : Session
+
+abbrev pub read_result : Result ℕ LineRefusal → Session → ReadResult
+read_result o s = record { answer = o; session = s }

@@ -7,19 +7,19 @@ use Rattle.filing.proofs.Filed.command.Goals as goal
 
 pub returns-in-Term : goal.returns-in-Term
 returns-in-Term c =
-    rw (c.in-Term.is, c.without_value.ensures) (call_done c.args.self.now _ (λ n. n) _ _ c.term.ensures)
+    rw (c.in-Term.is, c.without_value.ensures) (call_done c.args.self.now _ (λ n. n) _ _ c.term.ensures.met)
 
 pub returns-in-Step : goal.returns-in-Step
 returns-in-Step c =
-    rw (c.in-Step.is, c.without_value-in-Step.ensures) (call_done c.args.self.now _ (λ n. n) _ _ c.step.ensures)
+    rw (c.in-Step.is, c.without_value-in-Step.ensures) (call_done c.args.self.now _ (λ n. n) _ _ c.step.ensures.met)
 
 pub returns-in-Point : goal.returns-in-Point
 returns-in-Point c =
-    rw c.in-Point.is (done_by c.args.self.now _ _ _ c.point.ensures)
+    rw c.in-Point.is (done_by c.args.self.now _ _ _ c.point.ensures.met)
 
 pub returns-in-Return : goal.returns-in-Return
 returns-in-Return c =
-    rw c.in-Return.is (done_by c.args.self.now _ _ _ c.return_to.ensures)
+    rw c.in-Return.is (done_by c.args.self.now _ _ _ c.return_to.ensures.met)
 
 pub returns-in-Names : goal.returns-in-Names
 returns-in-Names c = rw c.in-Names.is c.lending.ensures

@@ -20,4 +20,4 @@ pub returns : goal.returns
 returns c =
     rw c.without_value.ensures
     (text_done c.args.self.now _ (replicate max_bytes 0) _ (length-replicate {A = ℕ} max_bytes 0)
-    c.put_names-size.ensures _ _ _ c.text.ensures)
+    c.put_names-size.ensures _ _ _ c.text.ensures.met)

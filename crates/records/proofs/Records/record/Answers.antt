@@ -21,15 +21,15 @@ put-requires c =
     let accepted = sym (ap (λ a. a.number) c.in_ok-judge.ensures) in
     omega (arith, count, (record_accepted _ _ (records_in s) _ accepted).room)
 
-pub returns-in_err-judge : goal.returns-in_err-judge
-returns-in_err-judge c =
+pub returns-in_err-judge-clause-met : goal.returns-in_err-judge-clause-met
+returns-in_err-judge-clause-met c =
     let s = c.args.self.now in
     let told = c.in_err-judge.ensures in
     rw (err_is c.from_residual.result c.from_residual.ensures.1)
     (record { answer = told; left = if_refused _ _ told (with_record s _) s (refusal_some c.in_err-judge.field-0.0) })
 
-pub returns : goal.returns
-returns c =
+pub returns-clause-met : goal.returns-clause-met
+returns-clause-met c =
     let s = c.args.self.now in
     let told = c.in_ok-judge.ensures in
     record { answer = told; left = c.put.ensures ∙ if_accepted _ _ told (with_record s _) s refl }

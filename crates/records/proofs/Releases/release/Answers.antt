@@ -14,8 +14,8 @@ use Rattle.records.proofs.Released.{place_0, past_last, of_a_record}
 use Rattle.records.proofs.Releases.release.Goals as goal
 use Rattle.records.proofs.Releases.release.Goals.{then-p-eq0-via-then-p-eq0, then-p-eq0-via-else-p-eq0+then-n-p}
 
-pub returns-then-p-eq0 : goal.returns-then-p-eq0
-returns-then-p-eq0 c =
+pub returns-then-p-eq0-clause-met : goal.returns-then-p-eq0-clause-met
+returns-then-p-eq0-clause-met c =
     let a = c.args in
     let size : length a.records.now.held ≡ max_records = search (rules, length_mapped) in
     let count = length-take-le (size_of a.records.now) a.records.now.held (omega arith) in
@@ -29,8 +29,8 @@ returns-then-p-eq0 c =
           record { answer = told; left = if_refused _ _ told _ _ (λ e. omega arith) }
     ]
 
-pub returns : goal.returns
-returns c =
+pub returns-clause-met : goal.returns-clause-met
+returns-clause-met c =
     let a = c.args in
     let size : length a.records.now.held ≡ max_records = search (rules, length_mapped) in
     let count = length-take-le (size_of a.records.now) a.records.now.held (omega arith) in

@@ -16,7 +16,7 @@ pub returns-then-is_err : goal.returns-then-is_err
 returns-then-is_err c =
     let there = c.in-Some in
     rw there.is
-    (refused_left c.args.self there.bytes.now c.if-bytes-gt-MAX_BYTES.false _ c.read-read.ensures _
+    (refused_left c.args.self there.bytes.now c.if-bytes-gt-MAX_BYTES.false _ c.read-read.ensures.met _
     c.is_err.ensures.negation c.if-is_err.true)
 
 pub returns : goal.returns
@@ -26,5 +26,5 @@ returns c =
     let there = c.in-Some in
     let steps = c.saturating_add.ensures ∙ ap (plus a.self.total) (c.from.ensures ∙ c.steps_held.ensures) in
     rw there.is
-    (file_counted a.self there.bytes.now c.if-bytes-gt-MAX_BYTES.false _ c.read-read.ensures _ c.is_err.ensures.negation
+    (file_counted a.self there.bytes.now c.if-bytes-gt-MAX_BYTES.false _ c.read-read.ensures.met _ c.is_err.ensures.negation
     c.if-is_err.false _ _ c.plus_uses.ensures steps)

@@ -21,14 +21,14 @@ put_record-requires c =
     let room = point_room s _ (Ok tt) told refl size _ c.points_counted-k.ensures in
     omega (arith, size, room)
 
-pub returns-in_err-judge_point : goal.returns-in_err-judge_point
-returns-in_err-judge_point c =
+pub returns-in_err-judge_point-clause-met : goal.returns-in_err-judge_point-clause-met
+returns-in_err-judge_point-clause-met c =
     let told = rw c.held_points.ensures at c.in_err-judge_point.ensures in
     rw (err_is c.from_residual.result c.from_residual.ensures.1)
     (point_made_refused c.args.self.now _ (Err c.in_err-judge_point.field-0.0) told (refusal_some _))
 
-pub returns : goal.returns
-returns c =
+pub returns-clause-met : goal.returns-clause-met
+returns-clause-met c =
     let told = rw c.held_points.ensures at c.in_ok-judge_point.ensures in
     point_made_held c.args.self.now _ (Ok tt) told refl _ _ _ c.rows_counted-n.ensures
     c.steps_counted-m.ensures c.points_counted-k.ensures _ (c.put_record.ensures ∙ rw c.into.ensures refl)

@@ -4,11 +4,11 @@ use Rattle.session.specs.code.Parts.{refused_by}
 use Rattle.session.proofs.ReadMade.{read_met}
 use Rattle.session.proofs.session.Session.read.Goals as goal
 
-pub returns-in-Ok : goal.returns-in-Ok
-returns-in-Ok c = read_met _ _ c.in-Ok.ensures.told
+pub returns-in-Ok-clause-met : goal.returns-in-Ok-clause-met
+returns-in-Ok-clause-met c = read_met _ _ c.in-Ok.ensures.told
 
-pub returns-in-Err : goal.returns-in-Err
-returns-in-Err c =
+pub returns-in-Err-clause-met : goal.returns-in-Err-clause-met
+returns-in-Err-clause-met c =
     let e = c.in-Err.refused in
     read_met _ _
-    (ap (λ s. record { answer = (refused_by e).answer; session = s }) c.new.ensures ∙ c.in-Err.ensures.told)
+    (ap (λ s. record { answer = (refused_by e).answer; session = s }) c.new-in-Err.ensures ∙ c.in-Err.ensures.told)

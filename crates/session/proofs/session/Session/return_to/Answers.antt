@@ -5,8 +5,8 @@ use Rattle.common.proofs.Errors.{err_is}
 use Rattle.session.proofs.session.PointMade.{few_places, return_made_held, return_made_refused}
 use Rattle.session.proofs.session.Session.return_to.Goals as goal
 
-pub returns-in_err-place : goal.returns-in_err-place
-returns-in_err-place c =
+pub returns-in_err-place-clause-met : goal.returns-in_err-place-clause-met
+returns-in_err-place-clause-met c =
     rw (err_is c.from_residual.result c.from_residual.ensures.1)
     (return_made_refused c.args.self.now _ c.in_err-place.field-0.0
     (rw c.held_points.ensures at c.in_err-place.ensures))
@@ -23,7 +23,7 @@ pub overflow_add-self : goal.overflow_add-self
 overflow_add-self c =
     omega (arith, few_places c.args.self.now _ _ (rw c.held_points.ensures at c.in_ok-place.ensures.0))
 
-pub returns : goal.returns
-returns c =
+pub returns-clause-met : goal.returns-clause-met
+returns-clause-met c =
     return_made_held c.args.self.now _ _ (rw c.held_points.ensures at c.in_ok-place.ensures) _ _ c.from-n.ensures
     c.from-m.ensures _ _ _ c.clear.ensures c.clear-2.ensures c.clear-3.ensures

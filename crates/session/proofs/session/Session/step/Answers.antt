@@ -26,14 +26,14 @@ put_record-requires c =
     let all = steps_held_lem s.steps (min s.step_count max_steps) (omega arith) size in
     omega (arith, room, size, c.steps_counted-m.ensures, all)
 
-pub returns-in_err-number : goal.returns-in_err-number
-returns-in_err-number c =
+pub returns-in_err-number-clause-met : goal.returns-in_err-number-clause-met
+returns-in_err-number-clause-met c =
     let told = rw (c.held.ensures.0, c.held.ensures.1) at c.in_err-number.ensures in
     rw (err_is c.from_residual.result c.from_residual.ensures.1)
     (step_made_refused c.args.self.now _ (Err c.in_err-number.field-0.0) told (refusal_some _))
 
-pub returns : goal.returns
-returns c =
+pub returns-clause-met : goal.returns-clause-met
+returns-clause-met c =
     let told = rw (c.held.ensures.0, c.held.ensures.1) at c.in_ok-number.ensures in
     step_made_held c.args.self.now _ (Ok c.in_ok-number.number) told refl
     _ c.steps_counted-m.ensures _ (c.put_record.ensures ∙ rw c.into.ensures refl)
