@@ -1,6 +1,7 @@
 // The order of the axes and the order of the tests.
-ghost use Rattle.std.specs.Prelude.{◌≡◌};
-ghost use Rattle.rules.specs.Order.{is_pair, axis_below, test_below};
+ghost use Rattle.std.specs.Prelude.{◌≡◌, true};
+ghost use Rattle.rules.specs.Order.{axis_pairs, is_pair, axis_below, test_below};
+ghost use Rattle.matching.specs.code.MatchTypes.{same_pairs};
 
 use crate::tables::AXIS_PAIRS;
 use common::node_test::NodeTest;
@@ -13,12 +14,19 @@ pub fn is_pair(pairs: &[(u16, u16)], a: u16, b: u16) -> bool
     pairs.contains(&(a, b))
 }
 
-// Whether axis a is below axis b.
-#[tactic(auto, unfolding(rules::specs::Order::axis_below, rules::specs::Order::axis_pairs))]
+// The constant table, with one test over all of it, which the check computes: each of its pairs is one of the axis
+// order, and each of the axis order one of its pairs.
+fn axis_pairs() -> &'static [(u16, u16)]
+    ensures { same_pairs result.now axis_pairs ≡ true }
+{
+    &AXIS_PAIRS
+}
+
+// Whether axis a is below axis b, which the test of the table tells of each pair that is sought.
 pub fn axis_below(a: u16, b: u16) -> bool
     ensures { result ≡ axis_below a b }
 {
-    is_pair(&AXIS_PAIRS, a, b)
+    is_pair(axis_pairs(), a, b)
 }
 
 // Whether test t with name c is below test u with name e. By the four numbers, as the definition has them: letters hold

@@ -1,5 +1,7 @@
 -- The code's types as the definitions have them. Assumes nothing.
 use Rattle.std.specs.Prelude.{ℕ, ◌≡◌, Bool, true, false, ◌&&◌, List, map, Option, None, Some}
+use Rattle.common.specs.Lists.{all_of}
+use Rattle.rules.specs.Order.{is_pair}
 use Rattle.terms.specs.declared.Row.{Row as CodeRow}
 use Rattle.terms.specs.Row.{Row, row_at}
 use Rattle.terms.specs.code.RowTypes.{row_of}
@@ -39,6 +41,10 @@ KindRowIs (Some r) rs kind v = (is_row rs kind v ≡ true) × (row_of r ≡ row_
 pub record Matches (fits : Bool) (l : Letters) (m : Match) : Type 0 where
   pub answer : fits ≡ m.fits
   pub letters : fits ≡ true → matched l ≡ m
+
+-- each pair of the one table is found in the other
+unfoldable pub same_pairs : (ps qs : List (ℕ × ℕ)) → Bool
+same_pairs ps qs = all_of (λ p. is_pair qs p.0 p.1) ps && all_of (λ q. is_pair ps q.0 q.1) qs
 
 -- what is seen is a way back, by a test for the operands
 abbrev pub reversed_by : (ℕ → ℕ → Bool) → Reversal → Bool
