@@ -13,7 +13,10 @@ use Rattle.rules.proofs.Sound.{yields_sound}
 use Rattle.xpath.proofs.Chain.{chain_visits}
 use Rattle.xpath.proofs.Climbing.{count_ends, count_least, answers_alike, refuses_alike}
 use Rattle.xpath.proofs.OneName.{step_same_elsewhere}
-use Rattle.tallies.proofs.Promise.{tally_promise}
+use Rattle.tallies.proofs.Source as tallies
+use Rattle.xpath.proofs.Refusal.{accepted_iff}
+use Rattle.rules.proofs.RuleTen.{star_ending_yields, node_ending_yields}
+use Rattle.grammar.proofs.Place.{one_tree}
 use Rattle.session.proofs.Simulation as simulation
 use Rattle.session.proofs.Takes as session-takes
 use Rattle.session.proofs.Source as session
@@ -22,7 +25,7 @@ use Rattle.register.proofs.Source as register
 use Rattle.exports.proofs.Takes as exports-takes
 use Rattle.exports.proofs.Source as exports
 use Rattle.theorems.proofs.Theorems.{SessionTheorems, RegisterTheorems, HostTheorems}
-use Rattle.theorems.proofs.Theorems.{Theorems}
+use Rattle.theorems.proofs.Theorems.{ProgramTheorems, Theorems}
 
 session_theorems : SessionTheorems
 session_theorems =
@@ -132,11 +135,23 @@ host_theorems =
       files_exist = exports.files_exist;
     }
 
+program_theorems : ProgramTheorems
+program_theorems =
+    record {
+      audit = λ κs a r s m. m;
+      judged = tallies.judged_tied;
+      tally = tallies.tally_promise;
+      judges_exist = tallies.judges_exist;
+      new_exists = tallies.new_exists;
+      adds_exist = tallies.adds_exist;
+      lines_exist = tallies.lines_exist;
+    }
+
 pub theorems : Theorems
 theorems =
     record {
       session = session_theorems;
       register = register_theorems;
       host = host_theorems;
-      programs = record { audit = λ κs a r s m. m; tally = tally_promise };
+      programs = program_theorems;
     }

@@ -1,8 +1,10 @@
--- All that is proved, as one list. `session.Called`, `register.Selected`, `exports.Claims` and so on
+-- All that is promised, as one list. `session.Called`, `register.Selected`, `exports.Claims`, `tallies.Added` and so on
 -- (proofs/Source.antt of these crates) say of a call what its contract in the source does; Proved.antt has the proofs.
 -- Assumes nothing.
-use Prim.Native.Nat.{ℕ}
+use Prim.Native.Nat.{ℕ, ◌*◌, ◌≤◌, ◌<◌}
+use mathlib.Core.Bool.{Bool}
 use mathlib.Core.List.{List, map}
+use mathlib.Core.Option.{none, some}
 use mathlib.Core.Logic.{◌↔◌}
 use mathlib.Core.Path.{◌≡◌}
 use lib.Dec.{T}
@@ -15,6 +17,7 @@ use Rattle.calls.specs.SelectLaws.{LimitSuffices, MarksSameElsewhere}
 use Rattle.calls.specs.TextLaws.{AnswersAsDefined, AsTermCalls, GivesItsTerm, GivesItsNesting}
 use Rattle.calls.specs.code.Answers.{NumberOrRefusal, DoneOrRefusal, OrderOrRefusal}
 use Rattle.common.specs.Lists.{Every}
+use Rattle.std.specs.Prelude.{Option, Result}
 use Rattle.grammar.specs.Abbreviations.{Expanded, Meant}
 use Rattle.matching.specs.code.RowYields.{Sides, one_sort, says_of, row_yields}
 use Rattle.ordering.specs.BundleOrder.{steps_order}
@@ -45,6 +48,11 @@ use Rattle.terms.specs.AcceptedRows.{Built}
 use Rattle.terms.specs.Row.{Row}
 use Rattle.xpath.specs.Chain.{ChainVisits}
 use Rattle.xpath.specs.Climb.{CountEnds, CountLeast, AnswersAlike, RefusesAlike}
+use Rattle.xpath.specs.Document.{Document, document_of, document_refusal, well_formed}
+use Rattle.xpath.specs.Meaning.{selects}
+use Rattle.xpath.specs.Term.{Path}
+use Rattle.rules.specs.WayBack.{way_back}
+use Rattle.grammar.specs.Grammar.{Union, Spells}
 use Rattle.session.specs.code.Results.{ReadResult}
 use Rattle.register.specs.code.Results as register-read
 use Rattle.auditing.specs.Audit.{report}
@@ -54,8 +62,13 @@ use Rattle.calls.specs.Promises.{sides_of}
 use Rattle.matching.specs.code.MatchTypes.{sides_in}
 use Rattle.terms.specs.code.RowTypes.{PlaceIs}
 use Rattle.replacing.specs.Covered.{step_saying}
+use Rattle.tallies.specs.declared.Tally.{Tally}
+use Rattle.tallies.specs.Count.{file_of, Entry}
+use Rattle.tallies.specs.NameList.{list_answer}
 use Rattle.tallies.specs.Promise.{TallyPromise}
+use Rattle.tallies.specs.code.Tally.{fresh_tally}
 use Rattle.xpath.specs.OneName.{StepSameElsewhere}
+use Rattle.tallies.proofs.Source as tallies
 use Rattle.session.proofs.Takes as session-takes
 use Rattle.session.proofs.Source as session
 use Rattle.register.proofs.Takes as register-takes
@@ -274,11 +287,20 @@ pub record HostTheorems : Type 0 where
       → (a : Answer) × (left : List ℕ) × exports.Selects names t xs x limit buffer a left
   pub files_exist : (script buffer : Bytes) → (a : Answer) × (left : Bytes) × exports.Files script buffer a left
 
--- the programs: what audit prints is the report of the bytes; what tally prints are the uses of each rule over the
--- accepted bundles, and they add up to the total
+-- the programs: what audit prints is the report of the bytes; a list of names is answered 17 with the first line that
+-- is a 65th name or whose file can't be opened, else 0; what tally prints, after the files that the calls added in
+-- order, are the uses of each rule over the accepted bundles, and they add up to the total
 pub record ProgramTheorems : Type 0 where
   pub audit : (κs : _) (a : _) (r : _) (s : _) → audit-reads.Post κs a r s → r ≡ report a.0.now
-  pub tally : TallyPromise
+  pub judged : (list : List ℕ) (opened : List Bool) (a : Answer) → tallies.Judged list opened a
+      → a ≡ list_answer list opened
+  pub tally : TallyPromise tallies.New tallies.Added tallies.Lines
+  -- every list of names is judged; a new tally can be made, every file that was read or not is added to every tally,
+  -- and every tally has its lines
+  pub judges_exist : (list : List ℕ) (opened : List Bool) → (a : Answer) × tallies.Judged list opened a
+  pub new_exists : tallies.New fresh_tally
+  pub adds_exist : (t : Tally) (bytes : Option (List ℕ)) → (u : Tally) × tallies.Added t (file_of bytes) u
+  pub lines_exist : (t : Tally) → (es : List Entry) × tallies.Lines t es
 
 pub record Theorems : Type 0 where
   pub session : SessionTheorems
