@@ -29,8 +29,8 @@ use Rattle.session.specs.Reading.{reading}
 use Rattle.session.specs.ReadCall.{ReadMet}
 use Rattle.session.specs.WriteCall.{session_text, write_answer, write_buffer, WriteMet}
 use Rattle.session.specs.ReadDemand.{ReadDemand}
-use Rattle.session.specs.ReplaceDemand.{ReplaceMet, ReplaceDemand}
-use Rattle.session.specs.OrderDemand.{OrderMet, BundleOrderMet, OrderDemand}
+use Rattle.session.specs.ReplaceDemand.{ReplaceDemand}
+use Rattle.session.specs.OrderDemand.{OrderDemand}
 use Rattle.replacing.proofs.Judged.{replace_case}
 use Rattle.ordering.proofs.Judged.{order_case, bundle_order_case}
 use Rattle.calls.proofs.Runs.{made, run_exists}
@@ -122,13 +122,13 @@ select_tied s row xs x limit buffer t left (select_called κs a r y m) = m
 pub read_tied : (bytes : List ℕ) (t : ReadResult) → Read bytes t → ReadMet bytes t
 read_tied bytes t (read_called κs a r x m) = m
 
-pub replace_tied : ReplacesKept Replaced ReplaceMet
+pub replace_tied : ReplacesKept (λ s. s) Replaced
 replace_tied s old new by t (replace_called κs a r x m) = m
 
-pub order_tied : OrdersKept Ordered OrderMet
+pub order_tied : OrdersKept (λ s. s) Ordered
 order_tied s i t j o (order_called κs a r x m) = m
 
-pub bundle_order_tied : BundleOrdersKept BundleOrdered BundleOrderMet
+pub bundle_order_tied : BundleOrdersKept (λ s. s) BundleOrdered
 bundle_order_tied s t o (bundle_order_called κs a r x m) = m
 
 pub write_tied : (s : Session) (buffer : List ℕ) (w : NumberOrRefusal) (left : List ℕ) → Write s buffer w left

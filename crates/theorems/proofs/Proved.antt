@@ -9,6 +9,7 @@ use Rattle.ordering.proofs.Orders.{total_order}
 use Rattle.ordering.proofs.Sorted.{sorted_match}
 use Rattle.ordering.proofs.TermOrder.{terms_ordered}
 use Rattle.records.proofs.Crew.{shows_released}
+use Rattle.records.proofs.Shown.{shows_in_order}
 use Rattle.rules.proofs.Sound.{yields_sound}
 use Rattle.xpath.proofs.Chain.{chain_visits}
 use Rattle.xpath.proofs.Climbing.{count_ends, count_least, answers_alike, refuses_alike}
@@ -98,7 +99,11 @@ register_theorems =
       write = register.write_tied;
       read = register.read_tied;
       register_demand = register.register_demand;
+      replace_demand = register.replace_demand;
+      order_demand = register.order_demand;
+      record_demand = register.record_demand;
       shows_released = shows_released;
+      shows_in_order = shows_in_order;
       releases_kept = register.releases_kept;
       released_again = register.released_again;
       crew_isolated = register.crew_isolated;

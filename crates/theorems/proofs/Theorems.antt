@@ -26,10 +26,11 @@ use Rattle.ordering.specs.TermOrder.{term_order}
 use Rattle.records.specs.code.Held.{records_in}
 use Rattle.records.specs.code.Listed.{listed}
 use Rattle.records.specs.Records.{current}
-use Rattle.records.specs.Releases.{crew_listing, crew_current, OfficeCall, OfficeSeen, ShowsReleased}
+use Rattle.records.specs.Releases.{crew_listing, crew_current, OfficeCall, OfficeSeen, ShowsReleased, ShowsInOrder}
 use Rattle.records.specs.declared.Record.{Record}
 use Rattle.records.specs.declared.Records.{Records}
 use Rattle.register.specs.Demand.{DemandOfRegister, ReleasesKept, ReleasedAgain, CrewIsolated}
+use Rattle.register.specs.RecordDemand.{RecordDemand, RegisterReplaceDemand, RegisterOrderDemand}
 use Rattle.register.specs.Promises.{fresh_register, RegisterMet, RegisterReadMet, holdings, released_in}
 use Rattle.register.specs.declared.Register.{Register}
 use Rattle.rules.specs.Claim.{Claim, IsTrue}
@@ -230,8 +231,17 @@ pub record RegisterTheorems : Type 0 where
   -- newer's where two editions of one series are held, or seen by a crew, and the current edition of both
   pub register_demand :
       DemandOfRegister register.Selected register.Current register.CrewCurrent register.New register.Called
+  -- after every list of calls from a fresh register, record, release and refused returns among them: replace and the
+  -- orders keep what they promise on a session
+  pub replace_demand : RegisterReplaceDemand register.New register.Called register.Replaced
+  pub order_demand : RegisterOrderDemand register.New register.Called register.Ordered register.BundleOrdered
+  -- record accepts exactly the next edition of a series, of a held path, while there is space: the first with step 0, a
+  -- later one with a held step that says, as terms, that the previous edition's path is contained in its own
+  pub record_demand : RecordDemand register.New register.Called
   -- a crew gets each released record and no other
   pub shows_released : (rs : List Record) (fs : List ℕ) → ShowsReleased rs fs
+  -- in the register's order, each place once
+  pub shows_in_order : (rs : List Record) (fs : List ℕ) → ShowsInOrder rs fs
   -- what was released stays released, whatever calls are made
   pub releases_kept : ReleasesKept register.New register.Called
   -- releasing again is accepted and changes nothing
