@@ -31,6 +31,7 @@ use Rattle.session.specs.WriteCall.{session_text, write_answer, write_buffer, Wr
 use Rattle.session.specs.ReadDemand.{ReadDemand}
 use Rattle.session.specs.ReplaceDemand.{ReplaceDemand}
 use Rattle.session.specs.OrderDemand.{OrderDemand}
+use Rattle.session.specs.AcceptDemand.{AcceptDemand}
 use Rattle.replacing.proofs.Judged.{replace_case}
 use Rattle.ordering.proofs.Judged.{order_case, bundle_order_case}
 use Rattle.calls.proofs.Runs.{made, run_exists}
@@ -41,6 +42,7 @@ use Rattle.session.proofs.Restored.{whole_by, no_point_left_by, restored_by}
 use Rattle.session.proofs.ReadMade.{read_met}
 use Rattle.session.proofs.ReadCases.{reading_case}
 use Rattle.session.proofs.Bundles.{read_demand_by}
+use Rattle.session.proofs.AcceptsExactly.{accept_demand_by}
 use Rattle.session.proofs.SetsReplaced.{ReplacesKept, replace_demand_by}
 use Rattle.session.proofs.ArchivesOrdered.{OrdersKept, BundleOrdersKept, order_demand_by}
 use Rattle.session.proofs.session.Session.new.Reads as new-reads
@@ -253,3 +255,6 @@ writes_exist s buffer =
 
 pub read_demand : ReadDemand Selected Called Read Write
 read_demand = read_demand_by Selected Called Read Write select_tied call_tied met_called read_tied write_tied
+
+pub accept_demand : AcceptDemand Selected Called New
+accept_demand = accept_demand_by Selected select_tied Called call_tied New new_tied

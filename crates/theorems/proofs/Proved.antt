@@ -51,6 +51,7 @@ session_theorems =
       steps_held_lem = λ κs a r x m. m;
       rule_uses = λ κs a r x m. m;
       last_step = λ κs a r x m. m;
+      accept_demand = session.accept_demand;
       demand3 = session.demand3;
       whole_session = session.whole_session;
       no_point_left = session.no_point_left;

@@ -35,6 +35,7 @@ use Rattle.register.specs.Promises.{fresh_register, RegisterMet, RegisterReadMet
 use Rattle.register.specs.declared.Register.{Register}
 use Rattle.rules.specs.Claim.{Claim, IsTrue}
 use Rattle.rules.specs.Yields.{Yields}
+use Rattle.session.specs.AcceptDemand.{AcceptDemand}
 use Rattle.session.specs.Demand3.{DemandThree}
 use Rattle.session.specs.OrderDemand.{OrderMet, BundleOrderMet, OrderDemand}
 use Rattle.session.specs.Promises.{Met, SelectMet, AnswersByTerms}
@@ -139,6 +140,11 @@ pub record SessionTheorems : Type 0 where
       → r ≡ uses_of a.1.0 (view a.0.now).steps
   pub last_step : (κs : _) (a : _) (r : _) (x : _) → last-step-reads.Post κs a r x
       → sides_in r ≡ sides_of (step_numbered (view a.0.now).steps (length (view a.0.now).steps))
+  -- what is accepted, after every list of calls from a fresh session: term accepts exactly a row that is well formed
+  -- and new while there is space, step exactly what the rule table yields, as terms, of held rows and from held
+  -- premises while there is space, select exactly a held path on a well-formed document of 1 to 512 nodes, from one of
+  -- them, with room for the marks and visits within the limit
+  pub accept_demand : AcceptDemand session.Selected session.Called session.New
   -- demand 3: after every list of calls from a fresh session all is as in the plain book, what is held is true on every
   -- document, and select marks by it
   pub demand3 : DemandThree session.Selected session.New session.Called
