@@ -15,6 +15,7 @@ use Rattle.xpath.proofs.Chain.{chain_visits}
 use Rattle.xpath.proofs.Climbing.{count_ends, count_least, answers_alike, refuses_alike}
 use Rattle.xpath.proofs.OneName.{step_same_elsewhere}
 use Rattle.tallies.proofs.Source as tallies
+use Rattle.xpath.proofs.Source as xpath
 use Rattle.xpath.proofs.Refusal.{accepted_iff}
 use Rattle.rules.proofs.RuleTen.{star_ending_yields, node_ending_yields}
 use Rattle.grammar.proofs.Place.{one_tree}
@@ -25,7 +26,7 @@ use Rattle.register.proofs.Takes as register-takes
 use Rattle.register.proofs.Source as register
 use Rattle.exports.proofs.Takes as exports-takes
 use Rattle.exports.proofs.Source as exports
-use Rattle.theorems.proofs.Theorems.{SessionTheorems, RegisterTheorems, HostTheorems}
+use Rattle.theorems.proofs.Theorems.{SessionTheorems, RegisterTheorems, HostTheorems, MeaningTheorems}
 use Rattle.theorems.proofs.Theorems.{ProgramTheorems, Theorems}
 
 session_theorems : SessionTheorems
@@ -141,6 +142,15 @@ host_theorems =
       files_exist = exports.files_exist;
     }
 
+meaning_theorems : MeaningTheorems
+meaning_theorems =
+    record {
+      document_checked = xpath.checked_tied;
+      climb_made = xpath.climbed_tied;
+      climb_promise = xpath.climb_promise;
+      climbs_exist = xpath.climbs_exist;
+    }
+
 program_theorems : ProgramTheorems
 program_theorems =
     record {
@@ -159,5 +169,6 @@ theorems =
       session = session_theorems;
       register = register_theorems;
       host = host_theorems;
+      meaning = meaning_theorems;
       programs = program_theorems;
     }

@@ -53,6 +53,9 @@ use Rattle.xpath.specs.Climb.{CountEnds, CountLeast, AnswersAlike, RefusesAlike}
 use Rattle.xpath.specs.Document.{Document, document_of, document_refusal, well_formed}
 use Rattle.xpath.specs.Meaning.{selects}
 use Rattle.xpath.specs.Term.{Path}
+use Rattle.xpath.specs.code.Check.{ClimbMade, DocumentChecked}
+use Rattle.xpath.specs.code.ClimbPromise.{ClimbPromise}
+use Rattle.xpath.specs.declared.document.Climb.{Climb}
 use Rattle.rules.specs.WayBack.{way_back}
 use Rattle.grammar.specs.Grammar.{Union, Spells}
 use Rattle.session.specs.code.Results.{ReadResult}
@@ -70,6 +73,7 @@ use Rattle.tallies.specs.NameList.{list_answer}
 use Rattle.tallies.specs.Promise.{TallyPromise}
 use Rattle.tallies.specs.code.Tally.{fresh_tally}
 use Rattle.xpath.specs.OneName.{StepSameElsewhere}
+use Rattle.xpath.proofs.Source as xpath
 use Rattle.tallies.proofs.Source as tallies
 use Rattle.session.proofs.Takes as session-takes
 use Rattle.session.proofs.Source as session
@@ -303,6 +307,18 @@ pub record HostTheorems : Type 0 where
       → (a : Answer) × (left : List ℕ) × exports.Selects names t xs x limit buffer a left
   pub files_exist : (script buffer : Bytes) → (a : Answer) × (left : Bytes) × exports.Files script buffer a left
 
+-- the laws of documents, selectors and rules that the words of the others rest on
+pub record MeaningTheorems : Type 0 where
+  -- the check of a document, and the ancestor test that it runs for each row, as the source has them: the test's count
+  -- of parents is the least that ends the climb so, and its answer is that of the climb to the root
+  pub document_checked : (xs : List ℕ) (r : Result (List ℕ) ℕ) → xpath.Checked xs r → DocumentChecked xs r
+  pub climb_made : (xs : List ℕ) (x y e : ℕ) (es : List ℕ) (r : Climb) (left : List ℕ)
+      → xpath.Climbed xs x y e es r left → ClimbMade (document_of xs) x y e es r left
+  pub climb_promise : ClimbPromise xpath.Climbed
+  -- every climb can be made as the contract has it
+  pub climbs_exist : (xs : List ℕ) (x y e : ℕ) (es : List ℕ)
+      → (r : Climb) × (left : List ℕ) × xpath.Climbed xs x y e es r left
+
 -- the programs: what audit prints is the report of the bytes; a list of names is answered 17 with the first line that
 -- is a 65th name or whose file can't be opened, else 0; what tally prints, after the files that the calls added in
 -- order, are the uses of each rule over the accepted bundles, and they add up to the total
@@ -322,4 +338,5 @@ pub record Theorems : Type 0 where
   pub session : SessionTheorems
   pub register : RegisterTheorems
   pub host : HostTheorems
+  pub meaning : MeaningTheorems
   pub programs : ProgramTheorems

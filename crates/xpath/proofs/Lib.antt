@@ -7,6 +7,7 @@ pub mod Ends
 pub mod LentNumbers
 pub mod Refusal
 pub mod Climbing
+pub mod Source
 pub mod Rows
 pub mod Axes
 pub mod Chain
