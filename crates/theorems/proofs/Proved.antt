@@ -16,8 +16,10 @@ use Rattle.xpath.proofs.Climbing.{count_ends, count_least, answers_alike, refuse
 use Rattle.xpath.proofs.OneName.{step_same_elsewhere}
 use Rattle.tallies.proofs.Source as tallies
 use Rattle.xpath.proofs.Source as xpath
+use Rattle.xpath.proofs.AxisLaws as axis-laws
 use Rattle.xpath.proofs.Refusal.{accepted_iff}
 use Rattle.rules.proofs.RuleTen.{star_ending_yields, node_ending_yields}
+use Rattle.rules.proofs.WayBackSound.{way_back_selects}
 use Rattle.grammar.proofs.Place.{one_tree}
 use Rattle.session.proofs.Simulation as simulation
 use Rattle.session.proofs.Takes as session-takes
@@ -145,10 +147,19 @@ host_theorems =
 meaning_theorems : MeaningTheorems
 meaning_theorems =
     record {
+      document_accepted = accepted_iff;
+      five_axes_partition = axis-laws.five_axes_partition;
+      axes_to_attribute = axis-laws.axes_to_attribute;
+      axes_from_attribute = axis-laws.axes_from_attribute;
+      following_attribute = axis-laws.following_attribute;
       document_checked = xpath.checked_tied;
       climb_made = xpath.climbed_tied;
       climb_promise = xpath.climb_promise;
       climbs_exist = xpath.climbs_exist;
+      rule_10_star = star_ending_yields;
+      rule_10_node = node_ending_yields;
+      way_back_selects = way_back_selects;
+      one_tree = one_tree;
     }
 
 program_theorems : ProgramTheorems

@@ -17,6 +17,7 @@ use Rattle.calls.specs.SelectLaws.{LimitSuffices, MarksSameElsewhere}
 use Rattle.calls.specs.TextLaws.{AnswersAsDefined, AsTermCalls, GivesItsTerm, GivesItsNesting}
 use Rattle.calls.specs.code.Answers.{NumberOrRefusal, DoneOrRefusal, OrderOrRefusal}
 use Rattle.common.specs.Lists.{Every}
+use Rattle.common.specs.NodeTests.{star_test, node_test}
 use Rattle.std.specs.Prelude.{Option, Result}
 use Rattle.grammar.specs.Abbreviations.{Expanded, Meant}
 use Rattle.matching.specs.code.RowYields.{Sides, one_sort, says_of, row_yields}
@@ -50,6 +51,7 @@ use Rattle.terms.specs.AcceptedRows.{Built}
 use Rattle.terms.specs.Row.{Row}
 use Rattle.xpath.specs.Chain.{ChainVisits}
 use Rattle.xpath.specs.Climb.{CountEnds, CountLeast, AnswersAlike, RefusesAlike}
+use Rattle.xpath.specs.AxisLaws.{FiveAxesPartition, AxesToAttribute, AxesFromAttribute, FollowingAttribute}
 use Rattle.xpath.specs.Document.{Document, document_of, document_refusal, well_formed}
 use Rattle.xpath.specs.Meaning.{selects}
 use Rattle.xpath.specs.Term.{Path}
@@ -57,6 +59,7 @@ use Rattle.xpath.specs.code.Check.{ClimbMade, DocumentChecked}
 use Rattle.xpath.specs.code.ClimbPromise.{ClimbPromise}
 use Rattle.xpath.specs.declared.document.Climb.{Climb}
 use Rattle.rules.specs.WayBack.{way_back}
+use Rattle.rules.specs.values.RuleTen.{EndingYields}
 use Rattle.grammar.specs.Grammar.{Union, Spells}
 use Rattle.session.specs.code.Results.{ReadResult}
 use Rattle.register.specs.code.Results as register-read
@@ -309,6 +312,18 @@ pub record HostTheorems : Type 0 where
 
 -- the laws of documents, selectors and rules that the words of the others rest on
 pub record MeaningTheorems : Type 0 where
+  -- lent numbers are accepted as a document just where they are whole rows, at most 512, of a well-formed one
+  pub document_accepted : (xs : List ℕ) → (document_refusal xs ≡ none)
+      ↔ ((length xs ≡ 3 * length (document_of xs)) × (length (document_of xs) ≤ 512)
+      × T (well_formed (document_of xs)))
+  -- from every node, each node that is no attribute is on exactly one of the axes self, ancestor, descendant, following
+  -- and preceding
+  pub five_axes_partition : FiveAxesPartition
+  -- an attribute is on no axis of another node but axis 11; from it there is no child, attribute, descendant or
+  -- sibling, and what follows it is every later node that is no attribute, its parent's children among them
+  pub axes_to_attribute : AxesToAttribute
+  pub axes_from_attribute : AxesFromAttribute
+  pub following_attribute : FollowingAttribute
   -- the check of a document, and the ancestor test that it runs for each row, as the source has them: the test's count
   -- of parents is the least that ends the climb so, and its answer is that of the climb to the root
   pub document_checked : (xs : List ℕ) (r : Result (List ℕ) ℕ) → xpath.Checked xs r → DocumentChecked xs r
@@ -318,6 +333,14 @@ pub record MeaningTheorems : Type 0 where
   -- every climb can be made as the contract has it
   pub climbs_exist : (xs : List ℕ) (x y e : ℕ) (es : List ℕ)
       → (r : Climb) × (left : List ℕ) × xpath.Climbed xs x y e es r left
+  -- rule 10 yields its conclusion where the second premise ends in `*`, and where it ends in node()
+  pub rule_10_star : EndingYields star_test
+  pub rule_10_node : EndingYields node_test
+  -- where a path that has a way back selects y from x, its way back selects x from y
+  pub way_back_selects : (d : Document) → T (well_formed d) → (p v : Path) → way_back p ≡ some v
+      → (x y : ℕ) → x < length d → T (selects d p x y) → T (selects d v y x)
+  -- a text of the grammar has one tree
+  pub one_tree : (t : Bytes) (u v : Union) → Spells t u → Spells t v → u ≡ v
 
 -- the programs: what audit prints is the report of the bytes; a list of names is answered 17 with the first line that
 -- is a 65th name or whose file can't be opened, else 0; what tally prints, after the files that the calls added in

@@ -2,6 +2,7 @@ pub mod Tree
 pub mod Facts
 pub mod Order
 pub mod Attributes
+pub mod AxisLaws
 pub mod Targets
 pub mod Ends
 pub mod LentNumbers
