@@ -50,7 +50,7 @@ written_past (suc n) f buffer y h =
     get_or-set_other (written n f buffer) n y (cond (f n) 1 0) 0 o ∙ written_past n f buffer y (omega arith)
 
 -- an accepted answer is no refusal 8
-no_refusal : (o : Option ℕ) (t : Answer) → (Option-elim o t (λ v. answer refusals.bad_document v)).number ≡ 0
+pub no_refusal : (o : Option ℕ) (t : Answer) → (Option-elim o t (λ v. answer refusals.bad_document v)).number ≡ 0
     → (o ≡ none) × (t.number ≡ 0)
 unfolding Option-elim
 no_refusal none t e = (refl, e)

@@ -5,10 +5,10 @@ use mathlib.Core.Bool.{Bool, true, false, ◌&&◌, ◌||◌, cond, false≢true
 use mathlib.Core.List.{List, [], ◌∷◌, map, head-eq_of_cons-eq, tail-eq_of_cons-eq, cons-ne-nil}
 use mathlib.Core.Logic.{⊎_elim}
 use native.Mathlib.Omega.{arith}
-use lib.Dec.{T, leb, eqb}
+use lib.Dec.{T, eqb}
 use lib.ListN.{length, get_or, take, drop, length-map, get_or-eq_default}
 use lib.Seq.{get_or-take, get_or-drop}
-use mir.Facts.{and_yes, leb_yes, eqb_yes}
+use mir.Facts.{and_yes, eqb_yes}
 use borrow.Author.Tests.{ne_eqb}
 use denote.Bor.{Bor}
 use Rattle.std.specs.Prelude.{Option, None, Some, is_some, slice_get, MatchOption}
@@ -22,6 +22,7 @@ use Rattle.rules.specs.RuleTable.{rules}
 use Rattle.rules.specs.Yields.{table_rules, forms_in, forms_of, first_count, premise_count, same_counts}
 use Rattle.rules.specs.Yields.{same_counts_lem}
 use Rattle.rules.specs.Yields.{way_back_rule}
+use Rattle.rules.proofs.RuleNumbers.{no_forms}
 use Rattle.matching.specs.code.Pattern.{FormPattern, form_pattern, claim_pattern}
 use Rattle.matching.specs.declared.pattern.Form.{Form as CodeForm}
 use Rattle.matching.specs.code.PatternTypes.{claim_of, form_of, rule_table}
@@ -53,15 +54,6 @@ unfolding values_below rules forms_of forms_in rule_table
 all_ruled = refl
 
 -- past the last rule
-no_forms : (n : ℕ) (rs : List Rule) → T (all_of (λ r. leb r.number table_rules) rs) → table_rules < n →
-    forms_in rs n ≡ []
-unfolding all_of forms_in
-no_forms n [] t h = refl
-no_forms n (r ∷ rs) t h =
-    let u = and_yes (leb r.number table_rules) (all_of (λ r. leb r.number table_rules) rs) t in
-    let l : r.number ≤ table_rules = leb_yes u.0 in
-    rw (ne_eqb r.number n (λ e. omega arith)) (no_forms n rs u.1 h)
-
 none_ruled : (n : ℕ) → table_rules < n → tabled n ≡ ruled n
 unfolding forms_of all_of rules rule_table
 none_ruled n h = rw (no_forms n rules tt h) (get_or-eq_default rule_table [] h)

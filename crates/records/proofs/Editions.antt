@@ -100,6 +100,15 @@ row_pattern (r ∷ rs) s e (suc i) h p q =
         (0, omega arith, eqb-true r.series s k.0, eqb-true r.edition e k.1, refl)
     by_test false f w = (suc w.0, omega arith, w.2, w.3, w.4)
 
+-- so where the paths of records are held, the row of the current edition is a held path
+pub current_path : (rows : List Row) (rs : List Record) → ((i : ℕ) → i < length rs
+    → T (held_path rows (get_or rs i empty_record).row))
+    → (s : ℕ) → 0 < current rs s → T (held_path rows (row_of rs s (current rs s)))
+current_path rows rs paths s h =
+    let (i, l, e, f, u) = current_held rs s h in
+    let (j, m, g, k, q) = row_pattern rs s (current rs s) i l e f in
+    subst (λ n. T (held_path rows n)) q (paths j m)
+
 -- what is kept is there
 kept_at : (n m : ℕ) (rs : List Record) → all_kept n m rs ≡ true → (i : ℕ) → i < length rs
     → (get_or rs i empty_record).row < n

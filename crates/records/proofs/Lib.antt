@@ -3,3 +3,4 @@ pub mod Judged
 pub mod Editions
 pub mod Released
 pub mod Crew
+pub mod Shown

@@ -1,6 +1,7 @@
 -- Releases of document 02's register: what the office and a crew see of its records. Assumes nothing.
 use Rattle.std.specs.Prelude.{ℕ, ◌-◌, ◌<◌, ◌≡◌, cond, false, ◌&&◌, List, [], ◌∷◌, leb, eqb, length, get_or, set}
-use Rattle.std.specs.Prelude.{replicate}
+use Rattle.std.specs.Prelude.{replicate, map, T}
+use Rattle.common.specs.Lists.{any_of, Every}
 use Rattle.records.specs.declared.Record.{Record}
 use Rattle.calls.specs.Book.{Answer, answer}
 use Rattle.common.specs.Refusals.{no_record}
@@ -80,6 +81,20 @@ pub record ShowsReleased (rs : List Record) (fs : List ℕ) : Type 0 where
   pub no_other : (j : ℕ) → j < length (released rs fs)
       → (i : ℕ) × (i < length rs) × IsReleased fs i
       × (get_or (released rs fs) j empty_record ≡ get_or rs i empty_record)
+
+-- places, each before the next
+abbrev pub Increasing : List ℕ → Type 0
+Increasing [] = Unit {0}
+Increasing (i ∷ []) = Unit {0}
+Increasing (i ∷ j ∷ is) = (i < j) × Increasing (j ∷ is)
+
+-- what a crew gets is the records at the places of the released ones, in the register's order, each place once
+pub record ShowsInOrder (rs : List Record) (fs : List ℕ) : Type 0 where
+  pub places : List ℕ
+  pub in_order : Increasing places
+  pub each : (i : ℕ) → i < length rs → IsReleased fs i → T (any_of (λ j. eqb j i) places)
+  pub no_other : Every (λ i. (i < length rs) × IsReleased fs i) places
+  pub shown : released rs fs ≡ map (λ i. get_or rs i empty_record) places
 
 -- record i of b, which is released, is in d at its place, and released
 pub record StillReleased (b d : OfficeHoldings) (i : ℕ) : Type 0 where

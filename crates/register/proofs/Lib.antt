@@ -1,4 +1,6 @@
 pub mod Takes
 pub mod Calls
 pub mod Simulation
+pub mod Judged
 pub mod Source
+pub mod Clauses

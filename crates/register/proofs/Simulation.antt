@@ -123,6 +123,22 @@ module _ (cs : List OfficeCall) (os : List OfficeSeen) (r : Register) (run : Run
         let (shows, holds, kept, reached) = run_follows register_as_plain followed.2 followed.3 later in
         subst (λ d. StillReleased (holdings r) d i) (sym holds) (releases_stay (holdings r) ds i h is)
 
+-- what such a register holds, and the laws of it
+pub record RegisterLaws (cs : List OfficeCall) (r : Register) : Type 0 where
+  pub held : holdings r ≡ office_after cs
+  pub laws : BookLaws (office_after cs).below.below
+  pub editions : EditionsContained (office_after cs).below.below.rows (office_after cs).below.beside
+
+pub register_laws : (cs : List OfficeCall) (os : List OfficeSeen) (r : Register)
+    → Run holdings RegisterMet fresh_register cs os r → RegisterLaws cs r
+register_laws cs os r run =
+    let is = same cs os r run in
+    record {
+      held = is;
+      laws = subst (λ b. BookLaws b.below.below) is (laws cs os r run);
+      editions = subst (λ b. EditionsContained b.below.below.rows b.below.beside) is (editions cs os r run);
+    }
+
 module _ (Selected : SelectRelation) (select_tied : SelectsKept Selected SelectMet)
     (Current CrewCurrent : Register → (series e : ℕ) → Type 0)
     (current_tied : (r : Register) (series e : ℕ) → Current r series e
@@ -132,17 +148,14 @@ module _ (Selected : SelectRelation) (select_tied : SelectsKept Selected SelectM
       → Run holdings RegisterMet fresh_register cs os r
       → RegisterDemand Selected Current CrewCurrent cs os r
   demanded cs os r run =
-      let is = same cs os r run in
-      let held = editions cs os r run in
+      let w = register_laws cs os r run in
+      let is = w.held in
       record {
         seen = (followed cs os r run).0 ∙ ap (λ b. shown plain_office b cs) fresh_holdings;
         held = is;
-        upheld = upheld Selected select_tied r.session _ (ap (λ b. b.below.below) is)
-            (subst (λ b. BookLaws b.below.below) is (laws cs os r run));
-        contained = subst (λ b. EditionsContained b.below.below.rows b.below.beside) is held;
-        crew_contained =
-            subst (λ b. EditionsContained b.below.below.rows (released b.below.beside b.beside))
-            is (crew_contained _ _ _ held);
+        upheld = upheld Selected select_tied r.session _ (ap (λ b. b.below.below) is) w.laws;
+        contained = w.editions;
+        crew_contained = crew_contained _ _ _ w.editions;
         currents = λ series e m. current_tied r series e m ∙ ap (λ b. current b.below.beside series) is;
         crew_currents = λ series e m.
             crew-tied r series e m ∙ ap (λ b. crew_current (released b.below.beside b.beside) series) is;

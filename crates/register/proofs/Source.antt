@@ -50,7 +50,9 @@ use Rattle.register.specs.Promises.{fresh_register, register, RegisterMet, holdi
 use Rattle.register.specs.Promises.{RegisterReadMet}
 use Rattle.register.specs.Demand.{DemandOfRegister, ReleasesKept, ReleasedAgain, CrewIsolated}
 use Rattle.register.proofs.Calls.{again_made}
+use Rattle.register.specs.RecordDemand.{RecordDemand, RegisterReplaceDemand, RegisterOrderDemand}
 use Rattle.register.proofs.Simulation.{demand_by, kept_by}
+use Rattle.register.proofs.Judged.{replace_demand_by, order_demand_by, record_demand_by}
 use Rattle.register.proofs.Register.new.Reads as new-reads
 use Rattle.register.proofs.Register.term.Reads as term-reads
 use Rattle.register.proofs.Register.step.Reads as step-reads
@@ -391,3 +393,15 @@ reads_exist bytes =
           (lent_to_write r, (lent bytes, tt))
           (record { read = met; records = refl; releases = refl }, fresh_read bytes read met),
     )
+
+-- replace, the orders and record after every list of calls
+pub replace_demand : RegisterReplaceDemand New Called Replaced
+replace_demand = replace_demand_by New new_tied Called call_tied Replaced replace_tied
+
+pub order_demand : RegisterOrderDemand New Called Ordered BundleOrdered
+order_demand = order_demand_by New new_tied Called call_tied Ordered order_tied BundleOrdered bundle_order_tied
+
+pub record_demand : RecordDemand New Called
+record_demand =
+    record_demand_by New new_tied Called call_tied
+    (λ r g a t m. (call_tied r (passed (own g)) a t m).answer ∙ sym (not_barred _ (answer no_record 0)))

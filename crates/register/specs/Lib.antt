@@ -1,3 +1,4 @@
 pub mod Promises
 pub mod Demand
+pub mod RecordDemand
 pub mod code

@@ -1,5 +1,6 @@
 pub mod RuleSound
 pub mod Orders
+pub mod RuleNumbers
 pub mod Rules
 pub mod AxisRules
 pub mod RuleTen

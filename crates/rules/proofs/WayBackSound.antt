@@ -12,10 +12,11 @@ use Rattle.common.specs.Axes.{self}
 use Rattle.common.specs.Lists.{Every}
 use Rattle.common.proofs.Entries.{◌&◌}
 use Rattle.common.proofs.Reflect.{yes_or}
-use Rattle.xpath.specs.Document.{Document}
+use Rattle.xpath.specs.Document.{Document, well_formed}
 use Rattle.xpath.specs.Term.{Path, Void, Root, AxisStep, Union, Composition, Filter}
 use Rattle.xpath.specs.Axis.{principal, passes}
-use Rattle.xpath.proofs.Facts.{Selects, OnAxis}
+use Rattle.xpath.specs.Meaning.{selects}
+use Rattle.xpath.proofs.Facts.{Selects, OnAxis, selects_in_document, selects_iff}
 use Rattle.rules.specs.Order.{is_pair}
 use Rattle.rules.specs.WayBack.{opposites, lookup, opposite, step_back, filter_back, joined, way_back}
 use Rattle.rules.specs.Claim.{Claim}
@@ -91,3 +92,10 @@ module _ (d : Document) where
   way_back_sound y =
       subst (Means d) y.conclusion
       (λ x z k l s. (s, λ none. none x k (back_selects y.path y.back y.is_way_back x z k l s)))
+
+-- from each node that a path selects its way back selects the node that the path was from
+pub way_back_selects : (d : Document) → T (well_formed d) → (p v : Path) → way_back p ≡ some v
+    → (x y : ℕ) → x < length d → T (selects d p x y) → T (selects d v y x)
+way_back_selects d w p v e x y k t =
+    let l = selects_in_document d p x y t in
+    (selects_iff d w v y x l k).1 (back_selects d p v e x y k l ((selects_iff d w p x y k l).0 t))

@@ -21,19 +21,20 @@ use Rattle.ordering.proofs.Judged.{equal_iff, bundles_equal_iff, at_most_lem}
 use Rattle.session.proofs.Simulation.{calls_follow}
 use Rattle.session.proofs.Demand3.{CallsKept, made_from_fresh}
 
--- what one relation says of order calls, the other does
-abbrev pub OrdersKept : OrderRelation → OrderRelation → Type 0
-OrdersKept Ordered Kept = (s : Session) (i : ℕ) (t : Session) (j : ℕ) (r : OrderOrRefusal)
-    → Ordered s i t j r → Kept s i t j r
+-- order calls on sessions, or on what has a session, that meet the session's promises
+abbrev pub OrdersKept : {S : Type 0} → (S → Session) → OrderRelation S → Type 0
+OrdersKept {S} session Ordered = (s : S) (i : ℕ) (t : S) (j : ℕ) (r : OrderOrRefusal)
+    → Ordered s i t j r → OrderMet (session s) i (session t) j r
 
-abbrev pub BundleOrdersKept : BundleOrderRelation → BundleOrderRelation → Type 0
-BundleOrdersKept Ordered Kept = (s t : Session) (r : OrderOrRefusal) → Ordered s t r → Kept s t r
+abbrev pub BundleOrdersKept : {S : Type 0} → (S → Session) → BundleOrderRelation S → Type 0
+BundleOrdersKept {S} session Ordered = (s t : S) (r : OrderOrRefusal)
+    → Ordered s t r → BundleOrderMet (session s) (session t) r
 
--- calls that meet their promises
-module _ (Ordered : OrderRelation) (order_tied : OrdersKept Ordered OrderMet)
-    (BundleOrdered : BundleOrderRelation) (bundle_order_tied : BundleOrdersKept BundleOrdered BundleOrderMet) where
+module _ {S : Type 0} (session : S → Session)
+    (Ordered : OrderRelation S) (order_tied : OrdersKept session Ordered)
+    (BundleOrdered : BundleOrderRelation S) (bundle_order_tied : BundleOrdersKept session BundleOrdered) where
   -- rows that calls sort are sorted terms
-  sorted_terms : (s : Session) (rs : List Row) → (view s).rows ≡ rs → (is : List ℕ)
+  sorted_terms : (s : S) (rs : List Row) → (view (session s)).rows ≡ rs → (is : List ℕ)
       → SortedRows Ordered BundleOrdered s is → Sorted term_order (map (term_at rs) is)
   sorted_terms s rs same [] sorted = tt
   sorted_terms s rs same (i ∷ []) sorted = tt
@@ -46,7 +47,8 @@ module _ (Ordered : OrderRelation) (order_tied : OrdersKept Ordered OrderMet)
         sorted_terms s rs same (j ∷ is) sorted.1,
       )
 
-  ordered : (s t : Session) (b c : Book) → view s ≡ b → view t ≡ c → ArchivesOrdered Ordered BundleOrdered s t b c
+  pub ordered : (s t : S) (b c : Book) → view (session s) ≡ b → view (session t) ≡ c
+      → ArchivesOrdered Ordered BundleOrdered s t b c
   ordered s t b c same_s same-t =
       let told : (i j : ℕ) (r : OrderOrRefusal) → Ordered s i t j r
       → order_answer_of r ≡ order_answer b.rows i c.rows j =
@@ -68,11 +70,14 @@ module _ (Ordered : OrderRelation) (order_tied : OrdersKept Ordered OrderMet)
             (λ e. iff.0 (sym (bundles_told r m) ∙ e), λ h. bundles_told r m ∙ iff.1 h);
       }
 
-  -- so for every `new` and every calls that meet theirs
-  pub order_demand_by : (New : Session → Type 0) (Called : CallRelation)
-      → ((s : Session) → New s → s ≡ fresh_session) → CallsKept Called Met
-      → OrderDemand Ordered BundleOrdered New Called
-  order_demand_by New Called new_tied call_tied s₀ t₀ s t cs ds os us new-s new-t run-s run-t =
-      ordered s t (book_after cs) (book_after ds)
-      (calls_follow (made_from_fresh new_tied call_tied new-s run-s)).held
-      (calls_follow (made_from_fresh new_tied call_tied new-t run-t)).held
+-- so for every `new`, every calls and every orders on sessions that meet their promises
+pub order_demand_by : (Ordered : OrderRelation Session) → OrdersKept (λ s. s) Ordered
+    → (BundleOrdered : BundleOrderRelation Session) → BundleOrdersKept (λ s. s) BundleOrdered
+    → (New : Session → Type 0) (Called : CallRelation)
+    → ((s : Session) → New s → s ≡ fresh_session) → CallsKept Called Met
+    → OrderDemand Ordered BundleOrdered New Called
+order_demand_by Ordered order_tied BundleOrdered bundle_order_tied New Called new_tied call_tied s₀ t₀ s t cs ds os us
+    new-s new-t run-s run-t =
+    ordered (λ s. s) Ordered order_tied BundleOrdered bundle_order_tied s t (book_after cs) (book_after ds)
+    (calls_follow (made_from_fresh new_tied call_tied new-s run-s)).held
+    (calls_follow (made_from_fresh new_tied call_tied new-t run-t)).held

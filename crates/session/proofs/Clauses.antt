@@ -1,5 +1,6 @@
 -- Each clause of demand 3, written out once more: without one of them this fails. Below it, those of the other demands.
 -- Assumes nothing.
+pub mod AcceptClauses
 pub mod ReadClauses
 pub mod ReplaceClauses
 pub mod PointClauses

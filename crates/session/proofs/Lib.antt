@@ -7,6 +7,7 @@ pub mod PointsHeld
 pub mod Whole
 pub mod Simulation
 pub mod Demand3
+pub mod AcceptsExactly
 pub mod SetsReplaced
 pub mod Restored
 pub mod ArchivesOrdered

@@ -4,12 +4,12 @@ use Prim.Native.Nat.{ℕ}
 use mathlib.Core.Path.{◌≡◌, sym, ap, subst, ◌∙◌}
 use mathlib.Core.List.{List}
 use Rattle.calls.specs.Book.{Book}
-use Rattle.calls.specs.Calls.{Call, CallSeen, book_after}
+use Rattle.calls.specs.Calls.{book_after}
 use Rattle.replacing.specs.ReplaceCall.{replace_answer}
 use Rattle.replacing.specs.NoneLost.{paths_of}
 use Rattle.session.specs.declared.session.Session.{Session}
 use Rattle.session.specs.View.{view, fresh_session}
-use Rattle.session.specs.Promises.{CallRelation, Met, CallsMade}
+use Rattle.session.specs.Promises.{CallRelation, Met}
 use Rattle.session.specs.ReplaceDemand.{ReplaceRelation, ReplaceMet, SetsReplaced, ReplaceDemand}
 use Rattle.calls.proofs.Reached.{HeldLaws, reachable_laws}
 use Rattle.replacing.proofs.Judged.{accepts_iff}
@@ -18,14 +18,14 @@ use Rattle.replacing.proofs.NoneLost.{covered_none_lost, rows_covered}
 use Rattle.session.proofs.Simulation.{calls_follow}
 use Rattle.session.proofs.Demand3.{CallsKept, made_from_fresh}
 
--- what one relation says of replace calls, the other does
-abbrev pub ReplacesKept : ReplaceRelation → ReplaceRelation → Type 0
-ReplacesKept Replaced Kept = (s : Session) (old new by : List ℕ) (t : DoneOrRefusal)
-    → Replaced s old new by t → Kept s old new by t
+-- replace calls on sessions, or on what has a session, that meet the session's promise
+abbrev pub ReplacesKept : {S : Type 0} → (S → Session) → ReplaceRelation S → Type 0
+ReplacesKept {S} session Replaced = (s : S) (old new by : List ℕ) (t : DoneOrRefusal)
+    → Replaced s old new by t → ReplaceMet (session s) old new by t
 
--- a replace that meets its promise
-module _ (Replaced : ReplaceRelation) (replace_tied : ReplacesKept Replaced ReplaceMet) where
-  sets_replaced : (s : Session) (b : Book) → view s ≡ b → HeldLaws b.rows b.steps → SetsReplaced Replaced s b
+module _ {S : Type 0} (session : S → Session) (Replaced : ReplaceRelation S)
+    (replace_tied : ReplacesKept session Replaced) where
+  pub sets_replaced : (s : S) (b : Book) → view (session s) ≡ b → HeldLaws b.rows b.steps → SetsReplaced Replaced s b
   sets_replaced s b same laws =
       let told : (old new by : List ℕ) (t : DoneOrRefusal) → Replaced s old new by t
       → done_answer_of t ≡ replace_answer b old new by =
@@ -48,14 +48,11 @@ module _ (Replaced : ReplaceRelation) (replace_tied : ReplacesKept Replaced Repl
             (covered.0, covered_none_lost b laws (paths_of b.rows old) (paths_of b.rows new) covered.1);
       }
 
-  replaced : (cs : List Call) (os : List CallSeen) (s : Session) → CallsMade fresh_session cs os s
-      → SetsReplaced Replaced s (book_after cs)
-  replaced cs os s run =
-      let f = calls_follow run in
-      sets_replaced s _ f.held (subst (λ b. HeldLaws b.rows b.steps) f.held (reachable_laws f.kept.reachable).held)
-
-  -- so for every `new` and every calls that meet theirs
-  pub replace_demand_by : (New : Session → Type 0) (Called : CallRelation)
-      → ((s : Session) → New s → s ≡ fresh_session) → CallsKept Called Met → ReplaceDemand Replaced New Called
-  replace_demand_by New Called new_tied call_tied s₀ s cs os new run =
-      replaced cs os s (made_from_fresh new_tied call_tied new run)
+-- so for every `new`, every calls and every replace on sessions that meet their promises
+pub replace_demand_by : (Replaced : ReplaceRelation Session) → ReplacesKept (λ s. s) Replaced
+    → (New : Session → Type 0) (Called : CallRelation)
+    → ((s : Session) → New s → s ≡ fresh_session) → CallsKept Called Met → ReplaceDemand Replaced New Called
+replace_demand_by Replaced replace_tied New Called new_tied call_tied s₀ s cs os new run =
+    let f = calls_follow (made_from_fresh new_tied call_tied new run) in
+    sets_replaced (λ s. s) Replaced replace_tied s (book_after cs) f.held
+    (subst (λ b. HeldLaws b.rows b.steps) f.held (reachable_laws f.kept.reachable).held)

@@ -31,8 +31,9 @@ use Rattle.session.specs.Reading.{reading}
 use Rattle.session.specs.ReadCall.{ReadMet}
 use Rattle.session.specs.WriteCall.{session_text, write_answer, write_buffer, WriteMet}
 use Rattle.session.specs.ReadDemand.{ReadDemand}
-use Rattle.session.specs.ReplaceDemand.{ReplaceMet, ReplaceDemand}
-use Rattle.session.specs.OrderDemand.{OrderMet, BundleOrderMet, OrderDemand}
+use Rattle.session.specs.ReplaceDemand.{ReplaceDemand}
+use Rattle.session.specs.OrderDemand.{OrderDemand}
+use Rattle.session.specs.AcceptDemand.{AcceptDemand}
 use Rattle.replacing.proofs.Judged.{replace_case}
 use Rattle.ordering.proofs.Judged.{order_case, bundle_order_case}
 use Rattle.calls.proofs.Runs.{made, run_exists}
@@ -45,6 +46,7 @@ use Rattle.session.proofs.ReadMade.{read_met}
 use Rattle.session.proofs.ReadCalls.{refused_fresh}
 use Rattle.session.proofs.ReadCases.{reading_case}
 use Rattle.session.proofs.Bundles.{read_demand_by}
+use Rattle.session.proofs.AcceptsExactly.{accept_demand_by}
 use Rattle.session.proofs.SetsReplaced.{ReplacesKept, replace_demand_by}
 use Rattle.session.proofs.ArchivesOrdered.{OrdersKept, BundleOrdersKept, order_demand_by}
 use Rattle.session.proofs.session.Session.new.Reads as new-reads
@@ -126,13 +128,13 @@ select_tied s row xs x limit buffer t left (select_called κs a r y m) = m
 pub read_tied : (bytes : List ℕ) (t : ReadResult) → Read bytes t → ReadMet bytes t
 read_tied bytes t (read_called κs a r x m) = m.0
 
-pub replace_tied : ReplacesKept Replaced ReplaceMet
+pub replace_tied : ReplacesKept (λ s. s) Replaced
 replace_tied s old new by t (replace_called κs a r x m) = m
 
-pub order_tied : OrdersKept Ordered OrderMet
+pub order_tied : OrdersKept (λ s. s) Ordered
 order_tied s i t j o (order_called κs a r x m) = m
 
-pub bundle_order_tied : BundleOrdersKept BundleOrdered BundleOrderMet
+pub bundle_order_tied : BundleOrdersKept (λ s. s) BundleOrdered
 bundle_order_tied s t o (bundle_order_called κs a r x m) = m
 
 pub write_tied : (s : Session) (buffer : List ℕ) (w : NumberOrRefusal) (left : List ℕ) → Write s buffer w left
@@ -270,3 +272,6 @@ writes_exist s buffer =
 
 pub read_demand : ReadDemand Selected Called Read Write
 read_demand = read_demand_by Selected Called Read Write select_tied call_tied met_called read_tied write_tied
+
+pub accept_demand : AcceptDemand Selected Called New
+accept_demand = accept_demand_by Selected select_tied Called call_tied New new_tied

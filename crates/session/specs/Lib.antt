@@ -6,6 +6,7 @@ pub mod WriteCall
 pub mod Demand3
 pub mod SessionLaws
 pub mod ReadDemand
+pub mod AcceptDemand
 pub mod ReplaceDemand
 pub mod OrderDemand
 pub mod code

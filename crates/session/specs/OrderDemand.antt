@@ -14,35 +14,36 @@ use Rattle.session.specs.declared.session.Session.{Session}
 use Rattle.session.specs.View.{view}
 use Rattle.session.specs.Promises.{CallRelation}
 
--- what may be said of an order call: a session and a row, another session and a row, and the answer
-abbrev pub OrderRelation : Type 1
-OrderRelation = Session → (i : ℕ) → Session → (j : ℕ) → OrderOrRefusal → Type 0
+-- what may be said of an order call: a session or register and a row, another one and a row, and the answer
+abbrev pub OrderRelation : Type 0 → Type 1
+OrderRelation S = S → (i : ℕ) → S → (j : ℕ) → OrderOrRefusal → Type 0
 
--- what may be said of a bundle order call: two sessions, and the answer
-abbrev pub BundleOrderRelation : Type 1
-BundleOrderRelation = Session → Session → OrderOrRefusal → Type 0
+-- what may be said of a bundle order call: two sessions or registers, and the answer
+abbrev pub BundleOrderRelation : Type 0 → Type 1
+BundleOrderRelation S = S → S → OrderOrRefusal → Type 0
 
 -- `Session::order` and `Session::bundle_order` on s and t; both sessions stay the caller's
-abbrev pub OrderMet : OrderRelation
+abbrev pub OrderMet : OrderRelation Session
 OrderMet s i t j r = order_answer_of r ≡ order_answer (view s).rows i (view t).rows j
 
-abbrev pub BundleOrderMet : BundleOrderRelation
+abbrev pub BundleOrderMet : BundleOrderRelation Session
 BundleOrderMet s t r = order_answer_of r ≡ bundle_order_answer (view s) (view t)
 
-module _ (Ordered : OrderRelation) (BundleOrdered : BundleOrderRelation) where
+module _ {S : Type 0} (Ordered : OrderRelation S) (BundleOrdered : BundleOrderRelation S) where
   -- an order call on rows i and j of s answered less or equal
-  abbrev pub RowAtMost : Session → (i j : ℕ) → Type 0
+  abbrev pub RowAtMost : S → (i j : ℕ) → Type 0
   RowAtMost s i j =
       (r : OrderOrRefusal) × Ordered s i s j r × IsAccepted (order_answer_of r) × ((order_answer_of r).value ≤ 1)
 
   -- a list of rows that is sorted by such calls
-  abbrev pub SortedRows : Session → List ℕ → Type 0
+  abbrev pub SortedRows : S → List ℕ → Type 0
   SortedRows s [] = Unit {0}
   SortedRows s (i ∷ []) = Unit {0}
   SortedRows s (i ∷ j ∷ is) = RowAtMost s i j × SortedRows s (j ∷ is)
 
-  -- what is asked of the sessions s and t that calls left; b and c are the plain books fed the same calls
-  pub record ArchivesOrdered (s t : Session) (b c : Book) : Type 0 where
+  -- what is asked of the sessions, or the registers, s and t that calls left; b and c are the plain books fed the same
+  -- calls
+  pub record ArchivesOrdered (s t : S) (b c : Book) : Type 0 where
     pub answers : (i j : ℕ) (r : OrderOrRefusal) → Ordered s i t j r
         → order_answer_of r ≡ order_answer b.rows i c.rows j
     -- the answer is equal just when both rows are held and have the same term
@@ -58,8 +59,9 @@ module _ (Ordered : OrderRelation) (BundleOrdered : BundleOrderRelation) where
     pub bundle_equal : (r : OrderOrRefusal) → BundleOrdered s t r
         → (order_answer_of r ≡ answer 0 1) ↔ (term_steps b ≡ term_steps c)
 
-  -- the demand: every two lists of calls, run from what `Session::new` gives, refused ones included
-  abbrev pub OrderDemand : (New : Session → Type 0) (Called : CallRelation) → Type 0
-  OrderDemand New Called = (s₀ t₀ s t : Session) (cs ds : List Call) (os us : List CallSeen)
-      → New s₀ → New t₀ → Run view Called s₀ cs os s → Run view Called t₀ ds us t
-      → ArchivesOrdered s t (book_after cs) (book_after ds)
+-- the demand: every two lists of calls, run from what `Session::new` gives, refused ones included
+abbrev pub OrderDemand : (Ordered : OrderRelation Session) (BundleOrdered : BundleOrderRelation Session)
+    (New : Session → Type 0) (Called : CallRelation) → Type 0
+OrderDemand Ordered BundleOrdered New Called = (s₀ t₀ s t : Session) (cs ds : List Call) (os us : List CallSeen)
+    → New s₀ → New t₀ → Run view Called s₀ cs os s → Run view Called t₀ ds us t
+    → ArchivesOrdered Ordered BundleOrdered s t (book_after cs) (book_after ds)

@@ -14,17 +14,17 @@ use Rattle.session.specs.declared.session.Session.{Session}
 use Rattle.session.specs.View.{view}
 use Rattle.session.specs.Promises.{CallRelation}
 
--- what may be said of a replace call: the session, the old rows, the new rows, the steps, and the answer
-abbrev pub ReplaceRelation : Type 1
-ReplaceRelation = Session → (old new by : List ℕ) → DoneOrRefusal → Type 0
+-- what may be said of a replace call: the session or register, the old rows, the new rows, the steps, and the answer
+abbrev pub ReplaceRelation : Type 0 → Type 1
+ReplaceRelation S = S → (old new by : List ℕ) → DoneOrRefusal → Type 0
 
 -- `Session::replace` on s; the session stays the caller's
-abbrev pub ReplaceMet : ReplaceRelation
+abbrev pub ReplaceMet : ReplaceRelation Session
 ReplaceMet s old new by t = done_answer_of t ≡ replace_answer (view s) old new by
 
-module _ (Replaced : ReplaceRelation) where
-  -- what is asked of the session s that calls left; b is the plain book fed the same calls
-  pub record SetsReplaced (s : Session) (b : Book) : Type 0 where
+module _ {S : Type 0} (Replaced : ReplaceRelation S) where
+  -- what is asked of the session, or the register, s that calls left; b is the plain book fed the same calls
+  pub record SetsReplaced (s : S) (b : Book) : Type 0 where
     -- lists of paths of any length: each node that a path of a covered list selects is selected by some new one
     pub none_lost : (ps qs : List Path) → Covered b ps qs → NoneLost ps qs
     -- what the call asks of an old row and its step by their numbers is what the step says of the terms
@@ -42,7 +42,7 @@ module _ (Replaced : ReplaceRelation) where
         → IsAccepted (done_answer_of t)
         → Every (λ n. T (held_path b.rows n)) old × NoneLost (paths_of b.rows old) (paths_of b.rows new)
 
-  -- the demand: every list of calls, run from what `Session::new` gives, refused ones included
-  abbrev pub ReplaceDemand : (New : Session → Type 0) (Called : CallRelation) → Type 0
-  ReplaceDemand New Called = (s₀ s : Session) (cs : List Call) (os : List CallSeen)
-      → New s₀ → Run view Called s₀ cs os s → SetsReplaced s (book_after cs)
+-- the demand: every list of calls, run from what `Session::new` gives, refused ones included
+abbrev pub ReplaceDemand : ReplaceRelation Session → (New : Session → Type 0) (Called : CallRelation) → Type 0
+ReplaceDemand Replaced New Called = (s₀ s : Session) (cs : List Call) (os : List CallSeen)
+    → New s₀ → Run view Called s₀ cs os s → SetsReplaced Replaced s (book_after cs)

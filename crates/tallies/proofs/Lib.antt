@@ -1,7 +1,8 @@
 pub mod Each
 pub mod RulesHeld
 pub mod AddsUp
-pub mod Promise
+pub mod Files
+pub mod Source
 pub mod Listed
 pub mod Lined
 pub mod Counted

@@ -1,5 +1,6 @@
 -- The uses of each rule over bundles, and the total of their steps. Assumes nothing.
-use Rattle.std.specs.Prelude.{ℕ, zero, suc, ◌+◌, Bool, cond, not, ◌&&◌, List, [], ◌∷◌, ◌++◌, leb, length}
+use Rattle.std.specs.Prelude.{ℕ, zero, suc, ◌+◌, Bool, true, false, cond, not, ◌&&◌, List, [], ◌∷◌, ◌++◌, leb, length}
+use Rattle.std.specs.Prelude.{Option, Some, None}
 use Rattle.rules.specs.Yields.{max_rule}
 use Rattle.calls.specs.Book.{Step, accepted}
 use Rattle.calls.specs.Uses.{uses_of}
@@ -14,6 +15,11 @@ pub record File : Type 0 where
 
 abbrev pub file : Bool → List ℕ → File
 file failed bytes = record { failed = failed; bytes = bytes }
+
+-- a file as it was read: its bytes, or that its reading failed
+abbrev pub file_of : Option (List ℕ) → File
+file_of (Some bytes) = file false bytes
+file_of None = file true []
 
 -- a file above 65,536 bytes, or one whose reading fails, is a refused bundle
 unfoldable pub is_accepted : File → Bool

@@ -4,6 +4,7 @@ use mathlib.Core.Path.{◌≡◌, refl, ◌∙◌, ap}
 use mathlib.Core.Bool.{Bool, true, false, cond}
 use mathlib.Core.List.{List, [], ◌∷◌}
 use native.Mathlib.Omega.{arith}
+use native.Mathlib.Numerals.{add-one}
 use lib.Dec.{T}
 use mir.Facts.{eqb_yes}
 use lib.ListN.{length}
@@ -62,6 +63,17 @@ find_first (s ∷ rs) r (suc i) h e = find_first rs r i (by (same_row s r) h) e
     by : (b : Bool) → suc i < cond b 0 (find rs r + 1) → i < find rs r
     by true g = absurd (omega arith)
     by false g = omega arith
+
+-- the row that is found is that row
+pub find_there : (rs : List Row) (r : Row) → find rs r < length rs → row_at rs (find rs r) ≡ r
+unfolding find
+find_there [] r h = absurd (omega arith)
+find_there (s ∷ rs) r h = by (same_row s r) refl h (find_there rs r)
+  where
+    by : (b : Bool) → same_row s r ≡ b → cond b 0 (find rs r + 1) < suc (length rs)
+        → (find rs r < length rs → row_at rs (find rs r) ≡ r) → row_at (s ∷ rs) (cond b 0 (find rs r + 1)) ≡ r
+    by true e h later = same_is s r ((true_iff (same_row s r)).1 e)
+    by false e h later = ap (row_at (s ∷ rs)) (add-one (find rs r)) ∙ later (omega arith)
 
 -- of a new row, no row is equal to it
 pub new_row : (rs : List Row) (r : Row) → T (is_new rs r) → (i : ℕ) → i < length rs → ¬ (row_at rs i ≡ r)

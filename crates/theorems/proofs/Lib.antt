@@ -1,2 +1,3 @@
 pub mod Theorems
 pub mod Proved
+pub mod Clauses

@@ -9,11 +9,18 @@ use Rattle.ordering.proofs.Orders.{total_order}
 use Rattle.ordering.proofs.Sorted.{sorted_match}
 use Rattle.ordering.proofs.TermOrder.{terms_ordered}
 use Rattle.records.proofs.Crew.{shows_released}
+use Rattle.records.proofs.Shown.{shows_in_order}
 use Rattle.rules.proofs.Sound.{yields_sound}
 use Rattle.xpath.proofs.Chain.{chain_visits}
 use Rattle.xpath.proofs.Climbing.{count_ends, count_least, answers_alike, refuses_alike}
 use Rattle.xpath.proofs.OneName.{step_same_elsewhere}
-use Rattle.tallies.proofs.Promise.{tally_promise}
+use Rattle.tallies.proofs.Source as tallies
+use Rattle.xpath.proofs.Source as xpath
+use Rattle.xpath.proofs.AxisLaws as axis-laws
+use Rattle.xpath.proofs.Refusal.{accepted_iff}
+use Rattle.rules.proofs.RuleTen.{star_ending_yields, node_ending_yields}
+use Rattle.rules.proofs.WayBackSound.{way_back_selects}
+use Rattle.grammar.proofs.Place.{one_tree}
 use Rattle.session.proofs.Simulation as simulation
 use Rattle.session.proofs.Takes as session-takes
 use Rattle.session.proofs.Source as session
@@ -21,8 +28,8 @@ use Rattle.register.proofs.Takes as register-takes
 use Rattle.register.proofs.Source as register
 use Rattle.exports.proofs.Takes as exports-takes
 use Rattle.exports.proofs.Source as exports
-use Rattle.theorems.proofs.Theorems.{SessionTheorems, RegisterTheorems, HostTheorems}
-use Rattle.theorems.proofs.Theorems.{Theorems}
+use Rattle.theorems.proofs.Theorems.{SessionTheorems, RegisterTheorems, HostTheorems, MeaningTheorems}
+use Rattle.theorems.proofs.Theorems.{ProgramTheorems, Theorems}
 
 session_theorems : SessionTheorems
 session_theorems =
@@ -47,6 +54,7 @@ session_theorems =
       steps_held_lem = λ κs a r x m. m;
       rule_uses = λ κs a r x m. m;
       last_step = λ κs a r x m. m;
+      accept_demand = session.accept_demand;
       demand3 = session.demand3;
       whole_session = session.whole_session;
       no_point_left = session.no_point_left;
@@ -95,7 +103,11 @@ register_theorems =
       write = register.write_tied;
       read = register.read_tied;
       register_demand = register.register_demand;
+      replace_demand = register.replace_demand;
+      order_demand = register.order_demand;
+      record_demand = register.record_demand;
       shows_released = shows_released;
+      shows_in_order = shows_in_order;
       releases_kept = register.releases_kept;
       released_again = register.released_again;
       crew_isolated = register.crew_isolated;
@@ -132,11 +144,42 @@ host_theorems =
       files_exist = exports.files_exist;
     }
 
+meaning_theorems : MeaningTheorems
+meaning_theorems =
+    record {
+      document_accepted = accepted_iff;
+      five_axes_partition = axis-laws.five_axes_partition;
+      axes_to_attribute = axis-laws.axes_to_attribute;
+      axes_from_attribute = axis-laws.axes_from_attribute;
+      following_attribute = axis-laws.following_attribute;
+      document_checked = xpath.checked_tied;
+      climb_made = xpath.climbed_tied;
+      climb_promise = xpath.climb_promise;
+      climbs_exist = xpath.climbs_exist;
+      rule_10_star = star_ending_yields;
+      rule_10_node = node_ending_yields;
+      way_back_selects = way_back_selects;
+      one_tree = one_tree;
+    }
+
+program_theorems : ProgramTheorems
+program_theorems =
+    record {
+      audit = λ κs a r s m. m;
+      judged = tallies.judged_tied;
+      tally = tallies.tally_promise;
+      judges_exist = tallies.judges_exist;
+      new_exists = tallies.new_exists;
+      adds_exist = tallies.adds_exist;
+      lines_exist = tallies.lines_exist;
+    }
+
 pub theorems : Theorems
 theorems =
     record {
       session = session_theorems;
       register = register_theorems;
       host = host_theorems;
-      programs = record { audit = λ κs a r s m. m; tally = tally_promise };
+      meaning = meaning_theorems;
+      programs = program_theorems;
     }

@@ -1,8 +1,10 @@
--- All that is proved, as one list. `session.Called`, `register.Selected`, `exports.Claims` and so on
+-- All that is promised, as one list. `session.Called`, `register.Selected`, `exports.Claims`, `tallies.Added` and so on
 -- (proofs/Source.antt of these crates) say of a call what its contract in the source does; Proved.antt has the proofs.
 -- Assumes nothing.
-use Prim.Native.Nat.{ℕ}
+use Prim.Native.Nat.{ℕ, ◌*◌, ◌≤◌, ◌<◌}
+use mathlib.Core.Bool.{Bool}
 use mathlib.Core.List.{List, map}
+use mathlib.Core.Option.{none, some}
 use mathlib.Core.Logic.{◌↔◌}
 use mathlib.Core.Path.{◌≡◌}
 use lib.Dec.{T}
@@ -15,6 +17,8 @@ use Rattle.calls.specs.SelectLaws.{LimitSuffices, MarksSameElsewhere}
 use Rattle.calls.specs.TextLaws.{AnswersAsDefined, AsTermCalls, GivesItsTerm, GivesItsNesting}
 use Rattle.calls.specs.code.Answers.{NumberOrRefusal, DoneOrRefusal, OrderOrRefusal}
 use Rattle.common.specs.Lists.{Every}
+use Rattle.common.specs.NodeTests.{star_test, node_test}
+use Rattle.std.specs.Prelude.{Option, Result}
 use Rattle.grammar.specs.Abbreviations.{Expanded, Meant}
 use Rattle.matching.specs.code.RowYields.{Sides, one_sort, says_of, row_yields}
 use Rattle.ordering.specs.BundleOrder.{steps_order}
@@ -23,14 +27,16 @@ use Rattle.ordering.specs.TermOrder.{term_order}
 use Rattle.records.specs.code.Held.{records_in}
 use Rattle.records.specs.code.Listed.{listed}
 use Rattle.records.specs.Records.{current}
-use Rattle.records.specs.Releases.{crew_listing, crew_current, OfficeCall, OfficeSeen, ShowsReleased}
+use Rattle.records.specs.Releases.{crew_listing, crew_current, OfficeCall, OfficeSeen, ShowsReleased, ShowsInOrder}
 use Rattle.records.specs.declared.Record.{Record}
 use Rattle.records.specs.declared.Records.{Records}
 use Rattle.register.specs.Demand.{DemandOfRegister, ReleasesKept, ReleasedAgain, CrewIsolated}
+use Rattle.register.specs.RecordDemand.{RecordDemand, RegisterReplaceDemand, RegisterOrderDemand}
 use Rattle.register.specs.Promises.{fresh_register, RegisterMet, RegisterReadMet, holdings, released_in}
 use Rattle.register.specs.declared.Register.{Register}
 use Rattle.rules.specs.Claim.{Claim, IsTrue}
 use Rattle.rules.specs.Yields.{Yields}
+use Rattle.session.specs.AcceptDemand.{AcceptDemand}
 use Rattle.session.specs.Demand3.{DemandThree}
 use Rattle.session.specs.OrderDemand.{OrderMet, BundleOrderMet, OrderDemand}
 use Rattle.session.specs.Promises.{Met, SelectMet, AnswersByTerms}
@@ -45,6 +51,16 @@ use Rattle.terms.specs.AcceptedRows.{Built}
 use Rattle.terms.specs.Row.{Row}
 use Rattle.xpath.specs.Chain.{ChainVisits}
 use Rattle.xpath.specs.Climb.{CountEnds, CountLeast, AnswersAlike, RefusesAlike}
+use Rattle.xpath.specs.AxisLaws.{FiveAxesPartition, AxesToAttribute, AxesFromAttribute, FollowingAttribute}
+use Rattle.xpath.specs.Document.{Document, document_of, document_refusal, well_formed}
+use Rattle.xpath.specs.Meaning.{selects}
+use Rattle.xpath.specs.Term.{Path}
+use Rattle.xpath.specs.code.Check.{ClimbMade, DocumentChecked}
+use Rattle.xpath.specs.code.ClimbPromise.{ClimbPromise}
+use Rattle.xpath.specs.declared.document.Climb.{Climb}
+use Rattle.rules.specs.WayBack.{way_back}
+use Rattle.rules.specs.values.RuleTen.{EndingYields}
+use Rattle.grammar.specs.Grammar.{Union, Spells}
 use Rattle.session.specs.code.Results.{ReadResult}
 use Rattle.register.specs.code.Results as register-read
 use Rattle.auditing.specs.Audit.{report}
@@ -54,8 +70,14 @@ use Rattle.calls.specs.Promises.{sides_of}
 use Rattle.matching.specs.code.MatchTypes.{sides_in}
 use Rattle.terms.specs.code.RowTypes.{PlaceIs}
 use Rattle.replacing.specs.Covered.{step_saying}
+use Rattle.tallies.specs.declared.Tally.{Tally}
+use Rattle.tallies.specs.Count.{file_of, Entry}
+use Rattle.tallies.specs.NameList.{list_answer}
 use Rattle.tallies.specs.Promise.{TallyPromise}
+use Rattle.tallies.specs.code.Tally.{fresh_tally}
 use Rattle.xpath.specs.OneName.{StepSameElsewhere}
+use Rattle.xpath.proofs.Source as xpath
+use Rattle.tallies.proofs.Source as tallies
 use Rattle.session.proofs.Takes as session-takes
 use Rattle.session.proofs.Source as session
 use Rattle.register.proofs.Takes as register-takes
@@ -125,6 +147,11 @@ pub record SessionTheorems : Type 0 where
       → r ≡ uses_of a.1.0 (view a.0.now).steps
   pub last_step : (κs : _) (a : _) (r : _) (x : _) → last-step-reads.Post κs a r x
       → sides_in r ≡ sides_of (step_numbered (view a.0.now).steps (length (view a.0.now).steps))
+  -- what is accepted, after every list of calls from a fresh session: term accepts exactly a row that is well formed
+  -- and new while there is space, step exactly what the rule table yields, as terms, of held rows and from held
+  -- premises while there is space, select exactly a held path on a well-formed document of 1 to 512 nodes, from one of
+  -- them, with room for the marks and visits within the limit
+  pub accept_demand : AcceptDemand session.Selected session.Called session.New
   -- demand 3: after every list of calls from a fresh session all is as in the plain book, what is held is true on every
   -- document, and select marks by it
   pub demand3 : DemandThree session.Selected session.New session.Called
@@ -217,8 +244,17 @@ pub record RegisterTheorems : Type 0 where
   -- newer's where two editions of one series are held, or seen by a crew, and the current edition of both
   pub register_demand :
       DemandOfRegister register.Selected register.Current register.CrewCurrent register.New register.Called
+  -- after every list of calls from a fresh register, record, release and refused returns among them: replace and the
+  -- orders keep what they promise on a session
+  pub replace_demand : RegisterReplaceDemand register.New register.Called register.Replaced
+  pub order_demand : RegisterOrderDemand register.New register.Called register.Ordered register.BundleOrdered
+  -- record accepts exactly the next edition of a series, of a held path, while there is space: the first with step 0, a
+  -- later one with a held step that says, as terms, that the previous edition's path is contained in its own
+  pub record_demand : RecordDemand register.New register.Called
   -- a crew gets each released record and no other
   pub shows_released : (rs : List Record) (fs : List ℕ) → ShowsReleased rs fs
+  -- in the register's order, each place once
+  pub shows_in_order : (rs : List Record) (fs : List ℕ) → ShowsInOrder rs fs
   -- what was released stays released, whatever calls are made
   pub releases_kept : ReleasesKept register.New register.Called
   -- releasing again is accepted and changes nothing
@@ -274,14 +310,56 @@ pub record HostTheorems : Type 0 where
       → (a : Answer) × (left : List ℕ) × exports.Selects names t xs x limit buffer a left
   pub files_exist : (script buffer : Bytes) → (a : Answer) × (left : Bytes) × exports.Files script buffer a left
 
--- the programs: what audit prints is the report of the bytes; what tally prints are the uses of each rule over the
--- accepted bundles, and they add up to the total
+-- the laws of documents, selectors and rules that the words of the others rest on
+pub record MeaningTheorems : Type 0 where
+  -- lent numbers are accepted as a document just where they are whole rows, at most 512, of a well-formed one
+  pub document_accepted : (xs : List ℕ) → (document_refusal xs ≡ none)
+      ↔ ((length xs ≡ 3 * length (document_of xs)) × (length (document_of xs) ≤ 512)
+      × T (well_formed (document_of xs)))
+  -- from every node, each node that is no attribute is on exactly one of the axes self, ancestor, descendant, following
+  -- and preceding
+  pub five_axes_partition : FiveAxesPartition
+  -- an attribute is on no axis of another node but axis 11; from it there is no child, attribute, descendant or
+  -- sibling, and what follows it is every later node that is no attribute, its parent's children among them
+  pub axes_to_attribute : AxesToAttribute
+  pub axes_from_attribute : AxesFromAttribute
+  pub following_attribute : FollowingAttribute
+  -- the check of a document, and the ancestor test that it runs for each row, as the source has them: the test's count
+  -- of parents is the least that ends the climb so, and its answer is that of the climb to the root
+  pub document_checked : (xs : List ℕ) (r : Result (List ℕ) ℕ) → xpath.Checked xs r → DocumentChecked xs r
+  pub climb_made : (xs : List ℕ) (x y e : ℕ) (es : List ℕ) (r : Climb) (left : List ℕ)
+      → xpath.Climbed xs x y e es r left → ClimbMade (document_of xs) x y e es r left
+  pub climb_promise : ClimbPromise xpath.Climbed
+  -- every climb can be made as the contract has it
+  pub climbs_exist : (xs : List ℕ) (x y e : ℕ) (es : List ℕ)
+      → (r : Climb) × (left : List ℕ) × xpath.Climbed xs x y e es r left
+  -- rule 10 yields its conclusion where the second premise ends in `*`, and where it ends in node()
+  pub rule_10_star : EndingYields star_test
+  pub rule_10_node : EndingYields node_test
+  -- where a path that has a way back selects y from x, its way back selects x from y
+  pub way_back_selects : (d : Document) → T (well_formed d) → (p v : Path) → way_back p ≡ some v
+      → (x y : ℕ) → x < length d → T (selects d p x y) → T (selects d v y x)
+  -- a text of the grammar has one tree
+  pub one_tree : (t : Bytes) (u v : Union) → Spells t u → Spells t v → u ≡ v
+
+-- the programs: what audit prints is the report of the bytes; a list of names is answered 17 with the first line that
+-- is a 65th name or whose file can't be opened, else 0; what tally prints, after the files that the calls added in
+-- order, are the uses of each rule over the accepted bundles, and they add up to the total
 pub record ProgramTheorems : Type 0 where
   pub audit : (κs : _) (a : _) (r : _) (s : _) → audit-reads.Post κs a r s → r ≡ report a.0.now
-  pub tally : TallyPromise
+  pub judged : (list : List ℕ) (opened : List Bool) (a : Answer) → tallies.Judged list opened a
+      → a ≡ list_answer list opened
+  pub tally : TallyPromise tallies.New tallies.Added tallies.Lines
+  -- every list of names is judged; a new tally can be made, every file that was read or not is added to every tally,
+  -- and every tally has its lines
+  pub judges_exist : (list : List ℕ) (opened : List Bool) → (a : Answer) × tallies.Judged list opened a
+  pub new_exists : tallies.New fresh_tally
+  pub adds_exist : (t : Tally) (bytes : Option (List ℕ)) → (u : Tally) × tallies.Added t (file_of bytes) u
+  pub lines_exist : (t : Tally) → (es : List Entry) × tallies.Lines t es
 
 pub record Theorems : Type 0 where
   pub session : SessionTheorems
   pub register : RegisterTheorems
   pub host : HostTheorems
+  pub meaning : MeaningTheorems
   pub programs : ProgramTheorems

@@ -2,11 +2,13 @@ pub mod Tree
 pub mod Facts
 pub mod Order
 pub mod Attributes
+pub mod AxisLaws
 pub mod Targets
 pub mod Ends
 pub mod LentNumbers
 pub mod Refusal
 pub mod Climbing
+pub mod Source
 pub mod Rows
 pub mod Axes
 pub mod Chain

@@ -1,8 +1,8 @@
 -- Laws of document order and of the axes on every well-formed document, of any length. Assumes nothing.
-use Prim.Native.Nat.{ℕ, zero, suc, ◌+◌, ◌≤◌, ◌<◌}
+use Prim.Native.Nat.{ℕ, zero, suc, ◌≤◌, ◌<◌}
 use mathlib.Core.Path.{◌≡◌, refl, sym, ◌∙◌}
-use mathlib.Core.Bool.{Bool, true, false, not, cond, ◌&&◌}
-use mathlib.Core.List.{List, [], ◌∷◌}
+use mathlib.Core.Bool.{Bool, true, false, not, ◌&&◌}
+use mathlib.Core.List.{[], ◌∷◌}
 use mathlib.Core.Logic.{◌↔◌, ◌⊎◌, inl, inr, ⊎_elim}
 use native.Mathlib.Omega.{arith}
 use lib.Dec.{T}
@@ -12,6 +12,7 @@ use Rattle.xpath.specs.Document.{Document, kind_at, parent_at, is_ancestor, well
 use Rattle.common.specs.Axes.{self, descendant, ancestor, descendant_or_self, ancestor_or_self, following_sibling}
 use Rattle.common.specs.Axes.{preceding_sibling, following, preceding}
 use Rattle.xpath.specs.Axis.{on_axis}
+use Rattle.xpath.specs.AxisLaws.{count_true}
 use Rattle.common.proofs.Reflect.{le_or_lt, eq_or_ne}
 use Rattle.xpath.proofs.Tree.{Ancestor, parent_is, ancestor_trans, ancestor_cases, descendant_positive}
 use Rattle.xpath.proofs.Tree.{child_toward, parent_smaller, ancestor_smaller, no_later_ancestor}
@@ -57,11 +58,6 @@ descendant_or_self_trans (inr a) (inr b) = inr (ancestor_trans a.0 b.0, b.1)
 abbrev AcrossSiblings : Document → ℕ → ℕ → Type 0
 AcrossSiblings d x y =
     (a s : ℕ) × (a < length d) × (s < length d) × AncestorOrSelf d a x × FollowingSibling d a s × AncestorOrSelf d s y
-
--- how many of the tests pass
-abbrev pub count_true : List Bool → ℕ
-count_true [] = 0
-count_true (b ∷ bs) = cond b 1 0 + count_true bs
 
 module _ (d : Document) (w : T (well_formed d)) where
   ancestor_to_parent : {x y : ℕ} → y < length d → Ancestor d x y → x ≤ parent_at d y

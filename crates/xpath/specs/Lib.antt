@@ -1,6 +1,7 @@
 pub mod Document
 pub mod Climb
 pub mod Axis
+pub mod AxisLaws
 pub mod Term
 pub mod Meaning
 pub mod Visits

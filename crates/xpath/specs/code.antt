@@ -1,4 +1,5 @@
 pub mod Check
+pub mod ClimbPromise
 pub mod Checked
 pub mod Ends
 pub mod Nodes

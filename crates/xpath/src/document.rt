@@ -104,18 +104,19 @@ pub fn parent_of(d: &[u16], y: usize) -> usize
 }
 
 // What the climb toward a row gives: whether it met that row, and how many parents it took, which is counted whether it
-// met the row or not, and is promised (docs/TRACE.md, document 02, T-04) though the check takes `met` alone.
+// met the row or not. The check takes `met` alone.
 #[derive(Clone, Copy, Debug, PartialEq, Eq)]
-struct Climb {
-    met: bool,
-    parents: usize,
+pub struct Climb {
+    pub met: bool,
+    pub parents: usize,
 }
 
 // The ancestor test: the climb from row y toward x. It ends once it is at or below x, and where a parent is not the
-// smaller row, which no document has. It closes at `end` the subtree of each row that it leaves. `d` and `ends` are no
-// struct, here and below: each of its methods would owe that `d` stays as it was. Nor is there a type of documents of
-// at most `max_nodes` rows: it would be made for this check alone, and each contract would read the rows through it.
-fn climb_toward(d: &[u16], x: usize, y: usize, end: u16, ends: &mut [u16; MAX_NODES]) -> Climb
+// smaller row, which no document has. It closes at `end` the subtree of each row that it leaves. It asks that y is a
+// row as `whole_node` does: the check climbs from each of its rows. `d` and `ends` are no struct, here and below: each
+// of its methods would owe that `d` stays as it was. Nor is there a type of documents of at most `max_nodes` rows: it
+// would be made for this check alone, and each contract would read the rows through it.
+pub fn climb_toward(d: &[u16], x: usize, y: usize, end: u16, ends: &mut [u16; MAX_NODES]) -> Climb
     requires y_in_bounds { y < length (document_of d.now) }
     requires y_lt_max_nodes { y < max_nodes }
     ensures { ClimbMade (document_of d.now) x y end ends.old result ends.new }

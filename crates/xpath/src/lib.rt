@@ -1,7 +1,7 @@
 // Documents lent as 16-bit numbers, three a row, as C lends them: their check, with the ends of the rows' subtrees, and
 // the node tests.
-// Every public function but `parent_of` and `whole_node` takes every input; a number that no whole row has is read as
-// 0.
+// Every public function but `climb_toward`, `parent_of` and `whole_node` takes every input; a number that no whole row
+// has is read as 0.
 #![tactic(auto)]
 
 mod checked;
@@ -10,7 +10,8 @@ mod node_tests;
 
 pub use checked::Checked;
 pub use document::{
-    Node, check_document, is_attribute, node_at, node_count, parent_at, parent_of, whole_node,
+    Climb, Node, check_document, climb_toward, is_attribute, node_at, node_count, parent_at,
+    parent_of, whole_node,
 };
 pub use node_tests::{AnyNode, Named, NodeSet, OfKind, StepTest, passes_test};
 

@@ -13,6 +13,7 @@ use Rattle.rules.specs.RuleTable.{rules}
 use Rattle.rules.specs.Claim.{Claim, Containment, Implication}
 use Rattle.rules.specs.Instance.{Test, Letters, axis_for, test_for, path_for, claim_for, meets}
 use Rattle.rules.specs.Yields.{forms_in, forms_of}
+use Rattle.rules.specs.code.RuleFits.{some_form_fits}
 
 -- what a form of a rule says for a choice of the letters: its conclusion, its premises in order, its conditions
 pub record Said : Type 0 where
@@ -188,6 +189,53 @@ module _ (e : Letters) where
       ∷ []
   unfolding list_below forms_of forms_in rules claim_for path_for axis_for test_for
   rules_as_written = refl
+
+-- Rules 22 and 23 have two forms, of which the second alone has a condition. The signs above are the table's own, and
+-- would put it on both forms here where they do so there; what follows names the condition of each form.
+pub conditions_of_22 : map (λ w. w.conditions) (forms_of 22) ≡ [] ∷ (N_a_name_or_star ∷ []) ∷ []
+unfolding forms_of forms_in rules
+conditions_of_22 = refl
+
+pub conditions_of_23 : map (λ w. w.conditions) (forms_of 23) ≡ [] ∷ (N_a_name_or_star ∷ []) ∷ []
+unfolding forms_of forms_in rules
+conditions_of_23 = refl
+
+-- and of both of rule 10's
+pub conditions_of_10 : map (λ w. w.conditions) (forms_of 10) ≡ (b_from_3_to_10 ∷ []) ∷ (b_from_3_to_10 ∷ []) ∷ []
+unfolding forms_of forms_in rules
+conditions_of_10 = refl
+
+-- the tests t for which rule n yields, from no premise, that far::t with the name c selects nothing where
+-- near::T selects nothing
+abbrev tests_yielded : (n : ℕ) → (near far : ℕ) → (T c : ℕ) → List ℕ
+tests_yielded n near far T c =
+    list_below 8 (λ t. some_form_fits n (Implication (In (AxisStep near T 0) Void) (In (AxisStep far t c) Void)) [])
+
+-- rule 22, where T is node(): any test; where T is `*`: a name or `*`; where it is text(): none
+pub node_of_22_takes_any_test : tests_yielded 22 child descendant 2 9 ≡ 0 ∷ 1 ∷ 2 ∷ 3 ∷ 4 ∷ 5 ∷ 6 ∷ 7 ∷ []
+unfolding list_below some_form_fits
+node_of_22_takes_any_test = refl
+
+pub star_of_22_takes_a_name_or_star : tests_yielded 22 child descendant 1 9 ≡ 0 ∷ 1 ∷ []
+unfolding list_below some_form_fits
+star_of_22_takes_a_name_or_star = refl
+
+pub text_of_22_takes_none : tests_yielded 22 child descendant 3 9 ≡ []
+unfolding list_below some_form_fits
+text_of_22_takes_none = refl
+
+-- and rule 23
+pub node_of_23_takes_any_test : tests_yielded 23 parent ancestor 2 9 ≡ 0 ∷ 1 ∷ 2 ∷ 3 ∷ 4 ∷ 5 ∷ 6 ∷ 7 ∷ []
+unfolding list_below some_form_fits
+node_of_23_takes_any_test = refl
+
+pub star_of_23_takes_a_name_or_star : tests_yielded 23 parent ancestor 1 9 ≡ 0 ∷ 1 ∷ []
+unfolding list_below some_form_fits
+star_of_23_takes_a_name_or_star = refl
+
+pub text_of_23_takes_none : tests_yielded 23 parent ancestor 3 9 ≡ []
+unfolding list_below some_form_fits
+text_of_23_takes_none = refl
 
 -- The conditions, for every choice of the letters that they don't speak of: their values on the axes 0 to 11 and on
 -- 12, which is none, and on the tests 0 to 6 with every name and on 7, which is none.

@@ -1,4 +1,4 @@
--- What the calls of a tally come to. Assumes nothing.
+-- The lines of the tally after files. Assumes nothing.
 use Prim.Native.Nat.{ℕ, ◌+◌, ◌≤◌}
 use mathlib.Core.Path.{◌≡◌, refl, ap, ◌∙◌}
 use mathlib.Core.Bool.{Bool, true, false, cond}
@@ -15,9 +15,8 @@ use Rattle.tallies.specs.NameList.{max_files}
 use Rattle.tallies.specs.Count.{File, is_accepted, counted_steps, uses, total, each_rule, entries_by, entries}
 use Rattle.tallies.specs.code.Tally.{max_count, plus, plus_each, column_of, fresh_tally, with_steps, with_file}
 use Rattle.tallies.specs.code.Tally.{with_files, entries_of}
-use Rattle.tallies.specs.Promise.{TallyPromise}
 use Rattle.tallies.proofs.Each.{each_same, each_zero, each_plus, plus_fits}
-use Rattle.tallies.proofs.AddsUp.{column_adds_up, uses_below, total_few}
+use Rattle.tallies.proofs.AddsUp.{uses_below, total_few}
 
 -- a tally that has u r for each rule r, and the total n
 pub record Has (t : Tally) (u : ℕ → ℕ) (n : ℕ) : Type 0 where
@@ -82,7 +81,7 @@ fresh_has : Has fresh_tally (λ r. 0) 0
 unfolding fresh_tally
 fresh_has = record { uses = each_zero 1 max_rule; total = refl }
 
-lines_are : (fs : List File) → length fs ≤ max_files → entries_of (with_files fresh_tally fs) ≡ entries fs
+pub lines_are : (fs : List File) → length fs ≤ max_files → entries_of (with_files fresh_tally fs) ≡ entries fs
 unfolding entries
 lines_are fs few =
     let bound : total fs ≤ max_count = omega (arith, total_few fs) in
@@ -91,6 +90,3 @@ lines_are fs few =
     let column = all.uses ∙ each_same 1 max_rule _ _ (λ r. let e : 0 + uses r fs ≡ uses r fs = omega arith in e) in
     let steps : (with_files fresh_tally fs).total ≡ total fs = omega (arith, all.total) in
     λ i. entries_by (column i) (steps i)
-
-pub tally_promise : TallyPromise
-tally_promise = record { lines = lines_are; adds_up = column_adds_up }

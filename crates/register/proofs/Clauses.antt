@@ -1,0 +1,70 @@
+-- Each clause of what is demanded of record, replace and the orders on registers, written out once more: without one of
+-- them this fails. Assumes nothing.
+use Prim.Native.Nat.{ℕ, ◌+◌, ◌≤◌, ◌<◌}
+use mathlib.Core.Path.{◌≡◌}
+use mathlib.Core.List.{List}
+use mathlib.Core.Logic.{◌↔◌}
+use lib.Dec.{T}
+use lib.ListN.{length}
+use Rattle.terms.specs.Fields.{held_path}
+use Rattle.terms.specs.Terms.{path_at}
+use Rattle.rules.specs.Claim.{Containment}
+use Rattle.calls.specs.Book.{Book, Answer}
+use Rattle.calls.specs.StepCall.{step_numbered, claim_of}
+use Rattle.calls.specs.Runs.{Run, final}
+use Rattle.calls.specs.Above.{passed, own}
+use Rattle.records.specs.declared.Record.{Record}
+use Rattle.records.specs.Records.{current, row_of, is_fit_step}
+use Rattle.records.specs.Releases.{OfficeCall, OfficeSeen, plain_office, empty_office}
+use Rattle.session.specs.ReplaceDemand.{SetsReplaced}
+use Rattle.session.specs.OrderDemand.{ArchivesOrdered}
+use Rattle.register.specs.declared.Register.{Register}
+use Rattle.register.specs.Promises.{holdings}
+use Rattle.register.specs.RecordDemand.{RecordsJudged}
+use Rattle.register.proofs.Source.{New, Called, Replaced, Ordered, BundleOrdered, record_demand, replace_demand}
+use Rattle.register.proofs.Source.{order_demand}
+
+module _ (r₀ r : Register) (cs : List OfficeCall) (os : List OfficeSeen) (is-new : New r₀)
+    (run : Run holdings Called r₀ cs os r) where
+  -- the plain book, and the records
+  abbrev book : Book
+  book = (final plain_office empty_office cs).below.below
+
+  abbrev records : List Record
+  records = (final plain_office empty_office cs).below.beside
+
+  abbrev judged : RecordsJudged Called r book records
+  judged = record_demand r₀ r cs os is-new run
+
+  -- step i, counted from 1, is held and says that the path of row m is contained in that of row n
+  abbrev Says : (i m n : ℕ) → Type 0
+  Says i m n = (1 ≤ i) × (i ≤ length book.steps)
+      × (claim_of book.rows (step_numbered book.steps i) ≡ Containment (path_at book.rows m) (path_at book.rows n))
+
+  pub step_says : (previous : ℕ) (g : Record) → ¬ (g.edition ≡ 1) → T (held_path book.rows previous)
+      → T (held_path book.rows g.row) → T (is_fit_step book.steps previous g) ↔ Says g.step previous g.row
+  step_says = judged.by_terms
+
+  module _ (g : Record) (a : Answer) (t : Register) (called : Called r (passed (own g)) a t) where
+    abbrev previous : ℕ
+    previous = row_of records g.series (current records g.series)
+
+    pub record_accepted : a.number ≡ 0 → (g.edition ≡ current records g.series + 1) × T (held_path book.rows g.row)
+        × (g.edition ≡ 1 → g.step ≡ 0) × (¬ (g.edition ≡ 1) → Says g.step previous g.row) × (length records < 256)
+    record_accepted e = let f = (judged.accepts g a t called).0 e in (f.next, f.path, f.first, f.later, f.space)
+
+    pub accepted_record : g.edition ≡ current records g.series + 1 → T (held_path book.rows g.row)
+        → (g.edition ≡ 1 → g.step ≡ 0) → (¬ (g.edition ≡ 1) → Says g.step previous g.row) → length records < 256
+        → a.number ≡ 0
+    accepted_record next path first later space =
+        (judged.accepts g a t called).1
+        (record { next = next; path = path; first = first; later = later; space = space })
+
+  pub replaced : SetsReplaced Replaced r book
+  replaced = replace_demand r₀ r cs os is-new run
+
+  -- another register
+  pub ordered : (q₀ q : Register) (ds : List OfficeCall) (us : List OfficeSeen) → New q₀
+      → Run holdings Called q₀ ds us q
+      → ArchivesOrdered Ordered BundleOrdered q r (final plain_office empty_office ds).below.below book
+  ordered q₀ q ds us new run-q = order_demand q₀ r₀ q r ds cs us os new is-new run-q run
