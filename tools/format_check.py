@@ -3,6 +3,10 @@
 root:
 
     python3 tools/format_check.py
+    python3 tools/format_check.py --selftest    changes each compared cell of a table, one at a time, and entries of
+                                                host/ and of the header, and sees that it is found
+
+It needs Python 3 and installs nothing.
 
 Compared: kinds of rows (common RowKinds, terms Fields), axes, tests, kinds of nodes (common), the axis order (rules
 Order), opposite axes (rules WayBack), the rules form by form (rules RuleTable, read by tools/rule_table.py),
@@ -10,16 +14,17 @@ refusals (common Refusals), limits, and that host/rules.c, host/terms.c, host/bu
 include/spinebriar.h say the same. Not compared: the page's sentences, the columns `written` of kinds, `selects`, `its
 name` and `when`, the test order, the table of selectors and rule 59's way back but for its axes.
 """
-import re, sys
+import contextlib, io, re, sys
 
 import rule_table
 
 PAGE = 'docs/FORMAT.md'
 problems = []
+changed = {}  # the selftest's texts of files
 
 
 def text_of(path):
-    return open(path, encoding='utf-8').read()
+    return changed.get(path) or open(path, encoding='utf-8').read()
 
 
 def same(what, page, specification):
@@ -99,7 +104,7 @@ def nodes():
     same('host/document.h: kinds of nodes', words, [name for _, name in page])
 
 
-# the phrase of the page beside those of the papers
+# the phrase of the page beside those of the specification
 STAR = ' if N is a name or *'
 
 
@@ -126,14 +131,12 @@ def rules():
 def refusals():
     names = numbered('common', 'Refusals')
     page = [(int(row[0]), row[1].replace(' ', '-')) for row in table('number | name | when')]
-    same('refusals', page, [(n, name) for n, name in names if n <= 7 or 10 <= n <= 13])
+    same('refusals', page, names)
     listed = re.search(r'enum spinebriar_answer \{(.*?)\};', text_of('include/spinebriar.h'), re.S).group(1)
     header = re.findall(r'SPINEBRIAR_([A-Z_]+) = (\d+)', listed)
     same('include/spinebriar.h: refusals', [(int(n), name.lower().replace('_', '-')) for name, n in header[1:]], names)
     texts = re.findall(r'case SPINEBRIAR_([A-Z_]+): return "[^"]+";', text_of('include/spinebriar.h'))
     same('include/spinebriar.h: texts', sorted(texts), sorted(name for name, _ in header))
-    readme = re.findall(r'^\| (\d+) \| ([a-z ]+) \| .* \| .* \|$', text_of('README.md'), re.M)
-    same('README.md: refusals', [(int(n), name.replace(' ', '-')) for n, name in readme], names)
 
 
 def limits():
@@ -147,12 +150,82 @@ def limits():
     same('include/spinebriar.h: limits', header, [specified[i] for i in (0, 1, 3, 4, 5, 6)])
 
 
+PARTS = kinds, axes_and_tests, nodes, rules, refusals, limits
+# The page's tables by the words that their headings begin with, and the columns that are compared.
+TABLES = [('kind | name | a', (0, 1, 2, 3, 4)), ('axis | name', (0, 1)), ('test | name', (0, 1)),
+          ('kind | name | its name', (0, 1)), ('rule | yields', (0, 1)), ('axis | is below', (0, 1)),
+          ('axis | opposite', (0, 1)), ('number | name | when', (0, 1)), ('what | most', (1,))]
+# An entry of each list of host/ and of the header, and a wrong one.
+ENTRIES = [('host/bundle.h', 'UNION_ROW,', 'NOT_ROW,'), ('host/terms.c', '"parent", ', ''),
+           ('host/terms.c', '"text()"', '"node()"'), ('host/document.h', 'TEXT,', 'COMMENT,'), ('host/rules.c', '"p/R <= R"', '"R <= p/R"'),
+           ('include/spinebriar.h', 'SPINEBRIAR_BAD_SIDE = 5', 'SPINEBRIAR_BAD_SIDE = 6'),
+           ('include/spinebriar.h', 'case SPINEBRIAR_BAD_SIDE: return', 'case SPINEBRIAR_BAD_KIND: return'),
+           ('include/spinebriar.h', 'SPINEBRIAR_MOST_ROWS = 1024', 'SPINEBRIAR_MOST_ROWS = 1023')]
+NEXT = dict(zip('pqrsfghabNM', 'qrspghfbaMN'))
+
+
+def wrong_cell(cell):
+    """Another number, a claim with another letter, or another word."""
+    if cell.isdigit():
+        return str(int(cell) + 1)
+    letter = re.search(r'\b[pqrsfghabNM]\b', cell)
+    return cell[:letter.start()] + NEXT[letter.group()] + cell[letter.end():] if letter else cell + 'x'
+
+
+def wrong_pages():
+    """The page with one compared cell changed, and what was changed."""
+    lines = text_of(PAGE).split('\n')
+    for first, columns in TABLES:
+        at = next(i for i, line in enumerate(lines) if line.startswith('| %s |' % first)) + 2
+        while lines[at].startswith('|'):
+            cells = re.split(r'(?<!\\)\|', lines[at])
+            for column in columns:
+                wrong = list(cells)
+                wrong[column + 1] = ' %s ' % wrong_cell(cells[column + 1].strip())
+                yield '\n'.join(lines[:at] + ['|'.join(wrong)] + lines[at + 1:]), lines[at], column
+            at += 1
+
+
+def is_found(path, text):
+    """Whether a wrong text of the file is found: a comparison differs, or the file can't be read."""
+    changed[path] = text
+    problems.clear()
+    try:
+        with contextlib.redirect_stdout(io.StringIO()):
+            for part in PARTS:
+                part()
+    except (Exception, SystemExit):
+        return True
+    finally:
+        del changed[path]
+    return problems != []
+
+
+def selftest():
+    if is_found(PAGE, text_of(PAGE)):
+        sys.exit('the page is wrong as it stands')
+    tried, missed = 0, []
+    for text, line, column in wrong_pages():
+        tried += 1
+        if not is_found(PAGE, text):
+            missed.append('%s: column %d of %s' % (PAGE, column + 1, line))
+    for path, right, wrong in ENTRIES:
+        tried += 1
+        if right not in text_of(path) or not is_found(path, text_of(path).replace(right, wrong, 1)):
+            missed.append('%s: %s' % (path, right))
+    print('\n'.join(missed + ['%d wrong entries, %d not found' % (tried, len(missed))]))
+    sys.exit(1 if missed else 0)
+
+
 def main():
+    if sys.argv[1:] == ['--selftest']:
+        selftest()
     if len(sys.argv) != 1:
         raise SystemExit(__doc__)
-    for part in (kinds, axes_and_tests, nodes, rules, refusals, limits):
+    for part in PARTS:
         part()
     sys.exit(1 if problems else 0)
 
 
-main()
+if __name__ == '__main__':
+    main()

@@ -1,4 +1,4 @@
-/* The default limits of some selectors, for host/test.sh: T-10's bound for chains of steps, the usual one else. */
+/* The default limits of some selectors, for run.sh: the bound for chains of steps, the usual one else. */
 #include <stdio.h>
 
 #include "limit.h"

@@ -1,41 +1,19 @@
 #!/usr/bin/env python3
 """Holds `spinebriar rows` against libxml2 on COUNT random XML files:
 
-    host/compare_rows.py SPINEBRIAR ROWS_BY_LIBXML2 COUNT
+    tests/command/against_libxml2.py SPINEBRIAR ROWS_BY_LIBXML2 COUNT
 
 Files have elements, attributes, defaults of them from the DTD, texts in pieces, CDATA, character and entity
 references, comments, instructions, and comments and instructions in the DTD; no namespaces.
 """
 import os, random, subprocess, sys, tempfile
 
+sys.path.insert(0, 'tools/compare')
+from shared import XmlText  # noqa: E402
+
 NAMES = ['log', 'mark', 'zero', 'run', 'serial', 'plot', 'a.b', '_c-d']
-
-
-def piece(chance, depth):
-    kind = chance.randrange(10 if depth < 6 else 7)
-    if kind == 0:
-        return '<!-- %s -->' % chance.choice(NAMES)
-    if kind == 1:
-        return '<?%s %s?>' % (chance.choice(NAMES), chance.choice(['', 'x y']))
-    if kind == 2:
-        return '<![CDATA[%s]]>' % chance.choice(['', 'a<b', ' ', ']]'])
-    if kind == 3:
-        return chance.choice(['&amp;', '&#10;', '&#x41;', '&text;', '&nodes;', '&none;'])
-    if kind in (4, 5, 6):
-        return chance.choice(['12.5', '\n  ', ' ', 'some text\n'])
-    return element(chance, depth + 1)
-
-
-def element(chance, depth):
-    name = chance.choice(NAMES)
-    some = chance.sample(NAMES, chance.choice([0, 0, 1, 2]))
-    attributes = ''.join(' %s="%s"' % (x, chance.choice(['', '7', '&lt;', '&text;'])) for x in some)
-    inner = ''.join(piece(chance, depth) for _ in range(chance.randrange(6)))
-    return '<%s%s/>' % (name, attributes) if not inner else '<%s%s>%s</%s>' % (name, attributes, inner, name)
-
-
-def outside(chance):
-    return ''.join(chance.choice(['\n', '<!--o-->', '<?run o?>']) for _ in range(chance.randrange(3)))
+REFERENCES = ['&amp;', '&#10;', '&#x41;', '&text;', '&nodes;', '&none;']
+VALUES = ['', '7', '&lt;', '&text;']
 
 
 DTD = '''<!DOCTYPE log [<!-- no --><?run no?>
@@ -45,12 +23,12 @@ DTD = '''<!DOCTYPE log [<!-- no --><?run no?>
 
 def main():
     spinebriar, other, count, chance = sys.argv[1], sys.argv[2], int(sys.argv[3]), random.Random(29)
-    nodes = 0
+    nodes, made = 0, XmlText(chance, NAMES, NAMES, NAMES, REFERENCES, VALUES)
     with tempfile.TemporaryDirectory() as folder:
         path, names = os.path.join(folder, 'file.xml'), os.path.join(folder, 'names')
         open(names, 'w').write('\n'.join(NAMES))
         for _ in range(count):
-            text = outside(chance).lstrip('\n') + DTD + outside(chance) + element(chance, 0) + outside(chance)
+            text = made.file(DTD)
             open(path, 'w').write(text)
             wanted = [row.split(' ') for row in subprocess.check_output([other, path]).decode().split('\n')[:-1]]
             number = lambda name: 0 if name == '-' else NAMES.index(name) + 1
@@ -60,7 +38,7 @@ def main():
             rows = done.stdout.decode().split('\n')[:-1]
             many = len(wanted) > 512 and done.returncode == 1 and b': %d nodes' % len(wanted) in done.stderr
             if not many and (done.returncode != 0 or rows != wanted):
-                raise SystemExit('FAILED: compare_rows.py: %s\n%s\n%s' % (text, rows, wanted))
+                raise SystemExit('FAILED: against_libxml2.py: %s\n%s\n%s' % (text, rows, wanted))
             nodes += len(wanted)
     print('%d XML files, %d nodes, compared with libxml2' % (count, nodes))
 

@@ -1,4 +1,4 @@
-"""Terms, 01's rules as patterns of terms, and a book that says whether a term or step call is accepted.
+"""Terms, the rules as patterns of terms, and a book that says whether a term or step call is accepted.
 
 The case generator needs these to make steps that are yielded, steps that nearly are, and to know the numbers of held
 rows and steps. It decides acceptance alone; numbers, values and selection are the reference's work.

@@ -1,4 +1,4 @@
-"""Random selectors of T-06's grammar, spelled with abbreviations and whitespace by chance, with their terms."""
+"""Random selectors as text, spelled with abbreviations and whitespace by chance, with their terms."""
 
 from rules import AXES, FALSE, NODE, ROOT, STAR, TRUE, some, step
 

@@ -1,8 +1,8 @@
 """Random inputs for the programs replay and audit: derivations that are yielded, near misses, refused calls in between,
 documents and selects, full tables, and damaged text.
 
-    python3 cases.py full-bundle SEED     prints a bundle of 1,024 rows and 2,048 steps
-    python3 cases.py longest-bundle       prints the longest bundle that is accepted
+    python3 tools/compare/cases.py full-bundle SEED     prints a bundle of 1,024 rows and 2,048 steps
+    python3 tools/compare/cases.py longest-bundle       prints the longest bundle that is accepted
 """
 
 import random

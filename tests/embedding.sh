@@ -1,22 +1,23 @@
 #!/bin/sh
-# Runs the host over accepted and damaged bundles and compares the number that it prints with what the scope asks. The numbers here
-# were worked out by hand from the scope's text. Where cargo is installed, tools/reference is asked too.
+# Runs the host of examples/embedding over accepted and damaged bundles and compares the number that it prints with the
+# one that docs/SPECIFICATION.md asks, worked out by hand. Where cargo is installed, tools/reference is asked too.
 #
-#     examples/host/test.sh
+#     tests/embedding.sh
 #
-# It needs a C compiler, and `rt` if the archive is to be made. The host is built twice, the second time with the address and
-# undefined behaviour sanitizers, if they link. The last line says how many bundles passed; a failure ends it with status 1.
+# It needs a C compiler, and `rt` if the archive is to be made, and installs nothing. The host is built twice, the second
+# time with the address and undefined behaviour sanitizers, if they link. The last line says how many bundles passed; a
+# failure ends it with status 1.
 set -eu
-cd "$(dirname "$0")/../.."
+cd "$(dirname "$0")/.."
 archive=$(tools/archive.sh exports)
-out=target/host_test
+out=target/embedding_test
 bundle=$out/bundle
 mkdir -p $out
 
 build() { # NAME FLAG..
     name=$1
     shift
-    cc -Wall -Wextra -Werror "$@" -Iinclude -o "$out/$name" examples/host/host.c "$archive"
+    cc -Wall -Wextra -Werror "$@" -Iinclude -o "$out/$name" examples/embedding/host.c "$archive"
 }
 
 build host -O2

@@ -1,14 +1,13 @@
 #!/usr/bin/env python3
 """Holds the program tally against the plain implementation in tools/reference, on lists and bundles that it makes.
 
-    python3 tools/tally/run.py [--seed N] [--count N] [--tally COMMAND]
+    python3 tools/compare/tally.py [--seed N] [--count N] [--tally COMMAND]
 
-It needs Python 3, cargo, cc, and the program, target/bin/tally unless another is named. First it runs the named cases
-below, with reads that fail and a pipe that must not be read among them, then random lists over random bundles. It
-stops at the first difference, saves that list, and else says what ran.
+It needs Python 3, cargo, cc, and the program, target/bin/tally unless another is named, and installs nothing. First it
+runs the named cases below, with reads that fail and a pipe that must not be read among them, then random lists over
+random bundles. It stops at the first difference, saves that list, and else says what ran.
 """
 
-import argparse
 import os
 import random
 import shlex
@@ -20,13 +19,9 @@ import time
 from collections import Counter
 from pathlib import Path
 
-TREE = Path(__file__).resolve().parents[2]
-sys.path.insert(0, str(TREE / "tools/differential"))
+from cases import Session, audit_case, full_bundle
+from shared import TREE, build, need, need_program, options, output, program_option, save
 
-from cases import Session, audit_case, full_bundle  # noqa: E402
-from run import build  # noqa: E402
-
-SECONDS = 60
 BUNDLES = 120  # made anew for each thousand of lists
 ONE_STEP = b"kind a b c\n2 1 0 2\n2 3 1 0\nrule left right first second\n8 0 1 0 0\n"
 NO_STEP = b"kind a b c\nrule left right first second\n"
@@ -47,15 +42,6 @@ ssize_t read(int file, void *bytes, size_t length) {
     return syscall(SYS_read, file, bytes, file > 2 && length > 40 ? 40 : length);
 }
 """
-
-
-def output(command, directory, text):
-    """What the program prints in the directory, with its exit status if that isn't 0."""
-    try:
-        run = subprocess.run(command, cwd=directory, input=text, capture_output=True, timeout=SECONDS)
-    except subprocess.TimeoutExpired:
-        return f"no answer in {SECONDS} s\n".encode()
-    return run.stdout + (f"exit status {run.returncode}\n".encode() if run.returncode else b"")
 
 
 def padded(size):
@@ -196,9 +182,7 @@ def random_list(rng, names):
 
 
 def differs(name, text, expected, printed):
-    saved = TREE / "target" / "difference.tally"
-    saved.parent.mkdir(exist_ok=True)
-    saved.write_bytes(text)
+    saved = save("difference.tally", text)
     print(f"difference: {name}: {expected[:300]} must be printed, the program prints {printed[:300]}")
     print(f"the list is in {saved}")
 
@@ -209,7 +193,7 @@ def read_fails(directory, program, nth):
     subprocess.run(["cc", "-shared", "-fPIC", "-o", shim, "-x", "c", "-"], input=FAILING_READ, check=True)
     command = ["env", f"LD_PRELOAD={shim}", f"FAILING={nth}"] + program
     must = must_print(held(1 if nth > 3 else 0))
-    printed = output(command, directory, b"one\n")
+    printed = output(command, b"one\n", directory)
     if printed != must:
         differs(f"read {nth} of the file fails", b"one\n", must, printed)
     return printed == must
@@ -220,7 +204,7 @@ def opened_first(directory, command):
     os.mkfifo(directory / "pipe")
     pipe = os.open(directory / "pipe", os.O_RDWR)
     text, must = b"pipe\nnowhere\n", must_print(refused(2))
-    printed = output(command, directory, text)
+    printed = output(command, text, directory)
     os.close(pipe)
     (directory / "pipe").unlink()
     if printed != must:
@@ -231,9 +215,9 @@ def opened_first(directory, command):
 def full_bundles(directory, reference, program):
     text = ("full\n" * 64).encode()
     started = time.monotonic()
-    printed = output(program, directory, text)
+    printed = output(program, text, directory)
     seconds = time.monotonic() - started
-    expected = output([reference, "tally"], directory, text)
+    expected = output([reference, "tally"], text, directory)
     if printed != expected:
         differs("64 full bundles", text, expected, printed)
         return False
@@ -251,7 +235,7 @@ def run_named(reference, program):
         for name, (text, expected) in cases.items():
             text, must = text.encode(), must_print(expected)
             for command in commands:
-                printed = output(command, directory, text)
+                printed = output(command, text, directory)
                 if printed != must:
                     differs(f"{name}, {command[0]}", text, must, printed)
                     return False
@@ -274,7 +258,7 @@ def run_random(reference, program, seed, count):
             (directory / "directory").mkdir()
             for n in range(start, min(start + 1000, count)):
                 text = random_list(rng, names).encode()
-                expected, printed = output([reference, "tally"], directory, text), output(program, directory, text)
+                expected, printed = output([reference, "tally"], text, directory), output(program, text, directory)
                 if printed != expected:
                     shutil.copytree(directory, TREE / "target" / "difference.files", dirs_exist_ok=True)
                     differs(f"case {n} of seed {seed}, in target/difference.files", text, expected, printed)
@@ -288,16 +272,12 @@ def run_random(reference, program, seed, count):
 
 
 def main():
-    parser = argparse.ArgumentParser(description=__doc__, formatter_class=argparse.RawDescriptionHelpFormatter)
-    parser.add_argument("--seed", type=int, default=1)
-    parser.add_argument("--count", type=int, default=5000)
-    parser.add_argument("--tally", default=str(TREE / "target/bin/tally"), help="the program, with arguments if any")
-    options = parser.parse_args()
-    program = shlex.split(options.tally)
-    if not shutil.which(program[0]):
-        sys.exit(f"there is no program {program[0]}")
-    reference = build(TREE / "tools/reference")
-    same = run_named(reference, program) and run_random(reference, program, options.seed, options.count)
+    given = options(__doc__, 5000, program_option("tally"))
+    program = shlex.split(given.tally)
+    need({"cc": "gcc"})
+    need_program(program)
+    reference = build()
+    same = run_named(reference, program) and run_random(reference, program, given.seed, given.count)
     sys.exit(0 if same else 1)
 
 

@@ -1,4 +1,4 @@
-/* The rows of an XML file by libxml2, for host/compare_rows.py: `kind parent NAME`, or `-` without a name. */
+/* The rows of an XML file by libxml2, for against_libxml2.py: `kind parent NAME`, or `-` without a name. */
 #include <libxml/parser.h>
 #include <libxml/tree.h>
 #include <stdio.h>

@@ -1,15 +1,14 @@
 #!/usr/bin/env python3
-"""Tests the differential test: whether its cases tell wrong rules and wrong programs from right ones.
+"""Tests the comparison of programs: whether its cases tell wrong rules and wrong programs from right ones.
 
-    python3 tools/differential/selftest.py [--seed N] [--count N]
+    python3 tools/compare/selftest.py [--seed N] [--count N]
 
-It needs Python 3 and cargo. First it changes the rule table of rules.py in one place at a time, by a new letter for what stands
-there or one letter for two, and says which wrong rules no case tells from the right ones. Rule 24's are never found, since no
-rule yields its premise. Then it changes the reference's source by one edit at a time, and says which wrong programs pass.
-The exit status is 0 if there are none but those of rule 24.
+It needs Python 3 and cargo, and installs nothing. First it changes the rule table of rules.py in one place at a time,
+by a new letter for what stands there or one letter for two, and says which wrong rules no case tells from the right
+ones. Rule 24's are never found, since no rule yields its premise. Then it changes the reference's source by one edit
+at a time, and says which wrong programs pass. The exit status is 0 if there are none but those of rule 24.
 """
 
-import argparse
 import contextlib
 import io
 import itertools
@@ -22,9 +21,10 @@ from pathlib import Path
 
 import cases
 import rules
-from run import TREE, build, compare
+from programs import compare
 from rules import (AXIS_LETTERS, FORMS, PATH_LETTERS, QUALIFIER_LETTERS, TEST_LETTERS, Term, letter_of, looser_forms, part_at,
                    positions, replaced)
+from shared import TREE, build, options
 
 # (file, right, wrong)
 EDITS = [
@@ -231,11 +231,8 @@ def passing_edits(seed, count, reference):
 
 
 def main():
-    parser = argparse.ArgumentParser(description=__doc__, formatter_class=argparse.RawDescriptionHelpFormatter)
-    parser.add_argument("--seed", type=int, default=1)
-    parser.add_argument("--count", type=int, default=10000)
-    options = parser.parse_args()
-    asked = questions_asked(options.seed, options.count)
+    given = options(__doc__, 10000)
+    asked = questions_asked(given.seed, given.count)
     tried, missed = missed_forms(asked)
     for rule, wrong in missed:
         text = [f"{show(x)} <= {show(y)}" for x, y in [wrong[1], *wrong[2]]] if wrong else "no such form"
@@ -243,7 +240,7 @@ def main():
     print(f"{tried} wrong rules, {len(missed)} not found", flush=True)
     pairs, undecided = missed_conditions(asked)
     print(f"{pairs} pairs of axes or tests in conditions, {len(undecided)} not decided: {undecided}", flush=True)
-    passing = list(passing_edits(options.seed, options.count, build(TREE / "tools/reference")))
+    passing = list(passing_edits(given.seed, given.count, build()))
     print(f"{len(EDITS)} wrong programs, {len(passing)} not found")
     sys.exit(1 if passing or undecided or any(rule != 24 for rule, _ in missed) else 0)
 

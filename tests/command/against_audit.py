@@ -1,7 +1,7 @@
 #!/usr/bin/env python3
 """Holds `spinebriar` against the proved program audit, and explain against itself:
 
-    host/compare.py SPINEBRIAR COUNT
+    tests/command/against_audit.py SPINEBRIAR COUNT
 
 COUNT bundles are made by small damage to those of the repository. Of each, check must give audit's number and line.
 The text that explain prints of an accepted one, read by tools/bundle.py, must be a bundle with the same steps, term
@@ -9,28 +9,11 @@ for term.
 """
 import glob, os, random, subprocess, sys, tempfile
 
+sys.path.insert(0, 'tools/compare')
+from cases import damaged  # noqa: E402
+
 NAMES = 'examples/bundles/names'
 SOURCES = 'examples/bundles/*.bundle', 'crates/audit_cases/data/*', 'crates/tally_cases/data/*', 'crates/*/stdin'
-
-
-def damaged(text, chance):
-    """The text with one line changed, taken out, doubled or moved, or one byte changed."""
-    lines = text.split(b'\n')
-    at, how = chance.randrange(len(lines)), chance.randrange(6)
-    if how == 0 and text:
-        place = chance.randrange(len(text))
-        return text[:place] + bytes([chance.choice(b'0123456789 \nx\0')]) + text[place + 1:]
-    if how == 1:
-        del lines[at]
-    elif how == 2:
-        lines.insert(at, lines[chance.randrange(len(lines))])
-    elif how == 3:
-        words = lines[at].split(b' ')
-        words[chance.randrange(len(words))] = b'%d' % chance.choice([0, 1, 2, 3, 7, 11, 12, 30, 59, 60, 65535, 65536])
-        lines[at] = b' '.join(words)
-    elif how == 4:
-        return text[:chance.randrange(len(text) + 1)]
-    return b'\n'.join(lines)
 
 
 def run(command, text):
@@ -74,13 +57,13 @@ def main():
     spinebriar, count, chance = sys.argv[1], int(sys.argv[2]), random.Random(29)
     found = sorted(set(sum(map(glob.glob, SOURCES), [])))
     sources = [text for text in (open(path, 'rb').read() for path in found) if text.startswith(b'kind')]
-    cases = sources + [damaged(chance.choice(sources), chance) for _ in range(count)]
+    cases = sources + [damaged(chance, chance.choice(sources)) for _ in range(count)]
     for text in cases:
         why = differs(spinebriar, text)
         if why:
             path = os.path.join(tempfile.gettempdir(), 'different_bundle')
             open(path, 'wb').write(text)
-            raise SystemExit('FAILED: compare.py: %s: %s' % (path, why))
+            raise SystemExit('FAILED: against_audit.py: %s: %s' % (path, why))
     print('%d bundles compared with audit' % len(cases))
 
 

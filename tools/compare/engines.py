@@ -1,27 +1,28 @@
 #!/usr/bin/env python3
 """Makes the cases of the program engine_cases: selections on documents, with the answers of other XPath engines.
 
-    python3 tools/engines/make.py [--seed N]                   writes crates/engine_cases/stdin and stdout
-    python3 tools/engines/make.py --compare N [--seed N]       holds tools/reference against the engines on N selections
-    python3 tools/engines/make.py --attributes N [--seed N]    holds it against Saxon on N selections on documents with attributes
+    python3 tools/compare/engines.py [--seed N]                  writes crates/engine_cases/stdin and stdout
+    python3 tools/compare/engines.py --compare N [--seed N]      holds tools/reference against the engines on N selections
+    python3 tools/compare/engines.py --attributes N [--seed N]   holds it against Saxon on documents with attributes
 
-It needs Python 3, cargo for --compare, and Debian's packages in NEEDED, which it installs if they are missing (as root).
+It needs Python 3, Debian's packages in NEEDED and, but for the first, cargo. It installs nothing, and names what is
+missing.
 
 An instruction without a recorded target, name 0, is `<?i d?>`, one of target n `<?en d?>`. For Saxon it is `<?tn d?>`,
 since its linked tree takes an instruction for an element of that name.
 
-stdin has lines as the program replay reads them: sessions, separated by a line `fresh`, each of one `document`, `term` calls
-that are all accepted, and `select` calls. stdout has a line for each select: the numbers of the selected nodes in order, with
-one space between them. Rows are numbered in document order, the root node is 0.
+stdin has lines as the program replay reads them: sessions, separated by a line `fresh`, each of one `document`, `term`
+calls that are all accepted, and `select` calls. stdout has a line for each select: the numbers of the selected nodes
+in order, with one space between them. Rows are numbered in document order, the root node is 0.
 
-On documents without attributes the answers are Jaxen's; Saxon and libxml2 must agree, or nothing is written. On documents with attributes
-they are Saxon's alone: the others err in following and preceding there. Saxon gets the term as it stands, in XPath 2.0's
-syntax. XPath 1.0, for Jaxen and libxml2, has nothing but steps on the right of `/`; there p/(q|r) is asked as p/q | p/r,
-p/(q/r) as (p/q)/r, and p/(q[f]) as (p/q)[f]. Inclusion is `count(p | q) = count(q)`. libxml2 2.9 ends the axis preceding at the
-document's first child and leaves that out if it has children; it isn't asked where this may show.
+On documents without attributes the answers are Jaxen's; Saxon and libxml2 must agree, or nothing is written. On
+documents with attributes they are Saxon's alone: the others err in following and preceding there. Saxon gets the term
+as it stands, in XPath 2.0's syntax. XPath 1.0, for Jaxen and libxml2, has nothing but steps on the right of `/`; there
+p/(q|r) is asked as p/q | p/r, p/(q/r) as (p/q)/r, and p/(q[f]) as (p/q)[f]. Inclusion is `count(p | q) = count(q)`.
+libxml2 2.9 ends the axis preceding at the document's first child and leaves that out if it has children; it isn't
+asked where this may show.
 """
 
-import argparse
 import itertools
 import random
 import subprocess
@@ -30,22 +31,22 @@ import tempfile
 from collections import Counter, namedtuple
 from pathlib import Path
 
-TREE = Path(__file__).resolve().parents[2]
-sys.path.insert(0, str(TREE / "tools/differential"))
+import shared
 from cases import MOST_BYTES, MOST_LIMIT, NAMES, Session, is_quick, name_for
 from rules import AXES, INSTRUCTION, NAMED, NODE, ROOT, STAR, VOID, Term, axis, inclusion, some, step
-from run import build, output
+from shared import TREE, build, need, options, output, printed_lines
 
 JAXEN, SAXON = "/usr/share/java/jaxen.jar", "/usr/share/java/Saxon-HE.jar"
 NEEDED = {JAXEN: "libjaxen-java", SAXON: "libsaxonhe-java", "/usr/bin/javac": "default-jdk-headless",
           "/usr/bin/xml2-config": "libxml2-dev", "/usr/bin/cc": "gcc", "/usr/include/stdio.h": "libc6-dev"}
 HERE = Path(__file__).resolve().parent
-SAXON_COMMAND = ["java", "-cp", f"{JAXEN}:{SAXON}", str(HERE / "Engines.java"), "saxon"]
+JAXEN_COMMAND, SAXON_COMMAND = (["java", "-cp", f"{JAXEN}:{SAXON}", str(HERE / "Engines.java"), engine]
+                                for engine in ("jaxen", "saxon"))
 DOCUMENTS, SELECTIONS, CANDIDATES = 72, 7, 12
 LETTER, SAXON_LETTER = "e", "t"
 ATTRIBUTED = 24
 PRECEDING = AXES.index("preceding")
-# 01's document: root, log 1, mark 2, a text, zero 3, run 4, mark 2.
+# The log: root, log 1, mark 2, a text, zero 3, run 4, mark 2.
 LOG = [(0, 0, 0), (1, 0, 1), (1, 1, 2), (2, 2, 0), (1, 1, 3), (1, 1, 4), (1, 5, 2)]
 MARK, RUN = (0, 2), (0, 4)
 # Row 5 is the owner of attributes 6 and 7, row 8 its first child; rows 2 and 4 are attributes too.
@@ -58,57 +59,22 @@ PLOTTER = [(0, 0, 0), (4, 0, 0), (4, 0, 1), (1, 0, 1), (4, 3, 2), (2, 3, 0), (4,
 Question = namedtuple("Question", "document term context")
 
 
-def install():
-    missing = [package for file, package in NEEDED.items() if not Path(file).exists()]
-    if missing:
-        subprocess.run(["apt-get", "update", "-q"], check=True, stdout=sys.stderr)
-        subprocess.run(["apt-get", "install", "-q", "-y", "--no-install-recommends", *missing], check=True, stdout=sys.stderr)
-
-
 # Documents
 
 def document(rng, nodes, attributes=0):
-    """The rows of a document that XML can say: one element under the root, no text beside it, no two texts side by side.
-
-    An element has a further attribute with probability `attributes`, no two of one name.
-    """
-    rows = [(0, 0, 0)]
-
-    def add(kind, parent):
-        rows.append((kind, parent, name_for(rng, kind)))
-        names, owner = rng.sample(NAMES, len(NAMES)) if attributes and kind == 1 else [], len(rows) - 1
-        while names and rng.random() < attributes:
-            rows.append((5, owner, names.pop()))
-
-    def add_beside():
+    """The rows of a document that XML can say, with attributes at this probability."""
+    def beside():
         for _ in range(rng.choice([0, 0, 0, 1, 2])):
-            add(rng.choice([3, 4]), 0)
+            yield rng.choice([3, 4])
 
-    add_beside()
-    top, deep = len(rows), rng.choice([0.2, 0.5, 0.8, 0.95])
-    add(1, 0)
-    while len(rows) < nodes:
-        parent = len(rows) - 1
-        while rows[parent][0] != 1 or (parent != top and rng.random() > deep):
-            parent = rows[parent][1]
-        before = [kind for kind, above, _ in rows if above == parent and kind != 5]
-        kind = rng.choice([1, 1, 1, 1, 2, 2, 3, 4])
-        if kind != 2 or before[-1:] != [2]:
-            add(kind, parent)
-    add_beside()
-    return rows
+    return shared.document(rng, nodes, [0.2, 0.5, 0.8, 0.95], lambda kind: name_for(rng, kind),
+                           lambda: rng.sample(NAMES, len(NAMES)) if attributes else [], attributes,
+                           [1, 1, 1, 1, 2, 2, 3, 4], beside, beside)
 
 
 def xml(rows, letter):
     """The document; an instruction's target begins with this letter."""
-    def text(number):
-        kind, _, name = rows[number]
-        under = [n for n, row in enumerate(rows) if n and row[1] == number]
-        inner = "".join(text(n) for n in under if rows[n][0] != 5)
-        attributes = "".join(f' e{rows[n][2]}=""' for n in under if rows[n][0] == 5)
-        target = f"{letter}{name}" if name else "i"
-        return [inner, f"<e{name}{attributes}>{inner}</e{name}>", "t", "<!--c-->", f"<?{target} d?>"][kind]
-    return text(0)
+    return shared.xml(rows, lambda name: f"e{name}", lambda name: f"{letter}{name}" if name else "i")
 
 
 # Expressions
@@ -194,27 +160,28 @@ def ask(command, questions, path_text):
             before = question.document
             lines.append((f"document {xml(before, letter)}", " ".join(str(n) for row in before for n in row)))
         lines.append((f"select {question.context} {path_text(question.term)}", None))
-    run = subprocess.run(command, input="".join(line + "\n" for line, _ in lines), capture_output=True, text=True)
-    printed = run.stdout.split("\n")
-    if run.returncode or len(printed) != len(lines) + 1:
-        sys.exit(f"{command} failed: {run.stderr[-2000:]}")
+    printed = printed_lines(command, [line for line, _ in lines])
     for (line, rows), answer in zip(lines, printed):
         if rows and rows != answer:
             sys.exit(f"{command} reads {line} as {answer}")
     return [answer for (_, rows), answer in zip(lines, printed) if not rows]
 
 
+def libxml2_command(directory):
+    """The program libxml2.c, compiled there."""
+    flags = subprocess.run(["xml2-config", "--cflags", "--libs"], check=True, capture_output=True, text=True).stdout
+    program = f"{directory}/libxml2"
+    subprocess.run(["cc", "-O2", str(HERE / "libxml2.c"), *flags.split(), "-o", program], check=True)
+    return [program]
+
+
 def answers(questions, directory):
     """Jaxen's answers, after Saxon and libxml2 are seen to give the same."""
-    libxml2 = f"{directory}/libxml2"
-    flags = subprocess.run(["xml2-config", "--cflags", "--libs"], check=True, capture_output=True, text=True).stdout.split()
-    subprocess.run(["cc", "-O2", str(HERE / "libxml2.c"), *flags, "-o", libxml2], check=True)
-    java = ["java", "-cp", f"{JAXEN}:{SAXON}", str(HERE / "Engines.java")]
-    right = ask([*java, "jaxen"], questions, xpath1)
-    saxon = ask([*java, "saxon"], questions, xpath2)
+    right = ask(JAXEN_COMMAND, questions, xpath1)
+    saxon = ask(SAXON_COMMAND, questions, xpath2)
     agree("Saxon", [(q, x, y) for q, x, y in zip(questions, right, saxon) if y != "refused"])
     asked = [place for place, question in enumerate(questions) if not libxml2_errs(question)]
-    printed = ask([libxml2], [questions[place] for place in asked], xpath1)
+    printed = ask(libxml2_command(directory), [questions[place] for place in asked], xpath1)
     agree("libxml2", [(questions[place], right[place], answer) for place, answer in zip(asked, printed)])
     print(f"Saxon refused {saxon.count('refused')}; libxml2 wasn't asked {len(questions) - len(asked)} with preceding")
     return right
@@ -288,7 +255,7 @@ def session_of(rng, questions):
 
 
 def log_questions():
-    """01's log cases."""
+    """The log cases."""
     (child, parent, descendant, following_sibling, following, preceding) = (
         axis(name) for name in "child parent descendant following-sibling following preceding".split())
     return [Question(LOG, term, context) for term, context in [
@@ -351,70 +318,63 @@ def report(text, selected, questions):
         print(f"  selections with {name}: " + ", ".join(f"{key} {counter[key]}" for key in sorted(counter, key=str)))
 
 
-def compare_attributes(seed, count):
-    """Holds the reference's select against Saxon on documents with attributes. The other engines err there."""
+def questions_for(seed, count, attributes):
+    """Selections on documents, with these probabilities of an attribute."""
     rng = random.Random(seed)
     shape = shapes(rng)
     questions = []
     while len(questions) < count:
-        rows = document(rng, rng.choice([2, 5, 10, 20, 40]), rng.choice([0.3, 0.5, 0.7]))
+        rows = document(rng, rng.choice([2, 5, 10, 20, 40]), *([rng.choice(attributes)] if attributes else []))
         questions += [q for _ in range(10) for q in questions_on(rng, rows, next(shape), 2)]
-    right = ask(SAXON_COMMAND, questions, xpath2)
-    reference = build(TREE / "tools/reference")
-    printed = []
+    return rng, questions
+
+
+def hold_reference(rng, questions, right, engine):
+    """Ends where the reference's select gives another answer; what an engine refused is left out."""
+    reference, printed = build(), []
     for group in by_document(questions):
         session = session_of(rng, group)
         lines = output([reference, "replay"], session.text()).decode().splitlines()
         printed += [line for line, accepted in zip(lines, session.accepted()) if accepted is None]
-    from_attributes = 0
     for question, answer, line in zip(questions, right, printed):
-        if answer == "refused":
-            continue
-        from_attributes += question.document[question.context][0] == 5
-        if line.split(" ")[0] != "0" or " ".join(line.split(" ")[2:]) != answer:
-            sys.exit(f"the reference gives {line}, Saxon {answer}, to {xpath2(question.term)} "
+        number, _, *nodes = line.split(" ")
+        if answer != "refused" and (number != "0" or " ".join(nodes) != answer):
+            sys.exit(f"the reference gives {line}, {engine} {answer}, to {xpath2(question.term)} "
                      f"from {question.context} of {xml(question.document, SAXON_LETTER)}")
-    print(f"seed {seed}: the reference gives Saxon's answer to each of {len(questions) - right.count('refused')} selections on documents "
-          f"with attributes, {from_attributes} from attributes; {right.count('')} select nothing, Saxon refused {right.count('refused')}")
+
+
+def compare_attributes(seed, count):
+    """Holds the reference's select against Saxon on documents with attributes. The other engines err there."""
+    rng, questions = questions_for(seed, count, [0.3, 0.5, 0.7])
+    right = ask(SAXON_COMMAND, questions, xpath2)
+    hold_reference(rng, questions, right, "Saxon")
+    from_attributes = sum(q.document[q.context][0] == 5 for q, answer in zip(questions, right) if answer != "refused")
+    refused = right.count("refused")
+    print(f"seed {seed}: the reference gives Saxon's answer to each of {len(questions) - refused} selections on "
+          f"documents with attributes, {from_attributes} from attributes; {right.count('')} select nothing, "
+          f"Saxon refused {refused}")
 
 
 def compare(seed, count, directory):
     """Holds the reference's select against the engines."""
-    rng = random.Random(seed)
-    shape = shapes(rng)
-    questions = []
-    while len(questions) < count:
-        rows = document(rng, rng.choice([2, 5, 10, 20, 40]))
-        questions += [q for _ in range(10) for q in questions_on(rng, rows, next(shape), 2)]
+    rng, questions = questions_for(seed, count, [])
     right = answers(questions, directory)
-    reference = build(TREE / "tools/reference")
-    printed = []
-    for group in by_document(questions):
-        session = session_of(rng, group)
-        lines = output([reference, "replay"], session.text()).decode().splitlines()
-        printed += [line for line, accepted in zip(lines, session.accepted()) if accepted is None]
-    for question, answer, line in zip(questions, right, printed):
-        if line.split(" ")[0] != "0" or " ".join(line.split(" ")[2:]) != answer:
-            sys.exit(f"the reference gives {line}, the engines {answer}, to {xpath2(question.term)} "
-                     f"from {question.context} of {xml(question.document, SAXON_LETTER)}")
+    hold_reference(rng, questions, right, "the engines")
     documents = len({id(q.document) for q in questions})
-    print(f"seed {seed}: the reference gives the engines' answer to each of {len(questions)} selections on {documents} documents; "
-          f"{right.count('')} select nothing")
+    print(f"seed {seed}: the reference gives the engines' answer to each of {len(questions)} selections on "
+          f"{documents} documents; {right.count('')} select nothing")
 
 
 def main():
-    parser = argparse.ArgumentParser(description=__doc__, formatter_class=argparse.RawDescriptionHelpFormatter)
-    parser.add_argument("--seed", type=int, default=1)
-    parser.add_argument("--compare", type=int, metavar="N")
-    parser.add_argument("--attributes", type=int, metavar="N")
-    options = parser.parse_args()
-    install()
-    if options.attributes:
-        return compare_attributes(options.seed, options.attributes)
+    given = options(__doc__, None, ("--compare", {"type": int, "metavar": "N"}),
+                    ("--attributes", {"type": int, "metavar": "N"}))
+    need(NEEDED)
+    if given.attributes:
+        return compare_attributes(given.seed, given.attributes)
     with tempfile.TemporaryDirectory() as directory:
-        if options.compare:
-            return compare(options.seed, options.compare, directory)
-        text, selected, questions = make(options.seed, directory)
+        if given.compare:
+            return compare(given.seed, given.compare, directory)
+        text, selected, questions = make(given.seed, directory)
     if len(text) > MOST_BYTES:
         sys.exit(f"{len(text)} bytes are too many")
     crate = TREE / "crates/engine_cases"

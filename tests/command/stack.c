@@ -1,4 +1,4 @@
-/* The stack that each call of the archive takes, for host/test.sh: a thread whose stack is painted makes the call, and
+/* The stack that each call of the archive takes, for run.sh: a thread whose stack is painted makes the call, and
    what is no longer painted was used. A call that takes more than include/spinebriar.h says is a failure.
 
        stack BUNDLE..      the bundles are tried one after the other, and the most is printed */

@@ -2,18 +2,17 @@
 # Fuzzes host/ with libFuzzer under the address and undefined behaviour sanitizers, a fifth of the time each with
 # bundles, XML, selectors, lists of names and calls:
 #
-#     host/fuzz.sh MINUTES
+#     tests/command/fuzz.sh MINUTES
 #
-# It needs the Rattle kit, and installs clang and libexpat1-dev by apt-get where they are missing. The inputs found
-# stay in target/fuzz. A failure ends it with status 1 and leaves the input there.
+# It needs the Rattle kit, clang and expat; it installs nothing, and names what is missing. The inputs found stay in
+# target/fuzz. A failure ends it with status 1 and leaves the input there.
 set -eu
-cd "$(dirname "$0")/.."
-seconds=$((${1:?usage: host/fuzz.sh MINUTES} * 12))
-for package in clang libexpat1-dev; do
-    dpkg -s $package >/dev/null 2>&1 || { apt-get update -qq && apt-get install -y -qq $package; }
-done
+cd "$(dirname "$0")/../.."
+seconds=$((${1:?usage: tests/command/fuzz.sh MINUTES} * 12))
+. tools/need.sh
+need clang=clang /usr/include/expat.h=libexpat1-dev
 archive=${ARCHIVE:-$(tools/archive.sh exports)}
-sources='host/fuzz.c host/check.c host/claim.c host/select.c host/file.c host/rows.c host/document.c
+sources='tests/command/fuzz.c host/check.c host/claim.c host/select.c host/file.c host/rows.c host/document.c
     host/paths.c host/limit.c host/terms.c host/rules.c host/bundle.c host/names.c host/bytes.c'
 for what in BUNDLE XML SELECTOR NAMES CALLS; do
     out=target/fuzz/$what
@@ -28,7 +27,7 @@ for what in BUNDLE XML SELECTOR NAMES CALLS; do
         cp examples/bundles/*.bundle crates/audit/stdin $out/inputs
         most=70000
         ;;
-    XML) cp examples/log.xml tools/engines/xml/*.xml $out/inputs ;;
+    XML) cp examples/log.xml tools/compare/xml/*.xml $out/inputs ;;
     SELECTOR) printf '//mark[@serial and not(../zero)]|log' >$out/inputs/selector ;;
     NAMES) cp examples/bundles/names $out/inputs ;;
     CALLS) printf 'point 1\nterm 2 1 0 2\nreturn 1\nterm 2 3 1 0\nstep 2 0 0 0 0\n' >$out/inputs/calls ;;

@@ -1,5 +1,5 @@
 # shellcheck shell=sh disable=SC2154,SC2059
-# The tests of rows, and of lists of names, for host/test.sh.
+# The tests of rows, and of lists of names, for run.sh.
 
 documents() {
     runs 'the log' 0 "$LOG" '' rows examples/log.xml --names $names
@@ -28,7 +28,7 @@ END
     verdict 'the list after that' 0 'log\nmark\nzero\nrun\nserial\nnew\na\nb\nt\n' ''
     runs 'nothing to add' 0 '0 0 0\n1 0 1\n1 1 6\n5 2 7\n5 2 8\n1 1 6\n4 1 9\n' '' rows "$xml" --names "$list" --add
     # of two equal lines the first counts, a line that is no name takes up its number, the last may lack its newline
-    printf '\nlog\n1a\nmark \nlog\na:b\nmark' >"$list"
+    printf '\nlog\n1a\nma rk\nlog\na:b\nmark' >"$list"
     printf '<log><mark/></log>' >"$xml"
     runs 'numbers of a list' 0 '0 0 0\n1 0 2\n1 1 7\n' '' rows "$xml" --names "$list"
     printf '<log><mark/><x/></log>' >"$xml"
@@ -36,7 +36,7 @@ END
         "spinebriar: $list: added x, number 8\n" rows "$xml" --names "$list" --add
     cp "$list" "$out/stdout"
     : >"$out/stderr"
-    verdict 'the list after that' 0 '\nlog\n1a\nmark \nlog\na:b\nmark\nx\n' ''
+    verdict 'the list after that' 0 '\nlog\n1a\nma rk\nlog\na:b\nmark\nx\n' ''
     printf "$T"'2 1 0 2\n2 1 0 5\n2 1 0 3\n2 1 0 9\n'"$S"'2 0 0 0 0\n2 1 1 0 0\n2 2 2 0 0\n2 3 3 0 0\n' >"$bundle"
     runs 'numbers without a name' 0 'step 1: child::log <= child::log, by rule 2
 step 2: child::#5 <= child::#5, by rule 2\nstep 3: child::#3 <= child::#3, by rule 2
@@ -58,11 +58,6 @@ step 4: child::#9 <= child::#9, by rule 2\n' '' explain "$bundle" --names "$list
     : >"$out/stderr"
     verdict 'a list that cannot be written' 0 "spinebriar: $list: File too large\n2\n" ''
     passes cmp "$list" $names
-    printf 'log\r\nmark\r\n' >"$list"
-    returned='ends in a carriage return; lines end in a newline alone'
-    runs 'a list with carriage returns' 2 '' "spinebriar: $list: line 1 $returned\n" rows "$xml" --names "$list" --add
-    printf 'log\nmark\r' >"$list"
-    runs 'one at the end' 2 '' "spinebriar: $list: line 2 $returned\n" check crates/audit/stdin --names "$list"
     : >"$list"
     runs 'an empty list' 0 '0 0 0\n1 0 1\n1 1 2\n' \
         "spinebriar: $list: added log, number 1\nspinebriar: $list: added x, number 2\n" rows "$xml" --names "$list" \
@@ -70,6 +65,42 @@ step 4: child::#9 <= child::#9, by rule 2\n' '' explain "$bundle" --names "$list
     # 2,000,000 lines, of which only the first 65,535 have a number
     { echo log; echo x; yes '' | head -n 2000000; } >"$list"
     runs 'a list of many lines' 0 '0 0 0\n1 0 1\n1 1 2\n' '' rows "$xml" --names "$list"
+}
+
+# A file with printf's escapes is no list, and --add leaves it as it was.
+no_list() { # WHAT TEXT LINE WHY
+    printf "$2" >"$list"
+    cp "$list" "$out/before"
+    printf '<log><x/></log>' >"$xml"
+    runs "$1" 2 '' "spinebriar: $list: line $3 $4\n" rows "$xml" --names "$list" --add
+    runs "$1, of check" 2 '' "spinebriar: $list: line $3 $4\n" check crates/audit/stdin --names "$list"
+    passes cmp "$list" "$out/before"
+}
+
+# Files whose names would silently have other numbers, or none.
+no_lists() {
+    returned='has a carriage return; lines end in a newline alone'
+    no_list 'a list with carriage returns' 'log\r\nmark\r\n' 1 "$returned"
+    no_list 'one at the end' 'log\nmark\r' 2 "$returned"
+    no_list 'one within a line' 'log\nmark\nze\rro\n' 3 "$returned"
+    no_list 'a byte order mark' '\357\273\277log\nmark\n' 1 'begins with a byte order mark'
+    no_list 'a blank at a line'"'"'s end' 'log\nmark \nzero\n' 2 'ends in a blank'
+    no_list 'a tab at the end' 'log\nmark\t' 2 'ends in a blank'
+    no_list 'a line that is a blank' 'log\n\n \n' 3 'ends in a blank'
+    no_list 'UTF-16' '\377\376l\0o\0g\0' 1 'has bytes that are no text'
+    no_list 'byte 0' 'log\nma\0rk\n' 2 'has bytes that are no text'
+    no_list 'a control character' 'log\nmark\n\033[2J\n' 3 'has bytes that are no text'
+    no_list 'byte 127' 'log\177\n' 1 'has bytes that are no text'
+    no_list 'ISO-8859-1' 'log\nl\366g\n' 2 'has bytes that are no text'
+    no_list 'a character that is cut off' 'log\nl\303' 2 'has bytes that are no text'
+    no_list 'one at a newline' 'log\nl\342\202\nmark\n' 2 'has bytes that are no text'
+    no_list 'a long form of /' 'log\nl\300\257\n' 2 'has bytes that are no text'
+    no_list 'half of a pair' 'log\nl\355\240\200\n' 2 'has bytes that are no text'
+    no_list 'a program' "$(head -c 4 "$bin/spinebriar" | od -An -v -t o1 | tr ' ' '\\')\\1" 1 'has bytes that are no text'
+    # lines that are no names take up their numbers, in any letters
+    printf 'l\303\266g\n\342\202\254 \360\237\230\200\n\xee\x80\x80\tx\nlog\n' >"$list"
+    printf '<log/>' >"$xml"
+    runs 'lines in other letters' 0 '0 0 0\n1 0 4\n' '' rows "$xml" --names "$list"
 }
 
 # Lists that others change, or that can't be added to.

@@ -1,4 +1,4 @@
-/* The target of libFuzzer for host/fuzz.sh: the bytes as a bundle, an XML file, a selector, a list of names or calls,
+/* The target of libFuzzer for fuzz.sh: the bytes as a bundle, an XML file, a selector, a list of names or calls,
    by macro. */
 #include <assert.h>
 #include <stdarg.h>

@@ -1,13 +1,12 @@
 #!/usr/bin/env python3
 """Holds the calls for a host in C against the plain implementation in tools/reference, on random inputs.
 
-    python3 tools/differential/exports.py [--seed N] [--count N]
+    python3 tools/compare/host_calls.py [--seed N] [--count N]
 
-It needs Python 3, cargo, a C compiler, and `rt` if the archive is to be made. It stops at the first difference and prints
-its input; else it says what ran.
+It needs Python 3, cargo, a C compiler, and `rt` if the archive is to be made, and installs nothing. It stops at the
+first difference and prints its input; else it says what ran.
 """
 
-import argparse
 import ctypes
 import random
 import subprocess
@@ -15,7 +14,7 @@ from collections import Counter
 
 from cases import MOST_BYTES, audit_case, document
 from rules import AXES
-from run import TREE, build, output
+from shared import TREE, build, need, options, output
 from spelling import TYPES, Spelling
 
 LIST = [f"n{number}" for number in range(1, 10)]
@@ -23,6 +22,7 @@ LIST = [f"n{number}" for number in range(1, 10)]
 
 def library():
     """The archive as a shared library."""
+    need({"cc": "gcc"})
     archive = subprocess.run(["tools/archive.sh", "exports"], cwd=TREE, check=True, capture_output=True, text=True)
     shared = TREE / "target/exports.so"
     whole = f"-Wl,--whole-archive,{TREE / archive.stdout.strip()},--no-whole-archive"
@@ -137,11 +137,8 @@ def random_claim(rng, spelling):
 
 
 def main():
-    parser = argparse.ArgumentParser(description=__doc__.split("\n\n")[0])
-    parser.add_argument("--seed", type=int, default=1)
-    parser.add_argument("--count", type=int, default=1000)
-    args = parser.parse_args()
-    rng, calls, reference = random.Random(args.seed), library(), build(TREE / "tools/reference")
+    args = options(__doc__, 1000)
+    rng, calls, reference = random.Random(args.seed), library(), build()
     spelling = Spelling(rng, [*LIST, "z"], LIST, [*LIST, "z"].index)
     ran = Counter()
     for _ in range(args.count):

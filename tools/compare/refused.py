@@ -1,7 +1,8 @@
-"""Texts outside T-06's grammar. `¦` stands before the first byte that can't continue, or at the end of a text that ends
-too soon; it is not part of the text. The places were set by hand, from document 02."""
+"""Texts outside the grammar of selectors. `¦` stands before the first byte that can't continue, or at the end of a
+text that ends too soon; it is not part of the text. The places were set by hand, from docs/SPECIFICATION.md, Selectors
+as text."""
 
-# XPath 1.0 that T-06 leaves out.
+# XPath 1.0 that the grammar leaves out.
 LEFT_OUT = {
     "numbers": ["¦1", "a[¦1]", "a[¦1.5]", "a[.¦5]", "a[¦2 > 1]", "¦1 + 1", "a[b ¦+ 1]", "a[b ¦- 1]", "a[b ¦* 2]",
                 "a[b ¦div 2]", "a[b ¦mod 2]", "a[¦-b]", "¦-a", "a ¦+ b", "a[b and ¦1]", "a[¦1 and b]"],

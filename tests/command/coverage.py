@@ -1,7 +1,7 @@
 #!/usr/bin/env python3
 """Asks the bundles of examples/bundles for the containments that docs/COVERAGE.md lists as derived:
 
-    host/coverage.py SPINEBRIAR
+    tests/command/coverage.py SPINEBRIAR
 
 Each row of that table whose two first cells are selectors must be a claim of the row's bundle, by the step that the
 row names where it names one; a row with no step named has the number of the bundle's steps, also where its new side is

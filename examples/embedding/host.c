@@ -4,7 +4,7 @@
    At the root of the repository:
 
        tools/archive.sh exports
-       cc -Wall -Wextra -Iinclude -o target/host examples/host/host.c target/staticlib/libexports.a
+       cc -Wall -Wextra -Iinclude -o target/host examples/embedding/host.c target/staticlib/libexports.a
        target/host FILE
 */
 #include <stdio.h>

@@ -1,5 +1,5 @@
 # shellcheck shell=sh disable=SC2154,SC2059
-# The tests of check --claim, select and file, for host/test.sh.
+# The tests of check --claim, select and file, for run.sh.
 
 claims() {
     runs 'a claim' 0 'accepted: rows 7, steps 1
@@ -99,7 +99,7 @@ spinebriar: //x]\nspinebriar:    ^\n' select '//x]' "$xml" --names "$list" --add
     passes cmp "$list" "$out/before"
     runs 'the selector may have the added name' 0 '3 1 /log/y\n' "spinebriar: $list: added y, number 7\n" select //y \
         "$xml" --names "$list" --add
-    printf '\nlog\n1a\nmark \nlog\na:b\nmark' >"$list"
+    printf '\nlog\n1a\nma rk\nlog\na:b\nmark' >"$list"
     printf '<log><mark/></log>' >"$xml"
     runs 'a list with repeated and odd lines' 0 '2 1 /log/mark\n' '' select //mark "$xml" --names "$list"
     printf '<a:log xmlns:a="u"><mark/></a:log>' >"$xml"

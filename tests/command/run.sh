@@ -1,36 +1,31 @@
 #!/bin/sh
-# Tests the command spinebriar: what each subcommand prints, and its exit status. Run it at the repository's root:
+# Tests the command spinebriar: what each subcommand prints, and its exit status; the examples of the pages; the tables
+# of docs/FORMAT.md.
 #
-#     host/test.sh
+#     tests/command/run.sh
 #
-# It needs the Rattle kit, and installs the rest by apt-get where it is missing. Everything runs twice, the second
-# time with the address and undefined behaviour sanitizers. The last line says how many tests passed; a failure ends
-# it with status 1.
+# It needs the Rattle kit, gcc, make, python3, expat and libxml2 with its command xmllint; it installs nothing, and names
+# what is missing. Everything runs twice, the second time with the address and undefined behaviour sanitizers. The last
+# line says how many tests passed; a failure ends it with status 1.
 set -eu
-cd "$(dirname "$0")/.."
-missing=
-for package in gcc libc6-dev make python3 libexpat1-dev libxml2-dev libxml2-utils; do
-    dpkg -s $package >/dev/null 2>&1 || missing="$missing $package"
-done
-if [ -n "$missing" ]; then
-    # shellcheck disable=SC2086
-    apt-get update -qq && apt-get install -y -qq $missing
-fi
+cd "$(dirname "$0")/../.."
+. tools/need.sh
+need cc=gcc /usr/include/stdio.h=libc6-dev make=make python3=python3 /usr/include/expat.h=libexpat1-dev \
+    xml2-config=libxml2-dev xmllint=libxml2-utils
 programs='audit replay tally limits audit_cases engine_cases text_cases'
 for program in $programs; do
     # shellcheck disable=SC2086
     [ -x target/bin/$program ] || tools/programs.sh $programs
 done
 
-out=$PWD/target/host_tests
+out=$PWD/target/command_tests
 rm -rf "$out"
 mkdir -p "$out/plain" "$out/sanitized"
 make -s -C host OUT="$out/plain/spinebriar"
 make -s -C host OUT="$out/sanitized/spinebriar" CFLAGS='-g -fsanitize=address,undefined -fno-sanitize-recover=all'
 # shellcheck disable=SC2046
-cc -O2 -Wall -Wextra -Werror $(xml2-config --cflags) -o "$out/rows_by_libxml2" host/rows_by_libxml2.c -lxml2
-make -s -C host limits OUT="$out/limits"
-make -s -C host stack OUT="$out/stack"
+cc -O2 -Wall -Wextra -Werror $(xml2-config --cflags) -o "$out/rows_by_libxml2" tests/command/rows_by_libxml2.c -lxml2
+make -s -C host limits stack LIMITS="$out/limits" STACK="$out/stack"
 names=examples/bundles/names
 tried=0 failed=0
 
@@ -253,11 +248,11 @@ explains() {
     echo "$lines" >"$out/stdout"
     verdict 'and in few lines' 0 '9\n' ''
     # every kind and every place for parentheses
-    runs 'every sign' 0 "$(cat host/signs.txt)\n" '' explain host/signs.bundle --names $names
+    runs 'every sign' 0 "$(cat tests/command/signs.txt)\n" '' explain tests/command/signs.bundle --names $names
 }
 
-. host/test_xml.sh
-. host/test_calls.sh
+. tests/command/xml.sh
+. tests/command/calls.sh
 
 # Runs a program that holds the command against something else, and prints what it did.
 passes() { # COMMAND WORD..
@@ -282,6 +277,7 @@ for build in plain sanitized; do
     checks
     explains
     documents
+    no_lists
     shared_lists
     namespaces
     bad_xml
@@ -289,16 +285,18 @@ for build in plain sanitized; do
     selects
     lines_and_paths
     files
-    passes python3 host/compare.py "$bin/spinebriar" 200
-    passes python3 host/compare_rows.py "$bin/spinebriar" "$out/rows_by_libxml2" 200
-    passes python3 host/compare_file.py "$bin/spinebriar" 100
-    passes python3 host/coverage.py "$bin/spinebriar"
-    passes python3 tools/engines/xmllint.py --spinebriar "$bin/spinebriar"
-    PATH=$bin:$PATH passes python3 host/examples.py README.md docs/FORMAT.md host/spinebriar.1
+    passes python3 tests/command/against_audit.py "$bin/spinebriar" 200
+    passes python3 tests/command/against_libxml2.py "$bin/spinebriar" "$out/rows_by_libxml2" 200
+    passes python3 tests/command/against_replay.py "$bin/spinebriar" 100
+    passes python3 tests/command/coverage.py "$bin/spinebriar"
+    passes python3 tools/compare/xmllint.py --spinebriar "$bin/spinebriar"
+    PATH=$bin:$PATH passes python3 tests/examples.py
 done
 deep >"$out/deep"
-python3 tools/differential/cases.py full-bundle 1 >"$out/full"
+python3 tools/compare/cases.py full-bundle 1 >"$out/full"
 passes "$out/stack" "$out/deep" "$out/full"
 passes python3 tools/format_check.py
+passes python3 tools/format_check.py --selftest
+passes python3 tests/examples.py --selftest
 echo "$((tried - failed)) passed, $failed failed"
 [ "$failed" = 0 ]

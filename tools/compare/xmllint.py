@@ -2,9 +2,9 @@
 """Holds `spinebriar select` against `xmllint --xpath`, libxml2's command, on selectors as text. Run it at the
 repository's root:
 
-    python3 tools/engines/xmllint.py [--spinebriar PROGRAM] [--selectors N] [--seed N]
+    python3 tools/compare/xmllint.py [--spinebriar PROGRAM] [--selectors N] [--seed N]
 
-N selectors, 600 without the option, all different, are made by chance over the files of tools/engines/xml and over
+N selectors, 600 without the option, all different, are made by chance over the files of tools/compare/xml and over
 random ones, none with namespaces or a DTD, which libxml2 takes for a node; a third is asked from another node than the
 root. Fewer than half of N over the stored files, or fewer than a quarter of those that select a node, are a failure.
 spinebriar prints a path from the root for each selected node; xmllint counts the nodes of the selector, of these
@@ -18,60 +18,31 @@ Left out by rule are selectors in which a known defect of libxml2 2.9 may show:
 - preceding: libxml2 ends it at the document's first child, and leaves that out if it has children. Left out:
   `preceding` where the document's first child has children and is not its last one.
 
-It needs Debian's package libxml2-utils, which it installs if it is missing (as root).
+It needs the command, target/spinebriar unless another is named, and Debian's package libxml2-utils, and installs
+nothing.
 """
 
-import argparse
 import random
 import re
-import shutil
 import subprocess
 import sys
 import tempfile
 from pathlib import Path
 
-TREE = Path(__file__).resolve().parents[2]
-AXES = ["self", "child", "parent", "descendant", "ancestor", "descendant-or-self", "ancestor-or-self",
-        "following-sibling", "preceding-sibling", "following", "preceding", "attribute"]
+from rules import AXES
+from shared import TREE, XmlText, need, options
+
 ELEMENTS = ["log", "run", "mark", "zero", "box", "a.b", "_c-d"]
 ATTRIBUTES = ["serial", "depth", "log"]
 TARGETS = ["plotter", "run"]
 ATTRIBUTE_KIND = 5
 
 
-def install():
-    if shutil.which("xmllint") is None:
-        subprocess.run(["apt-get", "update", "-q"], check=True, stdout=sys.stderr)
-        subprocess.run(["apt-get", "install", "-q", "-y", "libxml2-utils"], check=True, stdout=sys.stderr)
-
-
-# Documents
-
-def piece(rng, depth):
-    kind = rng.randrange(8 if depth < 7 else 4)
-    if kind == 0:
-        return rng.choice(["12.5", "\n ", "some text\n", "<![CDATA[a<b]]>", "&amp;"])
-    if kind == 1:
-        return "<!-- c -->"
-    if kind == 2:
-        return f"<?{rng.choice(TARGETS)} x?>"
-    if kind == 3:
-        return "\n"
-    return element(rng, depth + 1)
-
-
-def element(rng, depth):
-    name = rng.choice(ELEMENTS)
-    attributes = "".join(f' {a}="{rng.randrange(9)}"' for a in rng.sample(ATTRIBUTES, rng.choice([0, 0, 1, 2])))
-    inner = "".join(piece(rng, depth) for _ in range(rng.randrange(1 if depth > 6 else 7)))
-    return f"<{name}{attributes}>{inner}</{name}>" if inner else f"<{name}{attributes}/>"
-
-
 def random_document(rng):
     """An XML file of at most 500 nodes."""
-    outside = lambda: "".join(rng.choice(["\n", "<!--o-->", "<?run o?>"]) for _ in range(rng.randrange(3)))
+    made = XmlText(rng, ELEMENTS, ATTRIBUTES, TARGETS)
     while True:
-        text = outside().lstrip("\n") + element(rng, 0) + outside()
+        text = made.file()
         if sum(map(text.count, "<>=")) <= 500:
             return text
 
@@ -198,22 +169,19 @@ def compare(document, alternatives, context):
 
 
 def main():
-    parser = argparse.ArgumentParser()
-    parser.add_argument("--spinebriar", default=str(TREE / "target/spinebriar"))
-    parser.add_argument("--selectors", type=int, default=600)
-    parser.add_argument("--seed", type=int, default=29)
-    options = parser.parse_args()
-    install()
-    rng = random.Random(options.seed)
-    stored = sorted((TREE / "tools/engines/xml").glob("*.xml"))
+    given = options(__doc__, None, ("--spinebriar", {"default": str(TREE / "target/spinebriar")}),
+                    ("--selectors", {"type": int, "default": 600}))
+    need({"xmllint": "libxml2-utils"})
+    rng = random.Random(given.seed)
+    stored = sorted((TREE / "tools/compare/xml").glob("*.xml"))
     seen, left_out = set(), 0
     counts = {True: [], False: []}  # of nodes selected, by whether the file is a stored one
     with tempfile.TemporaryDirectory() as folder:
-        while len(seen) < options.selectors:
+        while len(seen) < given.selectors:
             for path in stored + [Path(folder) / "random.xml"] * len(stored):
                 if path not in stored:
                     path.write_text(random_document(rng))
-                document = Document(options.spinebriar, path, folder)
+                document = Document(given.spinebriar, path, folder)
                 words = Words(rng, document.rows, document.names)
                 for _ in range(20 if path in stored else 10):
                     context = rng.randrange(len(document.rows)) if rng.random() < 0.34 else 0
@@ -221,14 +189,15 @@ def main():
                     selector = " | ".join(text for text, _ in alternatives)
                     if document.libxml2_errs(selector, context):
                         left_out += 1
-                    elif selector not in seen and len(seen) < options.selectors:
+                    elif selector not in seen and len(seen) < given.selectors:
                         seen.add(selector)
                         counts[path in stored].append(compare(document, alternatives, context))
     told = [f"{len(found)} over {what} files, of which {sum(map(bool, found))} select {sum(found)} nodes"
             for what, found in ((f"{len(stored)} stored", counts[True]), ("random", counts[False]))]
     print(f"xmllint agrees on {len(seen)} selectors, {', and '.join(told)}; {left_out} left out by rule")
-    if 2 * len(counts[True]) < options.selectors or 4 * sum(map(bool, counts[True])) < len(counts[True]):
+    if 2 * len(counts[True]) < given.selectors or 4 * sum(map(bool, counts[True])) < len(counts[True]):
         sys.exit("FAILED: too few selectors over the stored files")
 
 
-main()
+if __name__ == "__main__":
+    main()

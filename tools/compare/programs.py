@@ -1,47 +1,25 @@
 #!/usr/bin/env python3
 """Holds the programs replay and audit against the plain implementation in tools/reference, on random inputs.
 
-    python3 tools/differential/run.py [--seed N] [--count N] [--replay COMMAND] [--audit COMMAND]
+    python3 tools/compare/programs.py [--seed N] [--count N] [--replay COMMAND] [--audit COMMAND]
 
-It needs Python 3, cargo, and the two programs, target/bin/replay and target/bin/audit unless others are named. It builds the
-reference, stops at the first difference, saves that input and prints it, and else says what ran.
+It needs Python 3, cargo and the two programs, target/bin/replay and target/bin/audit unless others are named, and
+installs nothing. It builds the reference, stops at the first difference, saves that input and prints it, and else says
+what ran.
 """
 
-import argparse
 import random
 import shlex
-import shutil
-import subprocess
 import sys
 from collections import Counter
-from pathlib import Path
 
 from cases import random_case
-
-TREE = Path(__file__).resolve().parents[2]
-SECONDS = 60
-
-
-def build(directory):
-    """Builds a reference and gives its program."""
-    subprocess.run(["cargo", "build", "--release", "--quiet"], cwd=directory, check=True)
-    return str(directory / "target/release/reference")
-
-
-def output(command, text):
-    """What the program prints, with its exit status if that isn't 0."""
-    try:
-        run = subprocess.run(command, input=text, capture_output=True, timeout=SECONDS)
-    except subprocess.TimeoutExpired:
-        return f"no answer in {SECONDS} s\n".encode()
-    return run.stdout + (f"exit status {run.returncode}\n".encode() if run.returncode else b"")
+from shared import build, need_program, options, output, program_option, save
 
 
 def difference(case, expected, printed):
     """Says where two outputs differ, and saves the input."""
-    saved = TREE / "target" / f"difference.{case.program}"
-    saved.parent.mkdir(exist_ok=True)
-    saved.write_bytes(case.input)
+    saved = save(f"difference.{case.program}", case.input)
     ours, theirs = expected.split(b"\n"), printed.split(b"\n")
     place = next((i for i, (x, y) in enumerate(zip(ours, theirs)) if x != y), min(len(ours), len(theirs)))
     print(f"{case.program}, output line {place + 1}: the reference prints {ours[place:place + 1]}, "
@@ -134,18 +112,12 @@ def compare(seed, count, reference, programs):
 
 
 def main():
-    parser = argparse.ArgumentParser(description=__doc__, formatter_class=argparse.RawDescriptionHelpFormatter)
-    parser.add_argument("--seed", type=int, default=1)
-    parser.add_argument("--count", type=int, default=10000)
-    parser.add_argument("--replay", default=str(TREE / "target/bin/replay"), help="the program, with arguments if any")
-    parser.add_argument("--audit", default=str(TREE / "target/bin/audit"), help="the program, with arguments if any")
-    options = parser.parse_args()
-    programs = {"replay": shlex.split(options.replay), "audit": shlex.split(options.audit)}
+    names = ("replay", "audit")
+    given = options(__doc__, 10000, *(program_option(name) for name in names))
+    programs = {name: shlex.split(getattr(given, name)) for name in names}
     for command in programs.values():
-        if not shutil.which(command[0]):
-            sys.exit(f"there is no program {command[0]}")
-    reference = build(TREE / "tools/reference")
-    sys.exit(0 if compare(options.seed, options.count, reference, programs) else 1)
+        need_program(command)
+    sys.exit(0 if compare(given.seed, given.count, build(), programs) else 1)
 
 
 if __name__ == "__main__":

@@ -1,7 +1,7 @@
 #!/usr/bin/env python3
 """Holds `spinebriar file` against the proved program replay on COUNT lists of random calls:
 
-    host/compare_file.py SPINEBRIAR COUNT
+    tests/command/against_replay.py SPINEBRIAR COUNT
 
 The same lines and a last `write 65536` go to replay. The first refused call must be the same, with the same number, or
 the bundle.
@@ -76,7 +76,7 @@ def main():
             said = 'spinebriar: -: refused at line %d: %s, ' % (len(lines), answer)
             right = done.returncode == 1 and not done.stdout and done.stderr.decode().startswith(said)
         if not right:
-            raise SystemExit('FAILED: compare_file.py: %s\n%s\n%s' % (text, answer, done))
+            raise SystemExit('FAILED: against_replay.py: %s\n%s\n%s' % (text, answer, done))
     print('%d lists of calls compared with replay, %d of them refused' % (count, refused))
 
 

@@ -2,33 +2,32 @@
 """Makes the cases of the program text_cases: selectors as text, with the answers of other XPath engines to the same text,
 and texts that are refused, with their places.
 
-    python3 tools/engines/text.py [--seed N]               writes crates/text_cases/stdin and stdout
-    python3 tools/engines/text.py --compare N [--seed N]   holds tools/reference against the engines on N selectors
+    python3 tools/compare/texts.py [--seed N]               writes crates/text_cases/stdin and stdout
+    python3 tools/compare/texts.py --compare N [--seed N]   holds tools/reference against the engines on N selectors
 
-It needs what make.py needs. stdin has lines as the program replay reads them: sessions, separated by a line `fresh`, each
-of one `document`, `names`, and `text` calls each followed by a `select` of the row that the text's term gets; the last
-session has the texts of refused.py. stdout has a line for each select, the selected nodes in order, and `refused NUMBER
-PLACE` for each refused text.
+It needs what engines.py needs, and installs nothing. stdin has lines as the program replay reads them: sessions,
+separated by a line `fresh`, each of one `document`, `names`, and `text` calls each followed by a `select` of the row
+that the text's term gets; the last session has the texts of refused.py. stdout has a line for each select, the
+selected nodes in order, and `refused NUMBER PLACE` for each refused text.
 
-The selectors are random trees of T-06's grammar, each spelled with abbreviations and whitespace by chance. The row of a
-text is that of the tree's term, which is put together here; the nodes are those that the engine selects by the text. On
-documents without attributes they are Jaxen's, where Saxon takes the text and agrees; on the others they are Saxon's, since
-Jaxen errs there. Of refused.py Jaxen must take LEFT_OUT for XPath 1.0, and Jaxen or libxml2 must refuse NO_XPATH.
+The selectors are random trees of the grammar, each spelled with abbreviations and whitespace by chance. The row of a
+text is that of the tree's term, which is put together here; the nodes are those that the engine selects by the text.
+On documents without attributes they are Jaxen's, where Saxon takes the text and agrees; on the others they are
+Saxon's, since Jaxen errs there. Of refused.py Jaxen must take LEFT_OUT for XPath 1.0, and Jaxen or libxml2 must refuse
+NO_XPATH.
 """
 
-import argparse
 import random
-import subprocess
 import sys
 import tempfile
 
-from make import HERE, JAXEN, MOST_BYTES, MOST_LIMIT, SAXON, SAXON_COMMAND, TREE, install
-from cases import Session, is_quick
-from run import build, output
-from spelling import Spelling
+import shared
+from cases import MOST_BYTES, MOST_LIMIT, Session, is_quick
+from engines import JAXEN_COMMAND, NEEDED, SAXON_COMMAND, libxml2_command
 from refused import LEFT_OUT, NO_XPATH, ONE_TOKEN, TOO_FAR
+from shared import TREE, build, need, options, output, printed_lines
+from spelling import Spelling
 
-JAXEN_COMMAND = [*SAXON_COMMAND[:-1], "jaxen"]
 # Line 3 is no name and takes up its number, line 6 is the name of line 2 again. Targets are no element's names: Saxon's
 # linked tree takes an instruction for an element of that name.
 NAMES = ("log mark 3d run zero mark and or not div mod true false text node comment processing-instruction self child "
@@ -45,58 +44,31 @@ def number(name):
 # Documents
 
 def document(rng, nodes, attributes, names):
-    """The rows of a document, and its XML: one element under the root, no text beside it, no two texts side by side."""
-    rows = [(0, 0, 0)]
-
-    def add(kind, parent):
+    """The rows of a document that XML can say, elements and attributes of these names."""
+    def name_of(kind):
         word = rng.choice(names) if kind == 1 else rng.choice([None, *TARGETS]) if kind == 4 else None
-        rows.append((kind, parent, number(word) if word else 0))
-        owner, left = len(rows) - 1, rng.sample(names, len(names)) if kind == 1 else []
-        while left and rng.random() < attributes:
-            rows.append((5, owner, number(left.pop())))
+        return number(word) if word else 0
 
-    for kind in rng.choice([[], [], [3], [4], [4, 3]]):
-        add(kind, 0)
-    top, deep = len(rows), rng.choice([0.2, 0.5, 0.8])
-    add(1, 0)
-    while len(rows) < nodes:
-        parent = len(rows) - 1
-        while rows[parent][0] != 1 or (parent != top and rng.random() > deep):
-            parent = rows[parent][1]
-        before = [kind for kind, above, _ in rows if above == parent and kind != 5]
-        kind = rng.choice([1, 1, 1, 1, 2, 3, 4])
-        if kind != 2 or before[-1:] != [2]:
-            add(kind, parent)
-    return rows
+    return shared.document(rng, nodes, [0.2, 0.5, 0.8], name_of,
+                           lambda: [number(name) for name in rng.sample(names, len(names))], attributes,
+                           [1, 1, 1, 1, 2, 3, 4], lambda: rng.choice([[], [], [3], [4], [4, 3]]))
 
 
 def xml(rows):
-    def text(place):
-        kind, _, name = rows[place]
-        word = NAMES[name - 1] if name else "i"
-        under = [n for n, row in enumerate(rows) if n and row[1] == place]
-        inner = "".join(text(n) for n in under if rows[n][0] != 5)
-        attributes = "".join(f' {NAMES[rows[n][2] - 1]}=""' for n in under if rows[n][0] == 5)
-        return [inner, f"<{word}{attributes}>{inner}</{word}>", "t", "<!--c-->", f"<?{word} d?>"][kind]
-    return text(0)
+    def word(name):
+        return NAMES[name - 1] if name else "i"
+
+    return shared.xml(rows, word, word)
 
 
 # Engines
-
-def ask(command, lines):
-    run = subprocess.run(command, input="".join(line + "\n" for line in lines), capture_output=True, text=True)
-    printed = run.stdout.split("\n")[:-1]
-    if run.returncode or len(printed) != len(lines):
-        sys.exit(f"{command} failed: {run.stderr[-2000:]}")
-    return printed
-
 
 def answers(command, groups):
     """The engine's answers to the selectors of each document, after it is seen to read the same rows."""
     lines = ["names " + " ".join(NAMES)]
     for rows, asked in groups:
         lines += ["document " + xml(rows), *(f"select {context} {text}" for text, _, context in asked)]
-    printed = iter(ask(command, lines)[1:])
+    printed = iter(printed_lines(command, lines)[1:])
     found = []
     for rows, asked in groups:
         if next(printed) != " ".join(str(n) for row in rows for n in row):
@@ -151,19 +123,16 @@ def refused_texts(directory):
     """The refused texts with their places, after the engines are seen to take them as refused.py says."""
     taken = [text for texts in LEFT_OUT.values() for text in texts]
     plain = [text.replace("¦", "") for text in taken]
-    no = [text for text, told in zip(plain, ask(JAXEN_COMMAND, ["parses " + text for text in plain])) if told != "yes"]
+    no = [text for text, told in zip(plain, printed_lines(JAXEN_COMMAND, ["parses " + text for text in plain])) if told != "yes"]
     if no:
         sys.exit(f"Jaxen doesn't take for XPath 1.0: {no}")
     others = [text.replace("¦", "") for text in NO_XPATH]
-    jaxen = ask(JAXEN_COMMAND, ["parses " + text for text in others])
-    libxml2 = f"{directory}/libxml2"
-    flags = subprocess.run(["xml2-config", "--cflags", "--libs"], check=True, capture_output=True, text=True).stdout.split()
-    subprocess.run(["cc", "-O2", str(HERE / "libxml2.c"), *flags, "-o", libxml2], check=True)
-    parsed = ask([libxml2], ["parses " + text for text in others])
+    jaxen = printed_lines(JAXEN_COMMAND, ["parses " + text for text in others])
+    parsed = printed_lines(libxml2_command(directory), ["parses " + text for text in others])
     both = [text for text, x, y in zip(others, jaxen, parsed) if x == y == "yes"]
     if both:
         sys.exit(f"Jaxen and libxml2 take for XPath 1.0: {both}")
-    print(f"Jaxen takes {len(plain)} texts that T-06 leaves out for XPath 1.0; of {len(others)} others it refuses "
+    print(f"Jaxen takes {len(plain)} texts that the grammar leaves out for XPath 1.0; of {len(others)} others it refuses "
           f"{jaxen.count('no')} and libxml2 {parsed.count('no')}, each at least one of them")
     return taken + NO_XPATH + ONE_TOKEN + TOO_FAR
 
@@ -212,7 +181,7 @@ def compare(seed, count):
     rng = random.Random(seed)
     documents = max(1, count * 2 // 3 // 40)
     groups = questions(rng, documents, max(1, documents // 2), 40)
-    reference, total = build(TREE / "tools/reference"), 0
+    reference, total = build(), 0
     for rows, pairs in answered(groups, documents):
         lines = session_lines(rng, rows, pairs)
         printed = output([reference, "replay"], "".join(line + "\n" for line in lines).encode()).decode().splitlines()
@@ -224,15 +193,12 @@ def compare(seed, count):
 
 
 def main():
-    parser = argparse.ArgumentParser(description=__doc__, formatter_class=argparse.RawDescriptionHelpFormatter)
-    parser.add_argument("--seed", type=int, default=1)
-    parser.add_argument("--compare", type=int, metavar="N")
-    options = parser.parse_args()
-    install()
-    if options.compare:
-        return compare(options.seed, options.compare)
+    given = options(__doc__, None, ("--compare", {"type": int, "metavar": "N"}))
+    need(NEEDED)
+    if given.compare:
+        return compare(given.seed, given.compare)
     with tempfile.TemporaryDirectory() as directory:
-        make(options.seed, directory)
+        make(given.seed, directory)
 
 
 if __name__ == "__main__":
