@@ -13,7 +13,8 @@
 #define SPINEBRIAR_VERSION "0.1.0"
 
 /* Bytes of stack that are enough for a call: the most that tests/command/stack.c measured on the deepest inputs known,
-   and some more. spinebriar_read and spinebriar_read_line take the same. */
+   and some more. It lends lists that are indexed and makes steps by rule 59, also in the calls of spinebriar_file.
+   spinebriar_read and spinebriar_read_line take the same. */
 #define SPINEBRIAR_READ_STACK 163840
 #define SPINEBRIAR_CLAIM_STACK 360448
 #define SPINEBRIAR_SELECT_STACK 327680

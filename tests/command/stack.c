@@ -1,7 +1,11 @@
 /* The stack that each call of the archive takes, for run.sh: a thread whose stack is painted makes the call, and
    what is no longer painted was used. A call that takes more than include/spinebriar.h says is a failure.
 
-       stack BUNDLE..      the bundles are tried one after the other, and the most is printed */
+       stack BUNDLE..      the bundles are tried one after the other, and the most is printed
+
+   Every call is measured on selectors that are as deep as rows may nest, with a list of names that is indexed, on the
+   longest documents, deep and wide, and on the rows and steps of the bundles; run.sh gives it one with a step by rule 59
+   on a path nested 28 deep, and a full one. */
 #define _GNU_SOURCE
 #include <pthread.h>
 #include <stdio.h>
@@ -61,14 +65,47 @@ static void call_select(void)
                       3 * SPINEBRIAR_MOST_NODES, 0, 100000, marks, SPINEBRIAR_MOST_NODES, &value);
 }
 
-/* A term, a step, and the selector as text. */
+/* The bundle as calls, or as many of them as fit, the list of names, and the selector as text. */
+static struct {
+    char at[SPINEBRIAR_MOST_BYTES];
+    size_t length;
+} calls;
+
+static void put(const char *text, size_t length)
+{
+    memcpy(calls.at + calls.length, text, length);
+    calls.length += length;
+}
+
+static void make_calls(void)
+{
+    const char *word = "", *line = (const char *)bundle.at, *end = line + bundle.length;
+    size_t last = sizeof calls.at - sizeof names - 256;
+    calls.length = 0;
+    while (line < end && calls.length < last) {
+        size_t length = (size_t)((const char *)memchr(line, '\n', (size_t)(end - line)) - line) + 1;
+        if (*line == 'k' || *line == 'r') {
+            word = *line == 'k' ? "term " : "step ";
+        } else {
+            put(word, strlen(word));
+            put(line, length);
+        }
+        line += length;
+    }
+    put("names ", 6);
+    for (size_t i = 0; i < sizeof names; i++) {
+        put(names[i] == '\n' ? " " : (const char *)&names[i], 1);
+    }
+    put("\ntext ", 6);
+    put(selector, strlen(selector));
+    put("\n", 1);
+}
+
 static void call_file(void)
 {
     static uint8_t out[SPINEBRIAR_MOST_BYTES];
-    static char calls[SPINEBRIAR_MOST_BYTES];
     size_t value;
-    int length = snprintf(calls, sizeof calls, "names a\nterm 2 1 0 1\nstep 2 0 0 0 0\ntext %s\n", selector);
-    spinebriar_file((const uint8_t *)calls, (size_t)length, out, sizeof out, &value);
+    spinebriar_file((const uint8_t *)calls.at, calls.length, out, sizeof out, &value);
 }
 
 struct call {
@@ -132,6 +169,7 @@ static void measure_all(void)
 {
     for (size_t i = 0; i < SELECTOR_COUNT; i++) {
         selector = SELECTORS[i];
+        make_calls();
         for (int chain = 0; chain < 2; chain++) {
             make_document(chain);
             for (size_t j = 0; j < CALL_COUNT; j++) {
