@@ -1,7 +1,7 @@
 #!/usr/bin/env python3
 """Sees that what the pages cite is in the tree: files, and names of definitions, theorems, functions, edits and crates.
 
-    python3 tools/names_check.py [PAGE..]     without pages README.md, docs/ and the heads of tools/ and tests/
+    python3 tools/names_check.py [PAGE..]     without pages README.md and those of docs/; CHANGES.md speaks of the past
     python3 tools/names_check.py --selftest   sees that a wrong file and a wrong name are found
 
 A name is what stands between backticks, in a page's text outside of indented blocks, and is a word with a capital, an
@@ -15,7 +15,7 @@ import glob, re, subprocess, sys
 ENDINGS = ('.antt', '.rt', '.edit', '.py', '.sh', '.c', '.h', '.rs', '.md', '.txt', '.bundle', '.xml', '.java', 'spinebriar.1')
 # Folders and files that a command makes, and places of a user's.
 MADE = re.compile(r'^/|^(target|out|bin)(/|$)|/out(/|$)|^(NAME|BUNDLE|FILE)|\.\.\.|^\.\.?/|proofs/F/')
-PAGES = ['README.md', 'CHANGES.md', *sorted(glob.glob('docs/*.md') + glob.glob('docs/changes/*.md'))]
+PAGES = ['README.md', *sorted(glob.glob('docs/*.md') + glob.glob('docs/changes/*.md'))]
 
 
 def tree():
