@@ -6,15 +6,15 @@
 
 It needs Python 3 and installs nothing.
 """
-import glob, os, re, sys, textwrap
+import glob, re, sys, textwrap
 
 PAGE = 'docs/CRATES.md'
-LISTS = ('Lib', 'code', 'represent', 'private', 'values')  # files that list modules
 HEAD = '''# The crates
 
 For maintainers: what each crate is for, in the order of crates.txt, so that each stands after those that it uses. The
 sentences are the heads of the crates' lib.rt or main.rt; `python3 tools/crates_page.py` writes this page from them, and
-`--check` holds it against them. docs/READING.md says what the folders of a crate have.
+`--check` holds it against them. docs/READING.md says what the folders of a crate have, and has their specifications in
+reading order.
 
 '''
 
@@ -37,15 +37,8 @@ def head(crate):
     return words(comment)
 
 
-def specifications(crate):
-    """The files of specs/ but for those of the code's types and of values, by name."""
-    found = [os.path.basename(path)[:-5] for path in glob.glob('crates/%s/specs/*.antt' % crate)]
-    return ', '.join(sorted(name for name in found if name not in LISTS))
-
-
 def entry(crate, kind, uses):
     text = '- **%s**%s: %s' % (crate, ' (%s)' % kind if kind else '', head(crate))
-    text += ' Specifications: %s.' % specifications(crate) if specifications(crate) else ''
     text += ' Uses %s.' % uses if uses else ''
     return '\n'.join(textwrap.wrap(text, 119, subsequent_indent='  ', break_long_words=False, break_on_hyphens=False))
 

@@ -157,7 +157,8 @@ TABLES = [('kind | name | a', (0, 1, 2, 3, 4)), ('axis | name', (0, 1)), ('test 
           ('axis | opposite', (0, 1)), ('number | name | when', (0, 1)), ('what | most', (1,))]
 # An entry of each list of host/ and of the header, and a wrong one.
 ENTRIES = [('host/bundle.h', 'UNION_ROW,', 'NOT_ROW,'), ('host/terms.c', '"parent", ', ''),
-           ('host/terms.c', '"text()"', '"node()"'), ('host/document.h', 'TEXT,', 'COMMENT,'), ('host/rules.c', '"p/R <= R"', '"R <= p/R"'),
+           ('host/terms.c', '"text()"', '"node()"'), ('host/document.h', 'TEXT,', 'COMMENT,'),
+           ('host/rules.c', '"p/R <= R"', '"R <= p/R"'),
            ('include/spinebriar.h', 'SPINEBRIAR_BAD_SIDE = 5', 'SPINEBRIAR_BAD_SIDE = 6'),
            ('include/spinebriar.h', 'case SPINEBRIAR_BAD_SIDE: return', 'case SPINEBRIAR_BAD_KIND: return'),
            ('include/spinebriar.h', 'SPINEBRIAR_MOST_ROWS = 1024', 'SPINEBRIAR_MOST_ROWS = 1023')]

@@ -10,9 +10,10 @@ files; it is looked for as it stands, below crates/, and, without a folder, by i
 selectors, a command with arguments, or a word of lower case letters alone isn't looked at. Names of the shell and of C
 that no file has are listed below. It needs Python 3 and git, and installs nothing.
 """
-import glob, re, subprocess, sys
+import glob, os, re, subprocess, sys
 
-ENDINGS = ('.antt', '.rt', '.edit', '.py', '.sh', '.c', '.h', '.rs', '.md', '.txt', '.bundle', '.xml', '.java', 'spinebriar.1')
+ENDINGS = ('.antt', '.rt', '.edit', '.py', '.sh', '.c', '.h', '.rs', '.md', '.txt', '.bundle', '.xml', '.java',
+           'spinebriar.1')
 # Folders and files that a command makes, and places of a user's.
 MADE = re.compile(r'^/|^(target|out|bin)(/|$)|/out(/|$)|^(NAME|BUNDLE|FILE)|\.\.\.|^\.\.?/|proofs/F/')
 PAGES = ['README.md', *sorted(glob.glob('docs/*.md') + glob.glob('docs/changes/*.md'))]
@@ -20,8 +21,8 @@ PAGES = ['README.md', *sorted(glob.glob('docs/*.md') + glob.glob('docs/changes/*
 
 def tree():
     """The tracked files, and all words of their sources."""
-    listed = subprocess.run(['git', 'ls-files', '-co', '--exclude-standard'], capture_output=True, text=True, check=True)
-    files = set(listed.stdout.split('\n')[:-1])
+    listed = subprocess.run(['git', 'ls-files', '-co', '--exclude-standard'], stdout=subprocess.PIPE, check=True)
+    files = {path for path in listed.stdout.decode().split('\n')[:-1] if os.path.exists(path)}
     words = set()
     for path in files:
         if path.endswith(ENDINGS) and not path.endswith('.md'):
@@ -73,9 +74,10 @@ def missing(pages, files, words):
 def main():
     files, words = tree()
     if sys.argv[1:] == ['--selftest']:
-        wrong = [('page', 'See tools/none.py and crates/common/specs/Axes.antt, `%s`, `Refusal`.' % ('NoSuch' + 'Name'))]
+        name = 'NoSuch' + 'Name'
+        wrong = [('page', 'See tools/none.py and crates/common/specs/Axes.antt, `%s`, `Refusal`.' % name)]
         found = list(missing(wrong, files, words))
-        if found != ['page: no file tools/none.py', 'page: no name ' + 'NoSuch' + 'Name']:
+        if found != ['page: no file tools/none.py', 'page: no name ' + name]:
             sys.exit('FAILED: %s' % found)
         print('a wrong file and a wrong name, each found')
         return

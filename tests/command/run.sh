@@ -57,7 +57,9 @@ T='kind a b c\n'
 S='rule left right first second\n'
 R='2 1 0 2\n2 3 1 0\n'
 bundle=$out/bundle
+# shellcheck disable=SC2034
 list=$out/list
+# shellcheck disable=SC2034
 xml=$out/file.xml
 
 # A bundle with printf's escapes is refused so; the message is the header's.
