@@ -6,7 +6,8 @@
 A line is `step N: LEFT <= RIGHT, by rule R from I, J` (`=>` for qualifiers, the premises where the rule has any),
 or `{N} = TERM`, which names a term for the lines after it. Terms are in the notation of the rules, with the names of
 the list NAMES, one a line, for their numbers, or `#7` for the number 7. Rows are added operands first, left first.
-Nothing is checked but the form of the lines: `spinebriar check` says whether the bundle is accepted.
+Nothing is checked but the form of the lines: `spinebriar check` says whether the bundle is accepted. It needs Python 3
+and installs nothing.
 """
 import re, sys
 

@@ -6,6 +6,8 @@
 COUNT bundles are made by small damage to those of the repository. Of each, check must give audit's number and line.
 The text that explain prints of an accepted one, read by tools/bundle.py, must be a bundle with the same steps, term
 for term.
+
+run.sh makes what it needs; it installs nothing.
 """
 import glob, os, random, subprocess, sys, tempfile
 

@@ -5,6 +5,8 @@
 
 Files have elements, attributes, defaults of them from the DTD, texts in pieces, CDATA, character and entity
 references, comments, instructions, and comments and instructions in the DTD; no namespaces.
+
+run.sh makes what it needs; it installs nothing.
 """
 import os, random, subprocess, sys, tempfile
 
@@ -14,6 +16,7 @@ from shared import XmlText  # noqa: E402
 NAMES = ['log', 'mark', 'zero', 'run', 'serial', 'plot', 'a.b', '_c-d']
 REFERENCES = ['&amp;', '&#10;', '&#x41;', '&text;', '&nodes;', '&none;']
 VALUES = ['', '7', '&lt;', '&text;']
+SECTIONS = ['', 'a<b', ' ', ']]']
 
 
 DTD = '''<!DOCTYPE log [<!-- no --><?run no?>
@@ -23,7 +26,7 @@ DTD = '''<!DOCTYPE log [<!-- no --><?run no?>
 
 def main():
     spinebriar, other, count, chance = sys.argv[1], sys.argv[2], int(sys.argv[3]), random.Random(29)
-    nodes, made = 0, XmlText(chance, NAMES, NAMES, NAMES, REFERENCES, VALUES)
+    nodes, made = 0, XmlText(chance, NAMES, NAMES, NAMES, REFERENCES, VALUES, SECTIONS)
     with tempfile.TemporaryDirectory() as folder:
         path, names = os.path.join(folder, 'file.xml'), os.path.join(folder, 'names')
         open(names, 'w').write('\n'.join(NAMES))

@@ -5,6 +5,8 @@
 
 The same lines and a last `write 65536` go to replay. The first refused call must be the same, with the same number, or
 the bundle.
+
+run.sh makes what it needs; it installs nothing.
 """
 import random, subprocess, sys
 

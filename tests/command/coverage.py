@@ -6,7 +6,8 @@
 Each row of that table whose two first cells are selectors must be a claim of the row's bundle, by the step that the
 row names where it names one; a row with no step named has the number of the bundle's steps, also where its new side is
 no selector. No row of the tables of those out of reach may be a claim of any bundle. `spinebriar check --claim`
-answers, and `check` for rows whose new side is no selector. Each bundle must have a row.
+answers, and `check` for rows whose new side is no selector. Each bundle must have a row. It needs Python 3 and
+installs nothing.
 """
 import glob, re, subprocess, sys
 

@@ -96,9 +96,9 @@ no_lists() {
     no_list 'one at a newline' 'log\nl\342\202\nmark\n' 2 'has bytes that are no text'
     no_list 'a long form of /' 'log\nl\300\257\n' 2 'has bytes that are no text'
     no_list 'half of a pair' 'log\nl\355\240\200\n' 2 'has bytes that are no text'
-    no_list 'a program' "$(head -c 4 "$bin/spinebriar" | od -An -v -t o1 | tr ' ' '\\')\\1" 1 'has bytes that are no text'
+    no_list 'a program' '\177ELF\002\001\001\000\n' 1 'has bytes that are no text'
     # lines that are no names take up their numbers, in any letters
-    printf 'l\303\266g\n\342\202\254 \360\237\230\200\n\xee\x80\x80\tx\nlog\n' >"$list"
+    printf 'l\303\266g\n\342\202\254 \360\237\230\200\n\356\200\200\tx\nlog\n' >"$list"
     printf '<log/>' >"$xml"
     runs 'lines in other letters' 0 '0 0 0\n1 0 4\n' '' rows "$xml" --names "$list"
 }

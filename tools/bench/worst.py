@@ -4,7 +4,7 @@
     worst.py FOLDER
 
 Accepted ones, and beside each a refused one, NAME-refused, whose last line is refused. tools/bench/worst.sh times
-them."""
+them. It needs Python 3 and installs nothing."""
 import os
 import subprocess
 import sys

@@ -3,6 +3,8 @@ documents and selects, full tables, and damaged text.
 
     python3 tools/compare/cases.py full-bundle SEED     prints a bundle of 1,024 rows and 2,048 steps
     python3 tools/compare/cases.py longest-bundle       prints the longest bundle that is accepted
+
+It needs Python 3 and installs nothing.
 """
 
 import random

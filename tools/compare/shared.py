@@ -126,10 +126,10 @@ def xml(rows, word, target):
 class XmlText:
     """Random XML files: elements, attributes, texts in pieces, CDATA, references, comments and instructions."""
 
-    def __init__(self, rng, elements, attributes, targets, references=("&amp;",), values=("7",)):
-        """The names, the references that may stand in a text, and the values that an attribute may have."""
+    def __init__(self, rng, elements, attributes, targets, references=("&amp;",), values=("7",), sections=("a<b", " ")):
+        """The names, the references and the CDATA sections that a text may have, and the values of attributes."""
         self.rng, self.elements, self.attributes, self.targets = rng, elements, attributes, targets
-        self.references, self.values = references, values
+        self.references, self.values, self.sections = references, values, sections
 
     def piece(self, depth):
         rng, kind = self.rng, self.rng.randrange(10 if depth < 6 else 7)
@@ -138,7 +138,7 @@ class XmlText:
         if kind == 1:
             return f"<?{rng.choice(self.targets)} {rng.choice(['', 'x y'])}?>"
         if kind == 2:
-            return f"<![CDATA[{rng.choice(['', 'a<b', ' ', ']]'])}]]>"
+            return f"<![CDATA[{rng.choice(self.sections)}]]>"
         if kind == 3:
             return rng.choice(self.references)
         if kind < 7:

@@ -5,11 +5,11 @@ repository's root:
     python3 tools/compare/xmllint.py [--spinebriar PROGRAM] [--selectors N] [--seed N]
 
 N selectors, 600 without the option, all different, are made by chance over the files of tools/compare/xml and over
-random ones, none with namespaces or a DTD, which libxml2 takes for a node; a third is asked from another node than the
-root. Fewer than half of N over the stored files, or fewer than a quarter of those that select a node, are a failure.
-spinebriar prints a path from the root for each selected node; xmllint counts the nodes of the selector, of these
-paths, and of both together. The three numbers must be that of the lines printed, so both select the same nodes and
-each path is that of its node.
+random ones, none with namespaces, a DTD or an empty CDATA section, which libxml2 takes for nodes; a third is asked
+from another node than the root. Fewer than half of N over the stored files, or fewer than a quarter of those that
+select a node, are a failure. spinebriar prints a path from the root for each selected node; xmllint counts the nodes
+of the selector, of these paths, and of both together. The three numbers must be that of the lines printed, so both
+select the same nodes and each path is that of its node.
 
 Left out by rule are selectors in which a known defect of libxml2 2.9 may show:
 
