@@ -29,11 +29,12 @@ FORMS_WITH_CONDITIONS = [form for form in FORMS for _ in range(5 if form[0] == 8
 LOOSER_FORMS = [looser for form in FORMS for looser in looser_forms(form)]
 OTHER_KIND = {"union": "composition", "composition": "union", "and": "or", "or": "and"}
 ODD_LINES = [b"", b"fresh", b"document", b"document ", b"document" + b" 0" * MOST_NUMBERS,
-             b"document" + b" 0" * (MOST_NUMBERS + 1), b"select 0 0 0 1024", b"select 0 0 0 1025", b"select 0 0 4294967295 0",
-             b"select 0 0 4294967296 0", b"kind a b c", b"rule left right first second", b"term 65535 65536 0 0",
+             b"document" + b" 0" * (MOST_NUMBERS + 1), b"select 0 0 0 1024", b"select 0 0 0 1025",
+             b"select 0 0 4294967295 0", b"select 0 0 4294967296 0", b"kind a b c",
+             b"rule left right first second", b"term 65535 65536 0 0",
              b"step 1 0 0 0 0 0", b"Term 0 0 0 0", b"old", b"new", b"replace", b"old ", b"old 65536", b"point",
-             b"point 65536", b"point 1 1", b"return", b"return 65536", b"names", b"names ", b"names a  b", b"text", b"text ",
-             b"text a", b"text a[b or .]", b"texts a", b"names" + b" a" * 2000, b"other", b"other 0",
+             b"point 65536", b"point 1 1", b"return", b"return 65536", b"names", b"names ", b"names a  b",
+             b"text", b"text ", b"text a", b"text a[b or .]", b"texts a", b"names" + b" a" * 2000, b"other", b"other 0",
              b"order 0 0", b"order 0", b"order 65536 0", b"bundle-order", b"bundle-order 0", b"bundle",
              b"record", b"record 7 1 0", b"record 7 1 0 0", b"record 7 1 0 0 0", b"record 65536 1 0 0",
              b"record 7 1 0 65536", b"current", b"current 7", b"current 65536", b"current 7 7", b"release",
@@ -299,7 +300,8 @@ class Session:
             self.altered_step((rule, *map(self.hold, said), *numbers, 0, 0)[:5])
 
     def choose_axes_and_tests(self, rule, letters, wanted):
-        """For a rule with a condition, chooses axes and tests as wanted; for rule 10 so that rule 8 yields its first premise."""
+        """For a rule with a condition, chooses axes and tests as wanted; for rule 10 so that rule 8 yields its first
+        premise."""
         rng = self.rng
         while rule in CONDITIONED:
             letters.update({x: rng.randrange(len(AXES)) for x in "ab"}, **{x: self.test() for x in "NMT"})
@@ -364,7 +366,8 @@ class Session:
         used = self.names if self.names and rng.random() < 0.8 else WORDS
         used = [name for name in used if name in WORDS] or WORDS
         spelling = Spelling(rng, used, used, self.number, (" ", " ", "\t", "\r", "  "))
-        text, term = spelling.union(rng.choice([0, 1, 2, 2, 3])) if rng.random() < 0.93 else self.long_selector(spelling)
+        depths = [0, 1, 2, 2, 3]
+        text, term = spelling.union(rng.choice(depths)) if rng.random() < 0.93 else self.long_selector(spelling)
         text = spelling.w() + text + spelling.w()
         if rng.random() < 0.75:
             return self.call("text", [text], self.hold_all(term))
@@ -375,11 +378,12 @@ class Session:
             text = text[:place] + rng.choice(FOREIGN) + text[place:]
         else:
             cut = place + rng.choice([0, 1, 1, 2])
-            text = text[:place] + rng.choice([*"/|[]()@.*:'", "::", "//", "or", " ", "a"]) + text[cut:] + rng.choice(FOREIGN)
+            odd = rng.choice([*"/|[]()@.*:'", "::", "//", "or", " ", "a"])
+            text = text[:place] + odd + text[cut:] + rng.choice(FOREIGN)
         return self.call("text", [text], False)
 
     def long_selector(self, spelling):
-        """A chain of some 32 steps, or some 32 levels of `not`, groups and predicates; the term is None past 32 levels."""
+        """A chain of some 32 steps, or some 32 levels of `not`, groups and predicates; the term is None past 32."""
         rng = self.rng
         if rng.random() < 0.5:
             pairs = [spelling.step(0) for _ in range(rng.choice([30, 31, 32, 33, 34]))]
@@ -403,7 +407,8 @@ class Session:
         """Whether all rows of the term can be held; if so, holds them."""
         found = parts(term, {}) if term else {}
         book = self.book
-        if not found or found[term] > DEEPEST or any(x.kind == "step" and x.args[1][0] in NAMED and not x.args[1][1] for x in found):
+        unnamed = any(x.kind == "step" and x.args[1][0] in NAMED and not x.args[1][1] for x in found)
+        if not found or found[term] > DEEPEST or unnamed:
             return False
         if len(book.rows) + sum(x not in book.number_of_term for x in found) > MOST_ROWS:
             return False
@@ -421,7 +426,8 @@ class Session:
         numbers = document(rng, nodes)
         if rng.random() < damage:
             row = rng.randrange(len(numbers) // 3)
-            place, choices = rng.choice([(0, [*range(7), 5, 5, 5]), (1, range(row + 2)), (1, range(row + 2)), (2, range(2)), (2, EDGES)])
+            place, choices = rng.choice([(0, [*range(7), 5, 5, 5]), (1, range(row + 2)), (1, range(row + 2)),
+                                         (2, range(2)), (2, EDGES)])
             numbers[3 * row + place] = rng.choice(choices)
             if rng.random() < 0.3:
                 numbers = numbers[:rng.randrange(len(numbers) + 1)]
@@ -434,7 +440,8 @@ class Session:
         row = rng.choice(paths) if paths and rng.random() < 0.9 else rng.choice([rng.randrange(len(terms) + 2), *EDGES])
         context = rng.randrange(self.nodes) if self.nodes and rng.random() < 0.9 else rng.choice([self.nodes, *EDGES])
         marks = self.nodes + rng.choice([0, 0, 0, 1, 5, -1]) if rng.random() < 0.9 else rng.choice(EDGES)
-        limit = rng.choice([rng.randrange(10), rng.randrange(10), rng.randrange(100), rng.randrange(many_visits(self.nodes))])
+        limit = rng.choice([rng.randrange(10), rng.randrange(10), rng.randrange(100),
+                            rng.randrange(many_visits(self.nodes))])
         if row >= len(terms) or is_quick(terms[row], self.nodes):
             limit = rng.choice([limit, MOST_LIMIT, MOST_LIMIT - 1])
         self.call("select", (row, context, limit, min(max(marks, 0), MOST_MARKS)))
@@ -485,7 +492,7 @@ class Session:
         self.orders()
 
     def orders(self):
-        """Rows of the session set aside against rows of this one, mostly of terms that both hold, and the two bundles."""
+        """Rows of the session set aside against rows of this one, mostly of terms that both hold, and the bundles."""
         rng, left, right = self.rng, self.aside.number_of_term, self.book.number_of_term
         both = [term for term in left if term in right]
         for _ in range(rng.choice([1, 3, 8])):
@@ -560,7 +567,8 @@ class Session:
 
     def accepted(self):
         """For each line that replay prints, whether the call is accepted, where the book says so."""
-        return [accepted for word, _, accepted in self.calls if word not in ("document", "old", "new", "names", "other")]
+        silent = ("document", "old", "new", "names", "other")
+        return [accepted for word, _, accepted in self.calls if word not in silent]
 
     def bundle(self, refused=False):
         """The accepted term and step calls as a bundle, with one of the refused ones in its place if so asked."""
@@ -662,7 +670,8 @@ def damaged(rng, text):
             place = rng.randrange(len(lines))
             words = lines[place].split(b" ")
             if change == 4:
-                words[rng.randrange(len(words))] = rng.choice([b"65535", b"65536", b"00", b"01", b"", b"4294967296", b"0"])
+                odd = [b"65535", b"65536", b"00", b"01", b"", b"4294967296", b"0"]
+                words[rng.randrange(len(words))] = rng.choice(odd)
                 lines[place] = b" ".join(words)
             elif change == 5:
                 lines[place] = rng.choice([lines[place] + b" 0", b" ".join(words[:-1]), lines[place] + b" ", b""])

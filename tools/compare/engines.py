@@ -2,11 +2,11 @@
 """Makes the cases of the program engine_cases: selections on documents, with the answers of other XPath engines.
 
     python3 tools/compare/engines.py [--seed N]                  writes crates/engine_cases/stdin and stdout
-    python3 tools/compare/engines.py --compare N [--seed N]      holds tools/reference against the engines on N selections
+    python3 tools/compare/engines.py --compare N [--seed N]      holds tools/reference against the engines
     python3 tools/compare/engines.py --attributes N [--seed N]   holds it against Saxon on documents with attributes
 
-It needs Python 3, Debian's packages in NEEDED and, but for the first, cargo. It installs nothing, and names what is
-missing.
+N is how many selections. It needs Python 3, Debian's packages in NEEDED and, but for the first, cargo. It installs
+nothing, and names what is missing.
 
 An instruction without a recorded target, name 0, is `<?i d?>`, one of target n `<?en d?>`. For Saxon it is `<?tn d?>`,
 since its linked tree takes an instruction for an element of that name.
@@ -50,7 +50,8 @@ PRECEDING = AXES.index("preceding")
 LOG = [(0, 0, 0), (1, 0, 1), (1, 1, 2), (2, 2, 0), (1, 1, 3), (1, 1, 4), (1, 5, 2)]
 MARK, RUN = (0, 2), (0, 4)
 # Row 5 is the owner of attributes 6 and 7, row 8 its first child; rows 2 and 4 are attributes too.
-SERIAL = [(0, 0, 0), (1, 0, 1), (5, 1, 2), (1, 1, 1), (5, 3, 3), (1, 1, 2), (5, 5, 2), (5, 5, 3), (2, 5, 0), (1, 5, 1), (3, 1, 0)]
+SERIAL = [(0, 0, 0), (1, 0, 1), (5, 1, 2), (1, 1, 1), (5, 3, 3), (1, 1, 2), (5, 5, 2), (5, 5, 3), (2, 5, 0), (1, 5, 1),
+          (3, 1, 0)]
 
 # Targets 1, 2 and 65535, instructions without one (rows 1 and 9), an element named as target 1 is.
 PLOTTER = [(0, 0, 0), (4, 0, 0), (4, 0, 1), (1, 0, 1), (4, 3, 2), (2, 3, 0), (4, 3, 1), (1, 3, 2), (4, 7, 1), (4, 7, 0),
@@ -146,7 +147,7 @@ def parts(term):
 
 
 def libxml2_errs(question):
-    """Whether libxml2's defect may show: the axis preceding, a first child with children, and a node after all of these."""
+    """Whether libxml2's defect may show: the axis preceding, a first child with children, and a node after these."""
     rows = question.document
     may_miss = len(rows) > 2 and rows[2][1] == 1 and any(parent == 0 for _, parent, _ in rows[2:])
     return may_miss and any(x.kind == "step" and x.args[0] == PRECEDING for x in parts(question.term))
@@ -200,7 +201,7 @@ def agree(name, answered):
 # Cases
 
 def shapes(rng):
-    """Functions that make a random path each: a step, each kind of term, and pairs of kinds, in turn and without end."""
+    """Functions that make a random path each: a step, each kind of term, and pairs of kinds, without end."""
     session = Session(rng)
 
     def p():
@@ -313,7 +314,8 @@ def report(text, selected, questions):
         kinds.update({x.kind for x in found})
         axes.update({AXES[x.args[0]] for x in found if x.kind == "step"})
         tests.update({x.args[1][0] for x in found if x.kind == "step"})
-    print(f"{text.count('document')} documents, {len(questions)} selections, {selected.count('')} select nothing, {len(text)} bytes")
+    print(f"{text.count('document')} documents, {len(questions)} selections, {selected.count('')} select nothing, "
+          f"{len(text)} bytes")
     for name, counter in (("axes", axes), ("tests", tests), ("kinds", kinds)):
         print(f"  selections with {name}: " + ", ".join(f"{key} {counter[key]}" for key in sorted(counter, key=str)))
 

@@ -77,8 +77,9 @@ def expected_claim(reference, bundle, old, new):
     if number:
         return number, line, 1
     rows, steps = bundle_lines(bundle)
-    calls = [" ".join(map(str, ["term", *row])) for row in rows] + [" ".join(map(str, ["step", *step])) for step in steps]
-    told = replayed(reference, [*calls, "names " + " ".join(LIST), "text " + old, "text " + new])
+    calls = [["term", *row] for row in rows] + [["step", *step] for step in steps]
+    lines = [" ".join(map(str, call)) for call in calls]
+    told = replayed(reference, [*lines, "names " + " ".join(LIST), "text " + old, "text " + new])
     (number, left), (other, right) = (numbers_of(line) for line in told[-2:])
     if number:
         return number, left, 2

@@ -22,7 +22,8 @@ from pathlib import Path
 import cases
 import rules
 from programs import compare
-from rules import (AXIS_LETTERS, FORMS, PATH_LETTERS, QUALIFIER_LETTERS, TEST_LETTERS, Term, letter_of, looser_forms, part_at,
+from rules import (AXIS_LETTERS, FORMS, PATH_LETTERS, QUALIFIER_LETTERS, TEST_LETTERS, Term, letter_of, looser_forms,
+                   part_at,
                    positions, replaced)
 from shared import TREE, build, options
 
@@ -69,7 +70,8 @@ EDITS = [
     ("document.rs", "before[parent].kind == 1 && before", "before"),
     ("document.rs", "node.kind == 5 && node.parent == parent)", "node.kind != 2)"),
     ("document.rs", "x == y || !is_attribute(y)", "!is_attribute(y)"),
-    ("document.rs", "| Axis::Following | Axis::Preceding => !is_attribute(y)", "| Axis::Following | Axis::Preceding => !is_attribute(x)"),
+    ("document.rs", "| Axis::Following | Axis::Preceding => !is_attribute(y)",
+     "| Axis::Following | Axis::Preceding => !is_attribute(x)"),
     ("document.rs", "!is_attribute(x) && !is_attribute(y)", "!is_attribute(y)"),
     ("document.rs", "if axis == Axis::Attribute { 5 } else { 1 }", "if axis == Axis::Attribute { 1 } else { 1 }"),
     ("document.rs", "y != 0 && d[y].parent == x", "d[y].parent == x"),
@@ -79,9 +81,11 @@ EDITS = [
     ("document.rs", "Test::AnyElement => node.kind == principal", "Test::AnyElement => node.kind <= principal"),
     ("document.rs", "node.kind == principal && node.name == name", "node.name == name && name != 65535"),
     ("selection.rs", "nodes = BTreeSet::from([0])", "nodes = BTreeSet::from_iter((x != 0).then_some(0))"),
-    ("selection.rs", "let (holds, cost) = self.qualifier(f, y);\n                    visits = visits.saturating_add(cost);",
+    ("selection.rs",
+     "let (holds, cost) = self.qualifier(f, y);\n                    visits = visits.saturating_add(cost);",
      "let (holds, _) = self.qualifier(f, y);"),
-    ("selection.rs", "(left || right, cost.saturating_add(more))", "(left || right, if left { cost } else { cost + more })"),
+    ("selection.rs", "(left || right, cost.saturating_add(more))",
+     "(left || right, if left { cost } else { cost + more })"),
     ("selection.rs", "(left.is_subset(&right), cost.saturating_add(more))", "(left.is_subset(&right), cost)"),
     ("selection.rs", "left.is_subset(&right)", "left == right"),
     ("rules.rs", "(Child, Descendant | DescendantOrSelf)", "(Child, Descendant)"),
@@ -199,7 +203,8 @@ def missed_conditions(asked):
         *((rule, {(x["T"][0], x["N"][0]) for x in letters_of(rule)}, set(itertools.product(range(7), repeat=2)))
           for rule in (22, 23)),
     ]
-    return sum(len(every) for _, _, every in decided), [(rule, x) for rule, found, every in decided for x in every - found]
+    missed = [(rule, x) for rule, found, every in decided for x in every - found]
+    return sum(len(every) for _, _, every in decided), missed
 
 
 def show(part):

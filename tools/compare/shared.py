@@ -79,7 +79,7 @@ def save(name, text):
 # Documents
 
 def document(rng, nodes, deep, name_of, attributes_of, attributes, kinds, before, after=lambda: ()):
-    """The rows of a document that XML can say: one element under the root, no text beside it, no two texts side by side.
+    """The rows of a document that XML can say: one element under the root, no text beside it, no two texts in a row.
 
     `name_of` gives a node of a kind its name, `attributes_of` an element the names that it may have, of which it has a
     further one with probability `attributes`; `before` and `after` give the kinds of the nodes beside the element. Each

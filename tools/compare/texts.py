@@ -1,6 +1,6 @@
 #!/usr/bin/env python3
-"""Makes the cases of the program text_cases: selectors as text, with the answers of other XPath engines to the same text,
-and texts that are refused, with their places.
+"""Makes the cases of the program text_cases: selectors as text, with the answers of other XPath engines to the same
+text, and texts that are refused, with their places.
 
     python3 tools/compare/texts.py [--seed N]               writes crates/text_cases/stdin and stdout
     python3 tools/compare/texts.py --compare N [--seed N]   holds tools/reference against the engines on N selectors
@@ -123,7 +123,8 @@ def refused_texts(directory):
     """The refused texts with their places, after the engines are seen to take them as refused.py says."""
     taken = [text for texts in LEFT_OUT.values() for text in texts]
     plain = [text.replace("¦", "") for text in taken]
-    no = [text for text, told in zip(plain, printed_lines(JAXEN_COMMAND, ["parses " + text for text in plain])) if told != "yes"]
+    told = printed_lines(JAXEN_COMMAND, ["parses " + text for text in plain])
+    no = [text for text, answer in zip(plain, told) if answer != "yes"]
     if no:
         sys.exit(f"Jaxen doesn't take for XPath 1.0: {no}")
     others = [text.replace("¦", "") for text in NO_XPATH]
@@ -132,8 +133,8 @@ def refused_texts(directory):
     both = [text for text, x, y in zip(others, jaxen, parsed) if x == y == "yes"]
     if both:
         sys.exit(f"Jaxen and libxml2 take for XPath 1.0: {both}")
-    print(f"Jaxen takes {len(plain)} texts that the grammar leaves out for XPath 1.0; of {len(others)} others it refuses "
-          f"{jaxen.count('no')} and libxml2 {parsed.count('no')}, each at least one of them")
+    print(f"Jaxen takes {len(plain)} texts that the grammar leaves out for XPath 1.0; of {len(others)} others it "
+          f"refuses {jaxen.count('no')} and libxml2 {parsed.count('no')}, each at least one of them")
     return taken + NO_XPATH + ONE_TOKEN + TOO_FAR
 
 
@@ -172,8 +173,8 @@ def make(seed, directory):
     crate = TREE / "crates/text_cases"
     (crate / "stdin").write_bytes(text)
     (crate / "stdout").write_text("".join(line + "\n" for line in printed))
-    print(f"{selections} selectors on {DOCUMENTS + ATTRIBUTED} documents, {nothing} select nothing; {len(refused)} refused "
-          f"texts; {len(text)} bytes")
+    print(f"{selections} selectors on {DOCUMENTS + ATTRIBUTED} documents, {nothing} select nothing; {len(refused)} "
+          f"refused texts; {len(text)} bytes")
 
 
 def compare(seed, count):
@@ -187,9 +188,11 @@ def compare(seed, count):
         printed = output([reference, "replay"], "".join(line + "\n" for line in lines).encode()).decode().splitlines()
         for (question, answer), told, line in zip(pairs, printed[::2], printed[1::2]):
             if told[:2] != "0 " or line[:2] != "0 " or " ".join(line.split(" ")[2:]) != answer:
-                sys.exit(f"the reference gives {told}, {line}, the engine {answer}, to {question[0]!r} from {question[2]} of {xml(rows)}")
+                sys.exit(f"the reference gives {told}, {line}, the engine {answer}, to {question[0]!r} "
+                         f"from {question[2]} of {xml(rows)}")
         total += len(pairs)
-    print(f"seed {seed}: the reference gives the engines' answer to each of {total} selectors on {len(groups)} documents")
+    print(f"seed {seed}: the reference gives the engines' answer to each of {total} selectors on {len(groups)} "
+          f"documents")
 
 
 def main():
