@@ -1,30 +1,34 @@
 #!/usr/bin/env python3
-"""Holds the tables of docs/FORMAT.md against the specifications, and host/ against both. Run it at the repository's
-root:
+"""Holds the tables of docs/FORMAT.md and of docs/SPECIFICATION.md against the specifications, and host/ against these.
+Run it at the repository's root:
 
     python3 tools/format_check.py
-    python3 tools/format_check.py --selftest    changes each compared cell of a table, one at a time, and entries of
-                                                host/ and of the header, and sees that it is found
+    python3 tools/format_check.py --selftest
 
-It needs Python 3 and installs nothing.
+The second changes, one at a time, each compared cell of docs/FORMAT.md, entries of host/ and of the header, and the
+numbers of docs/SPECIFICATION.md's tables, and fails if a change goes unseen. It needs Python 3 and installs nothing.
 
 Compared: kinds of rows (common RowKinds, terms Fields), axes, tests, kinds of nodes (common), the axis order (rules
 Order), opposite axes (rules WayBack), the rules form by form (rules RuleTable, read by tools/rule_table.py),
-refusals (common Refusals), limits, and that host/rules.c, host/terms.c, host/bundle.h, host/document.h and
-include/spinebriar.h say the same. Not compared: the page's sentences, the columns `written` of kinds, `selects`, `its
-name` and `when`, the test order, the table of selectors and rule 59's way back but for its axes.
+refusals (common Refusals), limits, of docs/SPECIFICATION.md the kinds, the numbers of refusals, their orders (the
+definitions of the calls' answers), the limits and the log cases (xpath LogCases), while its rule table is
+tools/rule_table.py's, and that host/rules.c, host/terms.c, host/bundle.h, host/document.h and
+include/spinebriar.h say the same. Not compared: the pages' sentences, the columns `written` of kinds, `selects`, `its
+name`, `when` and `value`, the test order, the tables of selectors and of calls, and rule 59's way back but for its
+axes.
 """
 import contextlib, io, re, sys
 
 import rule_table
 
-PAGE = 'docs/FORMAT.md'
+PAGE, NORMATIVE = 'docs/FORMAT.md', 'docs/SPECIFICATION.md'
+# texts that stand for those of files
+changed = {}
 problems = []
-changed = {}  # the selftest's texts of files
 
 
 def text_of(path):
-    return changed.get(path) or open(path, encoding='utf-8').read()
+    return changed[path] if path in changed else open(path, encoding='utf-8').read()
 
 
 def same(what, page, specification):
@@ -35,19 +39,27 @@ def same(what, page, specification):
     print('%s: DIFFERENT\n  %s\n  %s' % (what, page, specification))
 
 
-def table(first):
-    """The rows of the page's table whose heading begins with these words."""
-    lines = text_of(PAGE).split('\n')
-    at = [i for i, line in enumerate(lines) if line.startswith('| %s |' % first)]
-    if len(at) != 1:
-        raise SystemExit('%s: %d tables %r' % (PAGE, len(at), first))
-    rows = []
-    for line in lines[at[0] + 2:]:
-        if not line.startswith('|'):
-            break
-        cells = re.split(r'(?<!\\)\|', line)[1:-1]
-        rows.append([cell.strip().replace('\\|', '|') for cell in cells])
-    return rows
+def tables(page, first):
+    """The rows of each table of a page whose heading begins with these words."""
+    lines = text_of(page).split('\n')
+    found = []
+    for at in [i for i, line in enumerate(lines) if line.startswith('| %s' % first)]:
+        rows = []
+        for line in lines[at + 2:]:
+            if not line.startswith('|'):
+                break
+            cells = re.split(r'(?<!\\)\|', line)[1:-1]
+            rows.append([cell.strip().replace('\\|', '|') for cell in cells])
+        found.append(rows)
+    return found
+
+
+def table(first, page=PAGE):
+    """The rows of the page's one table of these words."""
+    found = tables(page, first + ' |')
+    if len(found) != 1:
+        raise SystemExit('%s: %d tables %r' % (page, len(found), first))
+    return found[0]
 
 
 def numbered(crate, file, ending=''):
@@ -104,14 +116,21 @@ def nodes():
     same('host/document.h: kinds of nodes', words, [name for _, name in page])
 
 
-# the phrase of the page beside those of the specification
-STAR = ' if N is a name or *'
+# the phrases of the page that are side conditions
+PHRASES = [(' if a is below b, N below M', ['a_below_b', 'N_below_M']), (', b from 3 to 10,', ['b_from_3_to_10']),
+           (" if N is below M, N isn't node() and a isn't 11", ['N_below_M', 'N_not_node', 'a_not_attribute']),
+           (' if N is a name or *', ['N_a_name_or_star']), (" if a isn't 11", ['a_not_attribute'])]
 
 
-def forms_of(rule, form):
-    if form.endswith(STAR):
-        return [(n, c, ps, ['N_a_name_or_star']) for n, c, ps, _ in rule_table.forms_of(rule, form[:-len(STAR)], None)]
-    return rule_table.forms_of(rule, form, None)
+def forms_of(rule, text):
+    """The forms of a rule's text."""
+    conditions = []
+    for phrase, names in PHRASES:
+        if phrase in text:
+            text, conditions = text.replace(phrase, ''), names
+    concluded, _, premises = text.partition(' from ')
+    premises = [rule_table.claim(x) for x in premises.split(',')] if premises else []
+    return [(rule, c, premises, conditions) for c in rule_table.conclusions(concluded)]
 
 
 def rules():
@@ -150,7 +169,95 @@ def limits():
     same('include/spinebriar.h: limits', header, [specified[i] for i in (0, 1, 3, 4, 5, 6)])
 
 
-PARTS = kinds, axes_and_tests, nodes, rules, refusals, limits
+# the limits of docs/SPECIFICATION.md, in its order: the row of a table, and the constant of the specifications
+LIMITS = [('rows held', 'terms/specs/Row', 'max_rows'), ('nesting of a row', 'terms/specs/Nesting', 'max_nesting'),
+          ('rows', 'xpath/specs/Document', 'max_nodes'), ('steps held', 'calls/specs/Book', 'max_steps'),
+          ('levels of an expression', 'grammar/specs/Grammar', 'max_levels'),
+          ('number of a name', 'common/specs/Limits', 'max_number'), ('points held', 'calls/specs/Book', 'max_points'),
+          ('name of a point', 'common/specs/Limits', 'max_number'),
+          ('records held', 'records/specs/Records', 'max_records'),
+          ('old rows', 'replacing/specs/ReplaceCall', 'max_list'),
+          ('new rows', 'replacing/specs/ReplaceCall', 'max_list'),
+          ('file names', 'tallies/specs/NameList', 'max_files'),
+          ('bytes of a file', 'common/specs/Limits', 'max_bytes'),
+          ('bytes', 'common/specs/Limits', 'max_bytes')]
+
+
+# where a call's refusals are tried in turn: the call, the file, the definition
+ORDERS = [('term', 'calls/specs/TermCall', 'term_answer'), ('step', 'calls/specs/StepCall', 'step_answer_by'),
+          ('text', 'grammar/specs/Answer', 'data Answers'), ('select', 'calls/specs/SelectCall', 'select_answer'),
+          ('write', 'session/specs/WriteCall', 'write_answer'), ('point', 'calls/specs/PointCall', 'point_answer'),
+          ('return', 'calls/specs/PointCall', 'return_answer'), ('record', 'records/specs/Records', 'record_answer'),
+          ('release', 'records/specs/Releases', 'release_answer'),
+          ('replace', 'replacing/specs/ReplaceCall', 'replace_answer'),
+          ('order', 'ordering/specs/OrderCall', 'order_answer')]
+
+
+# refusals whose definitions have no order: of a line, of a list of files, and of a return that a register bars
+OTHER_REFUSALS = [(10, 'read'), (17, 'program tally'), (24, 'return')]
+
+
+def order_of(file, definition):
+    """The numbers of the refusals of a definition, in the order in which it has them."""
+    numbers = {name.replace('-', '_'): n for n, name in numbered('common', 'Refusals')}
+    body = text_of('crates/%s.antt' % file).split('pub %s ' % definition, 1)[1].split('\n\n')[0]
+    found = [numbers[word] for word in re.findall(r'\w+', body) if word in numbers]
+    # what a document is refused with stands last: it is the case of an Option that has a value
+    return sorted(dict.fromkeys(found), key=lambda n: n != 8)
+
+
+def log_case(text):
+    """A path of LogCases.antt as the page writes it."""
+    text = re.sub(r'\((\w+) :: (\w+)\)', r'\1::\2', text)
+    text = re.sub(r'\((\w+) ::node\)', r'\1::node()', text)
+    text = re.sub(r'\(some_of (\S+?)\)', r'[some \1]', text).replace('Root', 'R')
+    text = re.sub(r'\(Composition (\S+) (\S+)\)', r'\1/\2', text)
+    return re.sub(r'\(Filter (\S+) (\[.*\])\)', r'\1\2', text).replace('_', '-')
+
+
+def log_cases():
+    text = text_of('crates/xpath/specs/values/LogCases.antt').split('AllRight\n')[1].split('unfolding')[0]
+    cases = []
+    for path, node, found in re.findall(r'nodes log_document (\S+|\(.*\)) (\d+) is (.*)', text):
+        listed = re.findall(r'\d+', found)
+        cases.append([log_case(path), node, ', '.join(listed) or 'none', ''])
+    for path, node, count in re.findall(r'visits log_document (\(.*\)) (\d+) ∷ \[\]\) is \((\d+)', text):
+        for case in cases:
+            if case[:2] == [log_case(path), node]:
+                case[3] = count
+    return cases
+
+
+def normative():
+    orders = [(row[0], [int(n) for n in row[1].split(', ')]) for row in table('call | order', NORMATIVE)]
+    wanted = [(call, order_of(file, definition)) for call, file, definition in ORDERS]
+    # a register bars a return that its session would accept
+    wanted += [('return, on a register', dict(wanted)['return'] + [24])]
+    same(NORMATIVE + ': orders of refusals', sorted(orders), sorted(wanted))
+    cases = [[row[0].strip('`')] + row[1:] for row in table('selector | from', NORMATIVE)]
+    same(NORMATIVE + ': log cases', cases, log_cases())
+    rows = table('kind | sort', NORMATIVE)
+    wanted = re.findall(r'(no_fields|fields (\w+) (\w+) (\w+))  -- (\d+) \w+',
+                        text_of('crates/terms/specs/Fields.antt'))
+    same(NORMATIVE + ': fields', [[row[0]] + [cell or 'unused' for cell in row[3:6]] for row in rows],
+         [[number] + (['unused'] * 3 if whole == 'no_fields' else [a, b, c]) for whole, a, b, c, number in wanted])
+    last_path = constant('crates/common/specs/RowKinds.antt', 'filter_row')
+    same(NORMATIVE + ': sorts', [row[1] == 'path' for row in rows], [int(row[0]) <= last_path for row in rows])
+    same(NORMATIVE + ': kinds of nodes', [(int(row[0]), row[1].split()[-1]) for row in table('kind | node', NORMATIVE)],
+         numbered('common', 'NodeKinds', '-kind'))
+    rows = [row for rows in tables(NORMATIVE, 'number | call') for row in rows]
+    pairs = [(int(row[0]), call) for row in rows for call in row[1].replace(', on a register', '').split(', ')]
+    same(NORMATIVE + ': refusals', sorted(pairs), sorted(
+        [(n, call) for call, file, definition in ORDERS for n in order_of(file, definition)] + OTHER_REFUSALS))
+    limits = [(row[0], int(row[-1])) for rows in tables(NORMATIVE, 'limit') for row in rows]
+    specified = [(what, constant('crates/%s.antt' % path, name)) for what, path, name in LIMITS]
+    same(NORMATIVE + ': limits', limits, specified)
+
+
+# the headings of the page's tables that are compared
+COMPARED = ['kind | sort', 'kind | node', 'number | call', 'call | order', 'limit', 'selector | from']
+
+
 # The page's tables by the words that their headings begin with, and the columns that are compared.
 TABLES = [('kind | name | a', (0, 1, 2, 3, 4)), ('axis | name', (0, 1)), ('test | name', (0, 1)),
           ('kind | name | its name', (0, 1)), ('rule | yields', (0, 1)), ('axis | is below', (0, 1)),
@@ -173,8 +280,8 @@ def wrong_cell(cell):
     return cell[:letter.start()] + NEXT[letter.group()] + cell[letter.end():] if letter else cell + 'x'
 
 
-def wrong_pages():
-    """The page with one compared cell changed, and what was changed."""
+def wrong_cells():
+    """docs/FORMAT.md with one compared cell changed, and what was changed."""
     lines = text_of(PAGE).split('\n')
     for first, columns in TABLES:
         at = next(i for i, line in enumerate(lines) if line.startswith('| %s |' % first)) + 2
@@ -183,8 +290,36 @@ def wrong_pages():
             for column in columns:
                 wrong = list(cells)
                 wrong[column + 1] = ' %s ' % wrong_cell(cells[column + 1].strip())
-                yield '\n'.join(lines[:at] + ['|'.join(wrong)] + lines[at + 1:]), lines[at], column
+                changed_line = '|'.join(wrong)
+                yield PAGE, '\n'.join(lines[:at] + [changed_line] + lines[at + 1:]), changed_line
             at += 1
+
+
+def wrong_numbers():
+    """docs/SPECIFICATION.md with another number in a row that is compared, and what was changed."""
+    text = text_of(NORMATIVE)
+    lines, within = text.split('\n'), False
+    for i, line in enumerate(lines):
+        if not line.startswith('|'):
+            within = False
+        elif lines[i + 1].startswith('|---'):
+            within = re.match(r'\| (%s)' % '|'.join(map(re.escape, COMPARED)), line)
+        elif within and not line.startswith('|---'):
+            last = line.index(' |', 3) if within.group(1) in COMPARED[1:3] else len(line)
+            for match in re.finditer(r'\b\d+\b', line[:last]):
+                if within.group(1) == 'limit' and '| ' in line[match.end() + 1:]:
+                    continue
+                wrong = line[:match.start()] + str(int(match.group()) + 1) + line[match.end():]
+                yield NORMATIVE, text.replace(line, wrong), '%s in %s' % (match.group(), line)
+
+
+def wrong_entries():
+    for path, right, wrong in ENTRIES:
+        assert right in text_of(path), (path, right)
+        yield path, text_of(path).replace(right, wrong, 1), wrong
+
+
+PARTS = kinds, axes_and_tests, nodes, rules, refusals, limits, normative
 
 
 def is_found(path, text):
@@ -195,7 +330,7 @@ def is_found(path, text):
         with contextlib.redirect_stdout(io.StringIO()):
             for part in PARTS:
                 part()
-    except (Exception, SystemExit):
+    except (rule_table.Wrong, KeyError, IndexError, ValueError, AttributeError, SystemExit):
         return True
     finally:
         del changed[path]
@@ -203,19 +338,14 @@ def is_found(path, text):
 
 
 def selftest():
-    if is_found(PAGE, text_of(PAGE)):
-        sys.exit('the page is wrong as it stands')
-    tried, missed = 0, []
-    for text, line, column in wrong_pages():
+    if any(is_found(path, text_of(path)) for path in (PAGE, NORMATIVE)):
+        sys.exit('the pages are wrong as they stand')
+    tried, unseen = 0, []
+    for path, text, what in [*wrong_cells(), *wrong_entries(), *wrong_numbers()]:
         tried += 1
-        if not is_found(PAGE, text):
-            missed.append('%s: column %d of %s' % (PAGE, column + 1, line))
-    for path, right, wrong in ENTRIES:
-        tried += 1
-        if right not in text_of(path) or not is_found(path, text_of(path).replace(right, wrong, 1)):
-            missed.append('%s: %s' % (path, right))
-    print('\n'.join(missed + ['%d wrong entries, %d not found' % (tried, len(missed))]))
-    sys.exit(1 if missed else 0)
+        unseen += [] if is_found(path, text) else ['%s: %s' % (path, what)]
+    print('%d changes, %d seen' % (tried, tried - len(unseen)), *unseen, sep='\n  ')
+    sys.exit(1 if unseen else 0)
 
 
 def main():

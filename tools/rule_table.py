@@ -1,32 +1,39 @@
 #!/usr/bin/env python3
-"""Holds the rule table of crates `rules` and `matching` against the text of documents 01 and 02. Run it at the
+"""Holds the rule table of docs/SPECIFICATION.md, crate `rules` and crate `matching` against each other. Run it at the
 repository's root:
 
-    tools/rule_table.py ../shared/01-scope.md ../shared/02-change-requests.md
-    tools/rule_table.py --constants > crates/matching/src/tables.rt
+    python3 tools/rule_table.py
+    python3 tools/rule_table.py --selftest
+    python3 tools/rule_table.py --constants > crates/matching/src/tables.rt
 
-The second writes the code's constants from the specification; `rt fmt` in crates/matching lays them out.
 The first reads three things apart from each other, each with a grammar of its own, and compares them form by form, in
 order:
-  1. the sentences of 01 under "Rules", with 01's binding: a filter, `/`, `|`; `not`, `and`, `or`; a rule that a request of 02 changes is
-     read from CHANGES instead, a list of requests, each with the words of 02 that say so, which must stand in its text;
+  1. the section Rules of docs/SPECIFICATION.md, a row a form, with that page's binding: a filter, `/`, `|`; `not`,
+     `and`, `or`;
   2. crates/rules/specs/RuleTable.antt, with the fixities that specs/Form.antt and specs/Notation.antt declare;
   3. the forms of crates/matching/src/tables.rt, by the names of its constants.
-It compares the axis order in the same way: 01's sentence, specs/Order.antt, AXIS_PAIRS. Rule 59 is no pattern and none
-of the table's: of it the request's words are looked for, and the axes that have an opposite one are compared: 02's
-sentence, specs/WayBack.antt, OPPOSITES of crates/matching/src/way_back.rt.
+It compares in the same way the numbers of axes and tests (crate common), the order of axes and that of tests
+(Order.antt; AXIS_PAIRS, order.rt), and of rule 59, which is no pattern, its number, what it says, and the axes that
+have an opposite one (Yields.antt, WayBack.antt; way_back.rt).
 
-Read off 01's text: each rule's number, its conclusion, its premises in order, both directions of `=`, "the same from", and that
-`some p` and `.` stand for terms. Written out here by hand, so that a reader has to look at it: rule 3 for `=>`, rules 22 and 23 (the
-two cases of T), rules 53 and 55 ("so for .."), which phrase is which side condition, which axis is the opposite of
-which, the numbers of axes, tests, kinds and letters. Not covered: the way back but for its axes (specs/WayBack.antt),
-what the words of Notation.antt, the side conditions and the orders mean (specs/Instance.antt, specs/Order.antt: read
-these), and the test order.
+The second changes copies of the page, of the specifications and of the code in one place at a time, each letter, sign,
+axis, test, premise and condition of the page's table among them, and fails if one of these goes unseen. The third
+writes the code's constants from the specification; `rt fmt` in crates/matching lays them out.
+
+Written out here by hand, so that a reader has to look at it: which phrase is which side condition, and the numbers of
+kinds and letters. Not covered: the way back but for its axes and for what rule 59 says of it (the page's table is held
+against the words below, WayBack.antt is to be read), and what the words of Notation.antt and the side conditions mean
+(specs/Instance.antt).
 """
-import re, sys
+import functools, re, sys
 
-AXES = ['self', 'child', 'parent', 'descendant', 'ancestor', 'descendant-or-self', 'ancestor-or-self', 'following-sibling',
-        'preceding-sibling', 'following', 'preceding']  # 01's
+PAGE = 'docs/SPECIFICATION.md'
+RULES = 'crates/rules/specs'
+COMMON = 'crates/common/specs'
+TABLES, ORDER, WAY_BACK = ['crates/matching/src/%s.rt' % name for name in ('tables', 'order', 'way_back')]
+
+AXES = ['self', 'child', 'parent', 'descendant', 'ancestor', 'descendant-or-self', 'ancestor-or-self',
+        'following-sibling', 'preceding-sibling', 'following', 'preceding', 'attribute']
 TESTS = {'*': 1, 'node()': 2, 'star_test': 1, 'node_test': 2}
 KINDS = ['void', 'root', 'step', 'union', 'composition', 'filter', 'true', 'false', 'not', 'and', 'or', 'in']
 LETTERS = ['p', 'q', 'r', 's', 'f', 'g', 'h', 'a', 'b', 'N', 'name of N', 'M', 'name of M']
@@ -38,13 +45,28 @@ CODE_CONDITIONS = ['ABelowB', 'NBelowM', 'BFrom3To10', 'NNameOrStar', 'NNotNode'
 CODE_KINDS = dict(zip(['Void', 'Root', 'Step', 'Union', 'Composition', 'Filter', 'True', 'False', 'Not', 'And', 'Or',
                        'Inclusion'], KINDS))
 CODE_TESTS = {'STAR': 1, 'NODE': 2}
+# the last rule of the table, and rule 59, which is none of the table's
+TABLE_RULES, WAY_BACK_RULE = 58, 59
+# the last rules of the parts in which the code has the table
+PARTS = [24, 41, TABLE_RULES]
+
+# texts that stand for those of files
+CHANGED = {}
+
+
+class Wrong(Exception):
+    """What is not as it must be, and where."""
+
+
+def text_of(path):
+    return CHANGED[path] if path in CHANGED else open(path, encoding='utf-8').read()
 
 
 def some(path):
     return ('not', ('in', path, ('void',)))
 
 
-# 1. Document 01.
+# 1. The page.
 
 WORD = re.compile(r'\s*(node\(\)|<=|=>|::|[()\[\]|/.*=]|[A-Za-z][A-Za-z-]*)')
 
@@ -55,14 +77,14 @@ def words(text):
     while at < len(text):
         match = WORD.match(text, at)
         if not match:
-            raise SystemExit('01: cannot read %r' % text[at:])
+            raise Wrong('cannot read %r' % text[at:])
         found.append(match.group(1))
         at = match.end()
     return found
 
 
 class Sentence:
-    """An expression of 01, read by its words."""
+    """An expression of the page, read by its words."""
 
     def __init__(self, text):
         self.words, self.at = words(text), 0
@@ -73,7 +95,7 @@ class Sentence:
     def take(self, word=None):
         found = self.next()
         if found is None or word not in (None, found):
-            raise SystemExit('01: expected %r at word %d of %r' % (word, self.at, self.words))
+            raise Wrong('expected %r at word %d of %r' % (word, self.at, self.words))
         self.at += 1
         return found
 
@@ -130,9 +152,11 @@ class Sentence:
         if self.next() == '::':
             self.take()
             test = self.take()
+            if word not in AXES + ['a', 'b'] or test not in ('*', 'node()', 'N', 'M'):
+                raise Wrong('no step: %s::%s' % (word, test))
             return ('step', AXES.index(word) if word in AXES else word, TESTS.get(test, test))
-        if word not in LETTERS[:7]:
-            raise SystemExit('01: %r is no letter' % word)
+        if word not in LETTERS[:7] + ['w']:
+            raise Wrong('%r is no letter' % word)
         return ('letter', word)
 
 
@@ -140,135 +164,143 @@ def expression(text):
     sentence = Sentence(text)
     found = sentence.disjunction()
     if sentence.next() is not None:
-        raise SystemExit('01: words left in %r' % text)
+        raise Wrong('words left in %r' % text)
     return found
 
 
-def claim(text):
-    sign = '<=' if '<=' in text else '=>'
-    left, right = text.split(sign)
-    return (sign, expression(left), expression(right))
-
-
 def is_path(term):
-    return term[0] in KINDS[:6] or term[0] == 'letter' and term[1] in 'pqrs'
+    return term[0] in KINDS[:6] or term[0] == 'letter' and term[1] in 'pqrsw'
 
 
-# the phrases that are side conditions
-PHRASES = [(' if a is below b, N below M', ['a_below_b', 'N_below_M']), (', b from 3 to 10,', ['b_from_3_to_10']),
-           (" if N is below M, N isn't node() and a isn't 11", ['N_below_M', 'N_not_node', 'a_not_attribute']),
-           (" if N is below M and N isn't node()", ['N_below_M', 'N_not_node']), (" if a isn't 11", ['a_not_attribute'])]
-
-# the sentences that refer to others, written out
-WRITTEN_OUT = {
-    3: ['p <= r from p <= q, q <= r', 'f => h from f => g, g => h'],
-    53: ['ancestor-or-self::N = ancestor::N|self::N'],
-    55: ['preceding::N = (ancestor-or-self::node()/preceding-sibling::node())/descendant-or-self::N'],
-}
-# what the requests of 02 change: the request, its words, the sentences of each rule from then on, and the axes that it adds, each below itself only
-CHANGES = [
-    ('T-01', ['From now on that premise may end in `*` or in `node()`.'], {
-        10: ['p/a::N <= r/b::M, b from 3 to 10, from a::N <= b::M, p <= r/b::*',
-             'p/a::N <= r/b::M, b from 3 to 10, from a::N <= b::M, p <= r/b::node()'],
-    }, []),
-    ('T-05', ['Paths gain axis 11, attribute, below itself only;', 'Rule 50 is withdrawn and answers 7.',
-              'Rule 54 stays only with following::N on the right of `<=`.', "Rules 26 and 58 don't take axis 11."], {
-        26: ["p/a::N <= R/descendant::M if N is below M, N isn't node() and a isn't 11"],
-        50: [],
-        54: ['(ancestor-or-self::node()/following-sibling::node())/descendant-or-self::N <= following::N'],
-        58: ["a::node()/self::N = a::N if a isn't 11"],
-    }, ['attribute']),
-]
-AXES += [axis for _, _, _, axes in CHANGES for axis in axes]
-# the last rule of the table, and rule 59, which is none of the table's, with its request's words
-TABLE_RULES, WAY_BACK_RULE = 58, 59
-# the last rules of the parts in which the code has the table
-PARTS = [24, 41, TABLE_RULES]
-WAY_BACK = ('T-07', ["Rule 59: r <= r[some w], w being r's way back; other paths get 7.",
-                     'For a::N it is self::N, then the opposite axis with node().',
-                     'For p/q it is the way back of q, then that of p.', "For p|q it is the union of both, p's first.",
-                     'For p[f] it is .[f], then that of p.', '4 is now for a rule not 1 to 59.'])
-BACK_AXES = re.compile(r'the way back of a path built from axes ([\d, and]+) by composition, union and filter')
-OPPOSITE = {'self': 'self', 'child': 'parent', 'descendant': 'ancestor', 'descendant-or-self': 'ancestor-or-self',
-            'following-sibling': 'preceding-sibling', 'preceding-sibling': 'following-sibling'}
-REFERRING = {3: 'p <= r from p <= q, q <= r; so for =>', 53: 'so for ancestors', 55: 'so for preceding',
-             22: '(child::T in V) => (descendant::N in V);', 23: 'the same with parent, ancestor. T is node(), or T is `*` and N a name or `*`'}
+# what a term has for operands
+SORTS = {'union': 'pp', 'composition': 'pp', 'filter': 'pq', 'not': 'q', 'and': 'qq', 'or': 'qq', 'in': 'pp'}
 
 
-def two_cases(rule, near, far):
-    text = '(%s::%s in V) => (%s::N in V)'
-    return [(rule, claim(text % (near, 'node()', far)), [], []), (rule, claim(text % (near, '*', far)), [], ['N_a_name_or_star'])]
+def check_sorts(term):
+    for sort, part in zip(SORTS.get(term[0], ''), term[1:]):
+        if is_path(part) != (sort == 'p'):
+            raise Wrong('%s has an operand of the other sort' % (term,))
+        check_sorts(part)
 
 
-def forms_of(rule, text, before):
-    """The forms of a sentence; before is the conclusion of the rule before it."""
-    conditions = []
-    for phrase, names in PHRASES:
-        if phrase in text:
-            text, conditions = text.replace(phrase, ''), names
-    if text.startswith('the same from '):
-        return [(rule, before, [claim(x) for x in text[len('the same from '):].split(',')], conditions)]
+def claim(text):
+    """A claim, by its sign."""
+    sign = '<=' if '<=' in text else '=>'
+    sides = text.split(sign)
+    if len(sides) != 2:
+        raise Wrong('no claim: %r' % text)
+    left, right = [expression(x) for x in sides]
+    for side in left, right:
+        check_sorts(side)
+        if is_path(side) != (sign == '<='):
+            raise Wrong('%s between other sorts: %r' % (sign, text))
+    return (sign, left, right)
+
+
+def conclusions(text):
+    """The claims of a conclusion: two, where it has `=`."""
     if '<=' in text or '=>' in text:
-        conclusion, _, premises = text.partition(' from ')
-        return [(rule, claim(conclusion), [claim(x) for x in premises.split(',')] if premises else [], conditions)]
-    left, right = [expression(x) for x in text.split(' = ')]
-    sign = '<=' if is_path(left) and is_path(right) else '=>'
-    return [(rule, (sign, left, right), [], conditions), (rule, (sign, right, left), [], conditions)]
+        return [claim(text)]
+    sides = text.split(' = ')
+    if len(sides) != 2:
+        raise Wrong('no conclusion: %r' % text)
+    sign = '<=' if is_path(expression(sides[0])) else '=>'
+    return [claim(sign.join(sides)), claim(sign.join(reversed(sides)))]
 
 
-def requests(path):
-    return {name: body for name, body in re.findall(r'\*\*(T-\d\d)\.(.*)', open(path, encoding='utf-8').read())}
+# the page's phrases of side conditions
+PHRASES = dict(zip(['a is below b', 'N is below M', 'b is 3 to 10', 'N is a name or `*`', "N isn't `node()`",
+                    "a isn't 11", 'w is the way back of r'], CONDITIONS + ['way_back']))
+# rule 59's form and, to look at, what the page says of ways back
+WAY_BACK_FORM = (WAY_BACK_RULE, ('<=', ('letter', 'r'), ('filter', ('letter', 'r'), some(('letter', 'w')))), [],
+                 ['way_back'])
+WAY_BACK_WORDS = [['`a::N`', '`self::N/b::node()`, b being the opposite axis of a'],
+                  ['`p/q`', 'the way back of q, composed with that of p'],
+                  ['`p|q`', 'the way back of p, united with that of q'],
+                  ['`p[f]`', '`.[f]`, composed with the way back of p']]
 
 
-def changed_rules(path):
-    """The sentences of the rules that requests change. The words of each request must stand in its paragraph of 02."""
-    text, sentences = requests(path), {}
-    for request, said, *rules in CHANGES + [WAY_BACK]:
-        for words in said:
-            if words not in text[request]:
-                raise SystemExit('02: %s has no words %r' % (request, words))
-        sentences.update(rules[0] if rules else {})
-    return sentences
+def quoted(cell):
+    """The expressions of a cell, each in backticks."""
+    if not re.fullmatch(r'(`[^`]+`(, `[^`]+`)*)?', cell):
+        raise Wrong('no list of expressions: %r' % cell)
+    return re.findall(r'`([^`]+)`', cell)
 
 
-def request_opposites(path):
-    numbers = re.findall(r'\d+', BACK_AXES.search(requests(path)[WAY_BACK[0]]).group(1))
-    return [(int(a), AXES.index(OPPOSITE[AXES[int(a)]])) for a in numbers]
+def conditions_of(cell):
+    found = cell.split(', ') if cell else []
+    for phrase in found:
+        if phrase not in PHRASES:
+            raise Wrong('no condition: %r' % phrase)
+    return [PHRASES[phrase] for phrase in found]
 
 
-def document(path, changed):
-    text = open(path, encoding='utf-8').read().split('## Rules')[1].split('A step is `rule left')[0]
-    body = ' '.join(line[2:].strip() for line in text.split('\n') if line.startswith('- '))
-    starts, at = [], 0
-    for rule in range(1, TABLE_RULES + 1):
-        match = re.compile(r'(?:^|(?<=[.;] ))%d (?=\S)' % rule).search(body, at)
-        if not match:
-            raise SystemExit('01: no rule %d' % rule)
-        starts.append((match.start(), match.end()))
-        at = match.end()
-    starts.append((len(body), 0))
-    forms = []
-    for rule in range(1, TABLE_RULES + 1):
-        sentence = re.sub(r'\.$', '', body[starts[rule - 1][1]:starts[rule][0]].strip())
-        if rule in REFERRING and sentence != REFERRING[rule]:
-            raise SystemExit('01: rule %d reads %r' % (rule, sentence))
-        if rule in (22, 23):
-            forms += two_cases(rule, *(('child', 'descendant') if rule == 22 else ('parent', 'ancestor')))
+def page_table(*cells):
+    """The rows of the page's one table that is headed by these cells."""
+    lines = text_of(PAGE).split('\n')
+    heading = '| %s |' % ' | '.join(cells)
+    at = [i for i, line in enumerate(lines) if line == heading]
+    if len(at) != 1:
+        raise Wrong('%d tables %r' % (len(at), heading))
+    rows = []
+    for line in lines[at[0] + 2:]:
+        if not line.startswith('|'):
+            break
+        cells = re.split(r'(?<!\\)\|', line)[1:-1]
+        rows.append([cell.strip().replace('\\|', '|') for cell in cells])
+    return rows
+
+
+def page_forms():
+    """The forms of the page's table, rule 59's last, and the rules that are withdrawn."""
+    forms, numbers, withdrawn = [], [], []
+    for row in page_table('rule', 'conclusion', 'premises', 'conditions'):
+        if len(row) != 4 or not row[0].isdigit():
+            raise Wrong('no row of the rule table: %s' % row)
+        rule = int(row[0])
+        numbers.append(rule)
+        if row[1:] == ['withdrawn', '', '']:
+            withdrawn.append(rule)
             continue
-        parts = changed.get(rule, WRITTEN_OUT.get(rule, [x.strip() for x in sentence.split(';')]))
-        for part in parts:
-            forms += forms_of(rule, part, forms[-1][1] if forms else None)
-    return forms
+        concluded, premises, conditions = quoted(row[1]), [claim(x) for x in quoted(row[2])], conditions_of(row[3])
+        if len(concluded) != 1:
+            raise Wrong('rule %d: %d conclusions' % (rule, len(concluded)))
+        forms += [(rule, c, premises, conditions) for c in conclusions(concluded[0])]
+    if sorted(set(numbers)) != list(range(1, WAY_BACK_RULE + 1)) or numbers != sorted(numbers):
+        raise Wrong('rules are not 1 to %d in order' % WAY_BACK_RULE)
+    if set(withdrawn) & {form[0] for form in forms}:
+        raise Wrong('a rule is withdrawn and has a form: %s' % withdrawn)
+    return forms, withdrawn
 
 
-def document_axes(path):
-    text = re.search(r'Axis order: each below itself; (.*?)\. Test order', open(path, encoding='utf-8').read(), re.S).group(1)
-    number = lambda word: int(word) if word.isdigit() else AXES.index(word)
+def page_axes():
+    return [(int(n), name) for n, name in page_table('axis', 'name')]
+
+
+def page_tests():
+    return [(int(row[0]), row[1].strip('`')) for row in page_table('test', 'written', 'c')]
+
+
+def page_axis_pairs():
+    number = lambda name: AXES.index(name.strip())
     pairs = [(a, a) for a in range(len(AXES))]
-    for part in text.split(';'):
-        low, high = part.split(' below ')
-        pairs += [(number(low.strip()), number(x.strip())) for x in high.split(',')]
-    return pairs
+    for low, high in page_table('axis', 'is below'):
+        pairs += [(number(low), number(x)) for x in high.split(',')]
+    return sorted(pairs)
+
+
+def page_opposites():
+    return [(AXES.index(a), AXES.index(b)) for a, b in page_table('axis', 'opposite')]
+
+
+# the names of tests on the page and in crate common
+NAMED_TESTS = {'a name': 'name', '*': 'star', 'node()': 'node', 'text()': 'text', 'comment()': 'comment',
+               'processing-instruction()': 'instruction', "processing-instruction('target')": 'target'}
+
+
+def page_test_pairs():
+    named = lambda cell: 'any' if cell == 'any' else NAMED_TESTS[cell.strip('`')]
+    return sorted([('same', 'same')] + [(named(low), named(high)) for low, high in page_table('test', 'is below')])
 
 
 # 2. specs/RuleTable.antt.
@@ -280,7 +312,7 @@ def fixities(*paths):
     """The binary operators' precedences and sides; a prefix operator has the side 'p'."""
     found = dict(LIBRARY)
     for path in paths:
-        for line in open(path, encoding='utf-8'):
+        for line in text_of(path).split('\n'):
             match = re.match(r'infix([lr]?) (\d+) (.*)', line)
             for name in match.group(3).split() if match else []:
                 parts = [x for x in name.split('◌') if x]
@@ -323,8 +355,8 @@ class Antt:
         return left
 
 
-NAMES = {'Void': 'void', 'Root': 'root', 'True': 'true', 'False': 'false', 'Not': 'not', 'And': 'and', 'Or': 'or', 'In': 'in',
-         '¦': 'union', '∕': 'composition', '⟦': 'filter'}
+NAMES = {'Void': 'void', 'Root': 'root', 'True': 'true', 'False': 'false', 'Not': 'not', 'And': 'and', 'Or': 'or',
+         'In': 'in', '¦': 'union', '∕': 'composition', '⟦': 'filter'}
 
 
 def axis_number(name):
@@ -369,7 +401,7 @@ def as_forms(rule, tree):
 
 def specification(folder):
     operators = fixities(folder + '/Form.antt', folder + '/Notation.antt')
-    text = re.sub(r'--.*', '', open(folder + '/RuleTable.antt', encoding='utf-8').read().split('rules =')[1])
+    text = re.sub(r'--.*', '', text_of(folder + '/RuleTable.antt').split('rules =')[1])
     forms = []
     for tree in as_list(Antt(text, operators).term(0)):
         forms += as_forms(int(tree[1][0]), tree[2])
@@ -377,7 +409,7 @@ def specification(folder):
 
 
 def specification_axes(folder, file='Order', name='axis_pairs'):
-    text = open('%s/%s.antt' % (folder, file), encoding='utf-8').read().split(name + ' =')[1].split('[]')[0]
+    text = text_of('%s/%s.antt' % (folder, file)).split(name + ' =')[1].split('[]')[0]
     return [(axis_number(a), axis_number(b)) for a, b in re.findall(r'\(([a-z_]+), ([a-z_]+)\)', text)]
 
 
@@ -385,13 +417,14 @@ def specification_axes(folder, file='Order', name='axis_pairs'):
 
 def value_of(path, name):
     """The text of a constant or a static."""
-    text = open(path, encoding='utf-8').read()
+    text = text_of(path)
     return re.search(r'(?:const|static) %s: [^=]*= (.*?);\n' % name, text, re.S).group(1)
 
 
 def pairs_of(path, name):
     """Pairs of axes by their names."""
-    return [(axis_number(a), axis_number(b)) for a, b in re.findall(r'\(axis::(\w+), axis::(\w+)\)', value_of(path, name))]
+    found = re.findall(r'\(axis::(\w+), axis::(\w+)\)', value_of(path, name))
+    return [(axis_number(a), axis_number(b)) for a, b in found]
 
 
 def number_of(path, name):
@@ -444,7 +477,7 @@ class Rust:
 
 def constants(path):
     """The forms of the parts of the table, by the constants that they name."""
-    text = open(path, encoding='utf-8').read()
+    text = text_of(path)
     patterns = dict(re.findall(r'const (\w+): Pattern = (.*?);\n', text, re.S))
     last = lambda name: name.split('::')[-1]
 
@@ -454,7 +487,7 @@ def constants(path):
         if last(kind) == 'Letter':
             letter = LETTERS[CODE_LETTERS.index(last(of))]
             if letter not in letters:
-                raise SystemExit('tables.rt: %s where %s can stand' % (of, letters))
+                raise Wrong('tables.rt: %s where %s can stand' % (of, letters))
             return letter
         return of
 
@@ -465,19 +498,21 @@ def constants(path):
         row, *fields = of[1]
         name = CODE_KINDS[last(row)]
         if name == 'step':
-            axis, test, called = leaf(fields[0], LETTERS[7:9]), leaf(fields[1], 'NM'), leaf(fields[2], ['name of N', 'name of M'])
+            axis, test = leaf(fields[0], LETTERS[7:9]), leaf(fields[1], 'NM')
+            called = leaf(fields[2], ['name of N', 'name of M'])
             if called != ('name of ' + test if test in LETTERS else '0'):
-                raise SystemExit('tables.rt: a test with another name in %s' % fields)
-            return (name, axis if axis in LETTERS else axis_number(last(axis)), test if test in LETTERS else CODE_TESTS[last(test)])
+                raise Wrong('tables.rt: a test with another name in %s' % fields)
+            return (name, axis if axis in LETTERS else axis_number(last(axis)),
+                    test if test in LETTERS else CODE_TESTS[last(test)])
         arity = ARITIES.get(name, 2)
         if any(leaf(x, []) != '0' for x in fields[arity:]):
-            raise SystemExit('tables.rt: a field too many in %s' % fields)
+            raise Wrong('tables.rt: a field too many in %s' % fields)
         return (name,) + tuple(term(x) for x in fields[:arity])
 
     def sides(claim):
         left, right = [term(x) for x in claim[1]]
         if is_path(left) != is_path(right):
-            raise SystemExit('tables.rt: two sorts in one claim')
+            raise Wrong('tables.rt: two sorts in one claim')
         return ('<=' if is_path(left) else '=>', left, right)
 
     def form(rule, fields):
@@ -496,7 +531,7 @@ SIGNS = {'void': 'V', 'root': 'R', 'true': 'true', 'false': 'false', 'union': '|
 
 
 def shown(term):
-    """A term in 01's signs."""
+    """A term in the page's signs."""
     name, parts = term[0], term[1:]
     if name == 'letter':
         return parts[0]
@@ -587,50 +622,280 @@ def print_constants(specs):
         parts.append('pub static RULES_TO_%d: [&[Form]; %d] = [\n%s];\n' % (last, last + 1 - first, rules))
         first = last + 1
     used = ''.join(named.lines + parts)
-    one = lambda name, value: 'const %s: Pattern = Pattern::%s;\n\n' % (name, value) if re.search(r'[(\s]%s\b(?! *::)' % name, used) else ''
+    is_used = lambda name: re.search(r'[(\s]%s\b(?! *::)' % name, used)
+    one = lambda name, value: 'const %s: Pattern = Pattern::%s;\n\n' % (name, value) if is_used(name) else ''
     leaves = ''.join(one(const, 'Letter(Letter::%s)' % code) for const, code in zip(LETTER_CONSTANTS, CODE_LETTERS))
     leaves += ''.join(one(axis_name(a), 'Number(axis::%s)' % axis_name(a)) for a in range(len(AXES)))
     leaves += ''.join(one(name, 'Number(node_test::%s)' % name) for name in CODE_TESTS)
     print(CONSTANTS % (len(pairs), axes, leaves, ''.join(named.lines), '\n'.join(parts)), end='')
 
 
-def compare(what, left, right, found):
-    if left == right:
-        print('%s: %d, the same' % (what, len(found)))
+# 5. The comparison.
+
+
+def numbered(file, ending=''):
+    """The names of a file of numbers of crate common, without their ending, with those numbers."""
+    found = re.findall(r'^([a-z_]+) = (\d+)$', text_of('%s/%s.antt' % (COMMON, file)), re.M)
+    return [(int(number), re.sub(ending + '$', '', name).replace('_', '-')) for name, number in found]
+
+
+def specification_test_pairs():
+    """The pairs of tests that test_below of Order.antt has, clause by clause."""
+    body = text_of(RULES + '/Order.antt').split('test_below t c u e =')[1]
+    pairs = []
+    for clause in ' '.join(body.split()).split(' || '):
+        two = re.fullmatch(r'eqb t (\w+)_test && eqb u (\w+)_test', clause)
+        one = re.fullmatch(r'eqb u (\w+)_test', clause)
+        if clause == 'eqb t u && eqb c e':
+            pairs.append(('same', 'same'))
+        elif two or one:
+            pairs.append(two.groups() if two else ('any', one.group(1)))
+        else:
+            raise Wrong('Order.antt: test_below has %r' % clause)
+    return sorted(pairs)
+
+
+def code_test_pairs():
+    """The same of order.rt, arm by arm."""
+    body = text_of(ORDER).split('fn test_below')[1].split('match ')[1]
+    pairs = []
+    for arm in re.findall(r'^ +(.*) => (.*),$', body, re.M):
+        two = re.fullmatch(r'\((?:_|Ok\(NodeTest::(\w+)\)), Ok\(NodeTest::(\w+)\)\)', arm[0])
+        if arm == ('_', 't == u && c == e'):
+            pairs.append(('same', 'same'))
+        elif two and arm[1] == 'true':
+            pairs.append(((two.group(1) or 'any').lower(), two.group(2).lower()))
+        else:
+            raise Wrong('order.rt: test_below has %s' % (arm,))
+    return sorted(pairs)
+
+
+def said_of_ways_back():
+    """What rule 59 says in Yields.antt."""
+    says = re.search(r'^way_back_claim (\w) (\w) = Containment (\w) \(Filter (\w) \(some_of (\w)\)\)$',
+                     text_of(RULES + '/Yields.antt'), re.M)
+    if not says:
+        raise Wrong('Yields.antt: no way_back_claim')
+    letter = lambda name: ('letter', {says.group(1): 'r', says.group(2): 'w'}.get(name, name))
+    left, filtered, back = [letter(says.group(i)) for i in (3, 4, 5)]
+    return (WAY_BACK_RULE, ('<=', left, ('filter', filtered, some(back))), [], ['way_back'])
+
+
+def withdrawn_in(path, empty):
+    return sorted(int(n) for n in re.findall(empty, text_of(path), re.M))
+
+
+def rule_numbers():
+    """The number of rule 59 and of the table's last rule in the specification, and rule 59's in the code."""
+    yields = text_of(RULES + '/Yields.antt')
+    constant = lambda name: int(re.search(r'^%s = (\d+)$' % name, yields, re.M).group(1))
+    return constant('way_back_rule'), constant('table_rules'), number_of(WAY_BACK, 'WAY_BACK_RULE')
+
+
+def reads_of(*paths):
+    """Reads a file again only where one of these texts has changed."""
+    def wrapper(read):
+        kept = {}
+
+        @functools.wraps(read)
+        def wrapped():
+            key = tuple(text_of(path) for path in paths)
+            if key not in kept:
+                kept.clear()
+                kept[key] = read()
+            return kept[key]
+        return wrapped
+    return wrapper
+
+
+@reads_of(RULES + '/RuleTable.antt', RULES + '/Form.antt', RULES + '/Notation.antt')
+def specified_forms():
+    return specification(RULES)
+
+
+@reads_of(TABLES)
+def coded_forms():
+    return constants(TABLES)
+
+
+def comparisons():
+    """What is compared: what it is, what the page has, and what the other has."""
+    forms, withdrawn = page_forms()
+    table, last = forms[:-1], forms[-1]
+    pairs, opposites, tests = page_axis_pairs(), page_opposites(), page_test_pairs()
+    return [
+        ('axes of the page and of crate common', page_axes(), numbered('Axes')),
+        ('tests of the page and of crate common', [(n, NAMED_TESTS.get(name, name)) for n, name in page_tests()],
+         numbered('NodeTests', '_test')),
+        ('forms of the page and of RuleTable.antt', table, specified_forms()),
+        ('forms of the page and of tables.rt', table, coded_forms()),
+        ('withdrawn rules of the page and of RuleTable.antt', withdrawn,
+         withdrawn_in(RULES + '/RuleTable.antt', r'\((\d+) ▸ \[\]\)')),
+        ('withdrawn rules of the page and of tables.rt', withdrawn,
+         [n for n in withdrawn_in(TABLES, r'^    // (\d+)\n    &\[\],') if n]),
+        ('axis pairs of the page and of Order.antt', pairs, sorted(specification_axes(RULES))),
+        ('axis pairs of the page and of tables.rt', pairs, sorted(pairs_of(TABLES, 'AXIS_PAIRS'))),
+        ('test order of the page and of Order.antt', tests, specification_test_pairs()),
+        ('test order of the page and of order.rt', tests, code_test_pairs()),
+        ('rule 59 of the page and as it is known', [last], [WAY_BACK_FORM]),
+        ('rule 59 of the page and of Yields.antt', [last], [said_of_ways_back()]),
+        ('ways back of the page and as they are known', page_table('path', 'its way back'), WAY_BACK_WORDS),
+        ('opposite axes of the page and of WayBack.antt', opposites, specification_axes(RULES, 'WayBack', 'opposites')),
+        ('opposite axes of the page and of way_back.rt', opposites, pairs_of(WAY_BACK, 'OPPOSITES')),
+        ('numbers of rule 59 and of the table\'s last rule', [WAY_BACK_RULE, TABLE_RULES, WAY_BACK_RULE],
+         list(rule_numbers())),
+    ]
+
+
+def compare():
+    """Says what was compared; whether all is the same."""
+    same = True
+    for what, left, right in comparisons():
+        if left == right:
+            print('%s: %d, the same' % (what, len(left)))
+            continue
+        same = False
+        print('%s: DIFFERENT, %d and %d' % (what, len(left), len(right)))
+        for i, (x, y) in enumerate(zip(left, right)):
+            if x != y:
+                print('  first at place %d:\n    %s\n    %s' % (i, x, y))
+                break
+    return same
+
+
+# 6. The selftest.
+
+# what may stand for a word of an expression and says something else
+OTHERS = [['p', 'q', 'r', 's'], ['f', 'g', 'h'], ['a', 'b'], ['N', 'M'], ['V', 'R'], ['true', 'false'], ['and', 'or'],
+          ['node()', '*'], ['|', '/'], ['<=', '=>'], AXES]
+
+
+def changed_words(row):
+    """The row of a table with one word of an expression changed, in each way."""
+    for match in re.finditer(r'node\(\)|<=|=>|::|[|/*]|[A-Za-z][A-Za-z-]*', row):
+        if row.count('`', 0, match.start()) % 2 == 0 or row[match.start() - 1:match.start()] == '\\':
+            continue
+        for others in OTHERS:
+            if match.group() in others:
+                for other in others:
+                    if other != match.group():
+                        other = '\\|' if other == '|' else other
+                        yield row[:match.start()] + other + row[match.end():]
+
+
+def changed_cells(row):
+    """The row with a premise or a condition less, two premises exchanged, a condition more or another one, another
+    number, and a row that is left out or stands twice."""
+    cells = [cell.strip() for cell in re.split(r'(?<!\\)\|', row)[1:-1]]
+    line = lambda *cells: '| ' + ' | '.join(cells) + ' |'
+    rule, concluded, premises, conditions = cells
+    premise = re.findall(r'`[^`]+`', premises)
+    for i in range(len(premise)):
+        yield line(rule, concluded, ', '.join(premise[:i] + premise[i + 1:]), conditions)
+    if len(premise) > 1:
+        yield line(rule, concluded, ', '.join(reversed(premise)), conditions)
+    condition = conditions.split(', ') if conditions else []
+    for phrase in PHRASES:
+        if phrase not in condition:
+            yield line(rule, concluded, premises, ', '.join(condition + [phrase]))
+        for i in range(len(condition)):
+            if phrase != condition[i]:
+                yield line(rule, concluded, premises, ', '.join(condition[:i] + [phrase] + condition[i + 1:]))
+    for i in range(len(condition)):
+        yield line(rule, concluded, premises, ', '.join(condition[:i] + condition[i + 1:]))
+    yield line(str(int(rule) + 1), concluded, premises, conditions)
+    if concluded != 'withdrawn':
+        yield line(rule, 'withdrawn', '', '')
+        yield row + '\n' + line(rule, 'withdrawn', '', '')
+        yield row + '\n' + row
+    yield None
+
+
+def changed_pages():
+    """The page, changed in one place of its tables of rules, orders and ways back."""
+    text = text_of(PAGE)
+    lines = text.split('\n')
+    first, last = [lines.index(heading) for heading in ('### Orders', '### Steps')]
+    rule_row = re.compile(r'\| \d+ \| (`|withdrawn)')
+    for i in range(first, last):
+        row = lines[i]
+        if not row.startswith('| ') or lines[i + 1].startswith('|---'):
+            continue
+        if rule_row.match(row):
+            changes = list(changed_words(row)) + list(changed_cells(row))
+        else:
+            names = [match for name in AXES for match in re.finditer(r'(?<![\w-])%s(?![\w-])' % name, row)]
+            next_axis = lambda name: AXES[(AXES.index(name) + 1) % len(AXES)]
+            changes = [None, row + '\n' + row] + list(changed_words(row))
+            changes += [row[:m.start()] + next_axis(m.group()) + row[m.end():] for m in names]
+        for change in changes:
+            yield PAGE, '\n'.join(lines[:i] + ([] if change is None else [change]) + lines[i + 1:])
+
+
+# changes of the specifications and of the code: the file, a text of it, and what stands for it
+CHANGES = [
+    (RULES + '/RuleTable.antt', '(4 ▸ p <= q ¦ r from p <= q', '(4 ▸ p <= q ¦ r from p <= r'),
+    (RULES + '/RuleTable.antt', 'N_below_M ∷ N_not_node ∷ a_not_attribute', 'N_below_M ∷ N_not_node'),
+    (RULES + '/RuleTable.antt', '(44 ▸', '(45 ▸'),
+    (RULES + '/RuleTable.antt', '(50 ▸ [])', '(50 ▸ p <= p from [])'),
+    (RULES + '/RuleTable.antt', '(28 ▸ p ≐', '(28 ▸ q ≐'),
+    (RULES + '/Form.antt', 'infixl 93 ◌∕◌', 'infixl 90 ◌∕◌'),
+    (RULES + '/Order.antt', '∷ (parent, ancestor)', '∷ (parent, descendant)'),
+    (RULES + '/Order.antt', 'eqb t name_test && eqb u star_test', 'eqb t name_test && eqb u text_test'),
+    (RULES + '/WayBack.antt', '(child, parent)', '(child, ancestor)'),
+    (RULES + '/Yields.antt', '(Filter r (some_of w))', '(Filter w (some_of r))'),
+    (RULES + '/Yields.antt', 'way_back_rule = 59', 'way_back_rule = 60'),
+    (COMMON + '/Axes.antt', 'following = 9', 'following = 10'),
+    (COMMON + '/NodeTests.antt', 'text_test = 3', 'text_test = 4'),
+    (TABLES, 'conditions: &[Condition::ABelowB, Condition::NBelowM]', 'conditions: &[Condition::ABelowB]'),
+    (TABLES, 'Pattern::Letter(Letter::Q)', 'Pattern::Letter(Letter::S)'),
+    (TABLES, '(axis::CHILD, axis::DESCENDANT),', '(axis::CHILD, axis::ANCESTOR),'),
+    (ORDER, '(Ok(NodeTest::Name), Ok(NodeTest::Star)) => true', '(Ok(NodeTest::Star), Ok(NodeTest::Name)) => true'),
+    (WAY_BACK, 'WAY_BACK_RULE: u16 = 59', 'WAY_BACK_RULE: u16 = 50'),
+    (WAY_BACK, '(axis::DESCENDANT, axis::ANCESTOR)', '(axis::DESCENDANT, axis::PARENT)'),
+]
+
+
+def is_refused(path, text):
+    CHANGED[path] = text
+    try:
+        return any(left != right for _, left, right in comparisons())
+    except (Wrong, ValueError, KeyError, IndexError, AttributeError, TypeError):
         return True
-    print('%s: DIFFERENT' % what)
-    for i, (x, y) in enumerate(zip(left, right)):
-        if x != y:
-            print('  first at place %d:\n    %s\n    %s' % (i, x, y))
-            return False
-    print('  %d and %d' % (len(left), len(right)))
-    return False
+    finally:
+        del CHANGED[path]
+
+
+def selftest():
+    if not all(left == right for _, left, right in comparisons()):
+        raise SystemExit('the tables differ before any change')
+    count, unseen = 0, []
+    others = []
+    for path, old, new in CHANGES:
+        text = text_of(path)
+        if old not in text:
+            raise SystemExit('%s has no %r' % (path, old))
+        others.append((path, text.replace(old, new, 1)))
+    for path, text in list(changed_pages()) + others:
+        count += 1
+        if text == text_of(path) or not is_refused(path, text):
+            unseen.append((path, text))
+    for path, text in unseen:
+        before = text_of(path).split('\n')
+        print('UNSEEN: %s: %s' % (path, [line for line in text.split('\n') if line not in before]))
+    print('%d changes, %d seen' % (count, count - len(unseen)))
+    return not unseen
 
 
 def main():
-    specs, code, way_back = 'crates/rules/specs', 'crates/matching/src/tables.rt', 'crates/matching/src/way_back.rt'
     if sys.argv[1:] == ['--constants']:
-        return print_constants(specs)
-    if len(sys.argv) != 3:
+        return print_constants(RULES)
+    if sys.argv[1:] not in ([], ['--selftest']):
         raise SystemExit(__doc__)
-    changed = changed_rules(sys.argv[2])
-    forms, pairs = document(sys.argv[1], changed), document_axes(sys.argv[1])
-    opposites = request_opposites(sys.argv[2])
-    checks = [compare('forms of the papers and of RuleTable.antt', forms, specification(specs), forms),
-              compare('forms of the papers and of tables.rt', forms, constants(code), forms),
-              compare('axis pairs of the papers and of Order.antt', pairs, specification_axes(specs), pairs),
-              compare('axis pairs of the papers and of tables.rt', pairs, pairs_of(code, 'AXIS_PAIRS'), pairs),
-              compare('opposite axes of 02 and of WayBack.antt', opposites,
-                      specification_axes(specs, 'WayBack', 'opposites'), opposites),
-              compare('opposite axes of 02 and of way_back.rt', opposites,
-                      pairs_of(way_back, 'OPPOSITES'), opposites)]
-    if number_of(way_back, 'WAY_BACK_RULE') != WAY_BACK_RULE:
-        raise SystemExit('way_back.rt: rule 59 has another number')
-    print('rules %d to %d; written out by hand: 3 for =>, 22, 23, 53, 55, and the phrases of the side conditions' % (forms[0][0], forms[-1][0]))
-    print('rule %d is none of the table\'s: %s' % (WAY_BACK_RULE, WAY_BACK[0]))
-    for request, _, rules, axes in CHANGES:
-        print('%s changes rules %s%s' % (request, ', '.join(map(str, sorted(rules))), ''.join('; it adds axis ' + axis for axis in axes)))
-    sys.exit(0 if all(checks) else 1)
+    try:
+        sys.exit(0 if (selftest() if sys.argv[1:] else compare()) else 1)
+    except Wrong as wrong:
+        raise SystemExit('wrong: %s' % wrong)
 
 
 if __name__ == '__main__':

@@ -300,5 +300,6 @@ passes "$out/stack" "$out/deep" "$out/full"
 passes python3 tools/format_check.py
 passes python3 tools/format_check.py --selftest
 passes python3 tests/examples.py --selftest
+passes python3 tools/rule_table.py
 echo "$((tried - failed)) passed, $failed failed"
 [ "$failed" = 0 ]
