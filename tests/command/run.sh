@@ -1,6 +1,6 @@
 #!/bin/sh
-# Tests the command spinebriar: what each subcommand prints, and its exit status; the examples of the pages; the tables
-# of docs/FORMAT.md.
+# Tests the command spinebriar: what each subcommand prints, and its exit status; the examples of the pages, the tables
+# of docs/FORMAT.md and docs/SPECIFICATION.md, and what pages cite.
 #
 #     tests/command/run.sh
 #
@@ -301,5 +301,7 @@ passes python3 tools/format_check.py
 passes python3 tools/format_check.py --selftest
 passes python3 tests/examples.py --selftest
 passes python3 tools/rule_table.py
+passes python3 tools/crates_page.py --check
+passes python3 tools/names_check.py
 echo "$((tried - failed)) passed, $failed failed"
 [ "$failed" = 0 ]
