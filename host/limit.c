@@ -3,7 +3,7 @@
 #include <string.h>
 
 /* In a selector without filters and unions each `/` begins a step, and the second one of `//` stands for a step too.
-   One that begins with `/` begins with R, of which T-10 says nothing. */
+   One that begins with `/` begins with R, of which the bound says nothing. */
 uint32_t default_limit(const char *selector, size_t nodes)
 {
     const char *start = selector + strspn(selector, " \t\r\n");

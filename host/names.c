@@ -102,30 +102,71 @@ bool names_of(struct bytes file, struct names *names)
     return true;
 }
 
-/* The first line that ends in a carriage return, from 1; 0 where none does. */
-static size_t returned_line(struct bytes file)
+/* The bytes of the character at the start of a text in UTF-8; 0 where there is none, or a control character but a tab
+   or a newline. */
+static size_t character_length(const uint8_t *at, size_t left)
 {
-    size_t line = 1;
-    for (size_t i = 0; i < file.length; i++) {
-        bool ends = i + 1 == file.length || file.at[i + 1] == '\n';
-        if (file.at[i] == '\r' && ends) {
-            return line;
-        }
-        line += file.at[i] == '\n';
+    /* first byte from, to; second byte from, to; length */
+    static const uint8_t FORMS[][5] = {
+        {' ', '~', 0, 0, 1}, {'\t', '\n', 0, 0, 1}, {0xc2, 0xdf, 0x80, 0xbf, 2}, {0xe0, 0xe0, 0xa0, 0xbf, 3},
+        {0xe1, 0xec, 0x80, 0xbf, 3}, {0xed, 0xed, 0x80, 0x9f, 3}, {0xee, 0xef, 0x80, 0xbf, 3},
+        {0xf0, 0xf0, 0x90, 0xbf, 4}, {0xf1, 0xf3, 0x80, 0xbf, 4}, {0xf4, 0xf4, 0x80, 0x8f, 4},
+    };
+    const uint8_t *form = NULL;
+    for (size_t i = 0; i < sizeof FORMS / sizeof *FORMS && form == NULL; i++) {
+        form = at[0] >= FORMS[i][0] && at[0] <= FORMS[i][1] ? FORMS[i] : NULL;
     }
-    return 0;
+    if (form == NULL || form[4] > left || (form[4] > 1 && (at[1] < form[2] || at[1] > form[3]))) {
+        return 0;
+    }
+    for (size_t i = 2; i < form[4]; i++) {
+        if ((at[i] & 0xc0) != 0x80) {
+            return 0;
+        }
+    }
+    return form[4];
+}
+
+/* What no list of names has, and its line, from 1; null where the file has nothing of it. Each of these would give a
+   name that stands in the list another number, or none. */
+static const char *flaw_of(struct bytes file, size_t *line)
+{
+    *line = 1;
+    if (file.length >= 3 && memcmp(file.at, "\xef\xbb\xbf", 3) == 0) {
+        return "begins with a byte order mark";
+    }
+    for (size_t i = 0; i < file.length;) {
+        char c = (char)file.at[i];
+        size_t length = character_length(file.at + i, file.length - i);
+        bool ends = i + 1 == file.length || file.at[i + 1] == '\n';
+        if (c == '\r') {
+            return "has a carriage return; lines end in a newline alone";
+        }
+        if (length == 0) {
+            return "has bytes that are no text";
+        }
+        if (ends && (c == ' ' || c == '\t')) {
+            return "ends in a blank";
+        }
+        *line += c == '\n';
+        i += length;
+    }
+    return NULL;
 }
 
 /* False after a message. */
 static bool is_list(const char *path, struct bytes file)
 {
-    size_t line = returned_line(file);
+    size_t line;
     if (file.length > MOST_NAMES_BYTES) {
         complain("%s: a list of names has at most %d bytes", path, MOST_NAMES_BYTES);
-    } else if (line > 0) {
-        complain("%s: line %zu ends in a carriage return; lines end in a newline alone", path, line);
+        return false;
     }
-    return file.length <= MOST_NAMES_BYTES && line == 0;
+    const char *flaw = flaw_of(file, &line);
+    if (flaw != NULL) {
+        complain("%s: line %zu %s", path, line, flaw);
+    }
+    return flaw == NULL;
 }
 
 bool read_names(const char *path, struct names *names)

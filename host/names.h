@@ -31,8 +31,8 @@ bool is_name(const char *text, size_t length);
 /* Takes over the file's bytes. False where memory is short; the names can be freed all the same. */
 bool names_of(struct bytes file, struct names *names);
 
-/* The names of a file. False, after a message, where it can't be read, is too long or has a line that ends in a
-   carriage return, which is never meant to be of the line. */
+/* The names of a file. False, after a message, where it can't be read, is too long, begins with a byte order mark, has
+   a carriage return or a blank at a line's end, or bytes that are no text. */
 bool read_names(const char *path, struct names *names);
 void free_names(struct names *names);
 

@@ -1,4 +1,4 @@
-/* The rules in document 01's words. tools/format_check.py holds them against the specification. */
+/* The rules as docs/SPECIFICATION.md writes them. tools/format_check.py holds them against the specifications. */
 #ifndef HOST_RULES_H
 #define HOST_RULES_H
 

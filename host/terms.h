@@ -1,4 +1,4 @@
-/* Terms and claims in document 01's notation. */
+/* Terms and claims in the notation of docs/SPECIFICATION.md, Rules. */
 #ifndef HOST_TERMS_H
 #define HOST_TERMS_H
 

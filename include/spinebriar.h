@@ -12,14 +12,15 @@
 
 #define SPINEBRIAR_VERSION "0.1.0"
 
-/* Bytes of stack that are enough for a call: the most that host/stack.c measured on the deepest inputs known, and some
-   more. spinebriar_read and spinebriar_read_line take the same. */
+/* Bytes of stack that are enough for a call: the most that tests/command/stack.c measured on the deepest inputs known,
+   and some more. It lends lists that are indexed and makes steps by rule 59, also in the calls of spinebriar_file.
+   spinebriar_read and spinebriar_read_line take the same. */
 #define SPINEBRIAR_READ_STACK 163840
 #define SPINEBRIAR_CLAIM_STACK 360448
 #define SPINEBRIAR_SELECT_STACK 327680
 #define SPINEBRIAR_FILE_STACK 786432
 
-/* The limits of the papers: of a bundle its bytes, rows, steps and rules, the nodes of a document, the largest number
+/* The limits: of a bundle its bytes, rows, steps and rules, the nodes of a document, the largest number
    of a name. More is refused by the call that is given it. */
 enum {
     SPINEBRIAR_MOST_BYTES = 65536,
@@ -34,7 +35,7 @@ enum {
 extern "C" {
 #endif
 
-/* The number of an answer: 0 is acceptance, any other number a refusal. README.md has the same list with each
+/* The number of an answer: 0 is acceptance, any other number a refusal. docs/FORMAT.md has the same list with each
    refusal's value. */
 enum spinebriar_answer {
     SPINEBRIAR_ACCEPTED = 0,

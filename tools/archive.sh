@@ -3,6 +3,8 @@
 # the static library NAME, or of NAME_c where NAME is a library for other crates.
 #
 #     tools/archive.sh NAME
+#
+# It needs the Rattle kit, and installs nothing.
 set -eu
 cd "$(dirname "$0")/.."
 archive=target/staticlib/lib$1.a

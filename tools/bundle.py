@@ -4,9 +4,10 @@
     tools/bundle.py NAMES < DERIVATION > BUNDLE
 
 A line is `step N: LEFT <= RIGHT, by rule R from I, J` (`=>` for qualifiers, the premises where the rule has any),
-or `{N} = TERM`, which names a term for the lines after it. Terms are in document 01's notation, with the names of
+or `{N} = TERM`, which names a term for the lines after it. Terms are in the notation of the rules, with the names of
 the list NAMES, one a line, for their numbers, or `#7` for the number 7. Rows are added operands first, left first.
-Nothing is checked but the form of the lines: `spinebriar check` says whether the bundle is accepted.
+Nothing is checked but the form of the lines: `spinebriar check` says whether the bundle is accepted. It needs Python 3
+and installs nothing.
 """
 import re, sys
 
@@ -21,9 +22,11 @@ VOID, ROOT, AXIS_STEP, UNION, COMPOSITION, FILTER, TRUE, FALSE, NOT, AND, OR, IN
 
 
 def read_names(path):
-    """The number of each name: of two equal lines the first counts."""
-    numbers = {}
-    for number, line in enumerate(open(path, encoding='ascii', errors='replace').read().split('\n'), 1):
+    """The number of each name: of two equal lines the first counts. A list that `spinebriar` refuses is refused."""
+    numbers, text = {}, open(path, 'rb').read().decode('utf-8', 'replace')
+    for number, line in enumerate(text.split('\n'), 1):
+        if re.search('^\ufeff|[\0-\x08\x0b-\x1f\x7f\ufffd]|[ \t]$', line):
+            raise SystemExit('%s: line %d has a mark, a blank at its end or bytes that no list has' % (path, number))
         if re.fullmatch(r'[A-Za-z_][A-Za-z0-9_.-]*', line):
             numbers.setdefault(line, number)
     return numbers

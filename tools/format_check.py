@@ -5,8 +5,8 @@ Run it at the repository's root:
     python3 tools/format_check.py
     python3 tools/format_check.py --selftest
 
-The second changes the numbers of docs/SPECIFICATION.md's tables in a copy, one at a time, and fails if a change goes
-unseen.
+The second changes, one at a time, each compared cell of docs/FORMAT.md, entries of host/ and of the header, and the
+numbers of docs/SPECIFICATION.md's tables, and fails if a change goes unseen. It needs Python 3 and installs nothing.
 
 Compared: kinds of rows (common RowKinds, terms Fields), axes, tests, kinds of nodes (common), the axis order (rules
 Order), opposite axes (rules WayBack), the rules form by form (rules RuleTable, read by tools/rule_table.py),
@@ -14,7 +14,8 @@ refusals (common Refusals), limits, of docs/SPECIFICATION.md the kinds, the numb
 definitions of the calls' answers), the limits and the log cases (xpath LogCases), while its rule table is
 tools/rule_table.py's, and that host/rules.c, host/terms.c, host/bundle.h, host/document.h and
 include/spinebriar.h say the same. Not compared: the pages' sentences, the columns `written` of kinds, `selects`, `its
-name` and `when`, the test order, the table of selectors and rule 59's way back but for its axes.
+name`, `when` and `value`, the test order, the tables of selectors and of calls, and rule 59's way back but for its
+axes.
 """
 import contextlib, io, re, sys
 
@@ -149,14 +150,12 @@ def rules():
 def refusals():
     names = numbered('common', 'Refusals')
     page = [(int(row[0]), row[1].replace(' ', '-')) for row in table('number | name | when')]
-    same('refusals', page, [(n, name) for n, name in names if n <= 7 or 10 <= n <= 13])
+    same('refusals', page, names)
     listed = re.search(r'enum spinebriar_answer \{(.*?)\};', text_of('include/spinebriar.h'), re.S).group(1)
     header = re.findall(r'SPINEBRIAR_([A-Z_]+) = (\d+)', listed)
     same('include/spinebriar.h: refusals', [(int(n), name.lower().replace('_', '-')) for name, n in header[1:]], names)
     texts = re.findall(r'case SPINEBRIAR_([A-Z_]+): return "[^"]+";', text_of('include/spinebriar.h'))
     same('include/spinebriar.h: texts', sorted(texts), sorted(name for name, _ in header))
-    readme = re.findall(r'^\| (\d+) \| ([a-z ]+) \| .* \| .* \|$', text_of('README.md'), re.M)
-    same('README.md: refusals', [(int(n), name.replace(' ', '-')) for n, name in readme], names)
 
 
 def limits():
@@ -259,9 +258,46 @@ def normative():
 COMPARED = ['kind | sort', 'kind | node', 'number | call', 'call | order', 'limit', 'selector | from']
 
 
-def selftest():
-    """Changes the numbers in the rows of the page's tables that are compared; how many, and which went unseen."""
-    text, count, unseen = text_of(NORMATIVE), 0, []
+# The page's tables by the words that their headings begin with, and the columns that are compared.
+TABLES = [('kind | name | a', (0, 1, 2, 3, 4)), ('axis | name', (0, 1)), ('test | name', (0, 1)),
+          ('kind | name | its name', (0, 1)), ('rule | yields', (0, 1)), ('axis | is below', (0, 1)),
+          ('axis | opposite', (0, 1)), ('number | name | when', (0, 1)), ('what | most', (1,))]
+# An entry of each list of host/ and of the header, and a wrong one.
+ENTRIES = [('host/bundle.h', 'UNION_ROW,', 'NOT_ROW,'), ('host/terms.c', '"parent", ', ''),
+           ('host/terms.c', '"text()"', '"node()"'), ('host/document.h', 'TEXT,', 'COMMENT,'),
+           ('host/rules.c', '"p/R <= R"', '"R <= p/R"'),
+           ('include/spinebriar.h', 'SPINEBRIAR_BAD_SIDE = 5', 'SPINEBRIAR_BAD_SIDE = 6'),
+           ('include/spinebriar.h', 'case SPINEBRIAR_BAD_SIDE: return', 'case SPINEBRIAR_BAD_KIND: return'),
+           ('include/spinebriar.h', 'SPINEBRIAR_MOST_ROWS = 1024', 'SPINEBRIAR_MOST_ROWS = 1023')]
+NEXT = dict(zip('pqrsfghabNM', 'qrspghfbaMN'))
+
+
+def wrong_cell(cell):
+    """Another number, a claim with another letter, or another word."""
+    if cell.isdigit():
+        return str(int(cell) + 1)
+    letter = re.search(r'\b[pqrsfghabNM]\b', cell)
+    return cell[:letter.start()] + NEXT[letter.group()] + cell[letter.end():] if letter else cell + 'x'
+
+
+def wrong_cells():
+    """docs/FORMAT.md with one compared cell changed, and what was changed."""
+    lines = text_of(PAGE).split('\n')
+    for first, columns in TABLES:
+        at = next(i for i, line in enumerate(lines) if line.startswith('| %s |' % first)) + 2
+        while lines[at].startswith('|'):
+            cells = re.split(r'(?<!\\)\|', lines[at])
+            for column in columns:
+                wrong = list(cells)
+                wrong[column + 1] = ' %s ' % wrong_cell(cells[column + 1].strip())
+                changed_line = '|'.join(wrong)
+                yield PAGE, '\n'.join(lines[:at] + [changed_line] + lines[at + 1:]), changed_line
+            at += 1
+
+
+def wrong_numbers():
+    """docs/SPECIFICATION.md with another number in a row that is compared, and what was changed."""
+    text = text_of(NORMATIVE)
     lines, within = text.split('\n'), False
     for i, line in enumerate(lines):
         if not line.startswith('|'):
@@ -273,31 +309,54 @@ def selftest():
             for match in re.finditer(r'\b\d+\b', line[:last]):
                 if within.group(1) == 'limit' and '| ' in line[match.end() + 1:]:
                     continue
-                count += 1
-                changed[NORMATIVE] = text.replace(line, line[:match.start()] + str(int(match.group()) + 1) +
-                                                  line[match.end():])
-                problems.clear()
-                try:
-                    normative()
-                except (KeyError, IndexError, ValueError, SystemExit):
-                    problems.append('unreadable')
-                if not problems:
-                    unseen.append((line, match.group()))
-    changed.clear()
-    return count, unseen
+                wrong = line[:match.start()] + str(int(match.group()) + 1) + line[match.end():]
+                yield NORMATIVE, text.replace(line, wrong), '%s in %s' % (match.group(), line)
+
+
+def wrong_entries():
+    for path, right, wrong in ENTRIES:
+        assert right in text_of(path), (path, right)
+        yield path, text_of(path).replace(right, wrong, 1), wrong
+
+
+PARTS = kinds, axes_and_tests, nodes, rules, refusals, limits, normative
+
+
+def is_found(path, text):
+    """Whether a wrong text of the file is found: a comparison differs, or the file can't be read."""
+    changed[path] = text
+    problems.clear()
+    try:
+        with contextlib.redirect_stdout(io.StringIO()):
+            for part in PARTS:
+                part()
+    except (rule_table.Wrong, KeyError, IndexError, ValueError, AttributeError, SystemExit):
+        return True
+    finally:
+        del changed[path]
+    return problems != []
+
+
+def selftest():
+    if any(is_found(path, text_of(path)) for path in (PAGE, NORMATIVE)):
+        sys.exit('the pages are wrong as they stand')
+    tried, unseen = 0, []
+    for path, text, what in [*wrong_cells(), *wrong_entries(), *wrong_numbers()]:
+        tried += 1
+        unseen += [] if is_found(path, text) else ['%s: %s' % (path, what)]
+    print('%d changes, %d seen' % (tried, tried - len(unseen)), *unseen, sep='\n  ')
+    sys.exit(1 if unseen else 0)
 
 
 def main():
     if sys.argv[1:] == ['--selftest']:
-        with contextlib.redirect_stdout(io.StringIO()):
-            count, unseen = selftest()
-        print('%d changes, %d seen' % (count, count - len(unseen)), *unseen, sep='\n  ')
-        sys.exit(1 if unseen else 0)
+        selftest()
     if len(sys.argv) != 1:
         raise SystemExit(__doc__)
-    for part in (kinds, axes_and_tests, nodes, rules, refusals, limits, normative):
+    for part in PARTS:
         part()
     sys.exit(1 if problems else 0)
 
 
-main()
+if __name__ == '__main__':
+    main()

@@ -2,6 +2,8 @@
 # Proves and compiles programs, and copies them to target/bin:
 #
 #     tools/programs.sh NAME..
+#
+# It needs the Rattle kit, and installs nothing.
 set -eu
 cd "$(dirname "$0")/.."
 mkdir -p target/bin

@@ -7,12 +7,13 @@
 # OLD is a clone of the repository at an older commit; the calls of its archive and its program replay are measured
 # beside ours.
 #
-# It needs rt, cargo, Python 3, a C compiler and Debian's libxml2-dev, which it installs if it is missing (as root).
+# It needs rt, cargo, Python 3, a C compiler and libxml2; it installs nothing, and names what is missing.
 set -eu
 cd "$(dirname "$0")/../.."
 out=target/bench
 
-[ -e /usr/bin/xml2-config ] || apt-get install -q -y --no-install-recommends libxml2-dev >&2
+. tools/need.sh
+need cargo=cargo cc=gcc python3=python3 xml2-config=libxml2-dev
 session=$(tools/archive.sh exports)
 selection=$(tools/archive.sh bench_select)
 tools/programs.sh replay
@@ -33,7 +34,7 @@ if [ -n "$old" ]; then
     replays="$replays $old/target/bin/replay"
 fi
 cargo build --release --quiet --manifest-path tools/reference/Cargo.toml
-python3 tools/differential/cases.py full-bundle "${1:-1}" > $out/bundle
+python3 tools/compare/cases.py full-bundle "${1:-1}" > $out/bundle
 
 # shellcheck disable=SC2046,SC2086
 cc -O2 -Wall -Wextra -Werror -Iinclude tools/bench/bench.c "$session" "$selection" \

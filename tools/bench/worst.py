@@ -4,7 +4,7 @@
     worst.py FOLDER
 
 Accepted ones, and beside each a refused one, NAME-refused, whose last line is refused. tools/bench/worst.sh times
-them."""
+them. It needs Python 3 and installs nothing."""
 import os
 import subprocess
 import sys
@@ -31,7 +31,7 @@ def slot(row):
 
 def full_bundle(seed):
     """The rows and steps of the full bundle."""
-    cases = os.path.join(os.path.dirname(__file__), '..', 'differential', 'cases.py')
+    cases = os.path.join(os.path.dirname(__file__), '..', 'compare', 'cases.py')
     made = subprocess.run([sys.executable, cases, 'full-bundle', str(seed)], stdout=subprocess.PIPE, check=True, text=True)
     lines = made.stdout.split('\n')[:-1]
     at = lines.index(STEP_NAMES)

@@ -3,10 +3,12 @@
 #
 #     tools/bench/worst.sh
 #
-# It needs rt, cargo, Python 3 and a C compiler.
+# It needs rt, cargo, Python 3 and a C compiler; it installs nothing, and names what is missing.
 set -eu
 cd "$(dirname "$0")/../.."
 out=target/bench
+. tools/need.sh
+need cargo=cargo cc=gcc python3=python3
 
 session=$(tools/archive.sh exports)
 mkdir -p $out

@@ -1,5 +1,5 @@
-//! The plain book: rows, steps and 02's named points, and the calls term, step, point, return and select with their
-//! refusals in the papers' order.
+//! The plain book: rows, steps and named points, and the calls term, step, point, return and select with their
+//! refusals in their order.
 
 use crate::document::document;
 use crate::rules;

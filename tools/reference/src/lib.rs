@@ -1,8 +1,8 @@
-//! A plain implementation of the scope document ("01") and of its readings in docs/DECISIONS.md, to hold the proved programs
+//! A plain implementation of docs/SPECIFICATION.md and of its readings in docs/DECISIONS.md, to hold the proved programs
 //! against. It shares nothing with their code. It needs Rust's standard library alone.
 //!
 //! ```text
-//! cargo test                                  01's examples, log cases, limits and refusals
+//! cargo test                                  examples, log cases, limits and refusals
 //! cargo build --release
 //! target/release/reference audit < BUNDLE     what the program audit must print
 //! target/release/reference replay < CALLS     what the program replay must print
@@ -23,5 +23,5 @@ pub mod text;
 #[cfg(test)]
 mod tests;
 
-/// An answer: 01's number, 0 for acceptance, and its value.
+/// An answer: a refusal's number, 0 for acceptance, and its value.
 pub type Answer = (u16, u64);

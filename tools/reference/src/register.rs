@@ -1,4 +1,4 @@
-//! 02's register: records of editions above a book. A return drops no row and no step that a record has. The office
+//! The register: records of editions above a book. A return drops no row and no step that a record has. The office
 //! sees all records, a crew the released ones.
 
 use crate::book::Book;

@@ -1,4 +1,4 @@
-//! The rules in 01's own notation, their patterns, and whether a rule yields a step.
+//! The rules in the notation of docs/SPECIFICATION.md, Rules, their patterns, and whether a rule yields a step.
 
 use crate::term::{Axis, Term, Test, AXES};
 use std::collections::{HashMap, HashSet};
@@ -107,10 +107,10 @@ fn test_below(n: Test, m: Test) -> bool {
         || matches!((n, m), (Test::Name(_), Test::AnyElement) | (Test::Target(_), Test::Instruction))
 }
 
-/// The rule of T-07: r <= r[some w], w being r's way back.
+/// The rule of the way back: r <= r[some w], w being r's way back.
 pub const WAY_BACK: u16 = 59;
 
-/// The axis that leads back, of those that T-07 names.
+/// The axis that leads back, of those that have one.
 fn opposite(axis: Axis) -> Option<Axis> {
     use Axis::*;
     match axis {

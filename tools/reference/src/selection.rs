@@ -8,7 +8,7 @@ use std::rc::Rc;
 type Nodes = Rc<BTreeSet<usize>>;
 
 /// An evaluation on one document. Results are kept for each term and node, since shared operands would otherwise make
-/// it exponential. Visits are counted as 01 defines them all the same; they stop at the largest 64-bit number, which
+/// it exponential. Visits are counted as they are defined all the same; they stop at the largest 64-bit number, which
 /// no limit reaches.
 pub struct Evaluation<'d> {
     document: &'d Document,

@@ -1,14 +1,14 @@
-//! 01's examples, log cases, limits and refusals.
+//! Examples, log cases, limits and refusals.
 
 use crate::book::Book;
 use crate::bundle::{read, write};
 use crate::programs::{audit, replay, MOST_BYTES};
 use crate::tally::tally;
 
-/// 01's document: root, log 1, mark 2, a text, zero 3, run 4, mark 2.
+/// The log: root, log 1, mark 2, a text, zero 3, run 4, mark 2.
 const LOG: &str = "document 0 0 0 1 0 1 1 1 2 2 2 0 1 1 3 1 1 4 1 5 2\n";
 
-/// 01's bundle.
+/// The bundle of docs/SPECIFICATION.md, Bundles.
 const EXAMPLE: &str = "kind a b c\n2 1 0 2\n2 3 1 0\nrule left right first second\n8 0 1 0 0\n";
 
 fn replayed(input: &str) -> Vec<String> {
@@ -246,7 +246,7 @@ fn damaged_bundles() {
     assert_eq!(audit(&vec![b'0'; MOST_BYTES]), "answer line steps left right\n10 1 0 0 0\n");
 }
 
-/// The mistakes that 01 rules out, each as a step that its rule doesn't yield.
+/// Mistakes of other tables, each as a step that its rule doesn't yield.
 #[test]
 fn write_gives_the_bundle_back() {
     let calls = "term 2 1 0 2\nterm 2 3 1 0\nstep 8 0 1 0 0\n";
@@ -327,7 +327,7 @@ fn lists_replaced() {
     assert_eq!(last(&format!("old{}\n", many("0", 101))), "10 1");
 }
 
-/// The files of the tally tests: 01's example, the same with a second step that isn't yielded, and a text too long.
+/// The files of the tally tests: the example, the same with a second step that isn't yielded, and a text too long.
 fn tally_files(name: &str) -> String {
     let directory = std::env::temp_dir().join(format!("reference-{}-{name}", std::process::id()));
     std::fs::create_dir_all(&directory).unwrap();

@@ -1,4 +1,4 @@
-//! T-06: selectors as text. A reader that goes from left to right and fails at the first byte that can't continue.
+//! Selectors as text. A reader that goes from left to right and fails at the first byte that can't continue.
 
 use crate::book::{Book, Row, DEEPEST, MOST_ROWS};
 use crate::term::AXES;
