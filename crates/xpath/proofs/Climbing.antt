@@ -161,7 +161,7 @@ pub answers_alike : AnswersAlike
 answers_alike d w x y l = alike_below d (length d) (parent_smaller d w) x y l
 
 -- after sound rows, both climbs judge the next row alike
-row_alike : (d : Document) (n : ℕ) → ((k : ℕ) → k < n → T (row_ok d k)) → row_ok_by climb_met d n
+pub row_alike : (d : Document) (n : ℕ) → ((k : ℕ) → k < n → T (row_ok d k)) → row_ok_by climb_met d n
     ≡ row_ok_by is_ancestor d n
 row_alike d zero ok = refl
 row_alike d (suc n) ok =
@@ -205,7 +205,7 @@ module _ (d : Document) (x y e : ℕ) (es : List ℕ) where
 
     -- the climb ends at `at`
     pub way_over : (met : Bool) → (at ≤ x) ⊎ (at ≤ parent_at d at) → met ≡ (ltb x y && eqb at x) →
-        ClimbMade d x y e es (record { met = met; parents = parents }) left
+        ClimbMade d x y e es met parents left
     unfolding climb_met
     way_over met o q =
         let a = w.rest in
@@ -214,6 +214,6 @@ module _ (d : Document) (x y e : ℕ) (es : List ℕ) where
         record { met = q ∙ rw (← n, ← w.here); parents = n; ends = w.ends ∙ rw (← n) }
 
     -- it ends after x, where the parent is not the smaller row
-    pub way_stuck : x < at → at ≤ parent_at d at → ClimbMade d x y e es (record { met = false; parents = parents }) left
+    pub way_stuck : x < at → at ≤ parent_at d at → ClimbMade d x y e es false parents left
     way_stuck h l =
         let r = w.room in way_over false (inr l) (rw (lt-ltb x y (omega arith), ne_eqb at x (λ q. omega arith)))

@@ -9,7 +9,7 @@ use lib.Dec.{T, leb, ltb, ltb→lt, lt→ltb}
 use lib.ListN.{length, get_or, set, replicate, length-set, length-replicate}
 use lib.Seq.{get_or-set_same, get_or-set_other}
 use mir.Facts.{and_yes, yes_and, leb_yes}
-use Rattle.xpath.specs.Document.{Document, parent_at, is_ancestor, row_ok, well_formed, max_nodes}
+use Rattle.xpath.specs.Document.{Document, parent_at, is_ancestor, row_ok, well_formed}
 use Rattle.common.specs.Bounded.{all_below}
 use Rattle.xpath.specs.Climb.{above, parents_taken}
 use Rattle.xpath.specs.code.Check.{closed, closed_before, closed_in_turn}
@@ -26,8 +26,9 @@ same_at zero v x h = absurd (omega arith)
 same_at (suc n) v zero h = refl
 same_at (suc n) v (suc x) h = same_at n v x (omega arith)
 
-pub filled_with : (v : ℕ) → Filled v (replicate max_nodes v)
-filled_with v = record { size = length-replicate {A = ℕ} max_nodes v; all = same_at max_nodes v }
+pub filled_with : (n v : ℕ) → v ≤ n → Filled v (replicate n v)
+filled_with n v l =
+    record { room = omega (arith, length-replicate {A = ℕ} n v); all = λ x h. same_at n v x (omega arith) }
 
 -- an ancestor-or-self of y that is not y is one of the parent of y
 past_parent : {d : Document} {x y : ℕ} → x ≢ y → AncestorOrSelf d x y → AncestorOrSelf d x (parent_at d y)
@@ -37,7 +38,7 @@ past_parent ne (inr a) = ⊎_elim (λ e. inl (sym e)) (λ b. inr b) (ancestor_ca
 -- The pass has come to row `last`; `at` is that row or an ancestor of it, and all of its ancestors-or-selves that come
 -- after `at` are closed. A row that is not closed has the number of rows for its end.
 pub record Closing (d : Document) (last at : ℕ) (es : List ℕ) : Type 0 where
-  pub size : length es ≡ max_nodes
+  pub room : length d ≤ length es
   pub inside : last < length d
   pub current : AncestorOrSelf d at last
   pub next : suc last < length d → AncestorOrSelf d (parent_at d (suc last)) at
@@ -81,10 +82,10 @@ module _ (d : Document) (w : T (well_formed d)) where
   next_placed : (last : ℕ) → suc last < length d → AncestorOrSelf d (parent_at d (suc last)) last
   next_placed last l = (row_facts d w last l).0
 
-  none_closed : (es : List ℕ) → Filled (length d) es → length d ≤ max_nodes → Closing d 0 0 es
-  none_closed es f m =
+  none_closed : (es : List ℕ) → Filled (length d) es → Closing d 0 0 es
+  none_closed es f =
       record {
-        size = f.size;
+        room = f.room;
         inside = well_formed_positive;
         current = inl refl;
         next = next_placed 0;
@@ -97,18 +98,18 @@ module _ (d : Document) (w : T (well_formed d)) where
     at_le = or_self_le d w u.inside u.current
 
     -- the subtree of `at` ends before the next row, whose parent comes before `at`
-    close_one : suc last < length d → length d ≤ max_nodes → parent_at d (suc last) < at →
+    close_one : suc last < length d → parent_at d (suc last) < at →
         Closing d last (parent_at d at) (set es at (suc last))
-    close_one l m h =
+    close_one l h =
         let k : at ≤ last = at_le in
         let up : Ancestor d (parent_at d at) at = parent_is {y = at} (omega arith) refl in
         let p : parent_at d (suc last) < length d = omega arith in
         let outside : ¬ (Ancestor d at (suc last)) = λ a.
         ⊎_elim (λ e. omega arith) (λ b. let g = ancestor_smaller d w p b in omega arith) (ancestor_cases a) in
-        let inside : at < length es = omega (arith, u.size) in
+        let inside : at < length es = omega (arith, u.room) in
         let e : get_or (set es at (suc last)) at 0 ≡ suc last = get_or-set_same es at (suc last) 0 inside in
         record {
-          size = length-set es at (suc last) ∙ u.size;
+          room = omega (arith, length-set es at (suc last), u.room);
           inside = u.inside;
           current = inr (ancestor_of_or_self up u.current);
           next = λ l. past_parent (λ e. omega arith) (u.next l);
@@ -129,7 +130,7 @@ module _ (d : Document) (w : T (well_formed d)) where
         let e : parent_at d (suc last) ≡ at = omega arith in
         let up : Ancestor d at (suc last) = parent_is {y = suc last} (omega arith) e in
         record {
-          size = u.size;
+          room = u.room;
           inside = l;
           current = inl refl;
           next = next_placed (suc last);
@@ -153,39 +154,38 @@ module _ (d : Document) (w : T (well_formed d)) where
         (λ r. r)
         (u.seen x (omega arith))
 
-    all_closed : length d ≤ suc last → length d ≤ max_nodes → Ends d es
-    all_closed l m = record { room = omega (arith, u.size); row = all_ends l }
+    all_closed : length d ≤ suc last → Ends d es
+    all_closed l = record { room = u.room; row = all_ends l }
 
-  module _ (few : length d ≤ max_nodes) where
-    -- the climb toward the next row's parent leaves only rows whose subtrees end before that row
-    close_left : (last : ℕ) (es : List ℕ) → Closing d last last es → suc last < length d → (k : ℕ) →
-        k ≤ parents_taken d (parent_at d (suc last)) last →
-        Closing d last (above d k last) (closed d last (suc last) k es)
-    unfolding above closed
-    close_left last es u l zero h = u
-    close_left last es u l (suc k) h =
-        let least = count_least d w (parent_at d (suc last)) last u.inside in
-        let c = close_left last es u l k (omega arith) in
-        close_one last (above d k last) _ c l few (least.earlier k (omega arith))
+  -- the climb toward the next row's parent leaves only rows whose subtrees end before that row
+  close_left : (last : ℕ) (es : List ℕ) → Closing d last last es → suc last < length d → (k : ℕ) →
+      k ≤ parents_taken d (parent_at d (suc last)) last →
+      Closing d last (above d k last) (closed d last (suc last) k es)
+  unfolding above closed
+  close_left last es u l zero h = u
+  close_left last es u l (suc k) h =
+      let least = count_least d w (parent_at d (suc last)) last u.inside in
+      let c = close_left last es u l k (omega arith) in
+      close_one last (above d k last) _ c l (least.earlier k (omega arith))
 
-    close_before : (last : ℕ) (es : List ℕ) → Closing d last last es → suc last < length d →
-        Closing d (suc last) (suc last) (closed_before d (suc last) es)
-    unfolding closed_before
-    close_before last es u l =
-        let least = count_least d w (parent_at d (suc last)) last u.inside in
-        let c = close_left last es u l (parents_taken d (parent_at d (suc last)) last) (omega arith) in
-        next_row last _ _ c l least.ends
+  close_before : (last : ℕ) (es : List ℕ) → Closing d last last es → suc last < length d →
+      Closing d (suc last) (suc last) (closed_before d (suc last) es)
+  unfolding closed_before
+  close_before last es u l =
+      let least = count_least d w (parent_at d (suc last)) last u.inside in
+      let c = close_left last es u l (parents_taken d (parent_at d (suc last)) last) (omega arith) in
+      next_row last _ _ c l least.ends
 
-    close_in_turn : (es : List ℕ) → Filled (length d) es → (last : ℕ) → last < length d →
-        Closing d last last (closed_in_turn d (suc last) es)
-    unfolding closed_in_turn closed_before
-    close_in_turn es f zero l = none_closed es f few
-    close_in_turn es f (suc last) l = close_before last _ (close_in_turn es f last (omega arith)) l
+  close_in_turn : (es : List ℕ) → Filled (length d) es → (last : ℕ) → last < length d →
+      Closing d last last (closed_in_turn d (suc last) es)
+  unfolding closed_in_turn closed_before
+  close_in_turn es f zero l = none_closed es f
+  close_in_turn es f (suc last) l = close_before last _ (close_in_turn es f last (omega arith)) l
 
-    -- the pass finds the end of each subtree
-    pub ends_found : (es : List ℕ) → Filled (length d) es → Ends d (closed_in_turn d (length d) es)
-    ends_found es f =
-        let l = well_formed_positive in
-        let e : suc (length d - 1) ≡ length d = omega arith in
-        subst (λ (n : ℕ). Ends d (closed_in_turn d n es)) e
-        (all_closed (length d - 1) _ _ (close_in_turn es f (length d - 1) (omega arith)) (omega arith) few)
+  -- the pass finds the end of each subtree
+  pub ends_found : (es : List ℕ) → Filled (length d) es → Ends d (closed_in_turn d (length d) es)
+  ends_found es f =
+      let l = well_formed_positive in
+      let e : suc (length d - 1) ≡ length d = omega arith in
+      subst (λ (n : ℕ). Ends d (closed_in_turn d n es)) e
+      (all_closed (length d - 1) _ _ (close_in_turn es f (length d - 1) (omega arith)) (omega arith))

@@ -18,17 +18,25 @@ use Rattle.xpath.specs.Climb.{climb_met}
 use Rattle.xpath.specs.code.Ends.{Filled}
 use Rattle.xpath.specs.code.Check.{closed, closed_before, closed_in_turn, ClimbMade, Placed, FirstBad}
 use Rattle.xpath.specs.code.Check.{DocumentChecked}
-use Rattle.xpath.specs.declared.document.Climb.{Climb}
 use Rattle.common.proofs.Search.{first_not_yet, first_found, found_below}
 use Rattle.xpath.proofs.LentNumbers.{nodes_lent}
 use Rattle.xpath.proofs.Refusal.{accepted_iff}
 use Rattle.xpath.proofs.Climbing.{takes_none, not_met, refuses_alike}
 use Rattle.xpath.proofs.Ends.{ends_found}
 
--- the first n rows are as they must be, and the subtrees that end before the last of them are closed
-pub record Passed (xs es : List ℕ) (n : ℕ) (left : List ℕ) : Type 0 where
-  pub sound : first_below n (bad_row_by climb_met xs) ≡ none
-  pub ends : left ≡ closed_in_turn (document_of xs) n es
+-- none of the first n rows is bad, and the subtrees that end before the last of them are closed
+pub record PassedBy (bad : ℕ → Bool) (d : Document) (es : List ℕ) (n : ℕ) (left : List ℕ) : Type 0 where
+  pub sound : first_below n bad ≡ none
+  pub ends : left ≡ closed_in_turn d n es
+
+pub passed_next : (bad : ℕ → Bool) (d : Document) (es : List ℕ) (n : ℕ) (left next : List ℕ) →
+    PassedBy bad d es n left → bad n ≡ false → next ≡ closed_before d n left → PassedBy bad d es (suc n) next
+unfolding closed_in_turn
+passed_next bad d es n left next p ok e = record { sound = first_not_yet bad n p.sound ok; ends = e ∙ rw p.ends }
+
+-- of lent numbers, by the climb
+abbrev pub Passed : (xs es : List ℕ) (n : ℕ) (left : List ℕ) → Type 0
+Passed xs es n left = PassedBy (bad_row_by climb_met xs) (document_of xs) es n left
 
 module _ (xs es : List ℕ) where
   pub none_passed : Passed xs es 0 es
@@ -43,12 +51,7 @@ module _ (xs es : List ℕ) where
 
       pub passed_on : (next : List ℕ) → row_ok_by climb_met (document_of xs) n ≡ true →
           next ≡ closed_before (document_of xs) n left → Passed xs es (suc n) next
-      unfolding closed_in_turn
-      passed_on next ok e =
-          record {
-            sound = first_not_yet (bad_row_by climb_met xs) n p.sound (rw (complete, ok));
-            ends = e ∙ rw p.ends;
-          }
+      passed_on next ok e = passed_next (bad_row_by climb_met xs) _ es n left next p (rw (complete, ok)) e
 
       pub bad_found : (next : List ℕ) → row_ok_by climb_met (document_of xs) n ≡ false → FirstBad xs es (Some n) next
       unfolding lent_rows
@@ -119,9 +122,9 @@ module _ (d : Document) (p n : ℕ) (es : List ℕ) where
   unfolding closed
   same_placed e = record { placed = rw (eq-eqb p n e); ends = rw (takes_none d p n (inl (omega arith))) }
 
-  pub climb_placed : (e : ℕ) (r : Climb) (left : List ℕ) → e ≡ suc n → ¬ (p ≡ n) → ClimbMade d p n e es r left →
-      Placed d p n es r.met left
-  climb_placed e r left q ne m = record { placed = m.met ∙ rw (ne_eqb p n ne); ends = m.ends ∙ rw q }
+  pub climb_placed : (e : ℕ) (met : Bool) (k : ℕ) (left : List ℕ) → e ≡ suc n → ¬ (p ≡ n) →
+      ClimbMade d p n e es met k left → Placed d p n es met left
+  climb_placed e met k left q ne m = record { placed = m.met ∙ rw (ne_eqb p n ne); ends = m.ends ∙ rw q }
 
   -- such a row is no later one
   pub placed_below : (r : Bool) (left : List ℕ) → Placed d p n es r left → r ≡ true → p ≤ n
@@ -173,4 +176,4 @@ module _ (xs : List ℕ) where
             let (whole, small, formed) = (accepted_iff xs).0 (sym e) in
             let n : lent_rows xs ≡ length (document_of xs) = omega arith in
             let g : Filled (length (document_of xs)) es = subst (λ (v : ℕ). Filled v es) n f in
-            record { refusal = e; ends = rw b.ends (ends_found (document_of xs) formed small es g) }
+            record { refusal = e; ends = rw b.ends (ends_found (document_of xs) formed es g) }

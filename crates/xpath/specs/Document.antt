@@ -113,12 +113,13 @@ bad_row_by ancestor xs n = ltb (length xs) (node_width * n + node_width) || not 
 unfoldable pub bad_row : List ℕ → ℕ → Bool
 bad_row = bad_row_by is_ancestor
 
--- the value of refusal 8, where it applies: no rows 0, too many max_nodes, else the first bad row
+-- the value of refusal 8 for n rows, where it applies: no rows 0, more than `most` that number, else the first bad row
+abbrev pub refused_rows : (most n : ℕ) → (bad : ℕ → Bool) → Option ℕ
+refused_rows most n bad = cond (eqb n 0) (some 0) (cond (ltb most n) (some most) (first_below n bad))
+
+-- of lent numbers
 abbrev pub document_refusal_by : (ancestor : Document → ℕ → ℕ → Bool) → List ℕ → Option ℕ
-document_refusal_by ancestor xs =
-    cond (eqb (lent_rows xs) 0) (some 0)
-    (cond (ltb max_nodes (lent_rows xs)) (some max_nodes)
-    (first_below (lent_rows xs) (bad_row_by ancestor xs)))
+document_refusal_by ancestor xs = refused_rows max_nodes (lent_rows xs) (bad_row_by ancestor xs)
 
 unfoldable pub document_refusal : List ℕ → Option ℕ
 document_refusal = document_refusal_by is_ancestor

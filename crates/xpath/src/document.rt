@@ -119,7 +119,7 @@ pub struct Climb {
 pub fn climb_toward(d: &[u16], x: usize, y: usize, end: u16, ends: &mut [u16; MAX_NODES]) -> Climb
     requires y_in_bounds { y < length (document_of d.now) }
     requires y_lt_max_nodes { y < max_nodes }
-    ensures { ClimbMade (document_of d.now) x y end ends.old result ends.new }
+    ensures { ClimbMade (document_of d.now) x y end ends.old result.met result.parents ends.new }
 {
     let mut at = y;
     let mut parents = 0;
@@ -145,7 +145,7 @@ pub fn climb_toward(d: &[u16], x: usize, y: usize, end: u16, ends: &mut [u16; MA
 // The kinds that may have no name, and those that may have one, by their numbers: with a conversion to NodeKind the
 // check of a document takes 1.2 to 1.3 times as long.
 #[tactic(auto, unfolding(crate::specs::Document::kind_and_name_ok))]
-fn kind_and_name_ok(kind: u16, name: u16) -> bool
+pub fn kind_and_name_ok(kind: u16, name: u16) -> bool
     ensures { result ≡ kind_and_name_ok kind name }
 {
     if name == 0 {

@@ -7,7 +7,6 @@ use Rattle.common.specs.Bounded.{first_below}
 use Rattle.xpath.specs.Document.{Document, parent_at, document_of, lent_rows, bad_row_by, document_refusal}
 use Rattle.xpath.specs.Climb.{above, parents_taken, climb_met}
 use Rattle.xpath.specs.code.Ends.{Ends}
-use Rattle.xpath.specs.declared.document.Climb.{Climb}
 
 -- the value of refusal 8, none where the document is accepted
 abbrev pub refusal_of : Result (List ℕ) ℕ → Option ℕ
@@ -31,9 +30,9 @@ closed d y e zero es = es
 closed d y e (suc k) es = set (closed d y e k es) (above d k y) e
 
 -- the climb from y toward x, which closes at row e the subtree of each row that it leaves
-pub record ClimbMade (d : Document) (x y e : ℕ) (es : List ℕ) (r : Climb) (left : List ℕ) : Type 0 where
-  pub met : r.met ≡ climb_met d x y
-  pub parents : r.parents ≡ parents_taken d x y
+pub record ClimbMade (d : Document) (x y e : ℕ) (es : List ℕ) (r : Bool) (k : ℕ) (left : List ℕ) : Type 0 where
+  pub met : r ≡ climb_met d x y
+  pub parents : k ≡ parents_taken d x y
   pub ends : left ≡ closed d y e (parents_taken d x y) es
 
 -- What the parts of the check promise each other.

@@ -19,7 +19,7 @@ pub record Prepared (d : Document) (es : List ℕ) : Type 0 where
   pub formed : T (well_formed d)
   pub ends : Ends d es
 
--- room for every row, and each number is v
+-- room for v rows, and the end of each is v
 pub record Filled (v : ℕ) (es : List ℕ) : Type 0 where
-  pub size : length es ≡ max_nodes
-  pub all : (x : ℕ) → x < max_nodes → get_or es x 0 ≡ v
+  pub room : v ≤ length es
+  pub all : (x : ℕ) → x < v → get_or es x 0 ≡ v

@@ -1,6 +1,6 @@
 -- `check_document` meets its contract, test by test in the order of the definition. Assumes nothing.
-use Rattle.std.proofs.Common.{◌≡◌, ◌∙◌, arith}
-use Rattle.xpath.specs.Document.{lent_rows}
+use Rattle.std.proofs.Common.{◌≡◌, ◌≤◌, ◌∙◌, arith}
+use Rattle.xpath.specs.Document.{lent_rows, max_nodes}
 use Rattle.xpath.proofs.LentNumbers.{nodes_lent, rows_counted}
 use Rattle.xpath.proofs.Ends.{filled_with}
 use Rattle.xpath.proofs.Rows.{no_rows, too_many, bad_below, row_refused, all_accepted}
@@ -31,4 +31,6 @@ returns-in-Some c =
 pub returns-in-None : goal.returns-in-None
 returns-in-None c =
     let n : c.div_ceil-n.result ≡ lent_rows c.args.d.now = c.div_ceil-n.ensures ∙ rows_counted _ in
-    all_accepted _ (λ e. c.if-n-eq0.false (omega arith)) (omega arith) _ _ c.in-None.ensures (rw (← n) (filled_with _))
+    let few : c.div_ceil-n.result ≤ max_nodes = omega arith in
+    all_accepted _ (λ e. c.if-n-eq0.false (omega arith)) (omega arith) _ _ c.in-None.ensures
+    (rw (← n) (filled_with max_nodes c.div_ceil-n.result few))

@@ -1,0 +1,4 @@
+pub mod Columns
+pub mod Checks
+pub mod Documents
+pub mod values

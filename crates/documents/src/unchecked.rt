@@ -1,0 +1,11 @@
+// Columns that are not checked.
+ghost use Rattle.documents.specs.Columns.{Even};
+
+// The kinds, the parents and the names of the rows.
+#[derive(Clone, Copy)]
+pub struct Unchecked<'a> {
+    pub kinds: &'a [u8],
+    pub parents: &'a [u32],
+    pub names: &'a [u16],
+    pub ghost even: { Even kinds.now parents.now names.now },
+}
