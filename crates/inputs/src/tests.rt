@@ -32,7 +32,7 @@ impl Read for Slow<'_> {
     }
 }
 
-fn slow(most: usize, fails: bool) -> Slow<'static> {
+fn make_slow(most: usize, fails: bool) -> Slow<'static> {
     Slow {
         left: BYTES,
         most,
@@ -43,15 +43,15 @@ fn slow(most: usize, fails: bool) -> Slow<'static> {
 
 #[test]
 fn a_byte_at_a_time(rt: HostRuntime) -> Result<(), Fail> {
-    let bytes = read_bundle(rt.alloc(), slow(1, false))?;
+    let bytes = read_bundle(rt.alloc(), make_slow(1, false))?;
     assert_eq!(rt; bytes.as_slice(), BYTES);
-    let bytes = read_bundle(rt.alloc(), slow(100, false))?;
+    let bytes = read_bundle(rt.alloc(), make_slow(100, false))?;
     assert_eq!(rt; bytes.as_slice(), BYTES);
     Ok(())
 }
 
 #[test]
 fn a_read_that_fails(rt: HostRuntime) -> Result<(), Fail> {
-    assert!(rt; read_bundle(rt.alloc(), slow(7, true)).is_err());
+    assert!(rt; read_bundle(rt.alloc(), make_slow(7, true)).is_err());
     Ok(())
 }
