@@ -11,7 +11,7 @@ mod node_tests;
 pub use checked::Checked;
 pub use document::{
     Climb, Node, check_document, climb_toward, is_attribute, kind_and_name_ok, node_at, node_count,
-    parent_at, parent_of, parent_of, whole_node, whole_node,
+    parent_at, parent_of, whole_node,
 };
 pub use node_tests::{AnyNode, Named, NodeSet, OfKind, StepTest, passes_test};
 
