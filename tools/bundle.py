@@ -23,12 +23,16 @@ VOID, ROOT, AXIS_STEP, UNION, COMPOSITION, FILTER, TRUE, FALSE, NOT, AND, OR, IN
 
 def read_names(path):
     """The number of each name: of two equal lines the first counts. A list that `spinebriar` refuses is refused."""
-    numbers, text = {}, open(path, 'rb').read().decode('utf-8', 'replace')
-    for number, line in enumerate(text.split('\n'), 1):
-        if re.search('^\ufeff|[\0-\x08\x0b-\x1f\x7f\ufffd]|[ \t]$', line):
+    numbers = {}
+    for number, line in enumerate(open(path, 'rb').read().split(b'\n'), 1):
+        try:
+            text = line.decode('utf-8')
+        except UnicodeDecodeError:
+            text = '\0'
+        if (number == 1 and text.startswith('\ufeff')) or re.search('[\0-\x08\x0b-\x1f\x7f]|[ \t]$', text):
             raise SystemExit('%s: line %d has a mark, a blank at its end or bytes that no list has' % (path, number))
-        if re.fullmatch(r'[A-Za-z_][A-Za-z0-9_.-]*', line):
-            numbers.setdefault(line, number)
+        if re.fullmatch(r'[A-Za-z_][A-Za-z0-9_.-]*', text):
+            numbers.setdefault(text, number)
     return numbers
 
 

@@ -75,6 +75,9 @@ no_list() { # WHAT TEXT LINE WHY
     runs "$1" 2 '' "spinebriar: $list: line $3 $4\n" rows "$xml" --names "$list" --add
     runs "$1, of check" 2 '' "spinebriar: $list: line $3 $4\n" check crates/audit/stdin --names "$list"
     passes cmp "$list" "$out/before"
+    status=0
+    python3 tools/bundle.py "$list" </dev/null >"$out/stdout" 2>"$out/stderr" || status=$?
+    verdict "$1, of bundle.py" 1 '' "$list: line $3 has a mark, a blank at its end or bytes that no list has\n"
 }
 
 # Files whose names would silently have other numbers, or none.
