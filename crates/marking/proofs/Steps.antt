@@ -47,9 +47,9 @@ module _ (d : Document) (es : List ℕ) (r : Prepared d es) (t : ℕ → Bool) (
   kept_of a y = may_hold a d y && t y
 
   -- the nodes of the axis are those between lo and hi that pass f
-  by_tests : {M : Type 0} {mark : M} {old new : List M} (a lo hi : ℕ) (f : ℕ → Bool) →
+  by_tests : {old new : List ℕ} (a lo hi : ℕ) (f : ℕ → Bool) →
       ((y : ℕ) → y < length d → (((lo ≤ y) × (y < hi)) × T (f y)) ↔ OnAxis a d x y) →
-      Added (length d) mark old new (between lo hi (λ y. f y && t y)) → Added (length d) mark old new (stepped a)
+      Added (length d) old new (between lo hi (λ y. f y && t y)) → Added (length d) old new (stepped a)
   by_tests a lo hi f e u =
       added_cong (stepped a) u (λ y l.
       let i = and_via (leb lo y) (ltb y hi) (le_iff lo y) (le_iff (suc y) hi) in
@@ -60,10 +60,10 @@ module _ (d : Document) (es : List ℕ) (r : Prepared d es) (t : ℕ → Bool) (
       rw b (and_assoc (leb lo y && ltb y hi) (f y) (t y)))
 
   -- the same of those that pass f and are may_hold
-  by_candidates : {M : Type 0} {mark : M} {old new : List M} (a lo hi : ℕ) (f : ℕ → Bool) →
+  by_candidates : {old new : List ℕ} (a lo hi : ℕ) (f : ℕ → Bool) →
       ((y : ℕ) → y < length d → (((lo ≤ y) × (y < hi)) × T (f y) × T (may_hold a d y)) ↔ OnAxis a d x y) →
-      Added (length d) mark old new (between lo hi (λ y. f y && kept_of a y)) →
-      Added (length d) mark old new (stepped a)
+      Added (length d) old new (between lo hi (λ y. f y && kept_of a y)) →
+      Added (length d) old new (stepped a)
   by_candidates a lo hi f e u =
       by_tests a lo hi (λ y. f y && may_hold a d y)
       (λ y l. let i = and_iff (f y) (may_hold a d y) in
@@ -75,14 +75,14 @@ module _ (d : Document) (es : List ℕ) (r : Prepared d es) (t : ℕ → Bool) (
   descendant_before z y m l a = ⊎_elim (λ h. absurd (past_end d es r z y h l m a)) (λ h. h) (le_or_lt (end z) y)
 
   -- the node itself
-  pub self_marked : {M : Type 0} {mark : M} {old new : List M} → Added (length d) mark old new (λ y. eqb x y && t y) →
-      Added (length d) mark old new (stepped self)
+  pub self_marked : {old new : List ℕ} → Added (length d) old new (λ y. eqb x y && t y) →
+      Added (length d) old new (stepped self)
   unfolding on_axis
   self_marked u = u
 
-  pub descendant_marked : {M : Type 0} {mark : M} {old new : List M} (lo : ℕ) → lo ≡ x + 1 →
-      Added (length d) mark old new (between lo (end x) (kept_of descendant)) →
-      Added (length d) mark old new (stepped descendant)
+  pub descendant_marked : {old new : List ℕ} (lo : ℕ) → lo ≡ x + 1 →
+      Added (length d) old new (between lo (end x) (kept_of descendant)) →
+      Added (length d) old new (stepped descendant)
   unfolding OnAxis
   descendant_marked lo q =
       by_tests descendant lo (end x) (may_hold descendant d) (λ y l.
@@ -91,19 +91,19 @@ module _ (d : Document) (es : List ℕ) (r : Prepared d es) (t : ℕ → Bool) (
         λ (a, n). let s = ancestor_smaller d r.formed l a in ((omega arith, descendant_before x y k l a), v.1 n),
       ))
 
-  pub descendant_or_self_marked : {M : Type 0} {mark : M} {old mid new : List M} (lo : ℕ) → lo ≡ x + 1 →
-      Added (length d) mark old mid (λ y. eqb x y && t y) →
-      Added (length d) mark mid new (between lo (end x) (kept_of descendant)) →
-      Added (length d) mark old new (stepped descendant_or_self)
+  pub descendant_or_self_marked : {old mid new : List ℕ} (lo : ℕ) → lo ≡ x + 1 →
+      Added (length d) old mid (λ y. eqb x y && t y) →
+      Added (length d) mid new (between lo (end x) (kept_of descendant)) →
+      Added (length d) old new (stepped descendant_or_self)
   unfolding on_axis
   descendant_or_self_marked lo q a b =
       added_twice (stepped self) (stepped descendant) (stepped descendant_or_self)
       (self_marked a) (descendant_marked lo q b)
       (λ y l. and-or_distrib_right (eqb x y) (is_ancestor d x y && not (is_attribute d y)) (t y))
 
-  pub following_marked : {M : Type 0} {mark : M} {old new : List M} (n : ℕ) → n ≡ length d →
-      Added (length d) mark old new (between (end x) n (kept_of following)) →
-      Added (length d) mark old new (stepped following)
+  pub following_marked : {old new : List ℕ} (n : ℕ) → n ≡ length d →
+      Added (length d) old new (between (end x) n (kept_of following)) →
+      Added (length d) old new (stepped following)
   unfolding OnAxis
   following_marked n q =
       let s = (at_end d es r x k).after in
@@ -119,9 +119,9 @@ module _ (d : Document) (es : List ℕ) (r : Prepared d es) (t : ℕ → Bool) (
         ),
       ))
 
-  pub preceding_marked : {M : Type 0} {mark : M} {old new : List M} →
-      Added (length d) mark old new (between 0 x (λ y. leb (end y) x && kept_of preceding y)) →
-      Added (length d) mark old new (stepped preceding)
+  pub preceding_marked : {old new : List ℕ} →
+      Added (length d) old new (between 0 x (λ y. leb (end y) x && kept_of preceding y)) →
+      Added (length d) old new (stepped preceding)
   unfolding OnAxis
   preceding_marked =
       by_candidates preceding 0 x (λ y. leb (end y) x) (λ y l.
@@ -136,11 +136,11 @@ module _ (d : Document) (es : List ℕ) (r : Prepared d es) (t : ℕ → Bool) (
       ))
 
   -- the rows under x, by what is may_hold of them
-  under_marked : {M : Type 0} {mark : M} {old new : List M} (a lo : ℕ) (A : ℕ → Type 0) → lo ≡ x + 1 →
+  under_marked : {old new : List ℕ} (a lo : ℕ) (A : ℕ → Type 0) → lo ≡ x + 1 →
       ((y : ℕ) → T (may_hold a d y) ↔ A y) →
       ((y : ℕ) → (Child d x y × A y) ↔ OnAxis a d x y) →
-      Added (length d) mark old new (between lo (end x) (λ y. is_child d x y && kept_of a y)) →
-      Added (length d) mark old new (stepped a)
+      Added (length d) old new (between lo (end x) (λ y. is_child d x y && kept_of a y)) →
+      Added (length d) old new (stepped a)
   under_marked a lo A q v e =
       by_candidates a lo (end x) (is_child d x) (λ y l. (
         λ (h, m, n). (e y).0 (child_yes d x y m, (v y).0 n),
@@ -152,16 +152,16 @@ module _ (d : Document) (es : List ℕ) (r : Prepared d es) (t : ℕ → Bool) (
             ),
       ))
 
-  pub child_marked : {M : Type 0} {mark : M} {old new : List M} (lo : ℕ) → lo ≡ x + 1 →
-      Added (length d) mark old new (between lo (end x) (λ y. is_child d x y && kept_of child y)) →
-      Added (length d) mark old new (stepped child)
+  pub child_marked : {old new : List ℕ} (lo : ℕ) → lo ≡ x + 1 →
+      Added (length d) old new (between lo (end x) (λ y. is_child d x y && kept_of child y)) →
+      Added (length d) old new (stepped child)
   unfolding OnAxis
   child_marked lo q = under_marked child lo (NoAttribute d) q (λ y. may_hold_iff child d y (λ e. omega arith))
       (λ y. (λ c. c, λ c. c))
 
-  pub attribute_marked : {M : Type 0} {mark : M} {old new : List M} (lo : ℕ) → lo ≡ x + 1 →
-      Added (length d) mark old new (between lo (end x) (λ y. is_child d x y && kept_of attribute y)) →
-      Added (length d) mark old new (stepped attribute)
+  pub attribute_marked : {old new : List ℕ} (lo : ℕ) → lo ≡ x + 1 →
+      Added (length d) old new (between lo (end x) (λ y. is_child d x y && kept_of attribute y)) →
+      Added (length d) old new (stepped attribute)
   unfolding OnAxis
   attribute_marked lo q =
       under_marked attribute lo (λ y. kind_at d y ≡ attribute_kind) q (λ y. kept_attribute d y) (λ y. (λ c. c, λ c. c))
@@ -177,16 +177,16 @@ module _ (d : Document) (es : List ℕ) (r : Prepared d es) (t : ℕ → Bool) (
         ⊎_elim (λ f. omega arith) (λ c. let z = ancestor_smaller d r.formed {y = parent_at d y} (omega arith) c in
         omega arith) (ancestor_cases a)
 
-    pub parent_marked : {M : Type 0} {mark : M} {old new : List M} →
-        Added (length d) mark old new (λ y. eqb p y && t y) →
-        Added (length d) mark old new (stepped parent)
+    pub parent_marked : {old new : List ℕ} →
+        Added (length d) old new (λ y. eqb p y && t y) →
+        Added (length d) old new (stepped parent)
     unfolding on_axis is_child
     parent_marked u = added_cong (stepped parent) u (λ y l. rw (ne_eqb x 0 (λ e. omega arith), q))
 
     module _ (o : NoAttribute d x) where
-      pub following_sibling_marked : {M : Type 0} {mark : M} {old new : List M} →
-          Added (length d) mark old new (between (end x) (end p) (λ y. is_child d p y && kept_of following_sibling y)) →
-          Added (length d) mark old new (stepped following_sibling)
+      pub following_sibling_marked : {old new : List ℕ} →
+          Added (length d) old new (between (end x) (end p) (λ y. is_child d p y && kept_of following_sibling y)) →
+          Added (length d) old new (stepped following_sibling)
       unfolding OnAxis
       following_sibling_marked =
           let b = before in
@@ -205,9 +205,9 @@ module _ (d : Document) (es : List ℕ) (r : Prepared d es) (t : ℕ → Bool) (
             ),
           ))
 
-      pub preceding_sibling_marked : {M : Type 0} {mark : M} {old new : List M} (lo : ℕ) → lo ≡ p + 1 →
-          Added (length d) mark old new (between lo x (λ y. is_child d p y && kept_of preceding_sibling y)) →
-          Added (length d) mark old new (stepped preceding_sibling)
+      pub preceding_sibling_marked : {old new : List ℕ} (lo : ℕ) → lo ≡ p + 1 →
+          Added (length d) old new (between lo x (λ y. is_child d p y && kept_of preceding_sibling y)) →
+          Added (length d) old new (stepped preceding_sibling)
       unfolding OnAxis
       preceding_sibling_marked lo e =
           by_candidates preceding_sibling lo x (is_child d p) (λ y l.
@@ -219,23 +219,23 @@ module _ (d : Document) (es : List ℕ) (r : Prepared d es) (t : ℕ → Bool) (
           ))
 
   -- the axes that climb
-  pub ancestor_marked : {M : Type 0} {mark : M} {old new : List M} →
-      Added (length d) mark old new (λ y. is_ancestor d y x && t y) →
-      Added (length d) mark old new (stepped ancestor)
+  pub ancestor_marked : {old new : List ℕ} →
+      Added (length d) old new (λ y. is_ancestor d y x && t y) →
+      Added (length d) old new (stepped ancestor)
   unfolding on_axis
   ancestor_marked u = u
 
-  pub ancestor_or_self_marked : {M : Type 0} {mark : M} {old mid new : List M} →
-      Added (length d) mark old mid (λ y. eqb x y && t y) →
-      Added (length d) mark mid new (λ y. is_ancestor d y x && t y) →
-      Added (length d) mark old new (stepped ancestor_or_self)
+  pub ancestor_or_self_marked : {old mid new : List ℕ} →
+      Added (length d) old mid (λ y. eqb x y && t y) →
+      Added (length d) mid new (λ y. is_ancestor d y x && t y) →
+      Added (length d) old new (stepped ancestor_or_self)
   unfolding on_axis
   ancestor_or_self_marked a b =
       added_twice (stepped self) (λ y. is_ancestor d y x && t y) (stepped ancestor_or_self) (self_marked a) b
       (λ y l. and-or_distrib_right (eqb x y) (is_ancestor d y x) (t y))
 
   -- the root has no parent; it has no sibling, nor has an attribute
-  pub root_parent : {M : Type 0} {mark : M} {old : List M} → x ≡ 0 → Added (length d) mark old old (stepped parent)
+  pub root_parent : {old : List ℕ} → x ≡ 0 → Added (length d) old old (stepped parent)
   unfolding on_axis is_child
   root_parent e = nothing_added (stepped parent) (λ y l. rw e)
 
@@ -250,13 +250,13 @@ module _ (d : Document) (es : List ℕ) (r : Prepared d es) (t : ℕ → Bool) (
         λ s. absurd s,
       )
 
-  pub no_following_sibling : {M : Type 0} {mark : M} {old : List M} → (eqb x 0 || is_attribute d x) ≡ true →
-      Added (length d) mark old old (stepped following_sibling)
+  pub no_following_sibling : {old : List ℕ} → (eqb x 0 || is_attribute d x) ≡ true →
+      Added (length d) old old (stepped following_sibling)
   unfolding on_axis
   no_following_sibling e = nothing_added (stepped following_sibling) (λ y l. rw (no_siblings e y))
 
-  pub no_preceding_sibling : {M : Type 0} {mark : M} {old : List M} → (eqb x 0 || is_attribute d x) ≡ true →
-      Added (length d) mark old old (stepped preceding_sibling)
+  pub no_preceding_sibling : {old : List ℕ} → (eqb x 0 || is_attribute d x) ≡ true →
+      Added (length d) old old (stepped preceding_sibling)
   unfolding on_axis
   no_preceding_sibling e = nothing_added (stepped preceding_sibling) (λ y l. rw (no_siblings e y))
 
@@ -268,7 +268,7 @@ module _ (d : Document) (es : List ℕ) (r : Prepared d es) (t : ℕ → Bool) (
         λ q. f ((or_iff (eqb x 0) (is_attribute d x)).1 (inr ((eq_iff (kind_at d x) 5).1 q))),
       )
 
-  pub no_axis : {M : Type 0} {mark : M} {old : List M} (a : ℕ) → 12 ≤ a → Added (length d) mark old old (stepped a)
+  pub no_axis : {old : List ℕ} (a : ℕ) → 12 ≤ a → Added (length d) old old (stepped a)
   no_axis a h = nothing_added (stepped a) (λ y l. rw (← past_last_axis a d x y h))
 
 module _ (d : Document) (es : List ℕ) (r : Prepared d es) where

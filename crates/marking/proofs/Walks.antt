@@ -135,25 +135,23 @@ module _ (d : Document) (es : List ℕ) (r : Prepared d es) where
 -- the loops: the state of each, and its steps
 
 -- children of p, from lo to before hi, of which those before y are marked
-pub record ChildrenBelow {M : Type 0} (d : Document) (es : List ℕ) (t : ℕ → Bool) (p lo hi y : ℕ) (mark : M)
-    (old new : List M) : Type 0 where
+pub record ChildrenBelow (d : Document) (es : List ℕ) (t : ℕ → Bool) (p lo hi y : ℕ) (old new : List ℕ) : Type 0 where
   pub from : lo ≤ y
   pub inside : y ≤ get_or es p 0
   pub child : y < hi → is_child d p y ≡ true
   pub past : (k : ℕ) → k < length d → hi ≤ k → k < y → is_child d p k ≡ false
-  pub added : Added (length d) mark old new (between lo y (λ k. is_child d p k && t k))
+  pub added : Added (length d) old new (between lo y (λ k. is_child d p k && t k))
 
 -- what is known at the child y, whose subtree ends at e, before it is marked or left
-pub record AtChild {M : Type 0} (d : Document) (es : List ℕ) (t : ℕ → Bool) (p lo hi y e : ℕ) (mark : M)
-    (old new : List M) : Type 0 where
+pub record AtChild (d : Document) (es : List ℕ) (t : ℕ → Bool) (p lo hi y e : ℕ) (old new : List ℕ) : Type 0 where
   pub in_marks : y < length new
   pub less : y < e
-  pub marked : t y ≡ true → ChildrenBelow d es t p lo hi e mark old (set new y mark)
-  pub left : t y ≡ false → ChildrenBelow d es t p lo hi e mark old new
+  pub marked : t y ≡ true → ChildrenBelow d es t p lo hi e old (set new y 1)
+  pub left : t y ≡ false → ChildrenBelow d es t p lo hi e old new
 
-module _ {M : Type 0} (d : Document) (es : List ℕ) (r : Prepared d es) (t : ℕ → Bool) (p lo hi : ℕ)
-    (c : ChildrenFrom d es p lo hi) (mark : M) (old : List M) where
-  pub children_start : ChildrenBelow d es t p lo hi lo mark old old
+module _ (d : Document) (es : List ℕ) (r : Prepared d es) (t : ℕ → Bool) (p lo hi : ℕ)
+    (c : ChildrenFrom d es p lo hi) (old : List ℕ) where
+  pub children_start : ChildrenBelow d es t p lo hi lo old old
   children_start =
       record {
         from = omega arith;
@@ -163,7 +161,7 @@ module _ {M : Type 0} (d : Document) (es : List ℕ) (r : Prepared d es) (t : �
         added = up_start (λ k. is_child d p k && t k) lo;
       }
 
-  module _ (y e : ℕ) (new : List M) (u : ChildrenBelow d es t p lo hi y mark old new) (h : y < hi)
+  module _ (y e : ℕ) (new : List ℕ) (u : ChildrenBelow d es t p lo hi y old new) (h : y < hi)
       (q : e ≡ get_or es y 0)
       (few : length d ≤ length old) where
     in_document : y < length d
@@ -178,8 +176,8 @@ module _ {M : Type 0} (d : Document) (es : List ℕ) (r : Prepared d es) (t : �
     in_marks : y < length new
     in_marks = let a = in_document in omega (arith, u.added.size)
 
-    next : (new' : List M) → Added (length d) mark old new' (between lo e (λ k. is_child d p k && t k)) →
-        ChildrenBelow d es t p lo hi e mark old new'
+    next : (new' : List ℕ) → Added (length d) old new' (between lo e (λ k. is_child d p k && t k)) →
+        ChildrenBelow d es t p lo hi e old new'
     next new' v =
         let a = less in
         let b = c.inside in
@@ -191,13 +189,13 @@ module _ {M : Type 0} (d : Document) (es : List ℕ) (r : Prepared d es) (t : �
           added = v;
         }
 
-    pub at_child : AtChild d es t p lo hi y e mark old new
+    pub at_child : AtChild d es t p lo hi y e old new
     at_child =
         record {
           in_marks = in_marks;
           less = less;
           marked =
-              λ z. next (set new y mark)
+              λ z. next (set new y 1)
               (up_marked (λ k. is_child d p k && t k) lo y e u.added u.from less
               (λ k m a b. rw (gap k m a b)) in_marks
               (rw (u.child h, z)));
@@ -208,25 +206,23 @@ module _ {M : Type 0} (d : Document) (es : List ℕ) (r : Prepared d es) (t : �
         }
 
 -- ancestors of x, of which those from `at` on are marked
-pub record AncestorsFrom {M : Type 0} (d : Document) (t : ℕ → Bool) (x at : ℕ) (mark : M) (old new : List M)
-    : Type 0 where
+pub record AncestorsFrom (d : Document) (t : ℕ → Bool) (x at : ℕ) (old new : List ℕ) : Type 0 where
   pub current : AncestorOrSelf d at x
-  pub added : Added (length d) mark old new (from_on at (λ k. is_ancestor d k x && t k))
+  pub added : Added (length d) old new (from_on at (λ k. is_ancestor d k x && t k))
 
-module _ {M : Type 0} (d : Document) (w : T (well_formed d)) (t : ℕ → Bool) (x : ℕ) (l : x < length d)
-    (mark : M) (old : List M) where
-  pub ancestors_start : AncestorsFrom d t x x mark old old
+module _ (d : Document) (w : T (well_formed d)) (t : ℕ → Bool) (x : ℕ) (l : x < length d) (old : List ℕ) where
+  pub ancestors_start : AncestorsFrom d t x x old old
   ancestors_start =
       record {
         current = inl refl;
         added = down_start (λ k. is_ancestor d k x && t k) x (λ y m h. rw (no_later_ancestor d w y x l h));
       }
 
-  pub ancestors_at : (at : ℕ) (new : List M) → AncestorsFrom d t x at mark old new → at < length d
+  pub ancestors_at : (at : ℕ) (new : List ℕ) → AncestorsFrom d t x at old new → at < length d
   ancestors_at at new u =
       ⊎_elim (λ e. omega arith) (λ a. let g = ancestor_smaller d w l a in omega arith) u.current
 
-  module _ (at p : ℕ) (new : List M) (u : AncestorsFrom d t x at mark old new) (h : 0 < at)
+  module _ (at p : ℕ) (new : List ℕ) (u : AncestorsFrom d t x at old new) (h : 0 < at)
       (q : p ≡ parent_at d at) where
     pub ancestors_less : p < at
     ancestors_less = let a = climb_less d w x at l u.current h in omega arith
@@ -240,8 +236,8 @@ module _ {M : Type 0} (d : Document) (w : T (well_formed d)) (t : ℕ → Bool) 
     is_one : is_ancestor d p x ≡ true
     is_one = rw q (climb_is d w x at l u.current h)
 
-    pub ancestors_on : {newer : List M} → Added (length d) mark new newer (λ y. eqb p y && t y) →
-        AncestorsFrom d t x p mark old newer
+    pub ancestors_on : {newer : List ℕ} → Added (length d) new newer (λ y. eqb p y && t y) →
+        AncestorsFrom d t x p old newer
     ancestors_on a =
         record {
           current = rw q (climb_current d w x at l u.current h);
@@ -249,6 +245,6 @@ module _ {M : Type 0} (d : Document) (w : T (well_formed d)) (t : ℕ → Bool) 
               (rw (eq-eqb p p refl, is_one)) (λ y n. rw (ne_eqb p y (λ e. n (sym e))));
         }
 
-  pub ancestors_end : (at : ℕ) (new : List M) → AncestorsFrom d t x at mark old new → at ≤ 0 →
-      Added (length d) mark old new (λ k. is_ancestor d k x && t k)
+  pub ancestors_end : (at : ℕ) (new : List ℕ) → AncestorsFrom d t x at old new → at ≤ 0 →
+      Added (length d) old new (λ k. is_ancestor d k x && t k)
   ancestors_end at new u h = down_end (λ k. is_ancestor d k x && t k) at h u.added

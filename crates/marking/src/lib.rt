@@ -1,5 +1,6 @@
-// The nodes that a step selects, marked beside those that are marked already. The document is well formed, and `ends`
-// has the ends of its rows' subtrees, so that no axis needs a look at every node.
+// The nodes that a step selects, marked beside those that are marked already: a mark is 1, and a node without one has 0.
+// The document is well formed, and `ends` has the ends of its rows' subtrees, so that no axis needs a look at every
+// node.
 #![tactic(auto)]
 
 ghost use Rattle.std.specs.Prelude.{◌≡◌, true, false, ◌&&◌, ◌||◌, ◌≤◌, ◌<◌, ltb, leb, eqb, length, get_or, MatchOption};
@@ -14,20 +15,18 @@ ghost use Rattle.marking.specs.code.Added.{Added, candidate, ChildrenFrom};
 use common::axis::Axis;
 use xpath::{Checked, MAX_NODES, NodeSet, StepTest};
 
-// A step from node x of a document that was checked, and the mark that the nodes get which it selects. Document and x
-// are no struct shared with selection's `Context`: that lends the document with the rows, and has another x for each
-// node.
+// A step from node x of a document that was checked. Document and x are no struct shared with selection's `Context`:
+// that lends the document with the rows, and has another x for each node.
 #[derive(Drop)]
-struct AxisStep<'a, T, M> {
+struct AxisStep<'a, T> {
     document: Checked<'a>,
     axis: Axis,
     test: T,
     x: usize,
-    mark: M,
     ghost node: { x < length (doc document) },
 }
 
-impl<T: NodeSet, M: Copy> AxisStep<'_, T, M> {
+impl<T: NodeSet> AxisStep<'_, T> {
     // Whether y passes the test. That y is a row is a clause, here and below: a type for such a y would have to name
     // the document (see `xpath::whole_node`).
     #[tactic(auto, unfolding(xpath::specs::Document::kind_at, xpath::specs::Document::name_at))]
@@ -49,43 +48,39 @@ impl<T: NodeSet, M: Copy> AxisStep<'_, T, M> {
     }
 
     // The node in row `at`, if it passes the test.
-    fn mark_node(&self, at: usize, out: &mut [M; MAX_NODES])
+    fn mark_node(&self, at: usize, out: &mut [u8; MAX_NODES])
         requires { at < length (doc self.now.document) }
-        ensures { Added (length (doc self.now.document)) self.now.mark out.old out.new
+        ensures { Added (length (doc self.now.document)) out.old out.new
             (λ y. eqb at y && picks (T.has self.now.test) (doc self.now.document) y) }
     {
         if self.passes(at) {
-            out[at] = self.mark;
+            out[at] = 1;
         }
     }
 
     // The nodes from lo on and before hi that the axis has and that pass the test.
-    fn mark_range(&self, lo: usize, hi: usize, out: &mut [M; MAX_NODES])
+    fn mark_range(&self, lo: usize, hi: usize, out: &mut [u8; MAX_NODES])
         requires { (lo ≤ hi) × (hi ≤ length (doc self.now.document)) }
-        ensures { Added (length (doc self.now.document)) self.now.mark out.old out.new
+        ensures { Added (length (doc self.now.document)) out.old out.new
             (λ y. (leb lo y && ltb y hi)
             && candidate (axis_number self.now.axis) (T.has self.now.test) (doc self.now.document) y) }
     {
         for y in lo..hi {
-            // Each is written, with what it had where it stays: a branch takes 1.3 to 2.3 times as long.
-            let mark = if self.is_candidate(y) {
-                self.mark
-            } else {
-                out[y]
-            };
+            // Each is written, with what it had where it stays: a branch takes longer.
+            let mark = if self.is_candidate(y) { 1 } else { out[y] };
             out[y] = mark;
         }
     }
 
     // The nodes before x whose subtrees end before it, that the axis has and that pass the test.
-    fn mark_preceding(&self, out: &mut [M; MAX_NODES])
-        ensures { Added (length (doc self.now.document)) self.now.mark out.old out.new
+    fn mark_preceding(&self, out: &mut [u8; MAX_NODES])
+        ensures { Added (length (doc self.now.document)) out.old out.new
             (λ y. (leb 0 y && ltb y self.now.x) && (leb (get_or self.now.document.ends.now y 0) self.now.x
             && candidate (axis_number self.now.axis) (T.has self.now.test) (doc self.now.document) y)) }
     {
         for y in 0..self.x {
             if self.end(y) <= self.x && self.is_candidate(y) {
-                out[y] = self.mark;
+                out[y] = 1;
             }
         }
     }
@@ -108,9 +103,9 @@ impl<T: NodeSet, M: Copy> AxisStep<'_, T, M> {
 
     // The rows under p from lo on and before hi that the axis has and that pass the test. Where there are any, lo is
     // one.
-    fn mark_children(&self, p: usize, lo: usize, hi: usize, out: &mut [M; MAX_NODES])
+    fn mark_children(&self, p: usize, lo: usize, hi: usize, out: &mut [u8; MAX_NODES])
         requires children_from { ChildrenFrom (doc self.now.document) self.now.document.ends.now p lo hi }
-        ensures { Added (length (doc self.now.document)) self.now.mark out.old out.new
+        ensures { Added (length (doc self.now.document)) out.old out.new
             (λ y. (leb lo y && ltb y hi) && (is_child (doc self.now.document) p y
             && candidate (axis_number self.now.axis) (T.has self.now.test) (doc self.now.document) y)) }
     {
@@ -119,15 +114,15 @@ impl<T: NodeSet, M: Copy> AxisStep<'_, T, M> {
         while y < hi {
             let next = self.end(y);
             if self.is_candidate(y) {
-                out[y] = self.mark;
+                out[y] = 1;
             }
             y = next;
         }
     }
 
     // The ancestors of x that pass the test.
-    fn mark_ancestors(&self, out: &mut [M; MAX_NODES])
-        ensures { Added (length (doc self.now.document)) self.now.mark out.old out.new
+    fn mark_ancestors(&self, out: &mut [u8; MAX_NODES])
+        ensures { Added (length (doc self.now.document)) out.old out.new
             (λ y. is_ancestor (doc self.now.document) y self.now.x
             && picks (T.has self.now.test) (doc self.now.document) y) }
     {
@@ -140,8 +135,8 @@ impl<T: NodeSet, M: Copy> AxisStep<'_, T, M> {
     }
 
     // The parent of x, if it passes the test.
-    fn mark_parent(&self, out: &mut [M; MAX_NODES])
-        ensures { Added (length (doc self.now.document)) self.now.mark out.old out.new
+    fn mark_parent(&self, out: &mut [u8; MAX_NODES])
+        ensures { Added (length (doc self.now.document)) out.old out.new
             (λ y. on_axis parent (doc self.now.document) self.now.x y
             && picks (T.has self.now.test) (doc self.now.document) y) }
     {
@@ -165,8 +160,8 @@ impl<T: NodeSet, M: Copy> AxisStep<'_, T, M> {
     }
 
     // What the step selects.
-    fn mark(&self, out: &mut [M; MAX_NODES])
-        ensures { Added (length (doc self.now.document)) self.now.mark out.old out.new
+    fn mark(&self, out: &mut [u8; MAX_NODES])
+        ensures { Added (length (doc self.now.document)) out.old out.new
             (λ y. on_axis (axis_number self.now.axis) (doc self.now.document) self.now.x y
             && picks (T.has self.now.test) (doc self.now.document) y) }
     {
@@ -204,16 +199,15 @@ impl<T: NodeSet, M: Copy> AxisStep<'_, T, M> {
 
 // What a step with a test of this form selects from x. A function, since the arms of `mark_step` differ in the test's
 // type alone; its parameters are the fields of the step that it makes.
-fn mark_where<T: NodeSet + Copy, M: Copy>(
+fn mark_where<T: NodeSet + Copy>(
     document: Checked,
     axis: Axis,
     test: T,
     x: usize,
-    mark: M,
-    out: &mut [M; MAX_NODES],
+    out: &mut [u8; MAX_NODES],
 )
     requires { x < length (doc document) }
-    ensures { Added (length (doc document.entry)) mark out.old out.new
+    ensures { Added (length (doc document.entry)) out.old out.new
         (λ y. on_axis (axis_number axis) (doc document.entry) x y && picks (T.has test) (doc document.entry) y) }
 {
     AxisStep {
@@ -221,25 +215,23 @@ fn mark_where<T: NodeSet + Copy, M: Copy>(
         axis,
         test,
         x,
-        mark,
     }
     .mark(out);
 }
 
-// Puts the mark at the nodes that a step selects from x, and leaves the others. It asks for a node of the document,
+// Marks the nodes that a step selects from x, and leaves the others. It asks for a node of the document,
 // which the caller has shown; no user calls it. Axis, test and name are numbers, since a lent row may have any: a
 // struct of them would promise nothing.
-pub fn mark_step<M: Copy>(
+pub fn mark_step(
     document: Checked,
     axis: u16,
     test: u16,
     name: usize,
     x: usize,
-    mark: M,
-    out: &mut [M; MAX_NODES],
+    out: &mut [u8; MAX_NODES],
 )
     requires { x < length (doc document) }
-    ensures { Added (length (doc document.entry)) mark out.old out.new
+    ensures { Added (length (doc document.entry)) out.old out.new
         (λ y. on_axis axis (doc document.entry) x y && passes axis test name (doc document.entry) y) }
 {
     let Some(test) = StepTest::new(axis, test, name) else {
@@ -250,8 +242,8 @@ pub fn mark_step<M: Copy>(
     };
     // The test is told apart here, and not at each node.
     match test {
-        StepTest::Everything(test) => mark_where(document, axis, test, x, mark, out),
-        StepTest::Kind(test) => mark_where(document, axis, test, x, mark, out),
-        StepTest::Name(test) => mark_where(document, axis, test, x, mark, out),
+        StepTest::Everything(test) => mark_where(document, axis, test, x, out),
+        StepTest::Kind(test) => mark_where(document, axis, test, x, out),
+        StepTest::Name(test) => mark_where(document, axis, test, x, out),
     }
 }

@@ -1,7 +1,7 @@
 -- The terms of rows by the code's tests: past the rows held, without operands, with operands. Assumes nothing.
 use Prim.Native.Nat.{ℕ, zero, suc, ◌+◌, ◌≤◌, ◌<◌}
 use mathlib.Core.Path.{◌≡◌, refl, ◌∙◌}
-use mathlib.Core.Bool.{Bool, true, false, cond, ◌&&◌, ◌||◌, and-false}
+use mathlib.Core.Bool.{false, cond, ◌&&◌, ◌||◌, and-false}
 use mathlib.Core.List.{List}
 use mathlib.Core.Logic.{⊎_elim}
 use native.Mathlib.Omega.{arith}
@@ -9,9 +9,7 @@ use lib.Dec.{eqb}
 use lib.ListN.{length, get_or, set, take, length-take, get_or-eq_default}
 use borrow.Author.Tests.{ne_eqb, lt-ltb}
 use Rattle.xpath.specs.Document.{Document}
-use Rattle.xpath.specs.Term.{Path, Qualifier, Void, Root, AxisStep, Union, Composition, Filter, True, False, Not, And}
-use Rattle.xpath.specs.Term.{Or}
-use Rattle.xpath.specs.Term.{In}
+use Rattle.xpath.specs.Term.{Void, Root, AxisStep, False}
 use Rattle.xpath.specs.Axis.{on_axis, passes}
 use Rattle.xpath.specs.Meaning.{selects, holds}
 use Rattle.xpath.specs.Visits.{visits, qualifier_visits}
@@ -32,9 +30,10 @@ module _ (rs : List Row) (top r : ℕ) where
   unfolding term_at
   term_not_held h = term_past (take top rs) r (rw length-take (omega arith))
 
-  pub term_held : r < top → get_or (terms (take top rs)) r no_term ≡ term_by (terms (take r rs)) (row_at rs r)
+  pub term_held : r < top → (s : Row) → s ≡ row_at rs r →
+      get_or (terms (take top rs)) r no_term ≡ term_by (terms (take r rs)) s
   unfolding term_at
-  term_held h = term_take top rs r h ∙ term_at_lem rs r
+  term_held h s e = term_take top rs r h ∙ term_at_lem rs r ∙ rw e
 
 void_leaf : (r : Row) → ¬ (r.kind ≡ 2) → ¬ (r.kind ≡ 1) → leaf_path r ≡ Void
 unfolding leaf_path
@@ -95,22 +94,22 @@ module _ (ts : List Term) (r : Row) where
 
 module _ (d : Document) (x : ℕ) where
   -- the marks of the root and of the void path
-  pub root_added : (m : List Bool) → 0 < length d → 0 < length m →
-      Added (length d) true m (set m 0 true) (selects d Root x)
+  pub root_added : (m : List ℕ) → 0 < length d → 0 < length m →
+      Added (length d) m (set m 0 1) (selects d Root x)
   unfolding selects
   root_added m k l =
       added_set (selects d Root x) 0 (nothing_added (λ y. false) (λ y h. refl)) l
       (rw (lt-ltb 0 (length d) k))
       (λ y h ne. rw (ne_eqb y 0 ne, and-false))
 
-  pub step_added : (a t c : ℕ) {old new : List Bool} →
-      Added (length d) true old new (λ y. on_axis a d x y && passes a t c d y) →
-      Added (length d) true old new (selects d (AxisStep a t c) x)
+  pub step_added : (a t c : ℕ) {old new : List ℕ} →
+      Added (length d) old new (λ y. on_axis a d x y && passes a t c d y) →
+      Added (length d) old new (selects d (AxisStep a t c) x)
   unfolding selects
   step_added a t c u = added_cong _ u (λ y h. rw (lt-ltb y (length d) h))
 
-  pub void_added : (m : List Bool) (r : Row) → ¬ (r.kind ≡ 2) → ¬ (r.kind ≡ 1) →
-      Added (length d) true m m (selects d (leaf_path r) x)
+  pub void_added : (m : List ℕ) (r : Row) → ¬ (r.kind ≡ 2) → ¬ (r.kind ≡ 1) →
+      Added (length d) m m (selects d (leaf_path r) x)
   unfolding selects
   void_added m r n o = nothing_added _ (λ y h. rw (void_leaf r n o))
 
@@ -123,25 +122,6 @@ module _ (d : Document) (x : ℕ) where
       go (suc zero) = refl
       go (suc (suc zero)) = refl
       go (suc (suc (suc k))) = refl
-
-  -- every term takes a visit
-  pub visits_positive : (p : Path) → 0 < visits d p x
-  unfolding visits
-  visits_positive Void = omega arith
-  visits_positive Root = omega arith
-  visits_positive (AxisStep a t c) = omega arith
-  visits_positive (Union p q) = omega arith
-  visits_positive (Composition p q) = omega arith
-  visits_positive (Filter p f) = omega arith
-
-  pub qualifier_visits_positive : (f : Qualifier) → 0 < qualifier_visits d f x
-  unfolding qualifier_visits
-  qualifier_visits_positive True = omega arith
-  qualifier_visits_positive False = omega arith
-  qualifier_visits_positive (Not f) = omega arith
-  qualifier_visits_positive (And f g) = omega arith
-  qualifier_visits_positive (Or f g) = omega arith
-  qualifier_visits_positive (In p q) = omega arith
 
   module _ (ts : List Term) (r : Row) (h : ¬ (r.kind ≡ 9) → r.kind ≡ 10) where
     pub and_or_visits : qualifier_visits d

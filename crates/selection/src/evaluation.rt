@@ -1,6 +1,6 @@
-// The evaluation of paths and qualifiers by their rows, which takes of the visits that are left: no result where they
-// are not enough.
-ghost use Rattle.std.specs.Prelude.{◌≡◌, true, ◌&&◌, ◌||◌, not, cond, ◌+◌, ◌≤◌, eqb, length, MatchOption};
+// The evaluation of paths and qualifiers by their rows, under a limit on their visits: a result has the visits made, and
+// there is none where more are needed than the limit.
+ghost use Rattle.std.specs.Prelude.{◌≡◌, ◌&&◌, ◌||◌, not, cond, ◌≤◌, eqb, length, ⊤};
 ghost use Rattle.common.specs.Bounded.{all_below};
 ghost use Rattle.common.specs.RowKinds.{and_row};
 ghost use Rattle.common.specs.code.Numbers.{row_number};
@@ -10,6 +10,8 @@ ghost use Rattle.xpath.specs.Meaning.{selects};
 ghost use Rattle.terms.specs.code.RowTypes.{row_of};
 ghost use Rattle.terms.specs.Terms.{term_by, as_path, as_qualifier, path_in, qualifier_in};
 ghost use Rattle.marking.specs.code.Added.{marked, Added};
+ghost use Rattle.selection.specs.code.Limit.{UnderLimit};
+ghost use Rattle.selection.specs.code.MarksHeld.{AreMarks};
 ghost use Rattle.selection.specs.code.Parts.{document_in, terms_in, PathAdded, QualifierFound, leaf_path};
 
 use crate::context::Context;
@@ -17,15 +19,23 @@ use common::row_kind::RowKind;
 use terms::Row;
 use xpath::MAX_NODES;
 
+// The value of a qualifier, and the visits that it took.
+#[derive(Clone, Copy)]
+struct Found {
+    holds: bool,
+    visits: u32,
+}
+
 // Whether each of the first n nodes that a marks is marked in b.
-fn is_included(a: &[bool; MAX_NODES], b: &[bool; MAX_NODES], n: usize) -> bool
-    requires { n ≤ max_nodes }
+fn is_included(a: &[u8; MAX_NODES], b: &[u8; MAX_NODES], n: usize) -> bool
+    requires few { n ≤ max_nodes }
+    requires marks { AreMarks n a.now × AreMarks n b.now }
     ensures { result ≡ all_below n (λ y. not (marked a.now y) || marked b.now y) }
 {
-    // A loop with no exit takes many bytes at a time: with `all` an inclusion takes six times as long.
+    // A loop with no exit takes many bytes at a time, which `all` does not.
     let mut included = true;
     for (left, right) in a[..n].iter().zip(&b[..n]) {
-        included &= !*left | *right;
+        included &= *left <= *right;
     }
     included
 }
@@ -42,19 +52,29 @@ fn and_or(kind: RowKind, left: bool, right: bool) -> bool
     }
 }
 
-// Takes one of the visits that are left.
-fn take_visit(left: &mut u32) -> Option<()>
-    ensures { MatchOption result ((left.old ≡ 0) × (left.new ≡ 0)) (λ _. left.old ≡ 1 + left.new) }
+// The visit of a path without operands.
+fn one_visit(limit: u32) -> Option<u32>
+    ensures { UnderLimit (λ visits. visits) (λ _. ⊤) 1 limit result }
 {
-    *left = left.checked_sub(1)?;
-    Some(())
+    if limit == 0 {
+        return None;
+    }
+    Some(1)
 }
 
-// `left` and `out` are no fields of a Context, which is copied for each node and row: they are lent on with each call.
+// The value of a qualifier without operands.
+fn found_leaf(holds: bool, limit: u32) -> Option<Found>
+    ensures { UnderLimit (λ found. found.visits) (λ found. found.holds ≡ holds) 1 limit result }
+{
+    let visits = one_visit(limit)?;
+    Some(Found { holds, visits })
+}
+
+// `limit` and `out` are no fields of a Context, which is copied for each node and row: they go with each call.
 impl Context<'_> {
     // Marks what a path without operands selects.
-    fn mark_leaf(&self, row: Row, out: &mut [bool; MAX_NODES])
-        ensures { Added (length (document_in self.now)) true out.old out.new
+    fn mark_leaf(&self, row: Row, out: &mut [u8; MAX_NODES])
+        ensures { Added (length (document_in self.now)) out.old out.new
             (selects (document_in self.now) (leaf_path (row_of row)) self.now.x) }
     {
         match row.read_kind() {
@@ -64,60 +84,54 @@ impl Context<'_> {
                 row.b,
                 usize::from(row.c),
                 self.x,
-                true,
                 out,
             ),
-            Some(RowKind::Root) => out[0] = true,
+            Some(RowKind::Root) => out[0] = 1,
             _ => {}
         }
     }
 
     // Marks what the path in row r selects; a row past the first `top` is read as the void path.
     #[cycle(evaluation)]
-    pub fn eval_path(&self, r: usize, left: &mut u32, out: &mut [bool; MAX_NODES]) -> Option<()>
-        ensures { PathAdded self.now (path_in (terms_in self.now) r) 0 left.old result left.new out.old out.new }
+    pub fn eval_path(&self, r: usize, limit: u32, out: &mut [u8; MAX_NODES]) -> Option<u32>
+        ensures { PathAdded self.now (path_in (terms_in self.now) r) limit result out.old out.new }
     {
-        take_visit(left)?;
         if self.top <= r {
-            return Some(());
+            return one_visit(limit);
         }
-        self.below(r).eval_path_row(self.row_at(r), left, out)
+        self.below(r).eval_path_row(self.row_at(r), limit, out)
     }
 
-    // The path in `row`, whose operands are among the first `top` rows: all its visits but the first.
+    // The path in `row`, whose operands are among the first `top` rows.
     #[cycle(evaluation)]
     #[tactic(auto, unfolding(terms::specs::Terms::term_by, terms::specs::Terms::as_path))]
-    fn eval_path_row(&self, row: Row, left: &mut u32, out: &mut [bool; MAX_NODES]) -> Option<()>
-        ensures { PathAdded self.now (as_path (term_by (terms_in self.now) (row_of row))) 1 left.old result left.new
-            out.old out.new }
+    fn eval_path_row(&self, row: Row, limit: u32, out: &mut [u8; MAX_NODES]) -> Option<u32>
+        ensures { PathAdded self.now (as_path (term_by (terms_in self.now) (row_of row))) limit result out.old
+            out.new }
     {
         let a = usize::from(row.a);
         let b = usize::from(row.b);
         match row.read_kind() {
-            Some(RowKind::Union) => self.eval_union(a, b, left, out),
-            Some(RowKind::Composition) => self.eval_composition(a, b, left, out),
-            Some(RowKind::Filter) => self.eval_filter(a, b, left, out),
+            Some(RowKind::Union) => self.eval_union(a, b, limit, out),
+            Some(RowKind::Composition) => self.eval_composition(a, b, limit, out),
+            Some(RowKind::Filter) => self.eval_filter(a, b, limit, out),
             _ => {
                 self.mark_leaf(row, out);
-                Some(())
+                one_visit(limit)
             }
         }
     }
 
     // Marks what the paths in rows a and b select.
     #[cycle(evaluation)]
-    fn eval_union(
-        &self,
-        a: usize,
-        b: usize,
-        left: &mut u32,
-        out: &mut [bool; MAX_NODES],
-    ) -> Option<()>
-        ensures { PathAdded self.now (Union (path_in (terms_in self.now) a) (path_in (terms_in self.now) b)) 1 left.old
-            result left.new out.old out.new }
+    fn eval_union(&self, a: usize, b: usize, limit: u32, out: &mut [u8; MAX_NODES]) -> Option<u32>
+        ensures { PathAdded self.now (Union (path_in (terms_in self.now) a) (path_in (terms_in self.now) b)) limit
+            result out.old out.new }
     {
-        self.eval_path(a, left, out)?;
-        self.eval_path(b, left, out)
+        let rest = limit.checked_sub(1)?;
+        let first = self.eval_path(a, rest, out)?;
+        let second = self.eval_path(b, rest - first, out)?;
+        Some(1 + first + second)
     }
 
     // Marks what the path in row b selects from the nodes that the path in row a selects.
@@ -126,92 +140,102 @@ impl Context<'_> {
         &self,
         a: usize,
         b: usize,
-        left: &mut u32,
-        out: &mut [bool; MAX_NODES],
-    ) -> Option<()>
-        ensures { PathAdded self.now (Composition (path_in (terms_in self.now) a) (path_in (terms_in self.now) b)) 1
-            left.old result left.new out.old out.new }
+        limit: u32,
+        out: &mut [u8; MAX_NODES],
+    ) -> Option<u32>
+        ensures { PathAdded self.now (Composition (path_in (terms_in self.now) a) (path_in (terms_in self.now) b))
+            limit result out.old out.new }
     {
-        let mut first = [false; MAX_NODES];
-        self.eval_path(a, left, &mut first)?;
+        let rest = limit.checked_sub(1)?;
+        let mut first = [0; MAX_NODES];
+        let mut visits = 1 + self.eval_path(a, rest, &mut first)?;
         // By number, here and in `eval_filter`: the range says that z is a node, which `at` asks.
         for z in 0..self.node_count() {
-            if first[z] {
-                self.at(z).eval_path(b, left, out)?;
+            if first[z] == 1 {
+                visits += self.at(z).eval_path(b, limit - visits, out)?;
             }
         }
-        Some(())
+        Some(visits)
     }
 
     // Marks the nodes that the path in row a selects and at which the qualifier in row b is true.
     #[cycle(evaluation)]
-    fn eval_filter(
-        &self,
-        a: usize,
-        b: usize,
-        left: &mut u32,
-        out: &mut [bool; MAX_NODES],
-    ) -> Option<()>
-        ensures { PathAdded self.now (Filter (path_in (terms_in self.now) a) (qualifier_in (terms_in self.now) b)) 1
-            left.old result left.new out.old out.new }
+    fn eval_filter(&self, a: usize, b: usize, limit: u32, out: &mut [u8; MAX_NODES]) -> Option<u32>
+        ensures { PathAdded self.now (Filter (path_in (terms_in self.now) a) (qualifier_in (terms_in self.now) b))
+            limit result out.old out.new }
     {
-        let mut first = [false; MAX_NODES];
-        self.eval_path(a, left, &mut first)?;
+        let rest = limit.checked_sub(1)?;
+        let mut first = [0; MAX_NODES];
+        let mut visits = 1 + self.eval_path(a, rest, &mut first)?;
         for z in 0..self.node_count() {
-            if first[z] && self.at(z).eval_qualifier(b, left)? {
-                out[z] = true;
+            if first[z] == 1 {
+                let found = self.at(z).eval_qualifier(b, limit - visits)?;
+                visits += found.visits;
+                if found.holds {
+                    out[z] = 1;
+                }
             }
         }
-        Some(())
+        Some(visits)
     }
 
     // Whether the qualifier in row r is true; a row past the first `top` is read as false.
     #[cycle(evaluation)]
-    fn eval_qualifier(&self, r: usize, left: &mut u32) -> Option<bool>
-        ensures { QualifierFound self.now (qualifier_in (terms_in self.now) r) 0 left.old result left.new }
+    fn eval_qualifier(&self, r: usize, limit: u32) -> Option<Found>
+        ensures { QualifierFound self.now (qualifier_in (terms_in self.now) r) limit result }
     {
-        take_visit(left)?;
         if self.top <= r {
-            return Some(false);
+            return found_leaf(false, limit);
         }
-        self.below(r).eval_qualifier_row(self.row_at(r), left)
+        self.below(r).eval_qualifier_row(self.row_at(r), limit)
     }
 
-    // The qualifier in `row`, whose operands are among the first `top` rows: all its visits but the first.
+    // The qualifier in `row`, whose operands are among the first `top` rows.
     #[cycle(evaluation)]
     #[tactic(auto, unfolding(terms::specs::Terms::term_by, terms::specs::Terms::as_qualifier))]
-    fn eval_qualifier_row(&self, row: Row, left: &mut u32) -> Option<bool>
-        ensures { QualifierFound self.now (as_qualifier (term_by (terms_in self.now) (row_of row))) 1 left.old result
-            left.new }
+    fn eval_qualifier_row(&self, row: Row, limit: u32) -> Option<Found>
+        ensures { QualifierFound self.now (as_qualifier (term_by (terms_in self.now) (row_of row))) limit result }
     {
         let a = usize::from(row.a);
         let b = usize::from(row.b);
         match row.read_kind() {
             Some(RowKind::Not) => {
-                let value = self.eval_qualifier(a, left)?;
-                Some(!value)
+                let rest = limit.checked_sub(1)?;
+                let first = self.eval_qualifier(a, rest)?;
+                Some(Found {
+                    holds: !first.holds,
+                    visits: 1 + first.visits,
+                })
             }
             Some(kind @ (RowKind::And | RowKind::Or)) => {
-                let first = self.eval_qualifier(a, left)?;
-                let second = self.eval_qualifier(b, left)?;
-                Some(and_or(kind, first, second))
+                let rest = limit.checked_sub(1)?;
+                let first = self.eval_qualifier(a, rest)?;
+                let second = self.eval_qualifier(b, rest - first.visits)?;
+                Some(Found {
+                    holds: and_or(kind, first.holds, second.holds),
+                    visits: 1 + first.visits + second.visits,
+                })
             }
-            Some(RowKind::Inclusion) => self.eval_inclusion(a, b, left),
-            Some(RowKind::True) => Some(true),
-            _ => Some(false),
+            Some(RowKind::Inclusion) => self.eval_inclusion(a, b, limit),
+            Some(RowKind::True) => found_leaf(true, limit),
+            _ => found_leaf(false, limit),
         }
     }
 
     // Whether all that the path in row a selects is selected by the path in row b.
     #[cycle(evaluation)]
-    fn eval_inclusion(&self, a: usize, b: usize, left: &mut u32) -> Option<bool>
-        ensures { QualifierFound self.now (In (path_in (terms_in self.now) a) (path_in (terms_in self.now) b)) 1
-            left.old result left.new }
+    fn eval_inclusion(&self, a: usize, b: usize, limit: u32) -> Option<Found>
+        ensures { QualifierFound self.now (In (path_in (terms_in self.now) a) (path_in (terms_in self.now) b)) limit
+            result }
     {
-        let mut marks = [false; MAX_NODES];
-        self.eval_path(a, left, &mut marks)?;
-        let mut others = [false; MAX_NODES];
-        self.eval_path(b, left, &mut others)?;
-        Some(is_included(&marks, &others, self.node_count()))
+        let rest = limit.checked_sub(1)?;
+        let mut marks = [0; MAX_NODES];
+        let first = self.eval_path(a, rest, &mut marks)?;
+        let mut others = [0; MAX_NODES];
+        let second = self.eval_path(b, rest - first, &mut others)?;
+        Some(Found {
+            holds: is_included(&marks, &others, self.node_count()),
+            visits: 1 + first + second,
+        })
     }
 }

@@ -4,11 +4,9 @@
 mod context;
 mod evaluation;
 
-ghost use Rattle.std.specs.Prelude.{◌≡◌, ◌≤◌, ◌<◌, length};
+ghost use Rattle.std.specs.Prelude.{◌≡◌, ◌<◌, length};
 ghost use Rattle.xpath.specs.code.Checked.{doc};
 ghost use Rattle.terms.specs.Row.{table_of};
-ghost use Rattle.marking.specs.code.Added.{marked};
-ghost use Rattle.selection.specs.Marks.{written};
 ghost use Rattle.selection.specs.Evaluation.{outcome, evaluated};
 ghost use Rattle.selection.specs.code.EvaluatedTypes.{answer_of, refusal_of};
 
@@ -31,19 +29,6 @@ impl From<EvaluationError> for Refusal {
             EvaluationError::NoRoom => Refusal::ShortMarks,
             EvaluationError::LimitPassed => Refusal::LimitPassed,
         }
-    }
-}
-
-// Writes 1 or 0 for each node that m has a byte for, as m marks it.
-#[tactic(auto, unfolding(crate::specs::Marks::written), using(crate::proofs::Marks::written_more))]
-fn copy_out(m: &[bool], buffer: &mut [u8])
-    requires { length m.now ≤ length buffer.old }
-    ensures { buffer.new ≡ written (length m.now) (marked m.now) buffer.old }
-{
-    // By place: of `iter_mut` with `zip` no fact says what it leaves, and `iter_mut().enumerate()` would read `m` by
-    // place instead.
-    for (y, mark) in m.iter().enumerate() {
-        buffer[y] = u8::from(*mark);
     }
 }
 
@@ -73,10 +58,10 @@ pub fn evaluate(
         top: terms::row_count(rows),
         x,
     };
-    let mut left = limit;
-    let mut out = [false; MAX_NODES];
-    all.eval_path(row, &mut left, &mut out)
+    let mut out = [0; MAX_NODES];
+    let visits = all
+        .eval_path(row, limit, &mut out)
         .ok_or(EvaluationError::LimitPassed)?;
-    copy_out(&out[..n], marks);
-    Ok(limit - left)
+    marks[..n].copy_from_slice(&out[..n]);
+    Ok(visits)
 }

@@ -15,30 +15,30 @@ use Rattle.marking.proofs.Steps.{no_axis}
 use Rattle.marking.proofs.mark_step.Goals as goal
 
 pub returns-in_default : goal.returns-in_default
-returns-in_default g c = nothing_added _ (λ y h. rw (← c.in_default.ensures (doc c.args.document) y, and-false))
+returns-in_default c = nothing_added _ (λ y h. rw (← c.in_default.ensures (doc c.args.document) y, and-false))
 
 pub returns-in_default-try_from : goal.returns-in_default-try_from
-returns-in_default-try_from g c =
+returns-in_default-try_from c =
     no_axis _ _ c.args.document.prepared _ _ c.requires _ c.in_default-try_from.ensures.1
 
 -- what is marked with a test that was told apart is what the step marks
-module _ {M : Type 0} {mark : M} (d : Document) (x a t c : ℕ) {old new : List M} (b : Axis) (s : StepTest) where
+module _ (d : Document) (x a t c : ℕ) {old new : List ℕ} (b : Axis) (s : StepTest) where
   told_apart : axis_number b ≡ a → Asks a t c (Some s) →
-      Added (length d) mark old new (λ y. on_axis (axis_number b) d x y && picks (fits s) d y) →
-      Added (length d) mark old new (λ y. on_axis a d x y && passes a t c d y)
+      Added (length d) old new (λ y. on_axis (axis_number b) d x y && picks (fits s) d y) →
+      Added (length d) old new (λ y. on_axis a d x y && passes a t c d y)
   told_apart f q u = added_cong _ u (λ y h. rw (f, ← q d y))
 
 pub returns-in-Everything : goal.returns-in-Everything
-returns-in-Everything g c =
+returns-in-Everything c =
     told_apart _ _ _ _ _ _ (Everything c.in-Everything.test) c.in-Ok.ensures
     (rw c.in-Everything.is at c.in-Some.ensures) c.mark_where.ensures
 
 pub returns-in-Kind : goal.returns-in-Kind
-returns-in-Kind g c =
+returns-in-Kind c =
     told_apart _ _ _ _ _ _ (Kind c.in-Kind.test) c.in-Ok.ensures
     (rw c.in-Kind.is at c.in-Some.ensures) c.mark_where-in-Kind.ensures
 
 pub returns-in-Name : goal.returns-in-Name
-returns-in-Name g c =
+returns-in-Name c =
     told_apart _ _ _ _ _ _ (Name c.in-Name.test) c.in-Ok.ensures
     (rw c.in-Name.is at c.in-Some.ensures) c.mark_where-in-Name.ensures

@@ -1,17 +1,17 @@
 -- Marks that are added to marks. Assumes nothing.
-use Rattle.std.specs.Prelude.{ℕ, ◌≤◌, ◌<◌, ◌≡◌, Bool, true, false, not, cond, ◌&&◌, List, eqb, length, get_or}
+use Rattle.std.specs.Prelude.{ℕ, ◌≤◌, ◌<◌, ◌≡◌, Bool, true, not, cond, ◌&&◌, List, eqb, length, get_or}
 use Rattle.xpath.specs.Document.{Document, is_attribute, is_child}
 use Rattle.common.specs.Axes.{attribute}
 use Rattle.xpath.specs.code.Tests.{picks}
 
--- y is marked, where marks are Booleans
-abbrev pub marked : List Bool → ℕ → Bool
-marked m y = get_or m y false
+-- y is marked: its mark is 1
+abbrev pub marked : List ℕ → ℕ → Bool
+marked m y = eqb (get_or m y 0) 1
 
--- of the first n nodes, those of the set s have the mark in `new`, and the others what they had in `old`
-pub record Added {M : Type 0} (n : ℕ) (mark : M) (old new : List M) (s : ℕ → Bool) : Type 0 where
+-- of the first n nodes, those of the set s have 1 in `new`, and the others what they had in `old`
+pub record Added (n : ℕ) (old new : List ℕ) (s : ℕ → Bool) : Type 0 where
   pub size : length new ≡ length old
-  pub marks : (none : M) (y : ℕ) → y < n → get_or new y none ≡ cond (s y) mark (get_or old y none)
+  pub marks : (y : ℕ) → y < n → get_or new y 0 ≡ cond (s y) 1 (get_or old y 0)
 
 -- y is a node that axis a, one of child, descendant, the siblings, following, preceding and attribute, may hold: an
 -- attribute on axis 11, another node on any other

@@ -13,7 +13,7 @@ use Rattle.marking.proofs.AxisStep.mark.Goals as goal
 pub mark_children-requires : goal.mark_children-requires
 mark_children-requires g c =
     let s = c.args.self.now in
-    (omega arith, rw c.end-end.ensures (children_of _ _ s.document.prepared _ _ s.node refl))
+    record { children_from = rw c.end-end.ensures (children_of _ _ s.document.prepared _ _ s.node refl) }
 
 pub returns-in-Itself : goal.returns-in-Itself
 returns-in-Itself g c =
@@ -83,7 +83,10 @@ mark_children-requires-in-Some g c =
     let s = c.args.self.now in
     let (some, parent) = c.in-Some.ensures in
     let m = may_have_siblings _ _ s.document.prepared (λ _. true) _ s.node some in
-    (omega arith, rw (c.end-end.ensures, c.end.ensures) (later_siblings _ _ s.document.prepared _ _ s.node m.0 parent))
+    record {
+      children_from = rw (c.end-end.ensures, c.end.ensures)
+          (later_siblings _ _ s.document.prepared _ _ s.node m.0 parent);
+    }
 
 pub returns-in-Some : goal.returns-in-Some
 returns-in-Some g c =
@@ -113,7 +116,7 @@ mark_children-requires-in-Some-parent_of_siblings g c =
     let s = c.args.self.now in
     let (some, parent) = c.in-Some-parent_of_siblings.ensures in
     let m = may_have_siblings _ _ s.document.prepared (λ _. true) _ s.node some in
-    (omega arith, earlier_siblings _ _ s.document.prepared _ _ s.node m.0 parent _ refl)
+    record { children_from = earlier_siblings _ _ s.document.prepared _ _ s.node m.0 parent _ refl }
 
 pub returns-in-Some-parent_of_siblings : goal.returns-in-Some-parent_of_siblings
 returns-in-Some-parent_of_siblings g c =

@@ -7,7 +7,7 @@ use Rattle.marking.proofs.AxisStep.mark_ancestors.Given as goal
 abbrev pub invariant-loop-at : goal.invariant-loop-at
 invariant-loop-at g l =
     AncestorsFrom (doc l.self.document) (picks (g.T.NodeSet.has l.self.test) (doc l.self.document)) l.self.x l.at
-    l.self.mark l.initial.out l.out
+    l.initial.out l.out
 
 abbrev pub decreases-loop-at : goal.decreases-loop-at
 decreases-loop-at g l = l.at

@@ -9,7 +9,7 @@ use Rattle.marking.proofs.AxisStep.mark_children.Given as goal
 abbrev pub invariant-loop-y : goal.invariant-loop-y
 invariant-loop-y g l = ChildrenBelow (doc l.self.document) l.self.document.ends.now
     (candidate (axis_number l.self.axis) (g.T.NodeSet.has l.self.test) (doc l.self.document)) l.p l.lo l.hi l.y
-    l.self.mark l.initial.out l.out
+    l.initial.out l.out
 
 abbrev pub decreases-loop-y : goal.decreases-loop-y
 decreases-loop-y g l = get_or l.self.document.ends.now l.p 0 - l.y

@@ -1,14 +1,13 @@
 -- `selection::is_included` meets its contract: the pair of a turn is that of the next node. Assumes nothing.
 use Prim.Native.Nat.{◌<◌}
 use mathlib.Core.Path.{◌≡◌, refl, sym, ◌∙◌}
-use mathlib.Core.Bool.{false}
 use native.Mathlib.Omega.{arith}
-use lib.ListN.{length, take, length-take}
+use lib.ListN.{length, get_or, take, length-take}
 use Rattle.std.proofs.lemmas.List.{length_push, get_or-take}
 use Rattle.std.proofs.lemmas.Slice.Zip.{zip_turn, zip_end}
 use Rattle.common.specs.Bounded.{all_below}
-use Rattle.marking.specs.code.Added.{marked}
 use Rattle.selection.proofs.Folds.{all_more}
+use Rattle.selection.proofs.Marks.{mark_included}
 use Rattle.selection.proofs.evaluation.is_included.Invariants.{test}
 use Rattle.selection.proofs.evaluation.is_included.Goals as goal
 
@@ -28,9 +27,10 @@ loop-left-preserved c =
     l.yielded_by
     (c.in-Some.left, c.in-Some.right) c.in-Some.is c.next.ensures.steps in
     let inside : k < a.n = omega (arith, t.0, length-take a.n a.a.now) in
-    let p : c.in-Some.left.now ≡ marked a.a.now k = t.2 false ∙ get_or-take a.n a.a.now k false inside in
-    let q : c.in-Some.right.now ≡ marked a.b.now k = t.3 false ∙ get_or-take a.n a.b.now k false inside in
-    rw (length_push l.yielded (c.in-Some.left, c.in-Some.right), l.invariant, p, q)
+    let p : c.in-Some.left.now ≡ get_or a.a.now k 0 = t.2 0 ∙ get_or-take a.n a.a.now k 0 inside in
+    let q : c.in-Some.right.now ≡ get_or a.b.now k 0 = t.3 0 ∙ get_or-take a.n a.b.now k 0 inside in
+    let both = mark_included _ _ (c.requires.marks.0 k inside) (c.requires.marks.1 k inside) in
+    rw (length_push l.yielded (c.in-Some.left, c.in-Some.right), l.invariant, p, q, both)
     (sym (all_more (test a.a.now a.b.now) k))
 
 pub returns : goal.returns

@@ -8,7 +8,7 @@ use Rattle.common.specs.Bounded.{all_below}
 use Rattle.marking.specs.code.Added.{marked}
 use Rattle.selection.proofs.evaluation.is_included.Given as goal
 
-abbrev pub test : List Bool → List Bool → ℕ → Bool
+abbrev pub test : List ℕ → List ℕ → ℕ → Bool
 test a b y = not (marked a y) || marked b y
 
 abbrev pub invariant-loop-left : goal.invariant-loop-left

@@ -1,6 +1,6 @@
 -- What falls from call to call of the functions that evaluate a row, and what their loops keep. Assumes nothing.
 use Prim.Native.Nat.{◌+◌, ◌*◌}
-use mathlib.Core.Bool.{true, ◌&&◌}
+use mathlib.Core.Bool.{◌&&◌}
 use lib.ListN.{length}
 use Rattle.xpath.specs.Meaning.{selects, holds}
 use Rattle.xpath.specs.Visits.{visits, qualifier_visits}
@@ -42,12 +42,12 @@ abbrev pub invariant-eval_composition-loop-z : goal.invariant-eval_composition-l
 invariant-eval_composition-loop-z l =
     let d = document_in l.self in
     let q = path_in (terms_in l.self) l.b in
-    Visited (marked l.first) (visits d q) l.initial.left l.z l.left
-    × Added (length d) true l.initial.out l.out (joined_below (marked l.first) (selects d q) l.z)
+    Visited (marked l.first) (visits d q) l.initial.visits l.limit l.z l.visits
+    × Added (length d) l.initial.out l.out (joined_below (marked l.first) (selects d q) l.z)
 
 abbrev pub invariant-eval_filter-loop-z : goal.invariant-eval_filter-loop-z
 invariant-eval_filter-loop-z l =
     let d = document_in l.self in
     let f = qualifier_in (terms_in l.self) l.b in
-    Visited (marked l.first) (qualifier_visits d f) l.initial.left l.z l.left
-    × Added (length d) true l.initial.out l.out (between 0 l.z (λ y. marked l.first y && holds d f y))
+    Visited (marked l.first) (qualifier_visits d f) l.initial.visits l.limit l.z l.visits
+    × Added (length d) l.initial.out l.out (between 0 l.z (λ y. marked l.first y && holds d f y))
