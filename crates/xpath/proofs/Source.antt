@@ -24,7 +24,7 @@ pub data Checked : List ℕ → Result (List ℕ) ℕ → Type 0 where
 
 -- the contracts promise what the specifications say, word for word
 pub climbed_tied : (xs : List ℕ) (x y e : ℕ) (es : List ℕ) (r : Climb) (left : List ℕ) → Climbed xs x y e es r left
-    → ClimbMade (document_of xs) x y e es r left
+    → ClimbMade (document_of xs) x y e es r.met r.parents left
 climbed_tied xs x y e es r left (climb_called κs a s z m) = m
 
 pub checked_tied : (xs : List ℕ) (r : Result (List ℕ) ℕ) → Checked xs r → DocumentChecked xs r
