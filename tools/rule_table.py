@@ -215,9 +215,9 @@ PHRASES = dict(zip(['a is below b', 'N is below M', 'b is 3 to 10', 'N is a name
 WAY_BACK_FORM = (WAY_BACK_RULE, ('<=', ('letter', 'r'), ('filter', ('letter', 'r'), some(('letter', 'w')))), [],
                  ['way_back'])
 WAY_BACK_WORDS = [['`a::N`', '`self::N/b::node()`, b being the opposite axis of a'],
-                  ['`p/q`', 'the way back of q, composed with that of p'],
-                  ['`p|q`', 'the way back of p, united with that of q'],
-                  ['`p[f]`', '`.[f]`, composed with the way back of p']]
+                  ['`p/q`', '`v/u`, u being the way back of p and v that of q'],
+                  ['`p|q`', '`u|v`, with the same u and v'],
+                  ['`p[f]`', '`.[f]/u`, with the same u']]
 
 
 def quoted(cell):
@@ -766,8 +766,8 @@ def compare():
 # 6. The selftest.
 
 # what may stand for a word of an expression and says something else
-OTHERS = [['p', 'q', 'r', 's'], ['f', 'g', 'h'], ['a', 'b'], ['N', 'M'], ['V', 'R'], ['true', 'false'], ['and', 'or'],
-          ['node()', '*'], ['|', '/'], ['<=', '=>'], AXES]
+OTHERS = [['p', 'q', 'r', 's'], ['f', 'g', 'h'], ['u', 'v'], ['a', 'b'], ['N', 'M'], ['V', 'R'], ['true', 'false'],
+          ['and', 'or'], ['node()', '*'], ['|', '/'], ['<=', '=>'], AXES]
 
 
 def changed_words(row):
