@@ -2,14 +2,14 @@
 // thing a parameter, as C has them.
 #![tactic(auto)]
 
-ghost use Rattle.std.specs.Prelude.{◌≡◌, [], length};
+ghost use Rattle.std.specs.Prelude.{◌≡◌, cond, [], ◌++◌, leb, length, drop};
 ghost use Rattle.terms.specs.Row.{table_of};
 ghost use Rattle.calls.specs.SelectCall.{select_answer, select_buffer};
 ghost use Rattle.calls.specs.Book.{book};
-ghost use Rattle.calls.specs.code.Tables.{steps_of};
+ghost use Rattle.calls.specs.code.Tables.{first_rows, first_steps, steps_of};
 ghost use Rattle.ordering.specs.OrderCall.{order_answer, bundle_order_answer};
 ghost use Rattle.calls.specs.TextCall.{text_reply};
-ghost use Rattle.bundles.specs.code.TextPut.{held_text, TextWritten};
+ghost use Rattle.bundles.specs.Bundle.{bundle_text};
 
 use calls::{Answer, Held};
 
@@ -41,10 +41,16 @@ pub extern "C" fn bench_write<'a>(
     steps: &'a [u16],
     m: usize,
 ) -> usize
-    ensures { TextWritten out.old 0 (held_text n rows.now m steps.now) result
-        out.new }
+    ensures value { result ≡ length (bundle_text (first_rows n rows.now) (first_steps m steps.now)) }
+    ensures bytes { out.new ≡ cond (leb result (length out.old))
+        (bundle_text (first_rows n rows.now) (first_steps m steps.now) ++ drop result out.old) out.old }
 {
-    bundles::write_tables(out, 0, calls::Held::first(rows, n, steps, m))
+    let held = Held::first(rows, n, steps, m);
+    let size = bundles::bundle_length(held);
+    if size <= out.len() {
+        bundles::write_bundle(out, held);
+    }
+    size
 }
 
 // The value of the answer for row i of the left rows and row j of the right ones, compared as `Session::order` compares

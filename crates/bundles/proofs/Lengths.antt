@@ -2,7 +2,7 @@
 use Prim.Native.Nat.{ℕ, ◌+◌, ◌*◌, ◌≤◌, ◌<◌}
 use mathlib.Core.Path.{◌≡◌, refl, sym, ◌∙◌}
 use mathlib.Core.Bool.{Bool, true, false, false≢true}
-use mathlib.Core.List.{List, [], ◌∷◌, ◌++◌}
+use mathlib.Core.List.{List, [], ◌∷◌}
 use native.Mathlib.Omega.{arith}
 use lib.ListN.{length, length-append}
 use Rattle.common.specs.Lists.{Every}
@@ -12,19 +12,22 @@ use Rattle.terms.specs.AcceptedRows.{Built}
 use Rattle.terms.proofs.ByKind.{Kind, void_kind, root_kind, step_kind, union_kind, composition_kind, filter_kind}
 use Rattle.terms.proofs.ByKind.{true_kind, false_kind, not_kind, and_kind, or_kind, in_kind, kind_of_lem}
 use Rattle.terms.proofs.Built.{FieldLaw, built_row}
-use Rattle.lines.specs.Ascii.{ascii}
 use Rattle.lines.specs.Line.{newline, space}
 use Rattle.lines.specs.Number.{max_number}
 use Rattle.lines.specs.Written.{digits_of, decimal, AllFit, line_text}
 use Rattle.calls.specs.Book.{Step, max_steps}
-use Rattle.bundles.specs.Bundle.{row_names, step_names, row_text, step_text, rows_text, steps_text}
+use Rattle.bundles.specs.Bundle.{row_text, step_text, rows_text, steps_text}
 use Rattle.terms.specs.Row.{row_numbers}
 use Rattle.bundles.specs.Bundle.{bundle_text}
-use Rattle.bundles.specs.code.TextPut.{numbers_length}
 use Rattle.bundles.proofs.Decimals.{digits_few}
+use Rattle.bundles.proofs.Tables.{bundle_length_lem}
 
--- each number of a line has one byte behind it
-line_length : (n : ℕ) (ns : List ℕ) → length (line_text (n ∷ ns)) ≡ numbers_length (n ∷ ns)
+-- the length of a line of numbers: each has one byte behind it
+unfoldable pub numbers_length : List ℕ → ℕ
+numbers_length [] = 0
+numbers_length (n ∷ ns) = length (decimal n) + 1 + numbers_length ns
+
+pub line_length : (n : ℕ) (ns : List ℕ) → length (line_text (n ∷ ns)) ≡ numbers_length (n ∷ ns)
 unfolding line_text numbers_length
 line_length n [] = length-append (decimal n) (newline ∷ []) ∙ omega arith
 line_length n (m ∷ ns) =
@@ -154,11 +157,5 @@ steps_short (p ∷ ps) h = omega (arith, length-append (step_text p) (steps_text
 pub bundle_short : (rs : List Row) (ps : List Step) → Every (λ r. length (row_text r) ≤ 15) rs
     → Every (λ p. length (step_text p) ≤ 23) ps
     → length (bundle_text rs ps) ≤ 40 + 15 * length rs + 23 * length ps
-unfolding bundle_text row_names step_names ascii
 bundle_short rs ps rows steps =
-    omega (
-      arith,
-      length-append (rows_text rs) (step_names ++ newline ∷ steps_text ps),
-      rows_short rs rows,
-      steps_short ps steps,
-    )
+    omega (arith, bundle_length_lem rs ps, rows_short rs rows, steps_short ps steps)

@@ -1,22 +1,22 @@
 -- Texts put one behind the other. Assumes nothing.
-use Prim.Native.Nat.{ℕ, zero, suc, ◌+◌, ◌-◌, ◌*◌, ◌%◌, ◌≤◌, ◌<◌}
+use Prim.Native.Nat.{ℕ, suc, ◌+◌, ◌≤◌, ◌<◌}
 use mathlib.Core.Path.{◌≡◌, refl, sym, ap, subst, ◌∙◌}
+use mathlib.Core.Bool.{cond}
 use mathlib.Core.List.{List, [], ◌∷◌, ◌++◌, append_assoc}
+use mathlib.Core.Logic.{◌⊎◌, inl, inr}
 use native.Mathlib.Numerals.{add-one}
 use native.Mathlib.Omega.{arith}
-use native.Mathlib.Decide.{dec_lt}
-use Rattle.std.proofs.Math.Nat.{mod-eq_of_lt, mod-lt, mod_self, suc-mod}
-use Rattle.std.proofs.lemmas.Grind.{common_steps}
-use Rattle.bundles.proofs.Decimals.{digits_few}
+use lib.Dec.{ltb}
 use lib.ListN.{length, get_or, set, take, drop, length-append, drop_of_length-le}
-use Rattle.std.proofs.Common.{sum_by, take-append-drop}
+use Rattle.std.proofs.Common.{take-append-drop}
 use lib.Seq.{sets, length-sets, drop-cons, drop-drop}
 use borrow.Rule.Slice.PartMut.{put_mid}
+use borrow.Author.Tests.{lt-ltb, le-ltb}
 use Rattle.std.proofs.lemmas.List.Edits.{sets-eq}
-use borrow.Author.Tests.{le-leb, lt-leb}
+use Rattle.common.proofs.Reflect.{le_or_lt}
 use Rattle.lines.specs.Line.{newline, space}
-use Rattle.lines.specs.Written.{decimal}
-use Rattle.bundles.specs.code.TextPut.{Put, behind, left_next, left_at, numbers_text, numbers_length, TextWritten}
+use Rattle.lines.specs.Written.{decimal, line_text}
+use Rattle.bundles.specs.code.TextPut.{Put}
 
 sets_append : (us vs xs : List ℕ) (at : ℕ) → sets xs at (us ++ vs) ≡ sets (sets xs at us) (at + length us) vs
 sets_append [] vs xs at = let e : at ≡ at + 0 = omega arith in ap (λ k. sets xs k vs) e
@@ -24,7 +24,7 @@ sets_append (u ∷ us) vs xs at =
     let e : suc at + length us ≡ at + suc (length us) = omega arith in
     sets_append us vs (set xs at u) (suc at) ∙ ap (λ k. sets (sets (set xs at u) (suc at) us) k vs) e
 
-pub put_none : (xs : List ℕ) (at : ℕ) → Put xs at [] at xs
+put_none : (xs : List ℕ) (at : ℕ) → Put xs at [] at xs
 put_none xs at = record { position = omega arith; bytes = refl }
 
 pub put_both : {xs ys zs : List ℕ} {at n m : ℕ} {us vs : List ℕ} → Put xs at us n ys → Put ys n vs m zs
@@ -62,115 +62,113 @@ put_before xs us at end start ys {vs} text e h s front rest =
 pub put_keeps : {xs ys us : List ℕ} {at n : ℕ} → Put xs at us n ys → length ys ≡ length xs
 put_keeps {xs} {us = us} {at = at} p = ap length p.bytes ∙ length-sets xs at us
 
--- what is left to put: `rest` behind what is put already, which makes `whole`
-abbrev pub Rest : (xs : List ℕ) (at : ℕ) (whole ys : List ℕ) (end : ℕ) (rest : List ℕ) → Type 0
-Rest xs at whole ys end rest = (r : ℕ) (zs : List ℕ) → Put ys end rest r zs → Put xs at whole r zs
+-- a text put at byte 0
+pub put_at_start : {xs ys us : List ℕ} {n : ℕ} → length us ≤ length xs → Put xs 0 us n ys
+    → ys ≡ us ++ drop (length us) xs
+put_at_start {xs} {us = us} h p =
+    let start : 0 + length us ≡ length us = omega arith in
+    p.bytes ∙ sets-eq us xs 0 (omega arith) ∙ rw start
+
+-- what is left to put: `rest` behind what is put already, which makes `whole`, and has room
+pub record Rest (xs : List ℕ) (at : ℕ) (whole ys : List ℕ) (end : ℕ) (rest : List ℕ) : Type 0 where
+  pub size : length ys ≡ length xs
+  pub room : end + length rest ≤ length xs
+  pub then : (r : ℕ) (zs : List ℕ) → Put ys end rest r zs → Put xs at whole r zs
 
 module _ {xs whole : List ℕ} {at : ℕ} where
+  pub all_rest : at + length whole ≤ length xs → Rest xs at whole xs at whole
+  all_rest h = record { size = refl; room = h; then = λ r zs p. p }
+
   -- the first of it is put
-  pub rest_further : {ys zs us vs : List ℕ} {end n : ℕ} → Rest xs at whole ys end (us ++ vs) → Put ys end us n zs
+  rest_further : {ys zs us vs : List ℕ} {end n : ℕ} → Rest xs at whole ys end (us ++ vs) → Put ys end us n zs
       → Rest xs at whole zs n vs
-  rest_further rest p r ws q = rest r ws (put_both p q)
+  rest_further {us = us} {vs = vs} rest p =
+      record {
+        size = put_keeps p ∙ rest.size;
+        room = omega (arith, rest.room, p.position, length-append us vs);
+        then = λ r ws q. rest.then r ws (put_both p q);
+      }
 
-  pub rest_done : {ys : List ℕ} {end : ℕ} → Rest xs at whole ys end [] → Put xs at whole end ys
-  rest_done {ys} {end} rest = rest end ys (put_none ys end)
+  rest_done : {ys : List ℕ} {end : ℕ} → Rest xs at whole ys end [] → Put xs at whole end ys
+  rest_done {ys} {end} rest = rest.then end ys (put_none ys end)
 
-  -- one number of a table, and the byte behind it
-  pub numbers_further : {ys us zs : List ℕ} {end n m : ℕ} (width left : ℕ) (ns : List ℕ) (i : ℕ) → i < length ns
-      → Rest xs at whole ys end (numbers_text width left (drop i ns))
-      → Put ys end (decimal (get_or ns i 0)) n us → Put us n (behind left ∷ []) m zs
-      → Rest xs at whole zs m (numbers_text width (left_next width left) (drop (i + 1) ns))
-  unfolding numbers_text
-  numbers_further {ys} {end = end} width left ns i h rest p q =
-      let e : drop i ns ≡ get_or ns i 0 ∷ drop (i + 1) ns = drop-cons ns i 0 h ∙ rw add-one in
-      rest_further (rest_further (subst (λ w. Rest xs at whole ys end (numbers_text width left w)) e rest) p) q
+  -- texts of a list, one behind the other, of which those from place i on are left
+  module _ {A : Type 0} (text : A → List ℕ) (texts : List A → List ℕ) (none : texts [] ≡ [])
+      (more : (r : A) (rs : List A) → texts (r ∷ rs) ≡ text r ++ texts rs) (rs : List A) (i : ℕ)
+      {ys : List ℕ} {end : ℕ} (rest : Rest xs at whole ys end (texts (drop i rs))) where
+    module _ (d : A) (h : i < length rs) where
+      next : Rest xs at whole ys end (text (get_or rs i d) ++ texts (drop (i + 1) rs))
+      next =
+          let e : drop i rs ≡ get_or rs i d ∷ drop (i + 1) rs = drop-cons rs i d h ∙ rw add-one in
+          subst (λ w. Rest xs at whole ys end w) (ap texts e ∙ more _ _) rest
 
-  -- all of them are put
-  pub numbers_done : {ys : List ℕ} {end : ℕ} (width left : ℕ) (ns : List ℕ) (i : ℕ) → length ns ≤ i
-      → Rest xs at whole ys end (numbers_text width left (drop i ns)) → Put xs at whole end ys
-  unfolding numbers_text
-  numbers_done {ys} {end} width left ns i h rest =
-      rest_done (subst (λ w. Rest xs at whole ys end (numbers_text width left w)) (drop_of_length-le ns h) rest)
+      pub text_room : end + length (text (get_or rs i d)) ≤ length ys
+      text_room = omega (arith, next.room, next.size, length-append (text (get_or rs i d)) (texts (drop (i + 1) rs)))
 
-pub length_further : (ns : List ℕ) (i : ℕ) → i < length ns
-    → numbers_length (drop i ns) ≡ length (decimal (get_or ns i 0)) + 1 + numbers_length (drop (i + 1) ns)
-unfolding numbers_length
-length_further ns i h =
-    let e : drop i ns ≡ get_or ns i 0 ∷ drop (i + 1) ns = drop-cons ns i 0 h ∙ rw add-one in
-    ap numbers_length e
+      pub text_put : {zs : List ℕ} {n : ℕ} → Put ys end (text (get_or rs i d)) n zs
+          → Rest xs at whole zs n (texts (drop (i + 1) rs))
+      text_put p = rest_further next p
 
-pub numbers_length_lem : (width left : ℕ) (ns : List ℕ) → length (numbers_text width left ns) ≡ numbers_length ns
-unfolding numbers_text numbers_length
-numbers_length_lem width left [] = refl
-numbers_length_lem width left (n ∷ ns) =
-    let later = numbers_length_lem width (left_next width left) ns in
-    length-append (decimal n) (behind left ∷ numbers_text width (left_next width left) ns) ∙ omega arith
+    pub texts_done : length rs ≤ i → Put xs at whole end ys
+    texts_done h = rest_done (subst (λ w. Rest xs at whole ys end w) (ap texts (drop_of_length-le rs h) ∙ none) rest)
 
--- the end of a line, and the others
-pub behind_last : (left : ℕ) → left ≡ 0 → newline ≡ behind left
+-- what is left of a line, whose numbers ns are left
+unfoldable pub rest_of_line : List ℕ → List ℕ
+rest_of_line [] = []
+rest_of_line (n ∷ ns) = line_text (n ∷ ns)
+
+pub whole_line : (ns : List ℕ) → 0 < length ns → rest_of_line ns ≡ line_text ns
+unfolding rest_of_line
+whole_line [] h = absurd (omega arith)
+whole_line (n ∷ ns) h = refl
+
+-- the byte behind a number, where ns are left
+behind : List ℕ → ℕ
+behind [] = newline
+behind (n ∷ ns) = space
+
+one_number : (n : ℕ) (ns : List ℕ) → rest_of_line (n ∷ ns) ≡ decimal n ++ behind ns ∷ rest_of_line ns
+unfolding rest_of_line line_text behind
+one_number n [] = refl
+one_number n (m ∷ ns) = refl
+
+behind_at : (ns : List ℕ) (i : ℕ) → i < length ns
+    → cond (ltb (i + 1) (length ns)) space newline ≡ behind (drop (i + 1) ns)
 unfolding behind
-behind_last left e = rw e
-
-pub behind_other : (left : ℕ) → ¬ (left ≡ 0) → space ≡ behind left
-unfolding behind
-behind_other zero f = absurd (f refl)
-behind_other (suc left) f = refl
-
-pub next_line : (width left : ℕ) → left ≡ 0 → width - 1 ≡ left_next width left
-unfolding left_next
-next_line width left e = rw e
-
-pub same_line : (width left : ℕ) → ¬ (left ≡ 0) → left - 1 ≡ left_next width left
-unfolding left_next
-same_line width zero f = absurd (f refl)
-same_line width (suc left) f = omega arith
-
--- the number after one, in its line or in the next
-pub left_after : (width i : ℕ) → 0 < width → left_next width (left_at width i) ≡ left_at width (i + 1)
-left_after width i h = by_test (dec_lt (suc (i % width)) width)
+behind_at ns i h = by_place (le_or_lt (length ns) (i + 1))
   where
-    next : (i + 1) % width ≡ suc (i % width) % width
-    next = rw add-one (suc-mod i width)
+    by_place : (length ns ≤ i + 1) ⊎ (i + 1 < length ns)
+        → cond (ltb (i + 1) (length ns)) space newline ≡ behind (drop (i + 1) ns)
+    by_place (inl l) = rw (le-ltb (i + 1) (length ns) l, drop_of_length-le ns l)
+    by_place (inr l) = rw (lt-ltb (i + 1) (length ns) l, drop-cons ns (i + 1) 0 l)
 
-    few : i % width < width
-    few = mod-lt i h
+-- a number of a line and the byte behind it
+module _ {xs whole : List ℕ} {at : ℕ} (ns : List ℕ) (i : ℕ) (h : i < length ns) {ys : List ℕ} {end : ℕ}
+    (rest : Rest xs at whole ys end (rest_of_line (drop i ns))) where
+  number_next : Rest xs at whole ys end (decimal (get_or ns i 0) ++ behind (drop (i + 1) ns)
+      ∷ rest_of_line (drop (i + 1) ns))
+  number_next =
+      let e : drop i ns ≡ get_or ns i 0 ∷ drop (i + 1) ns = drop-cons ns i 0 h ∙ rw add-one in
+      subst (λ w. Rest xs at whole ys end w) (ap rest_of_line e ∙ one_number _ _) rest
 
-    by_test : Dec (suc (i % width) < width) → left_next width (left_at width i) ≡ left_at width (i + 1)
-    by_test (yes g) =
-        sym (same_line width (left_at width i) (λ e. omega arith))
-        ∙ omega (arith, next, mod-eq_of_lt g)
-    by_test (no g) =
-        let e : suc (i % width) ≡ width = omega arith in
-        let f : suc (i % width) % width ≡ 0 = rw e (mod_self width) in
-        sym (next_line width (left_at width i) (omega arith)) ∙ omega (arith, next, f)
+  pub number_room : end + length (decimal (get_or ns i 0)) + 1 ≤ length ys
+  number_room =
+      omega (
+        arith,
+        number_next.room,
+        number_next.size,
+        length-append (decimal (get_or ns i 0)) (behind (drop (i + 1) ns) ∷ rest_of_line (drop (i + 1) ns)),
+      )
 
--- by induction: the length is the sum over the numbers
-pub numbers_sum : (ns : List ℕ) → numbers_length ns ≡ sum_by (λ n. length (decimal n) + 1) ns
-unfolding numbers_length
-numbers_sum [] = refl
-numbers_sum (n ∷ ns) = grind (arith, common_steps, numbers_sum ns)
+  pub number_put : {us zs : List ℕ} {n m b : ℕ} → Put ys end (decimal (get_or ns i 0)) n us
+      → b ≡ cond (ltb (i + 1) (length ns)) space newline → Put us n (b ∷ []) m zs
+      → Rest xs at whole zs m (rest_of_line (drop (i + 1) ns))
+  number_put p e q =
+      rest_further (rest_further number_next p) (put_as (ap (λ x. x ∷ []) (e ∙ behind_at ns i h)) q)
 
--- the bound of their length
-pub numbers_short : (ns : List ℕ) → ((k : ℕ) → get_or ns k 0 < 65536) → numbers_length ns ≤ 6 * length ns
-unfolding numbers_length
-numbers_short [] h = omega arith
-numbers_short (n ∷ ns) h =
-    let few : n < 65536 = h 0 in
-    omega (arith, digits_few 5 n (omega arith) (omega arith) (omega arith), numbers_short ns (λ k. h (suc k)))
-
--- no room, and room, for a text w that is the text asked for
-pub written_not : {buffer w text : List ℕ} {at size : ℕ} → w ≡ text → size ≡ length w → length buffer < at + size
-    → TextWritten buffer at text size buffer
-written_not {buffer} {w} {text} {at} {size} e is-size none =
-    let told : size ≡ length text = is-size ∙ ap length e in
-    record { length_told = told; bytes = rw (lt-leb (at + length text) (length buffer) (omega (arith, told))) }
-
-pub written_all : {buffer w text left : List ℕ} {at size next : ℕ} → w ≡ text → size ≡ length w
-    → at + size ≤ length buffer
-    → Put buffer at w next left → TextWritten buffer at text size left
-written_all {buffer} {w} {text} {at = at} {size = size} e is-size room put =
-    let told : size ≡ length text = is-size ∙ ap length e in
-    record {
-      length_told = told;
-      bytes = rw (le-leb (at + length text) (length buffer) (omega (arith, told))) (put.bytes ∙ ap (sets buffer at) e);
-    }
+-- all numbers of a line are put
+pub numbers_done : {xs whole ys : List ℕ} {at end : ℕ} (ns : List ℕ) (i : ℕ) → length ns ≤ i
+    → Rest xs at whole ys end (rest_of_line (drop i ns)) → Put xs at whole end ys
+unfolding rest_of_line
+numbers_done {xs} {whole} {ys} {at} {end} ns i h rest =
+    rest_done (subst (λ w. Rest xs at whole ys end (rest_of_line w)) (drop_of_length-le ns h) rest)

@@ -7,24 +7,24 @@ use mathlib.Core.List.{List, [], ◌∷◌, ◌++◌, append_assoc}
 use native.Mathlib.Omega.{arith}
 use lib.Dec.{leb}
 use lib.ListN.{length, take, drop}
-use lib.Seq.{sets-eq, take_at, length-take-le}
+use lib.Seq.{take_at}
 use borrow.Author.Tests.{le-leb, lt-leb}
-use Rattle.terms.specs.Row.{Row, max_rows}
+use Rattle.terms.specs.Row.{Row, table_of}
 use Rattle.common.specs.Limits.{max_bytes}
 use Rattle.lines.specs.Line.{newline, lines}
 use Rattle.session.specs.declared.session.Session.{Session}
 use Rattle.std.specs.Prelude.{Ok, Err}
 use Rattle.common.specs.declared.refusal.Refusal.TheVariants.{ShortBuffer}
-use Rattle.calls.specs.Book.{Step, max_steps, Book, answer}
+use Rattle.calls.specs.Book.{Step, Book, answer}
 use Rattle.common.specs.Refusals.{short_buffer}
 use Rattle.calls.specs.Calls.{CallSeen, AllAccepted}
-use Rattle.calls.specs.code.Tables.{row_width, step_width, first_row_numbers, first_step_numbers}
+use Rattle.calls.specs.declared.held.Held.{Held}
+use Rattle.calls.specs.code.Tables.{first_row_numbers, first_step_numbers, steps_of}
 use Rattle.bundles.specs.Bundle.{row_names, step_names, bundle_text}
-use Rattle.bundles.specs.code.TextPut.{held_text, TextWritten}
+use Rattle.bundles.specs.code.TextPut.{held_text}
 use Rattle.bundles.proofs.Lengths.{bundle_short}
-use Rattle.bundles.proofs.Tables.{tables_text_lem, first_again}
 use Rattle.bundles.proofs.Spelling.{text_of, lines_joined, text_append, rows_spelled, steps_spelled}
-use Rattle.session.specs.View.{rows_held, steps_held, view, fresh_session}
+use Rattle.session.specs.View.{view, fresh_session}
 use Rattle.session.specs.Promises.{CallsMade}
 use Rattle.session.specs.WriteCall.{session_text, WriteMet}
 use Rattle.session.specs.ReadDemand.{calls_of, IsBundle}
@@ -77,33 +77,27 @@ pub read_text : (bytes : List ℕ) (rs : List Row) (ps : List Step) (os : List C
 read_text bytes rs ps os u b run taken =
     ap (λ b. bundle_text b.rows b.steps) (calls_held rs ps os u run taken) ∙ sym (bundle_spelled bytes rs ps b)
 
--- the numbers of a session's tables are those of the rows and steps that it holds
-pub session_tables : (s : Session) {us vs : List ℕ} → length s.rows ≡ row_width * max_rows
-    → length s.steps ≡ step_width * max_steps → us ≡ first_row_numbers s.row_count s.rows
-    → vs ≡ first_step_numbers s.step_count s.steps → held_text max_rows us max_steps vs ≡ session_text s
+-- the bundle of the rows and steps that a session holds is its text
+pub session_tables : (s : Session) (held : Held) → held.rows.now ≡ first_row_numbers s.row_count s.rows
+    → held.steps.now ≡ first_step_numbers s.step_count s.steps → held_text held ≡ session_text s
 unfolding view
-session_tables s rows steps e f =
-    first_again s.row_count s.step_count s.rows s.steps e f
-    ∙ tables_text_lem (rows_held s) (steps_held s) _ _
-    (length-take-le (row_width * rows_held s) s.rows (omega (arith, rows)))
-    (length-take-le (step_width * steps_held s) s.steps (omega (arith, steps)))
+session_tables s held e f = ap₂ (λ us vs. bundle_text (table_of us) (steps_of vs)) e f
 
--- the answer, where the text has the length told
-module _ (s : Session) (buffer : List ℕ) (size : ℕ) (left : List ℕ)
-    (m : TextWritten buffer 0 (session_text s) size left) where
-  from_zero : 0 + length (session_text s) ≡ length (session_text s)
-  from_zero = omega arith
-
-  pub write_refused : length buffer < size → WriteMet s buffer (Err (ShortBuffer size)) left
+-- the answer, where the text of the session has the length told
+module _ (s : Session) (buffer : List ℕ) (size : ℕ) (text : List ℕ) (told : size ≡ length text)
+    (e : text ≡ session_text s) where
+  pub write_refused : length buffer < size → WriteMet s buffer (Err (ShortBuffer size)) buffer
   write_refused h =
-      let short = lt-leb (length (session_text s)) (length buffer) (omega (arith, m.length_told)) in
-      record { answer = rw short (ap (answer short_buffer) m.length_told); bytes = m.bytes ∙ rw (from_zero, short) }
+      let is : size ≡ length (session_text s) = told ∙ ap length e in
+      let short = lt-leb (length (session_text s)) (length buffer) (omega arith) in
+      record { answer = rw short (ap (answer short_buffer) is); bytes = rw short }
 
-  pub write_held : size ≤ length buffer → WriteMet s buffer (Ok size) left
-  write_held h =
-      let room : length (session_text s) ≤ length buffer = omega (arith, m.length_told) in
-      let fits = le-leb (length (session_text s)) (length buffer) room in
+  pub write_held : size ≤ length buffer → (left : List ℕ) → left ≡ text ++ drop (length text) buffer
+      → WriteMet s buffer (Ok size) left
+  write_held h left f =
+      let is : size ≡ length (session_text s) = told ∙ ap length e in
+      let fits = le-leb (length (session_text s)) (length buffer) (omega arith) in
       record {
-        answer = rw fits (ap (answer 0) m.length_told);
-        bytes = m.bytes ∙ rw (from_zero, fits) (sets-eq (session_text s) buffer 0 (omega arith) ∙ rw from_zero);
+        answer = rw fits (ap (answer 0) is);
+        bytes = rw fits (f ∙ ap (λ us. us ++ drop (length us) buffer) e);
       }

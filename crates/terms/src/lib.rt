@@ -104,7 +104,7 @@ impl From<Row> for [u16; ROW_WIDTH] {
 
 // The rows, each as its numbers. `as_chunks` is what rows, steps and points share; each says what its numbers are.
 #[tactic(auto, using(crate::proofs::LentRows::rows_by_four))]
-fn whole_rows(rows: &[u16]) -> &[[u16; ROW_WIDTH]]
+pub fn whole_rows(rows: &[u16]) -> &[[u16; ROW_WIDTH]]
     ensures { map row_of_numbers result.now ≡ table_of rows.now }
 {
     rows.as_chunks().0

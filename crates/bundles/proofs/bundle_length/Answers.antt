@@ -1,6 +1,8 @@
 -- `bundle_length` meets its contract. Assumes nothing.
 use native.Mathlib.Omega.{arith}
-use Rattle.bundles.proofs.Tables.{tables_length}
+use Rattle.terms.specs.Row.{table_of}
+use Rattle.calls.specs.code.Tables.{steps_of}
+use Rattle.bundles.proofs.Tables.{bundle_length_lem}
 use Rattle.bundles.proofs.bundle_length.Goals as goal
 
 pub returns : goal.returns
@@ -8,7 +10,7 @@ returns c =
     let a = c.args in
     omega (
       arith,
-      c.lines_length.ensures.0,
-      c.lines_length-2.ensures.0,
-      tables_length a.held.rows.now a.held.steps.now,
+      c.terms_length.ensures.0,
+      c.steps_length.ensures.0,
+      bundle_length_lem (table_of a.held.rows.now) (steps_of a.held.steps.now),
     )

@@ -4,7 +4,7 @@ use Prim.Native.Nat.{◌+◌, ◌-◌}
 use native.Mathlib.Omega.{arith}
 use lib.ListN.{length}
 use Rattle.bundles.proofs.Putting.{put_part}
-use Rattle.bundles.proofs.put_text.Goals as goal
+use Rattle.bundles.proofs.writer.put_text.Goals as goal
 
 pub returns : goal.returns
 returns c =

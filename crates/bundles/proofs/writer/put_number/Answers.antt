@@ -5,7 +5,7 @@ use lib.ListN.{length}
 use Rattle.std.specs.Fmt.{decimal}
 use Rattle.bundles.proofs.Decimals.{decimal_written}
 use Rattle.bundles.proofs.Putting.{put_before}
-use Rattle.bundles.proofs.put_number.Goals as goal
+use Rattle.bundles.proofs.writer.put_number.Goals as goal
 
 pub write_digits-requires : goal.write_digits-requires
 write_digits-requires c =
