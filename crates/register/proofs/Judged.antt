@@ -36,7 +36,7 @@ use Rattle.session.proofs.SetsReplaced.{ReplacesKept, sets_replaced}
 use Rattle.session.proofs.ArchivesOrdered.{OrdersKept, BundleOrdersKept, ordered}
 use Rattle.register.specs.declared.Register.{Register}
 use Rattle.register.specs.Promises.{fresh_register, RegisterRelation, RegisterMet, holdings}
-use Rattle.register.specs.RecordDemand.{RecordFits, RecordDemand, RegisterReplaceDemand}
+use Rattle.register.specs.RecordDemand.{AcceptableRecord, RecordDemand, RegisterReplaceDemand}
 use Rattle.register.specs.RecordDemand.{RegisterOrderDemand}
 use Rattle.register.proofs.Simulation.{RegisterLaws, register_laws}
 
@@ -106,7 +106,7 @@ module _ (b : Book) (rs : List Record) (laws : HeldLaws b.rows b.steps) (edition
         λ z. rw (one, eq-eqb g.step 0 z) refl,
       )
 
-  record_fits : (record_answer b.rows b.steps rs g).number ≡ 0 → RecordFits b rs g
+  record_fits : (record_answer b.rows b.steps rs g).number ≡ 0 → AcceptableRecord b rs g
   record_fits e =
       let t = record_accepted b.rows b.steps rs g e in
       let path = (true_iff (held_path b.rows g.row)).1 t.path in
@@ -119,14 +119,14 @@ module _ (b : Book) (rs : List Record) (laws : HeldLaws b.rows b.steps) (edition
         space = t.room;
       }
 
-  fits : RecordFits b rs g → is_fit_step b.steps previous g ≡ true
+  fits : AcceptableRecord b rs g → is_fit_step b.steps previous g ≡ true
   fits f =
       ⊎_elim (λ one. (first_iff one).1 (f.first one))
       (λ later. (true_iff (is_fit_step b.steps previous g)).0
       ((fit_iff b laws previous g later (previous_path f.next later) f.path).1 (f.later later)))
       (eq_or_ne g.edition 1)
 
-  fits_record : RecordFits b rs g → (record_answer b.rows b.steps rs g).number ≡ 0
+  fits_record : AcceptableRecord b rs g → (record_answer b.rows b.steps rs g).number ≡ 0
   fits_record f =
       ap (λ a. a.number)
       (sym (is_recorded b.rows b.steps rs g highest refl f.next

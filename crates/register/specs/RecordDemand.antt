@@ -17,7 +17,7 @@ use Rattle.register.specs.Promises.{RegisterRelation, holdings}
 
 -- the record g is the next edition of its series, its row is a held path, the first edition has step 0, the step of a
 -- later one is held and says, as terms, that the previous edition's path is contained in its own, and there is space
-pub record RecordFits (b : Book) (rs : List Record) (g : Record) : Type 0 where
+pub record AcceptableRecord (b : Book) (rs : List Record) (g : Record) : Type 0 where
   pub next : g.edition ≡ current rs g.series + 1
   pub path : T (held_path b.rows g.row)
   pub first : g.edition ≡ 1 → g.step ≡ 0
@@ -33,7 +33,7 @@ pub record RecordsJudged (Called : RegisterRelation) (r : Register) (b : Book) (
       → T (is_fit_step b.steps previous g) ↔ StepSays b g.step (path_at b.rows previous) (path_at b.rows g.row)
   -- the call accepts just what fits
   pub accepts : (g : Record) (a : Answer) (t : Register) → Called r (passed (own g)) a t
-      → IsAccepted a ↔ RecordFits b rs g
+      → IsAccepted a ↔ AcceptableRecord b rs g
 
 -- the demands: every list of calls, run from what `Register::new` gives, refused ones included
 module _ (New : Register → Type 0) (Called : RegisterRelation) where

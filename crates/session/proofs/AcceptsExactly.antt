@@ -21,7 +21,7 @@ use Rattle.terms.proofs.Find.{find_first, find_there}
 use Rattle.rules.specs.Yields.{max_rule, premise_count}
 use Rattle.rules.specs.Decision.{yields_dec}
 use Rattle.rules.proofs.RuleNumbers.{rule_numbers}
-use Rattle.calls.specs.Book.{Step, max_steps, Book, Answer, answer}
+use Rattle.calls.specs.Book.{Step, max_steps, Book, Answer}
 use Rattle.calls.specs.TermCall.{term_answer}
 use Rattle.calls.specs.StepCall.{same_sort, bad_side_of, premise_ok, bad_premise_of, claim_of, premises_of}
 use Rattle.calls.specs.StepCall.{is_yielded, step_answer_by, step_answer}
@@ -35,7 +35,7 @@ use Rattle.calls.proofs.Premises.{sides_held}
 use Rattle.session.specs.declared.session.Session.{Session}
 use Rattle.session.specs.View.{view, fresh_session}
 use Rattle.session.specs.Promises.{CallRelation, SelectRelation, Met, SelectMet}
-use Rattle.session.specs.AcceptDemand.{RowFits, StepFits, SelectFits, AcceptsExactly, AcceptDemand}
+use Rattle.session.specs.AcceptDemand.{AcceptableRow, AcceptableStep, AcceptableSelect, AcceptsExactly, AcceptDemand}
 use Rattle.session.proofs.Simulation.{Kept, answers_by_terms, calls_follow}
 use Rattle.session.proofs.Demand3.{CallsKept, SelectsKept, made_from_fresh}
 
@@ -58,7 +58,7 @@ module _ (rs : List Row) (r : Row) where
   unfolding bad_place
   fields_iff = three_places _ _ _
 
-  row_fits : (term_answer rs r).number ≡ 0 → RowFits rs r
+  row_fits : (term_answer rs r).number ≡ 0 → AcceptableRow rs r
   row_fits e =
       let t = term_accepted rs r e in
       let fields = fields_iff.0 t.fields in
@@ -69,7 +69,7 @@ module _ (rs : List Row) (r : Row) where
         space = t.room;
       }
 
-  fits_row : RowFits rs r → (term_answer rs r).number ≡ 0
+  fits_row : AcceptableRow rs r → (term_answer rs r).number ≡ 0
   fits_row f =
       let w = f.well_formed in
       let new : length rs ≤ find rs r =
@@ -96,7 +96,7 @@ module _ (b : Book) (p : Step) where
   unfolding bad_side_of
   sides_fit h k e = rw (lt-leb (length b.rows) p.left h, lt-leb (length b.rows) p.right k, e) (omega arith)
 
-  step_fits : (step_answer b p).number ≡ 0 → StepFits b p
+  step_fits : (step_answer b p).number ≡ 0 → AcceptableStep b p
   unfolding step_answer is_yielded
   step_fits e =
       let t = step_accepted (is_yielded b p) b p e in
@@ -114,7 +114,7 @@ module _ (b : Book) (p : Step) where
         space = t.room;
       }
 
-  fits_step : StepFits b p → (step_answer b p).number ≡ 0
+  fits_step : AcceptableStep b p → (step_answer b p).number ≡ 0
   unfolding step_answer step_answer_by is_yielded
   fits_step f =
       let (from, to) = rule_numbers p.rule _ _ f.yielded in
@@ -134,7 +134,7 @@ module _ (b : Book) (p : Step) where
 
 -- a selection
 module _ (rs : List Row) (row : ℕ) (xs : List ℕ) (x limit room : ℕ) where
-  select_fits : (select_answer rs row xs x limit room).number ≡ 0 → SelectFits rs row xs x limit room
+  select_fits : (select_answer rs row xs x limit room).number ≡ 0 → AcceptableSelect rs row xs x limit room
   unfolding select_answer
   select_fits e =
       let d = document_of xs in
@@ -154,7 +154,7 @@ module _ (rs : List Row) (row : ℕ) (xs : List ℕ) (x limit room : ℕ) where
         within = ltb-false _ _ t₁₅.0;
       }
 
-  fits_select : SelectFits rs row xs x limit room → (select_answer rs row xs x limit room).number ≡ 0
+  fits_select : AcceptableSelect rs row xs x limit room → (select_answer rs row xs x limit room).number ≡ 0
   unfolding select_answer Option-elim
   fits_select f =
       let d = document_of xs in

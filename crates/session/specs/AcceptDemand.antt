@@ -27,7 +27,7 @@ pub record RowWellFormed (rs : List Row) (r : Row) : Type 0 where
   pub nesting : nesting rs r ≤ max_nesting
 
 -- it is so, no row held is equal to it, and there is space
-pub record RowFits (rs : List Row) (r : Row) : Type 0 where
+pub record AcceptableRow (rs : List Row) (r : Row) : Type 0 where
   pub well_formed : RowWellFormed rs r
   pub new : (i : ℕ) → i < length rs → ¬ (row_at rs i ≡ r)
   pub space : length rs < max_rows
@@ -35,7 +35,7 @@ pub record RowFits (rs : List Row) (r : Row) : Type 0 where
 -- the step's rows are held, both paths or both qualifiers; each premise that its rule takes is the number of a held
 -- step, from 1, another is 0; the rule yields what the step says from what its premises say, as terms; and there is
 -- space
-pub record StepFits (b : Book) (p : Step) : Type 0 where
+pub record AcceptableStep (b : Book) (p : Step) : Type 0 where
   pub left : p.left < length b.rows
   pub right : p.right < length b.rows
   pub one_sort : T (same_sort b.rows p.left p.right)
@@ -46,7 +46,7 @@ pub record StepFits (b : Book) (p : Step) : Type 0 where
 
 -- the lent numbers are whole rows, 1 to 512, of a well-formed document, x is one of its nodes, the row is a held path,
 -- the marks have room for each node, and the visits are within the limit
-pub record SelectFits (rs : List Row) (row : ℕ) (xs : List ℕ) (x limit room : ℕ) : Type 0 where
+pub record AcceptableSelect (rs : List Row) (row : ℕ) (xs : List ℕ) (x limit room : ℕ) : Type 0 where
   pub whole : length xs ≡ node_width * length (document_of xs)
   pub few : length (document_of xs) ≤ max_nodes
   pub well_formed : T (well_formed (document_of xs))
@@ -58,11 +58,11 @@ pub record SelectFits (rs : List Row) (row : ℕ) (xs : List ℕ) (x limit room 
 module _ (Selected : SelectRelation) (Called : CallRelation) where
   -- what is asked of the session s that calls left; b is the plain book fed the same calls
   pub record AcceptsExactly (s : Session) (b : Book) : Type 0 where
-    pub rows : (r : Row) (a : Answer) (t : Session) → Called s (Call.term r) a t → IsAccepted a ↔ RowFits b.rows r
-    pub steps : (p : Step) (a : Answer) (t : Session) → Called s (Call.step p) a t → IsAccepted a ↔ StepFits b p
+    pub rows : (r : Row) (a : Answer) (t : Session) → Called s (Call.term r) a t → IsAccepted a ↔ AcceptableRow b.rows r
+    pub steps : (p : Step) (a : Answer) (t : Session) → Called s (Call.step p) a t → IsAccepted a ↔ AcceptableStep b p
     pub selects : (row : ℕ) (xs : List ℕ) (x limit : ℕ) (buffer left : List ℕ) (t : NumberOrRefusal)
         → Selected s row xs x limit buffer t left
-        → IsAccepted (answer_of t) ↔ SelectFits b.rows row xs x limit (length buffer)
+        → IsAccepted (answer_of t) ↔ AcceptableSelect b.rows row xs x limit (length buffer)
 
   -- the demand: every list of calls, run from what `Session::new` gives, refused ones included
   abbrev pub AcceptDemand : (New : Session → Type 0) → Type 0
