@@ -18,6 +18,7 @@ pub struct Writer<'a> {
 fn write_at(out: &mut [u8], at: usize, s: &Session) -> usize
     ensures { TextWritten out.old at (session_text s.now) result out.new }
 {
+    s.whole_tables();
     bundles::write_tables(out, at, s.held())
 }
 
