@@ -15,10 +15,10 @@
 /* Bytes of stack that are enough for a call: the most that tests/command/stack.c measured on the deepest inputs known,
    and some more. It lends lists that are indexed and makes steps by rule 59, also in the calls of spinebriar_file.
    spinebriar_read and spinebriar_read_line take the same. */
-#define SPINEBRIAR_READ_STACK 163840
-#define SPINEBRIAR_CLAIM_STACK 360448
-#define SPINEBRIAR_SELECT_STACK 327680
-#define SPINEBRIAR_FILE_STACK 786432
+#define SPINEBRIAR_READ_STACK 65536
+#define SPINEBRIAR_CLAIM_STACK 262144
+#define SPINEBRIAR_SELECT_STACK 262144
+#define SPINEBRIAR_FILE_STACK 327680
 
 /* The limits: of a bundle its bytes, rows, steps and rules, the nodes of a document, the largest number
    of a name. More is refused by the call that is given it. */

@@ -17,7 +17,8 @@
 
 enum { STACK = 1 << 20, PAINT = 0xa5 };
 
-/* Every selector is as deep as rows may nest, in another way. */
+/* Every selector is as deep as rows may nest, in another way, but for the last: it is as deep as predicates may, which
+   takes the most of a reading, and its rows nest too deep. */
 static const char *const SELECTORS[] = {
     "a/a/a/a/a/a/a/a/a/a/a/a/a/a/a/a/a/a/a/a/a/a/a/a/a/a/a/a/a/a/a/a",
     "a[a[a[a[a[a[a[a[a]]]]]]]]",
@@ -25,6 +26,7 @@ static const char *const SELECTORS[] = {
     "a|a|a|a|a|a|a|a|a|a|a|a|a|a|a|a|a|a|a|a|a|a|a|a|a|a|a|a|a|a|a|a",
     "/descendant::a[((((((((((((((((((((((((((((((a))))))))))))))))))))))))))))))]",
     "/descendant-or-self::node()/following::a[preceding::a[ancestor::a[following-sibling::a]]]",
+    "a[a[a[a[a[a[a[a[a[a[a[a[a[a[a[a[a[a[a[a[a[a[a[a[a[a[a[a[a[a[a[a[a]]]]]]]]]]]]]]]]]]]]]]]]]]]]]]]]",
 };
 enum { SELECTOR_COUNT = sizeof SELECTORS / sizeof *SELECTORS };
 

@@ -92,6 +92,7 @@ pub extern "C" fn bench_bundle_order<'a>(
 pub extern "C" fn bench_text(names: &[u8], selector: &[u8]) -> u16
     ensures { result ≡ (text_reply names.now selector.now []).number }
 {
-    let read = text::read_text(selector, names, [0u16; terms::TABLE_NUMBERS], 0);
+    let mut rows = terms::KeptRows::new();
+    let read = text::read_text(selector, names, &mut rows, 0);
     read.map(|held| held.row).number()
 }

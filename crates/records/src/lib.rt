@@ -1,5 +1,5 @@
-// The records of the register, editions of series, and which of them are released, held by value; the answers of the
-// calls record, current and release, and listings.
+// The records of the register, editions of series, and which of them are released; the answers of the calls record,
+// current and release, and listings.
 #![tactic(auto)]
 
 ghost use Rattle.std.specs.Prelude.{◌≡◌, ◌<◌, leb, length, OnErr};
@@ -28,7 +28,7 @@ pub struct Record {
 }
 
 // Records, of which the first ones are held, as many as the count says. Fixed memory without a heap: no call can fail
-// for want of it. No ArrayVec: calls copy records and registers, and it can't be copied.
+// for want of it. No ArrayVec: the definitions, which are believed, say what stands past the records held.
 #[derive(Clone, Copy)]
 pub struct Records {
     pub held: [Record; MAX_RECORDS],

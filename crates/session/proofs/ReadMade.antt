@@ -1,13 +1,12 @@
 -- From the reading of a bundle's parts to the call read. Assumes nothing.
-use Prim.Native.Nat.{ℕ, ◌*◌, ◌≤◌}
-use Rattle.std.specs.Prelude.{Result, Ok, Err, is_ok, replicate}
+use Prim.Native.Nat.{ℕ, ◌≤◌}
+use Rattle.std.specs.Prelude.{Result, Ok, Err, is_ok}
 use Rattle.common.specs.code.Refusal.{refusal_number}
 use Rattle.common.proofs.Refusals.{refusal_some}
 use mathlib.Core.Path.{◌≡◌, refl, sym, ap, ◌∙◌}
 use mathlib.Core.Bool.{true, false, false≢true}
 use mathlib.Core.List.{List, [], ◌∷◌}
 use lib.ListN.{length, drop}
-use Rattle.terms.specs.Row.{row_width, max_rows}
 use borrow.Author.Tests.{ne_eqb}
 use Rattle.lines.specs.Ascii.{ascii}
 use Rattle.lines.specs.Line.{Line, lines, first_is}
@@ -55,10 +54,6 @@ first_names_read (l ∷ ls) e = rw e
 -- the first names line is missing
 pub no_names : (bytes : List ℕ) → first_is row_names (lines bytes) ≡ false → refused_at wrong_form 1 ≡ reading bytes
 no_names bytes e = sym (reading_by_rows bytes ∙ no_names_read (lines bytes) e)
-
-pub fresh_rows : fresh_session.rows ≡ replicate (row_width * max_rows) 0
-unfolding fresh_session
-fresh_rows = refl
 
 fresh_tables : fresh_session ≡ holding fresh_session.rows 0 fresh_session.steps 0
 unfolding fresh_session

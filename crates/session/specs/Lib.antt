@@ -1,3 +1,4 @@
+pub mod SessionTables
 pub mod View
 pub mod Promises
 pub mod Reading

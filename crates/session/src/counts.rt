@@ -14,6 +14,7 @@ impl Session {
     pub fn steps_held(&self) -> u16
         ensures { result ≡ length (view self.now).steps }
     {
+        self.whole_tables();
         self.steps_counted() as u16
     }
 
@@ -31,6 +32,7 @@ impl Session {
     pub fn last_step(&self) -> Sides
         ensures { sides_in result ≡ sides_of (step_numbered (view self.now).steps (length (view self.now).steps)) }
     {
+        self.whole_tables();
         let held = self.steps_counted();
         let steps = self.held_steps();
         calls::sides_of(steps, held as u16)

@@ -97,11 +97,10 @@ impl Session {
         if !lines::is_line(bytes, 0, ROW_NAMES) {
             return Err(wrong_form(1));
         }
-        let mut held = KeptRows::new();
-        let ended = read_rows(bytes, ROW_NAMES.len() + 1, &mut held)?;
-        let m = read_steps(bytes, ended, &held, &mut self.steps)?;
-        self.rows = held.numbers;
-        self.row_count = held.count;
+        term_calls::keep_first(&mut self.rows, 0);
+        let ended = read_rows(bytes, ROW_NAMES.len() + 1, &mut self.rows)?;
+        let m = read_steps(bytes, ended, &self.rows, &mut self.steps)?;
+        self.row_count = self.rows.count;
         self.step_count = m;
         Ok(())
     }

@@ -38,7 +38,7 @@ impl Session {
     {
         let point = point_calls::point_named(self.held_points(), name);
         let (n, m) = (usize::from(point.rows), usize::from(point.steps));
-        let kept = Held::first(&self.rows, n, &self.steps, m);
+        let kept = Held::first(&self.rows.numbers, n, &self.steps, m);
         !records.all_kept(terms::row_count(kept.rows), calls::step_count(kept.steps))
     }
 }

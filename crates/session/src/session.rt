@@ -1,18 +1,21 @@
-// A session: rows of terms, steps of derivations and named points, held by value, and the calls on it.
+// A session: rows of terms, steps of derivations and named points, and the calls on it.
 ghost use Rattle.calls.specs.code.Answers.{answer_of, done_answer_of, step_of};
-ghost use Rattle.std.specs.Prelude.{◌≡◌, OnErr};
+ghost use Rattle.std.specs.Prelude.{◌≡◌, ◌*◌, OnErr, length};
+ghost use Rattle.terms.specs.Row.{row_width, max_rows};
 ghost use Rattle.terms.specs.code.RowTypes.{row_of};
+ghost use Rattle.calls.specs.Book.{max_steps};
 ghost use Rattle.calls.specs.Calls.{Call};
 ghost use Rattle.calls.specs.code.Points.{first_point_numbers};
-ghost use Rattle.calls.specs.code.Tables.{first_row_numbers, first_step_numbers};
+ghost use Rattle.calls.specs.code.Tables.{step_width, first_row_numbers, first_step_numbers};
 ghost use Rattle.session.specs.View.{rows_held, steps_held, points_held, fresh_session};
 ghost use Rattle.session.specs.Promises.{Met, SelectMet};
 
 use calls::{Held, PointCounts, Step};
 use common::Refusal;
-use terms::{Row, TABLE_NUMBERS};
+use std::marker::Model;
+use terms::{KeptRows, Row, TABLE_NUMBERS};
 
-// The numbers of a session's tables of steps and of points; that of rows is crate terms' `TABLE_NUMBERS`.
+// The numbers of a session's tables of steps and of points.
 const STEP_NUMBERS: usize = calls::STEP_WIDTH * calls::MAX_STEPS;
 
 const POINT_NUMBERS: usize = calls::POINT_WIDTH * calls::MAX_POINTS;
@@ -20,15 +23,31 @@ const POINT_NUMBERS: usize = calls::POINT_WIDTH * calls::MAX_POINTS;
 // Rows, four numbers each, steps, five each, and points, three each; of each the first ones are held, as many as the
 // counts say. Numbers, and no arrays of Row or Step: specs/View, which is believed, reads numbers, and calls on tables
 // take any numbers that are lent, an incomplete last row among them. Fixed memory without a heap: no call can fail for
-// want of it. No ArrayVec: calls copy sessions.
+// want of it. The rows are with what is kept of them for the term calls; of rows that came another way it is found at
+// the next term call.
 #[derive(Drop)]
 pub struct Session {
-    pub(crate) rows: [u16; TABLE_NUMBERS],
+    pub(crate) rows: KeptRows,
     pub(crate) row_count: usize,
     pub(crate) steps: [u16; STEP_NUMBERS],
     pub(crate) step_count: usize,
     pub(crate) points: [u16; POINT_NUMBERS],
     pub(crate) point_count: usize,
+}
+
+// What a proof knows of arrays that are lent by themselves, and not of those within another type.
+fn whole_tables(rows: &[u16; TABLE_NUMBERS], steps: &[u16; STEP_NUMBERS])
+    ensures { (length rows.now ≡ row_width * max_rows) × (length steps.now ≡ step_width * max_steps) }
+{}
+
+impl Model for Session {
+    ghost use Rattle.session.specs.SessionTables.{SessionTables};
+
+    ghost Value = { SessionTables };
+
+    ghost use Rattle.session.specs.code.Tables.{tables_in};
+
+    ghost view = { tables_in };
 }
 
 impl Session {
@@ -42,12 +61,11 @@ impl Session {
 
     pub const NODES: usize = xpath::MAX_NODES;
 
-    #[tactic(auto, unfolding(crate::specs::View::fresh_session))]
     pub fn new() -> Session
         ensures { result ≡ fresh_session }
     {
         Session {
-            rows: [0u16; TABLE_NUMBERS],
+            rows: KeptRows::new(),
             row_count: 0,
             steps: [0u16; STEP_NUMBERS],
             step_count: 0,
@@ -75,11 +93,18 @@ impl Session {
         self.point_count.min(Session::POINTS)
     }
 
+    // Tells a caller how long the tables are.
+    pub(crate) fn whole_tables(&self)
+        ensures { (length self.now.rows ≡ row_width * max_rows) × (length self.now.steps ≡ step_width * max_steps) }
+    {
+        whole_tables(&self.rows.numbers, &self.steps);
+    }
+
     // The numbers of the rows held.
     pub(crate) fn held_rows(&self) -> &[u16]
         ensures { result.now ≡ first_row_numbers self.now.row_count self.now.rows }
     {
-        calls::first_rows(&self.rows, self.row_count)
+        calls::first_rows(&self.rows.numbers, self.row_count)
     }
 
     // The same of the steps.
@@ -101,7 +126,12 @@ impl Session {
         ensures { (result.rows.now ≡ first_row_numbers self.now.row_count self.now.rows)
             × (result.steps.now ≡ first_step_numbers self.now.step_count self.now.steps) }
     {
-        Held::first(&self.rows, self.row_count, &self.steps, self.step_count)
+        Held::first(
+            &self.rows.numbers,
+            self.row_count,
+            &self.steps,
+            self.step_count,
+        )
     }
 
     pub fn term(&mut self, row: Row) -> Result<u16, Refusal>
@@ -109,7 +139,8 @@ impl Session {
         ensures refused { OnErr result (self.new ≡ self.old) }
     {
         let n = self.rows_counted();
-        let number = term_calls::term_in_place(&mut self.rows, n, row)?;
+        term_calls::keep_first(&mut self.rows, n);
+        let number = term_calls::term_kept(&mut self.rows, row)?;
         self.row_count = n + 1;
         Ok(number)
     }
@@ -153,7 +184,7 @@ impl Session {
         let (place, point) = point_calls::judge_return(self.held_points(), name)?;
         let n = usize::from(point.rows);
         let m = usize::from(point.steps);
-        point_calls::clear(&mut self.rows, terms::ROW_WIDTH * n);
+        term_calls::clear_from(&mut self.rows, terms::ROW_WIDTH * n);
         self.row_count = n;
         point_calls::clear(&mut self.steps, calls::STEP_WIDTH * m);
         self.step_count = m;
@@ -167,9 +198,7 @@ impl Session {
         ensures met { Met self.old (Call.text names.now selector.now) (answer_of result) self.new }
         ensures refused { OnErr result (self.new ≡ self.old) }
     {
-        let held = text::read_text(selector, names, self.rows, self.row_count)?;
-        let rows = held.rows;
-        self.rows = rows;
+        let held = text::read_text(selector, names, &mut self.rows, self.row_count)?;
         self.row_count = held.count;
         Ok(held.row)
     }

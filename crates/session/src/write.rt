@@ -9,6 +9,7 @@ impl Session {
     pub fn write(&self, out: &mut [u8]) -> Result<usize, Refusal>
         ensures { WriteMet self.now out.old result out.new }
     {
+        self.whole_tables();
         let held = self.held();
         let size = bundles::bundle_length(held);
         // Before the first byte: a write that is refused changes none.

@@ -7,15 +7,14 @@ ghost use Rattle.terms.specs.Nesting.{nesting};
 ghost use Rattle.terms.specs.code.RowTypes.{row_of, FoundIs};
 ghost use Rattle.calls.specs.TermCall.{term_answer};
 ghost use Rattle.calls.specs.code.Answers.{answer_of};
-ghost use Rattle.term_calls.specs.code.Placed.{TermPlaced, TermKept};
+ghost use Rattle.calls.specs.code.Points.{cleared};
+ghost use Rattle.term_calls.specs.code.Placed.{TermKept};
 
-use calls::first_rows;
 use common::Refusal;
-use terms::{KeptRows, Row, TABLE_NUMBERS};
+use terms::{KeptRows, Row};
 
 // The answer of a term call on the rows, by the row's nesting and the search for an equal row: the first refusal that
-// applies, or the new row's number. That the rows are few is a clause here, in `judge_term` and in `nestings` of terms:
-// a type with it would be made for these three, and taken apart in each.
+// applies, or the new row's number. That the rows are few is a clause, and no type: it would be made for this call alone.
 #[tactic(auto, unfolding(calls::specs::TermCall::term_answer))]
 fn term_answer(rows: &[u16], depth: u16, found: Option<usize>, row: Row) -> Result<u16, Refusal>
     requires { (length (table_of rows.now) ≤ max_rows) × (depth ≡ nesting (table_of rows.now) (row_of row))
@@ -37,28 +36,6 @@ fn term_answer(rows: &[u16], depth: u16, found: Option<usize>, row: Row) -> Resu
     Ok(count as u16)
 }
 
-// The same on rows of which nothing else is kept.
-fn judge_term(rows: &[u16], row: Row) -> Result<u16, Refusal>
-    requires { length (table_of rows.now) ≤ max_rows }
-    ensures { answer_of result ≡ term_answer (table_of rows.now) (row_of row) }
-{
-    // No table of a call has more rows than `nesting_of` takes.
-    let depth = terms::nesting_of(rows, row).unwrap();
-    let found = terms::find_row(rows, row);
-    term_answer(rows, depth, found, row)
-}
-
-// A term call on the first n rows: the answer, and the row put after them where it is held, which is why it takes the
-// whole table and not a slice of it.
-#[tactic(auto, using(calls::proofs::Tables::few_rows))]
-pub fn term_in_place(rows: &mut [u16; TABLE_NUMBERS], n: usize, row: Row) -> Result<u16, Refusal>
-    ensures { TermPlaced rows.old n (row_of row) rows.new result }
-{
-    let number = judge_term(first_rows(rows, n), row)?;
-    common::put_record(rows, n, row.into());
-    Ok(number)
-}
-
 // A term call on rows of which their nestings and a filter are kept: the answer; where the row is held, it is put after
 // them.
 pub fn term_kept(held: &mut KeptRows, row: Row) -> Result<u16, Refusal>
@@ -69,4 +46,27 @@ pub fn term_kept(held: &mut KeptRows, row: Row) -> Result<u16, Refusal>
     let number = term_answer(held.rows(), depth, found, row)?;
     held.put(row);
     Ok(number)
+}
+
+// Clears the numbers of the table from place `from` on. Nothing is kept of the rows.
+pub fn clear_from(held: &mut KeptRows, from: usize)
+    ensures { held.new.numbers ≡ cleared from held.old.numbers }
+{
+    held.count = 0;
+    point_calls::clear(&mut held.numbers, from);
+}
+
+// Keeps the first n rows of the table, of which some may be kept already. It asks for as many as a table has room for:
+// a session counts no more.
+pub fn keep_first(held: &mut KeptRows, n: usize)
+    requires { n ≤ max_rows }
+    ensures { (held.new.numbers ≡ held.old.numbers) × (held.new.count ≡ n) }
+{
+    if n < held.count {
+        held.count = 0;
+    }
+    while held.count < n {
+        let there = terms::row_at(&held.numbers, held.count);
+        held.put(there);
+    }
 }

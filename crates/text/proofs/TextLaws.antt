@@ -183,7 +183,7 @@ module _ (s list : Bytes) (xs : List ℕ) (count : ℕ) (n : ℕ) (few : n ≡ m
       (subst (λ (k : ℕ). Answers list s rows (answer list s rows).number k (answer list s rows).rows)
       (sym m.value) (given list s rows))
 
-  pub read_refused : (e : Refusal) → a ≡ Err e → TextRead list s xs (min count max_rows) (Err e)
+  pub read_refused : (e : Refusal) → a ≡ Err e → TextRead list s xs (min count max_rows) xs (Err e)
   unfolding table_with numbers_of
   read_refused e f =
       let all : length rows ≡ n = table_count xs n z in
@@ -192,16 +192,17 @@ module _ (s list : Bytes) (xs : List ℕ) (count : ℕ) (n : ℕ) (few : n ≡ m
       (answer list s rows).rows) f told in
       let same : (answer list s rows).rows ≡ rows = refused_stays list s rows _ _ _ here (refusal_some e) in
       let none : drop n rows ≡ [] = drop_of_length-le rows {i = n} (omega (arith, all)) in
-      subst (λ (k : ℕ). TextRead list s xs k (Err e)) few
+      subst (λ (k : ℕ). TextRead list s xs k xs (Err e)) few
       record {
         after = rows;
         answers = subst (λ (q : List Row). Answers list s rows (refusal_number e) (refusal_value e) q) same here;
         rows = rw none refl;
         count = sym all;
+        refused = refl;
       }
 
   pub read_accepted : (r : Reading) → a ≡ Ok r
-      → TextRead list s xs (min count max_rows) (Ok (record { row = r.row; rows = ys; count = r.count }))
+      → TextRead list s xs (min count max_rows) ys (Ok (record { row = r.row; count = r.count }))
   read_accepted r f =
       let met = subst (λ (q : Result Reading Refusal). TextMet s list xs n ys (end_of n q)) f m in
       let here : Answers list s rows 0 r.row (answer list s rows).rows =
@@ -210,10 +211,11 @@ module _ (s list : Bytes) (xs : List ℕ) (count : ℕ) (n : ℕ) (few : n ≡ m
       let left = met.accepted refl in
       let (new, grown) = answer_longer list s rows _ _ _ here in
       subst
-      (λ (k : ℕ). TextRead list s xs k (Ok (record { row = r.row; rows = ys; count = r.count }))) few
+      (λ (k : ℕ). TextRead list s xs k ys (Ok (record { row = r.row; count = r.count }))) few
       record {
         after = (answer list s rows).rows;
         answers = here;
         rows = left_table xs ys n r.count (answer list s rows).rows new z met.sized left grown (met.beyond refl);
         count = sym (table_count ys r.count met.sized) ∙ ap length left;
+        refused = tt;
       }

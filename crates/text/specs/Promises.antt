@@ -1,5 +1,5 @@
 -- What `read_text` promises. Assumes nothing.
-use Rattle.std.specs.Prelude.{ℕ, ◌*◌, ◌≡◌, List, length, take, Result, Ok, Err}
+use Rattle.std.specs.Prelude.{ℕ, ◌*◌, ◌≡◌, List, length, take, Result, Ok, Err, OnErr}
 use Rattle.terms.specs.Row.{Row, table_of, row_width, table_with}
 use Rattle.grammar.specs.Bytes.{Bytes}
 use Rattle.grammar.specs.Answer.{Answers}
@@ -20,19 +20,16 @@ abbrev pub text_value : Result TextHeld Refusal → ℕ
 text_value (Ok h) = h.row
 text_value (Err e) = refusal_value e
 
--- the table afterwards, and how many of its rows are held: a refused text leaves the first n rows of the numbers xs
-abbrev pub left_rows : List ℕ → Result TextHeld Refusal → List ℕ
-left_rows xs (Ok h) = h.rows
-left_rows xs (Err e) = xs
-
+-- how many rows of the table are held afterwards: a refused text leaves the first n
 abbrev pub left_count : ℕ → Result TextHeld Refusal → ℕ
 left_count n (Ok h) = h.count
 left_count n (Err e) = n
 
--- `read_text` on the first n rows of the numbers xs: number, value and the rows afterwards are those of the definition,
--- and all else of the table is as it was
-pub record TextRead (list t : Bytes) (xs : List ℕ) (n : ℕ) (r : Result TextHeld Refusal) : Type 0 where
+-- `read_text` on the first n rows of the numbers xs, which become ys: number, value and the rows afterwards are those of
+-- the definition, and all else of the table is as it was
+pub record TextRead (list t : Bytes) (xs : List ℕ) (n : ℕ) (ys : List ℕ) (r : Result TextHeld Refusal) : Type 0 where
   pub after : List Row
   pub answers : Answers list t (held_rows xs n) (text_number r) (text_value r) after
-  pub rows : left_rows xs r ≡ table_with xs n after
+  pub rows : ys ≡ table_with xs n after
   pub count : left_count n r ≡ length after
+  pub refused : OnErr r (ys ≡ xs)

@@ -1,7 +1,7 @@
 // Reads a selector typed as text and puts the rows of its term into a lent table. The readers go from left to right,
 // one byte at a time; each takes where the reading stands and gives where it stands afterwards. A place is a number,
 // and no rest of the text: a refusal tells the place of the first byte that can't continue, and that of a name that
-// isn't listed. A refused reading leaves rows of no use in the table that it works on, which is a copy.
+// isn't listed.
 #![tactic(auto)]
 
 ghost use Rattle.std.specs.Prelude.{◌≡◌, true, false, min, ◌≤◌, length};
@@ -18,7 +18,7 @@ use common::Refusal;
 use common::row_kind::RowKind;
 use heads::{Opens, Selector};
 use readings::{Reading, Start};
-use terms::TABLE_NUMBERS;
+use terms::KeptRows;
 use words::Names;
 use words::bytes::{byte_at, skip};
 
@@ -32,13 +32,10 @@ const MIN_TEXT: usize = 32;
 
 const MAX_LIST: usize = 4294967295;
 
-// The row of a text's term, and the table with the rows that it needs, of which the first are held, as many as `count`
-// says. Fixed memory without a heap, and no ArrayVec: the table is the session's, which promises of the numbers past
-// its rows that they stay as they were.
+// The row of a text's term, and how many rows are held with those that it needs.
 #[derive(Clone, Copy)]
 pub struct TextHeld {
     pub row: u16,
-    pub rows: [u16; TABLE_NUMBERS],
     pub count: usize,
 }
 
@@ -306,16 +303,24 @@ fn read_listed<'a>(
 }
 
 // The reading of the text `s` with the lent list of names, where the first rows of the table are held, as many as
-// `count` says; a count above the limit is read as the limit.
+// `count` says; a count above the limit is read as the limit. Nothing is kept of the rows. A refused reading leaves rows
+// of no use in the table, whose numbers are put back.
 pub fn read_text(
     s: &[u8],
     names: &[u8],
-    mut rows: [u16; TABLE_NUMBERS],
+    table: &mut KeptRows,
     count: usize,
 ) -> Result<TextHeld, Refusal>
-    ensures { TextRead names.now s.now rows (min count max_rows) result }
+    ensures { TextRead names.now s.now table.old.numbers (min count max_rows) table.new.numbers result }
 {
     let held = count.min(terms::MAX_ROWS);
-    let Reading { row, count, .. } = read_listed(s, names, &mut rows, held)?;
-    Ok(TextHeld { row, rows, count })
+    let before = table.numbers;
+    table.count = 0;
+    match read_listed(s, names, &mut table.numbers, held) {
+        Ok(Reading { row, count, .. }) => Ok(TextHeld { row, count }),
+        Err(refusal) => {
+            table.numbers = before;
+            Err(refusal)
+        }
+    }
 }

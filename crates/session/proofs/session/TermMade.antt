@@ -1,7 +1,7 @@
 -- From a term call on a session's table to one on the session. Assumes nothing.
 use Rattle.calls.specs.code.Answers.{NumberOrRefusal, answer_of}
 use Prim.Native.Nat.{ℕ, ◌+◌, ◌*◌, min}
-use mathlib.Core.Path.{◌≡◌, sym, ◌∙◌}
+use mathlib.Core.Path.{◌≡◌, sym, subst, ◌∙◌}
 use mathlib.Core.List.{List}
 use native.Mathlib.Omega.{arith}
 use lib.Seq.{sets}
@@ -13,8 +13,14 @@ use Rattle.session.specs.View.{rows_held, view, with_row}
 use Rattle.terms.specs.Row.{row_numbers}
 use Rattle.calls.specs.Calls.{term}
 use Rattle.session.specs.Promises.{Met}
-use Rattle.term_calls.specs.code.Placed.{TermPlaced}
+use Rattle.term_calls.specs.code.Placed.{TermPlaced, TermKept}
 use Rattle.calls.proofs.Accepted.{if_accepted, if_refused}
+
+-- a call on kept rows is one on the session's table, where these are the rows held
+pub placed_kept : (xs zs : List ℕ) (n k : ℕ) (r : Row) (ys : List ℕ) (l : ℕ) (t : NumberOrRefusal) → zs ≡ xs → k ≡ n
+    → TermKept zs k r ys l t → TermPlaced xs n r ys t
+placed_kept xs zs n k r ys l t same kept m =
+    subst (λ ws. TermPlaced ws n r ys t) same (subst (λ i. TermPlaced zs i r ys t) kept m.placed)
 
 module _ (s : Session) (r : Row) (n : ℕ) (count : n ≡ rows_held s) (ys : List ℕ) (t : NumberOrRefusal)
     (m : TermPlaced s.rows n r ys t) where

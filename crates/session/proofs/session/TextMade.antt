@@ -1,4 +1,6 @@
 -- From the reading of a text on a session's table to a text call on the session. Assumes nothing.
+use Prim.Native.Nat.{ℕ}
+use mathlib.Core.List.{List}
 use mathlib.Core.Path.{◌≡◌, refl, ap, ◌∙◌}
 use lib.ListN.{length}
 use Rattle.terms.specs.Row.{table_with}
@@ -19,8 +21,8 @@ use Rattle.session.specs.declared.session.Session.{Session}
 use Rattle.session.specs.View.{rows_held, view, with_rows}
 use Rattle.session.specs.Promises.{Met}
 
-module _ (s : Session) (names t : Bytes) (r : Result TextHeld Refusal)
-    (m : TextRead names t s.rows (rows_held s) r) where
+module _ (s : Session) (names t : Bytes) (r : Result TextHeld Refusal) (ys : List ℕ)
+    (m : TextRead names t s.rows (rows_held s) ys r) where
   -- the reading gives the book's reply
   replied : reply (text_number r) (text_value r) m.after ≡ text_reply names t (view s).rows
   unfolding view
@@ -30,10 +32,11 @@ module _ (s : Session) (names t : Bytes) (r : Result TextHeld Refusal)
   unfolding text_answer
   judged = ap (λ (q : Reply). answer q.number q.value) replied
 
-module _ (s : Session) (names t : Bytes) (h : TextHeld) (m : TextRead names t s.rows (rows_held s) (Ok h)) where
+module _ (s : Session) (names t : Bytes) (h : TextHeld) (ys : List ℕ)
+    (m : TextRead names t s.rows (rows_held s) ys (Ok h)) where
   pub text_made_held : Met s (text names t) (answer 0 h.row)
       (record {
-        rows = h.rows;
+        rows = ys;
         row_count = h.count;
         steps = s.steps;
         step_count = s.step_count;
@@ -42,12 +45,12 @@ module _ (s : Session) (names t : Bytes) (h : TextHeld) (m : TextRead names t s.
       })
   unfolding with_rows
   text_made_held =
-      let told = replied s names t (Ok h) m in
+      let told = replied s names t (Ok h) ys m in
       let rows = m.rows ∙ ap (λ (q : Reply). table_with s.rows (rows_held s) q.rows) told in
       let count : h.count ≡ length (text_reply names t (view s).rows).rows =
       m.count ∙ ap (λ (q : Reply). length q.rows) told in
       record {
-        answer = judged s names t (Ok h) m;
+        answer = judged s names t (Ok h) ys m;
         left =
             (λ i. record {
               rows = rows i;
@@ -57,12 +60,32 @@ module _ (s : Session) (names t : Bytes) (h : TextHeld) (m : TextRead names t s.
               points = s.points;
               point_count = s.point_count;
             })
-            ∙ if_accepted _ _ (judged s names t (Ok h) m) (with_rows s (text_reply names t (view s).rows).rows) s refl;
+            ∙ if_accepted _ _ (judged s names t (Ok h) ys m) (with_rows s (text_reply names t (view s).rows).rows) s refl;
       }
 
-pub text_made_refused : (s : Session) (names t : Bytes) (e : Refusal)
-    → TextRead names t s.rows (rows_held s) (Err e)
-    → Met s (text names t) (answer (refusal_number e) (refusal_value e)) s
-text_made_refused s names t e m =
-    let told = judged s names t (Err e) m in
-    record { answer = told; left = if_refused _ _ told _ s (refusal_some e) }
+pub text_made_refused : (s : Session) (names t : Bytes) (e : Refusal) (ys : List ℕ)
+    → TextRead names t s.rows (rows_held s) ys (Err e)
+    → Met s (text names t) (answer (refusal_number e) (refusal_value e))
+    (record {
+      rows = ys;
+      row_count = s.row_count;
+      steps = s.steps;
+      step_count = s.step_count;
+      points = s.points;
+      point_count = s.point_count;
+    })
+text_made_refused s names t e ys m =
+    let told = judged s names t (Err e) ys m in
+    record {
+      answer = told;
+      left =
+          (λ i. record {
+            rows = m.refused i;
+            row_count = s.row_count;
+            steps = s.steps;
+            step_count = s.step_count;
+            points = s.points;
+            point_count = s.point_count;
+          })
+          ∙ if_refused _ _ told _ s (refusal_some e);
+    }

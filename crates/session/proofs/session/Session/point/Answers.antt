@@ -9,16 +9,18 @@ use Rattle.common.proofs.Errors.{err_is}
 use Rattle.common.proofs.Refusals.{refusal_some}
 use Rattle.calls.specs.Book.{max_points}
 use Rattle.calls.specs.code.Points.{point_width}
+use Rattle.session.specs.code.Tables.{tables_in}
 use Rattle.session.proofs.session.PointMade.{point_room, point_made_held, point_made_refused}
 use borrow.Author.Rules.{rules}
 use Rattle.session.proofs.session.Session.point.Goals as goal
 
 pub put_record-requires : goal.put_record-requires
 put_record-requires c =
-    let s = c.args.self.now in
+    let s = tables_in c.self.inside in
     let size : length s.points ≡ point_width * max_points = search rules in
-    let told = rw c.held_points.ensures at c.in_ok-judge_point.ensures in
-    let room = point_room s _ (Ok tt) told refl size _ c.points_counted-k.ensures in
+    let told = rw (c.held_points.ensures, ← c.self.view_is) at c.in_ok-judge_point.ensures in
+    let count = rw (← c.self.view_is) at c.points_counted-k.ensures in
+    let room = point_room s _ (Ok tt) told refl size _ count in
     omega (arith, size, room)
 
 pub returns-in_err-judge_point-clause-met : goal.returns-in_err-judge_point-clause-met
@@ -29,6 +31,10 @@ returns-in_err-judge_point-clause-met c =
 
 pub returns-clause-met : goal.returns-clause-met
 returns-clause-met c =
-    let told = rw c.held_points.ensures at c.in_ok-judge_point.ensures in
-    point_made_held c.args.self.now _ (Ok tt) told refl _ _ _ c.rows_counted-n.ensures
-    c.steps_counted-m.ensures c.points_counted-k.ensures _ (c.put_record.ensures ∙ rw c.into.ensures refl)
+    let told = rw (c.held_points.ensures, ← c.self.view_is) at c.in_ok-judge_point.ensures in
+    let rows = rw (← c.self.view_is) at c.rows_counted-n.ensures in
+    let steps = rw (← c.self.view_is) at c.steps_counted-m.ensures in
+    let points = rw (← c.self.view_is) at c.points_counted-k.ensures in
+    rw (← c.self.view_is)
+    (point_made_held (tables_in c.self.inside) _ (Ok tt) told refl _ _ _ rows steps points
+    _ (c.put_record.ensures ∙ rw c.into.ensures refl))

@@ -2,6 +2,7 @@
 -- Assumes nothing.
 use native.Mathlib.Omega.{arith}
 use Rattle.common.proofs.Errors.{err_is}
+use Rattle.session.specs.code.Tables.{tables_in}
 use Rattle.session.proofs.session.PointMade.{few_places, return_made_held, return_made_refused}
 use Rattle.session.proofs.session.Session.return_to.Goals as goal
 
@@ -25,5 +26,7 @@ overflow_add-self c =
 
 pub returns-clause-met : goal.returns-clause-met
 returns-clause-met c =
-    return_made_held c.args.self.now _ _ (rw c.held_points.ensures at c.in_ok-place.ensures) _ _ c.from-n.ensures
-    c.from-m.ensures _ _ _ c.clear.ensures c.clear-2.ensures c.clear-3.ensures
+    let found = rw (c.held_points.ensures, ← c.self.view_is) at c.in_ok-place.ensures in
+    rw (← c.self.view_is)
+    (return_made_held (tables_in c.self.inside) _ _ found _ _ c.from-n.ensures
+    c.from-m.ensures _ _ _ c.clear_from.ensures c.clear.ensures c.clear-2.ensures)

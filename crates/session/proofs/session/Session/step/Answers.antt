@@ -12,6 +12,7 @@ use Rattle.calls.specs.code.Tables.{step_width}
 use Rattle.calls.specs.Promises.{row_step_answer}
 use Rattle.calls.proofs.Tables.{steps_held_lem}
 use Rattle.calls.proofs.StepJudged.{step_accepted}
+use Rattle.session.specs.code.Tables.{tables_in}
 use Rattle.session.proofs.session.StepMade.{step_made_held, step_made_refused}
 use borrow.Author.Rules.{rules}
 use Rattle.session.proofs.session.Session.step.Goals as goal
@@ -19,12 +20,13 @@ use Rattle.session.proofs.session.Session.step.Goals as goal
 pub put_record-requires : goal.put_record-requires
 unfolding row_step_answer
 put_record-requires c =
-    let s = c.args.self.now in
-    let told = rw (c.held.ensures.0, c.held.ensures.1) at c.in_ok-number.ensures in
+    let s = tables_in c.self.inside in
+    let told = rw (c.held.ensures.0, c.held.ensures.1, ← c.self.view_is) at c.in_ok-number.ensures in
+    let count = rw (← c.self.view_is) at c.steps_counted-m.ensures in
     let size : length s.steps ≡ step_width * max_steps = search rules in
     let room = (step_accepted _ _ _ (sym (ap (λ t. t.number) told))).room in
     let all = steps_held_lem s.steps (min s.step_count max_steps) (omega arith) size in
-    omega (arith, room, size, c.steps_counted-m.ensures, all)
+    omega (arith, room, size, count, all)
 
 pub returns-in_err-number-clause-met : goal.returns-in_err-number-clause-met
 returns-in_err-number-clause-met c =
@@ -34,6 +36,8 @@ returns-in_err-number-clause-met c =
 
 pub returns-clause-met : goal.returns-clause-met
 returns-clause-met c =
-    let told = rw (c.held.ensures.0, c.held.ensures.1) at c.in_ok-number.ensures in
-    step_made_held c.args.self.now _ (Ok c.in_ok-number.number) told refl
-    _ c.steps_counted-m.ensures _ (c.put_record.ensures ∙ rw c.into.ensures refl)
+    let told = rw (c.held.ensures.0, c.held.ensures.1, ← c.self.view_is) at c.in_ok-number.ensures in
+    let count = rw (← c.self.view_is) at c.steps_counted-m.ensures in
+    rw (← c.self.view_is)
+    (step_made_held (tables_in c.self.inside) _ (Ok c.in_ok-number.number) told refl
+    _ count _ (c.put_record.ensures ∙ rw c.into.ensures refl))
