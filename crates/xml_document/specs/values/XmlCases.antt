@@ -1,0 +1,46 @@
+-- Documents that XML can have, and some that it can't. Assumes nothing.
+use Rattle.std.specs.Prelude.{◌≡◌, refl, true, false, [], ◌∷◌, length}
+use Rattle.common.specs.Bounded.{all_below, sum_below}
+use Rattle.xpath.specs.Document.{Document, node, root_node, kind_at, parent_at, name_at, is_child, climb_meets}
+use Rattle.xpath.specs.Document.{is_ancestor, kind_and_name_ok, row_ok, well_formed}
+use Rattle.xml_document.specs.Xml.{IsXml, text_inside, texts_apart, inside_by, apart_by, document_element_by, document_elements}
+
+-- <a>t<b>t</b>t</a> behind a comment: rows 5 and 6 are texts, of two parents
+abbrev pub three_texts : Document
+three_texts =
+    root_node  -- 0
+    ∷ node 3 0 0  -- 1
+    ∷ node 1 0 1  -- 2
+    ∷ node 2 2 0  -- 3
+    ∷ node 1 2 2  -- 4
+    ∷ node 2 4 0  -- 5
+    ∷ node 2 2 0  -- 6
+    ∷ []
+
+pub three_texts_xml : IsXml three_texts
+unfolding well_formed row_ok kind_and_name_ok kind_at parent_at name_at is_child climb_meets is_ancestor all_below sum_below text_inside texts_apart inside_by apart_by document_element_by document_elements
+three_texts_xml = record { formed = refl; inside = refl; apart = refl; one = refl }
+
+-- two texts of one element, one after the other
+pub adjacent_texts : texts_apart (root_node ∷ node 1 0 1 ∷ node 2 1 0 ∷ node 2 1 0 ∷ []) 2 ≡ false
+unfolding texts_apart apart_by kind_at parent_at
+adjacent_texts = refl
+
+-- with a comment between them
+pub parted_texts : texts_apart (root_node ∷ node 1 0 1 ∷ node 2 1 0 ∷ node 3 1 0 ∷ node 2 1 0 ∷ []) 2 ≡ true
+unfolding texts_apart apart_by kind_at parent_at
+parted_texts = refl
+
+-- a text right under the root, and a comment there
+pub text_of_the_root : text_inside (root_node ∷ node 1 0 1 ∷ node 2 0 0 ∷ []) 2 ≡ false
+unfolding text_inside inside_by kind_at parent_at
+text_of_the_root = refl
+
+pub comment_of_the_root : text_inside (root_node ∷ node 1 0 1 ∷ node 3 0 0 ∷ []) 2 ≡ true
+unfolding text_inside inside_by kind_at parent_at
+comment_of_the_root = refl
+
+-- two elements right under the root, of which one has a third
+pub two_elements : document_elements (root_node ∷ node 1 0 1 ∷ node 1 1 1 ∷ node 1 0 1 ∷ []) 4 ≡ 2
+unfolding document_elements document_element_by sum_below kind_at parent_at
+two_elements = refl
