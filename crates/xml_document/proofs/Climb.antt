@@ -1,5 +1,6 @@
 -- The climb from a row toward a parent, on one document. Assumes nothing.
-use Rattle.std.proofs.Common.{ℕ, zero, suc, ◌≡◌, ◌≤◌, ◌<◌, Bool, true, false, not, ◌&&◌, ◌||◌, ◌⊎◌, inl, inr, refl, sym, ap, arith, eqb, eq-eqb}
+use Rattle.std.proofs.Common.{ℕ, zero, suc, ◌≡◌, ◌≤◌, ◌<◌, Bool, true, false, not, ◌&&◌, ◌||◌, ◌⊎◌, inl, inr, refl}
+use Rattle.std.proofs.Common.{sym, ap, arith, eqb, eq-eqb}
 use borrow.Author.Tests.{eqb-true, ne_eqb}
 use Rattle.xpath.specs.Document.{Document, parent_at, is_child, climb_meets, is_ancestor}
 use Rattle.xml_document.specs.code.Checks.{reaches}
@@ -45,5 +46,6 @@ up d p (suc m) l e =
           let s : parent_at d (suc m) ≡ p = sym (eqb-true p (parent_at d (suc m)) q) in
           true_or _ _ (inr (true_or _ _ (inl (true_and _ _ n (eq-eqb _ _ s)))))
       | inr q ↦
-          true_or _ _ (inr (true_or _ _ (inr (true_and _ _ n (more d p (parent_at d (suc m)) m (parent_at d (suc m)) (omega arith) q)))))
+          let r = more d p (parent_at d (suc m)) m (parent_at d (suc m)) (omega arith) q in
+          true_or _ _ (inr (true_or _ _ (inr (true_and _ _ n r))))
     ]

@@ -1,11 +1,14 @@
 -- What the check of columns finds, as tests of their document, whatever numbers the names get. Assumes nothing.
-use Rattle.std.proofs.Common.{ℕ, zero, suc, ◌≡◌, ◌≤◌, ◌<◌, ◌+◌, ◌-◌, Bool, true, false, not, cond, ◌&&◌, ◌||◌, ◌⊎◌, inl, inr, refl, sym, ap, ◌∙◌, arith, eqb, eq-eqb, List, length, leb, get_or, subst}
+use Rattle.std.proofs.Common.{ℕ, zero, suc, ◌≡◌, ◌≤◌, ◌<◌, ◌+◌, ◌-◌, Bool, true, false, not, cond, ◌&&◌, ◌||◌, ◌⊎◌}
+use Rattle.std.proofs.Common.{inl, inr, refl, sym, ap, ◌∙◌, arith, eqb, eq-eqb, List, length, leb, get_or, subst}
 use borrow.Author.Tests.{eqb-true, ne_eqb}
 use lib.Dec.{T, le→leb}
 use Rattle.common.specs.Bounded.{all_below, sum_below}
-use Rattle.xpath.specs.Document.{Document, kind_at, parent_at, name_at, row_ok, row_ok_by, well_formed, kind_and_name_ok, is_attribute, attribute_placed}
+use Rattle.xpath.specs.Document.{Document, kind_at, parent_at, name_at, row_ok, row_ok_by, well_formed}
+use Rattle.xpath.specs.Document.{kind_and_name_ok, is_attribute, attribute_placed}
 use Rattle.xml_document.specs.Columns.{rows_of, Renumbered, Renumbers}
-use Rattle.xml_document.specs.Xml.{IsXml, AreXml, text_inside, texts_apart, inside_by, apart_by, document_element_by, document_elements}
+use Rattle.xml_document.specs.Xml.{IsXml, AreXml, text_inside, texts_apart, inside_by, apart_by, document_element_by}
+use Rattle.xml_document.specs.Xml.{document_elements}
 use Rattle.xml_document.specs.code.Checks.{Passes, RowsOk, Counts, reaches, placed_by}
 use Rattle.xml_document.specs.declared.columns.Columns.{Columns}
 use Rattle.xml_document.proofs.Climb.{true_or, and_true, true_and, up}
@@ -212,7 +215,9 @@ pub count_next : (c : Columns) (n m k p i j : ℕ) (b : Bool) → Counts c n m �
 count_next c n m k p i j b h ek ep eb ei ej =
     subst (λ (x : ℕ). Counts c x j) (sym ei) (subst (λ (y : ℕ). Counts c (suc n) y) (sym ej) (record {
       counts = λ ms r.
-          one_counted (d c ms r) n m k p b (h.counts ms r) (kind_look c ms r n ∙ sym ek) (parent_look c ms r n ∙ sym ep)
+          one_counted (d c ms r) n m k p b (h.counts ms r)
+          (kind_look c ms r n ∙ sym ek)
+          (parent_look c ms r n ∙ sym ep)
           eb;
       within = one_more m n b h.within;
     }))

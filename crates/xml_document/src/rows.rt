@@ -2,8 +2,8 @@
 use common::node_kind::NodeKind;
 use std::alloc::{AllocError, Global};
 
-/// A node: its kind, the row of its parent, the numbers of its name and of its namespace, 0 for none, and the line where
-/// it begins. The name is the local part; an instruction's is its target.
+/// A node: its kind, the row of its parent, the numbers of its name and of its namespace, 0 for none, and the line
+/// where it begins. The name is the local part; an instruction's is its target.
 #[derive(Clone, Copy, Debug)]
 pub struct Node {
     pub kind: NodeKind,

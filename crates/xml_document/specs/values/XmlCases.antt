@@ -1,9 +1,10 @@
 -- Documents that XML can have, and some that it can't. Assumes nothing.
-use Rattle.std.specs.Prelude.{◌≡◌, refl, true, false, [], ◌∷◌, length}
+use Rattle.std.specs.Prelude.{◌≡◌, ◌-◌, refl, true, false, [], ◌∷◌, length}
 use Rattle.common.specs.Bounded.{all_below, sum_below}
 use Rattle.xpath.specs.Document.{Document, node, root_node, kind_at, parent_at, name_at, is_child, climb_meets}
 use Rattle.xpath.specs.Document.{is_ancestor, kind_and_name_ok, row_ok, well_formed}
-use Rattle.xml_document.specs.Xml.{IsXml, text_inside, texts_apart, inside_by, apart_by, document_element_by, document_elements}
+use Rattle.xml_document.specs.Xml.{IsXml, text_inside, texts_apart, inside_by, apart_by, document_element_by}
+use Rattle.xml_document.specs.Xml.{document_elements}
 
 -- <a>t<b>t</b>t</a> behind a comment: rows 5 and 6 are texts, of two parents
 abbrev pub three_texts : Document
@@ -17,9 +18,25 @@ three_texts =
     ∷ node 2 2 0  -- 6
     ∷ []
 
+three_texts_formed : well_formed three_texts ≡ true
+unfolding well_formed row_ok kind_and_name_ok kind_at parent_at name_at is_child climb_meets is_ancestor all_below
+three_texts_formed = refl
+
+three_texts_inside : all_below (length three_texts) (text_inside three_texts) ≡ true
+unfolding all_below text_inside inside_by kind_at parent_at
+three_texts_inside = refl
+
+three_texts_apart : all_below (length three_texts - 1) (texts_apart three_texts) ≡ true
+unfolding all_below texts_apart apart_by kind_at parent_at
+three_texts_apart = refl
+
+three_texts_one : document_elements three_texts (length three_texts) ≡ 1
+unfolding document_elements document_element_by sum_below kind_at parent_at
+three_texts_one = refl
+
 pub three_texts_xml : IsXml three_texts
-unfolding well_formed row_ok kind_and_name_ok kind_at parent_at name_at is_child climb_meets is_ancestor all_below sum_below text_inside texts_apart inside_by apart_by document_element_by document_elements
-three_texts_xml = record { formed = refl; inside = refl; apart = refl; one = refl }
+three_texts_xml =
+    record { formed = three_texts_formed; inside = three_texts_inside; apart = three_texts_apart; one = three_texts_one }
 
 -- two texts of one element, one after the other
 pub adjacent_texts : texts_apart (root_node ∷ node 1 0 1 ∷ node 2 1 0 ∷ node 2 1 0 ∷ []) 2 ≡ false
