@@ -1,6 +1,7 @@
 #!/usr/bin/env python3
 """Times the reader of XML beside expat and libxml2: a log of a million nodes in 20 MB, and inputs that are made to hurt,
-each in three sizes. It prints the least user time of five runs, in seconds, and the most memory.
+each in three sizes. It prints the least user time of five runs, in seconds, or of one where that takes long, and the
+most memory.
 
     tools/xml/figures.py
 
@@ -50,7 +51,7 @@ INPUTS = [
     ("log of nodes", log, (250000, 500000, 1000000)),
     ("one line of bytes", one_line, (5000000, 10000000, 20000000)),
     ("names with one beginning", colliding, (100000, 200000, 400000)),
-    ("attributes of one tag", attributes, (100000, 200000, 400000)),
+    ("attributes of one tag", attributes, (10000, 20000, 40000)),
     ("prefixes declared", prefixes, (100000, 200000, 400000)),
     ("bytes of entities", entities, (2000000, 4000000, 8000000)),
     ("elements open", deep, (25000, 50000, 100000)),
@@ -59,9 +60,9 @@ INPUTS = [
 
 
 def run(command, batch):
-    """The least user time of five runs, and the most memory in MB."""
+    """The least user time of five runs, or of one where that takes long, and the most memory in MB."""
     times, memory = [], 0
-    for _ in range(5):
+    while len(times) < 5 and (not times or times[0] < 2):
         batch.seek(0)
         process = subprocess.Popen(command, stdin=batch, stdout=subprocess.DEVNULL)
         _, _, usage = os.wait4(process.pid, 0)

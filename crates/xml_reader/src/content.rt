@@ -72,6 +72,10 @@ fn past_text(text: &[u8], at: usize) -> Result<usize, Stop>
 {
     for i in at..text.len() {
         let b = text[i];
+        // most letters are past all three, and one comparison is enough for them
+        if b > b']' {
+            continue;
+        }
         if b == b'<' || b == b'&' {
             if i == at {
                 return Err(Stop::At(at, Reason::UnknownMarkup));

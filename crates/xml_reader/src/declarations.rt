@@ -249,8 +249,8 @@ impl Declarations {
         Err(Stop::At(at, Reason::UnexpectedEnd))
     }
 
-    // Reads what the entity whose value begins at `start` stands for into `value`; its kind, and the place past it: [73]
-    // EntityDef, [74] PEDef.
+    // Reads what the entity whose value begins at `start` stands for into `value`; its kind, and the place past it:
+    // [73] EntityDef, [74] PEDef.
     fn read_entity_value(
         &mut self,
         text: &[u8],
@@ -279,8 +279,8 @@ impl Declarations {
         Ok((EntityKind::Unparsed, end))
     }
 
-    // Reads the entity whose `<!ENTITY` ends at `at`: [70] EntityDecl. Parameter entities are left out: no reference to
-    // one is read.
+    // Reads the entity whose `<!ENTITY` ends at `at`: [70] EntityDecl. Parameter entities are left out: no reference
+    // to one is read.
     fn read_entity(&mut self, text: &[u8], at: usize) -> Result<usize, Stop>
         requires { at ≤ length text.now }
         ensures { IfOk result (λ e. (at < e) × (e ≤ length text.now)) }
@@ -307,8 +307,8 @@ impl Declarations {
         )
     }
 
-    // Reads one declaration of the internal subset at `at`, or past the reference there to a parameter entity, after which
-    // declarations don't count ("Validating and Non-Validating Processors"): [28a] DeclSep, [29] markupdecl.
+    // Reads one declaration of the internal subset at `at`, or past the reference there to a parameter entity, after
+    // which declarations don't count ("Validating and Non-Validating Processors"): [28a] DeclSep, [29] markupdecl.
     fn read_declaration(&mut self, alloc: Global, text: &[u8], at: usize) -> Result<usize, Stop>
         requires { at < length text.now }
         ensures { IfOk result (λ e. (at < e) × (e ≤ length text.now)) }

@@ -1,5 +1,5 @@
-// References, and the values of attributes and entities: [9] EntityValue, [10] AttValue, [67] Reference, [68] EntityRef,
-// and "Attribute-Value Normalization".
+// References, and the values of attributes and entities: [9] EntityValue, [10] AttValue, [67] Reference,
+// [68] EntityRef, and "Attribute-Value Normalization".
 ghost use Rattle.std.specs.Prelude.{◌≡◌, ◌≤◌, ◌<◌, ◌+◌, length, IfOk};
 
 use crate::doctype::Doctype;
@@ -161,7 +161,8 @@ pub fn entity_value(text: &[u8], out: &mut Vec<u8>) -> Result<(), Stop> {
     Ok(())
 }
 
-/// The end of the attribute's value in the quotes at `at`, the place of the second one, and whether it has a reference.
+/// The end of the attribute's value in the quotes at `at`, the place of the second one, and whether it has a
+/// reference.
 pub fn value_end(text: &[u8], at: usize) -> Result<(usize, bool), Stop>
     requires { at ≤ length text.now }
     ensures { IfOk result (λ r. (at < r.0) × (r.0 < length text.now)) }
@@ -173,6 +174,10 @@ pub fn value_end(text: &[u8], at: usize) -> Result<(usize, bool), Stop>
     let mut has_reference = false;
     for i in at + 1..text.len() {
         let b = text[i];
+        // as in `past_text`
+        if b > b'<' {
+            continue;
+        }
         if b == quote {
             return Ok((i, has_reference));
         }
