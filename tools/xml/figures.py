@@ -1,7 +1,7 @@
 #!/usr/bin/env python3
 """Times the reader of XML beside expat and libxml2: a log of a million nodes in 20 MB, and inputs that are made to hurt,
-each in three sizes. It prints the least user time of five runs, in seconds, or of one where that takes long, and the
-most memory.
+each in three sizes. It prints the least user time of five runs, in seconds, or of one where that takes long. expat's
+includes the rows with their lines, as ours does, and libxml2's the tree.
 
     tools/xml/figures.py
 
@@ -60,27 +60,26 @@ INPUTS = [
 
 
 def run(command, batch):
-    """The least user time of five runs, or of one where that takes long, and the most memory in MB."""
-    times, memory = [], 0
+    """The least user time of five runs, or of one where that takes long."""
+    times = []
     while len(times) < 5 and (not times or times[0] < 2):
         batch.seek(0)
         process = subprocess.Popen(command, stdin=batch, stdout=subprocess.DEVNULL)
         _, _, usage = os.wait4(process.pid, 0)
         times.append(usage.ru_utime)
-        memory = max(memory, usage.ru_maxrss // 1024)
-    return min(times), memory
+    return min(times)
 
 
 def main():
     commands = {name: [command[0], "counts"] for name, command in build().items()}
-    print(f"{'input':28}{'size':>10}{'bytes':>10}" + "".join(f"{name:>10}{'MB':>6}" for name in commands))
+    print(f"{'input':28}{'size':>10}{'bytes':>10}" + "".join(f"{name:>10}" for name in commands))
     for name, make, sizes in INPUTS:
         for size in sizes:
             document = make(size)
             with tempfile.TemporaryFile() as batch:
                 batch.write(b"%d\n" % len(document) + document)
                 batch.flush()
-                row = "".join("%10.3f%6d" % run(command, batch) for command in commands.values())
+                row = "".join("%10.3f" % run(command, batch) for command in commands.values())
             print(f"{name:28}{size:>10}{len(document):>10}{row}", flush=True)
 
 
