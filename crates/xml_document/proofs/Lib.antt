@@ -1,0 +1,3 @@
+pub mod Climb
+pub mod Look
+pub mod Passing

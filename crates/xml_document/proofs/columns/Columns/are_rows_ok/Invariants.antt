@@ -1,0 +1,5 @@
+use Rattle.xml_document.specs.code.Checks.{RowsOk}
+use Rattle.xml_document.proofs.columns.Columns.are_rows_ok.Given as goal
+
+abbrev pub invariant-loop-n : goal.invariant-loop-n
+invariant-loop-n l = RowsOk l.self l.n

@@ -1,0 +1,5 @@
+use Rattle.xml_document.specs.code.Checks.{Counts}
+use Rattle.xml_document.proofs.columns.Columns.document_element_count.Given as goal
+
+abbrev pub invariant-loop-n : goal.invariant-loop-n
+invariant-loop-n l = Counts l.self l.n l.count

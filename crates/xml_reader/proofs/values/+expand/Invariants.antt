@@ -1,0 +1,11 @@
+use Rattle.std.proofs.Common.{length, ◌-◌, ◌≤◌, ◌<◌}
+use Rattle.xml_reader.proofs.values.+expand.Given as goal
+
+abbrev pub invariant-loop-at : goal.invariant-loop-at
+invariant-loop-at l = l.at ≤ length l.text
+
+abbrev pub decreases-loop-at : goal.decreases-loop-at
+decreases-loop-at l = length l.text - l.at
+
+abbrev pub decreases-expand : goal.decreases-expand
+decreases-expand l = l.level
