@@ -143,7 +143,7 @@ impl Document {
     pub fn node_count(&self) -> usize
         ensures { result ≡ length (doc self.now) }
     {
-        self.kinds.len()
+        self.ends.len()
     }
 
     /// The document of the rows, if none is bad.

@@ -1,0 +1,9 @@
+-- `complement` meets its contract. Assumes nothing.
+use Rattle.std.proofs.Common.{ℕ, Bool, ◌≡◌, ◌&&◌, ◌||◌, not, eqb, get_or}
+use Rattle.common.specs.code.Numbers.{kind_number}
+use Rattle.set_selection.specs.Sets.{marked}
+use Rattle.set_selection.proofs.Written.{PointTo}
+use Rattle.set_selection.proofs.filters.complement.Given as goal
+
+abbrev pub invariant-loop-y : goal.invariant-loop-y
+invariant-loop-y l = PointTo l.fn.out (λ y m. not m) l.y l.out

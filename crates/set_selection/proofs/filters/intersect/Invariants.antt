@@ -1,0 +1,9 @@
+-- `intersect` meets its contract. Assumes nothing.
+use Rattle.std.proofs.Common.{ℕ, Bool, ◌≡◌, ◌&&◌, ◌||◌, not, eqb, get_or}
+use Rattle.common.specs.code.Numbers.{kind_number}
+use Rattle.set_selection.specs.Sets.{marked}
+use Rattle.set_selection.proofs.Written.{PointTo}
+use Rattle.set_selection.proofs.filters.intersect.Given as goal
+
+abbrev pub invariant-loop-y : goal.invariant-loop-y
+invariant-loop-y l = PointTo l.fn.out (λ y m. m && marked l.other y) l.y l.out

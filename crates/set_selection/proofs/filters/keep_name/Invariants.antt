@@ -1,0 +1,9 @@
+-- `keep_name` meets its contract. Assumes nothing.
+use Rattle.std.proofs.Common.{ℕ, Bool, ◌≡◌, ◌&&◌, ◌||◌, not, eqb, get_or}
+use Rattle.common.specs.code.Numbers.{kind_number}
+use Rattle.set_selection.specs.Sets.{marked}
+use Rattle.set_selection.proofs.Written.{PointTo}
+use Rattle.set_selection.proofs.filters.keep_name.Given as goal
+
+abbrev pub invariant-loop-y : goal.invariant-loop-y
+invariant-loop-y l = PointTo l.fn.out (λ y m. m && eqb (get_or l.names y 0) l.name) l.y l.out

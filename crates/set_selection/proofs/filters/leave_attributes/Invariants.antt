@@ -1,0 +1,9 @@
+-- `leave_attributes` meets its contract. Assumes nothing.
+use Rattle.std.proofs.Common.{ℕ, Bool, ◌≡◌, ◌&&◌, ◌||◌, not, eqb, get_or}
+use Rattle.common.specs.code.Numbers.{kind_number}
+use Rattle.set_selection.specs.Sets.{marked}
+use Rattle.set_selection.proofs.Written.{PointTo}
+use Rattle.set_selection.proofs.filters.leave_attributes.Given as goal
+
+abbrev pub invariant-loop-y : goal.invariant-loop-y
+invariant-loop-y l = PointTo l.fn.out (λ y m. m && not (eqb (get_or l.kinds y 0) 5)) l.y l.out

@@ -1,0 +1,17 @@
+-- `unite` meets its contract. Assumes nothing.
+use Rattle.std.proofs.Common.{ℕ, ◌≡◌, ◌<◌, ◌&&◌, not, eqb, length, arith, refl, ap, sym, ◌∙◌}
+use Rattle.set_selection.specs.Sets.{marked}
+use Rattle.set_selection.proofs.Written.{point_none, point_on, point_all}
+use Rattle.set_selection.proofs.filters.unite.Goals as goal
+
+pub loop-y-init : goal.loop-y-init
+loop-y-init c = point_none _ _
+
+pub loop-y-preserved : goal.loop-y-preserved
+loop-y-preserved c =
+    let l = c.loop-y in
+    let h : l.y < length l.out = omega (arith, l.auto.out, c.loop-y-test.true) in
+    point_on _ h l.invariant (refl)
+
+pub returns : goal.returns
+returns c = point_all c.loop-y.invariant (omega arith)

@@ -1,0 +1,34 @@
+-- `mark_after` meets its contract. Assumes nothing.
+use Rattle.std.proofs.Common.{ℕ, ◌≡◌, ◌<◌, ◌≤◌, ◌+◌, ◌-◌, ◌&&◌, Bool, true, false, suc, ◌∙◌, sym, refl, ap, List, rules, arith, length, get_or, eqb, not}
+use Rattle.set_selection.proofs.Written.{done_none, done_on, from_on, image_done, image_from, DoneBelow, DoneFrom}
+use Rattle.set_selection.proofs.Kept.{reach_none, reach_on, reach_value, next_none, next_on, next_value, first_none, first_on}
+use Rattle.set_selection.proofs.Kept.{first_value, past_none, past_on, past_value, under_value, spread_none, spread_on}
+use Rattle.set_selection.proofs.Kept.{spread_all, later_value, later_first, spread_end, spread_down, earlier_value, earlier_all}
+use Rattle.set_selection.specs.Sets.{marked}
+use borrow.Author.Tests.{ne_eqb}
+use lib.Seq.{get_or-set_same, get_or-set_other}
+use Rattle.set_selection.proofs.walks.mark_after.Goals as goal
+use Rattle.set_selection.proofs.walks.mark_after.Goals.{then-marks-x, else-marks-x}
+
+pub loop-x-init : goal.loop-x-init
+loop-x-init c = first_none _ _ _ (omega arith)
+
+pub loop-x-preserved : goal.loop-x-preserved
+loop-x-preserved c =
+    first_on _ _ _ _ _ c.loop-x.invariant
+    (elim c.if-marks-x.branch [
+      | then-marks-x w ↦ w.first-is ∙ w.min-first.ensures ∙ rw (w.if-marks-x.true) refl
+      | else-marks-x w ↦ w.first-is ∙ rw (w.if-marks-x.false) refl
+    ])
+
+pub loop-y-init : goal.loop-y-init
+loop-y-init c = done_none _ _
+
+pub loop-y-preserved : goal.loop-y-preserved
+loop-y-preserved c =
+    let l = c.loop-y in
+    let h : l.y < length l.out = omega (arith, l.auto.out, c.loop-y-test.true) in
+    done_on _ h l.invariant (first_value _ _ _ _ _ (omega arith) (omega arith) c.loop-x.invariant)
+
+pub returns : goal.returns
+returns c = image_done _ _ _ _ c.loop-y.invariant (omega arith) (omega arith)

@@ -1,0 +1,13 @@
+-- `mark_before` meets its contract. Assumes nothing.
+use Rattle.std.proofs.Common.{ℕ, ◌≡◌, ◌<◌, not, eqb, ltb, leb, false, length, get_or}
+use Rattle.set_selection.specs.Sets.{marked, image, NoMarks}
+use Rattle.set_selection.specs.Walks.{is_under, is_over, is_below, is_above, is_after, is_before, is_later, is_earlier}
+use Rattle.set_selection.proofs.Written.{DoneBelow, DoneFrom}
+use Rattle.set_selection.proofs.Kept.{Reach, Next, First, Past, Spread, SpreadFrom}
+use Rattle.set_selection.proofs.walks.mark_before.Given as goal
+
+abbrev pub invariant-loop-x : goal.invariant-loop-x
+invariant-loop-x l = Past l.marks l.ends l.x l.past
+
+abbrev pub invariant-loop-y : goal.invariant-loop-y
+invariant-loop-y l = DoneBelow (image (is_before l.ends) l.marks) l.y l.out

@@ -1,0 +1,10 @@
+-- `mark_parents` meets its contract. Assumes nothing.
+use Rattle.std.proofs.Common.{ℕ, ◌≡◌, ◌<◌, not, eqb, ltb, leb, false, length, get_or}
+use Rattle.set_selection.specs.Sets.{marked, image, NoMarks}
+use Rattle.set_selection.specs.Walks.{is_under, is_over, is_below, is_above, is_after, is_before, is_later, is_earlier}
+use Rattle.set_selection.proofs.Written.{DoneBelow, DoneFrom}
+use Rattle.set_selection.proofs.Kept.{Reach, Next, First, Past, Spread, SpreadFrom}
+use Rattle.set_selection.proofs.walks.mark_parents.Given as goal
+
+abbrev pub invariant-loop-x : goal.invariant-loop-x
+invariant-loop-x l = Spread l.marks l.parents l.fn.out l.x l.out

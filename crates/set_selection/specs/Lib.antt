@@ -1,0 +1,4 @@
+pub mod Sets
+pub mod Walks
+pub mod Evaluations
+pub mod Memories
