@@ -1,8 +1,8 @@
 // Selections that another XPath engine has answered: makes the calls of a script from standard input and prints the
 // nodes that each select marks. A line of another form ends it, and is printed as refused; so is input that is too
-// long, with line 0.
+// long or whose reading fails, with line 0.
 #![tactic(auto)]
 
-fn main() {
-    transcript::print_nodes();
+fn main(rt: HostRuntime) {
+    transcript::print_nodes(rt.alloc(), rt.stdin());
 }

@@ -1,7 +1,7 @@
 // Makes the calls of a script from standard input on a register and prints each answer. A line of another form ends it
-// and is printed as refusal 10; so is input that is too long, with line 0.
+// and is printed as refusal 10; so is input that is too long or whose reading fails, with line 0.
 #![tactic(auto)]
 
-fn main() {
-    transcript::print_answers();
+fn main(rt: HostRuntime) {
+    transcript::print_answers(rt.alloc(), rt.stdin());
 }

@@ -1,9 +1,9 @@
 // Selectors as text that another XPath engine has answered, and texts outside the grammar: makes the calls of a
 // script from standard input and prints the nodes that each select marks, and what is refused. A line of another form
-// ends it, and is printed as refused; so is input that is too long, with line 0. The same program as engine_cases: the
-// gate runs a program on one stored input.
+// ends it, and is printed as refused; so is input that is too long or whose reading fails, with line 0. The same
+// program as engine_cases: the gate runs a program on one stored input.
 #![tactic(auto)]
 
-fn main() {
-    transcript::print_nodes();
+fn main(rt: HostRuntime) {
+    transcript::print_nodes(rt.alloc(), rt.stdin());
 }

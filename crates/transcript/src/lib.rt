@@ -14,7 +14,9 @@ use calls::{Answer, LineRefusal};
 use common::Refusal;
 use register::{Records, Register};
 use script::{Command, NumberList};
+use std::alloc::Global;
 use std::fmt::Write;
+use std::io::Read;
 
 // What the lent marks hold before a select, and a lent buffer before a write. Buffers are arrays, here and in the other
 // programs: fixed memory without a heap.
@@ -153,6 +155,18 @@ impl<'a> State<'a> {
         print(self.style, self.register.text(&list[..size], selector));
     }
 
+    // Sets the register aside and takes a fresh one. Out of line, as the next: beside the other commands each of them
+    // would clear the memory of a register.
+    #[inline(never)]
+    fn set_aside(&mut self) {
+        self.other = std::mem::replace(&mut self.register, Register::new());
+    }
+
+    #[inline(never)]
+    fn start_anew(&mut self) {
+        self.register = Register::new();
+    }
+
     // Makes a command, with the rest of its line, and prints its answer.
     fn make(&mut self, command: Command, rest: &'a [u8]) {
         let style = self.style;
@@ -168,10 +182,8 @@ impl<'a> State<'a> {
             Command::Old(old) => self.old = old,
             Command::New(new) => self.new = new,
             Command::Names => self.names = rest,
-            Command::Other => {
-                self.other = std::mem::replace(&mut self.register, Register::new());
-            }
-            Command::Fresh => self.register = Register::new(),
+            Command::Other => self.set_aside(),
+            Command::Fresh => self.start_anew(),
             asked => self.ask(asked),
         }
     }
@@ -252,27 +264,24 @@ pub fn run(input: &[u8], style: Style) -> Result<(), usize>
     Ok(())
 }
 
-// The same of a script from standard input. A line that is not taken is printed as refusal 10; so is input that is too
-// long, with line 0.
-fn run_input(style: Style) {
-    // One byte more than is taken, so that longer input shows.
-    let mut input = [0u8; common::MAX_BYTES + 1];
-    let length = io::read_full(0, &mut input);
-    if common::MAX_BYTES < length {
-        print_wrong_form(style, 0);
-        return;
-    }
-    if let Err(line) = run(&input[..length], style) {
+// The same of a script that is read. A line that is not taken is printed as refusal 10; so is input that is too long,
+// or whose reading fails, with line 0.
+fn run_input<R: Read + Drop>(alloc: Global, reader: R, style: Style) {
+    let input = match inputs::read_bundle(alloc, reader) {
+        Ok(input) if input.len() <= common::MAX_BYTES => input,
+        _ => return print_wrong_form(style, 0),
+    };
+    if let Err(line) = run(&input, style) {
         print_wrong_form(style, line);
     }
 }
 
-// What the program replay does. Nothing is promised, since no contract can speak of what is read or printed.
-pub fn print_answers() {
-    run_input(Style::Answers)
+/// What the program replay does with a script. Nothing is promised, since no contract can speak of what is printed.
+pub fn print_answers<R: Read + Drop>(alloc: Global, reader: R) {
+    run_input(alloc, reader, Style::Answers)
 }
 
-// What the programs engine_cases and text_cases do; as `print_answers`.
-pub fn print_nodes() {
-    run_input(Style::Nodes)
+/// What the programs engine_cases and text_cases do with one; as `print_answers`.
+pub fn print_nodes<R: Read + Drop>(alloc: Global, reader: R) {
+    run_input(alloc, reader, Style::Nodes)
 }
