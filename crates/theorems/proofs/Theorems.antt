@@ -328,7 +328,7 @@ pub record MeaningTheorems : Type 0 where
   -- of parents is the least that ends the climb so, and its answer is that of the climb to the root
   pub document_checked : (xs : List ℕ) (r : Result (List ℕ) ℕ) → xpath.Checked xs r → DocumentChecked xs r
   pub climb_made : (xs : List ℕ) (x y e : ℕ) (es : List ℕ) (r : Climb) (left : List ℕ)
-      → xpath.Climbed xs x y e es r left → ClimbMade (document_of xs) x y e es r left
+      → xpath.Climbed xs x y e es r left → ClimbMade (document_of xs) x y e es r.met r.parents left
   pub climb_promise : ClimbPromise xpath.Climbed
   -- every climb can be made as the contract has it
   pub climbs_exist : (xs : List ℕ) (x y e : ℕ) (es : List ℕ)
