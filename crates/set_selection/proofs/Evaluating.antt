@@ -292,11 +292,11 @@ module _ (rs : List Row) (top r : ℕ) where
   qualifier_not_held h = ap as_qualifier (term_not_held rs top r h)
 
   pub path_held : r < top → path_in (terms (take top rs)) r ≡ as_path (term_by (terms (take r rs)) (row_at rs r))
-  path_held h = ap as_path (term_held rs top r h)
+  path_held h = ap as_path (term_held rs top r h (row_at rs r) refl)
 
   pub qualifier_held : r < top →
       qualifier_in (terms (take top rs)) r ≡ as_qualifier (term_by (terms (take r rs)) (row_at rs r))
-  qualifier_held h = ap as_qualifier (term_held rs top r h)
+  qualifier_held h = ap as_qualifier (term_held rs top r h (row_at rs r) refl)
 
 module _ (ts : List Term) (r : Row) where
   pub root_row_is : r.kind ≡ 1 → as_path (term_by ts r) ≡ Root
