@@ -3,7 +3,7 @@
 
     tools/xml/compare.py [--mutations N] [--seed S] [--no-log] [--save FOLDER]
 
-It reads the files of tools/engines/xml, those of tools/xml/cases and examples, N mutations of them (100,000), and a
+It reads the files of tools/compare/xml, those of tools/xml/cases and examples, N mutations of them (100,000), and a
 log of a million nodes. A difference is explained where a rule of RULES names it, each with the sentence of the
 recommendation that settles it; the script fails where one is not explained, and saves those documents.
 
@@ -223,7 +223,7 @@ def main():
     parser.add_argument("--save", default=os.path.join(TARGET, "unexplained"))
     options = parser.parse_args()
     commands = build()
-    files = sorted(glob.glob(os.path.join(TOP, "tools", "engines", "xml", "*"))
+    files = sorted(glob.glob(os.path.join(TOP, "tools", "compare", "xml", "*"))
                    + glob.glob(os.path.join(TOP, "tools", "xml", "cases", "*"))
                    + glob.glob(os.path.join(TOP, "examples", "*.xml")))
     sources = [open(name, "rb").read() for name in files]
