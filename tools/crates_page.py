@@ -20,7 +20,7 @@ reading order.
 
 
 def words(lines):
-    return ' '.join(line.strip() for line in lines)
+    return ' '.join(' '.join(lines).split())
 
 
 def head(crate):
@@ -48,7 +48,8 @@ def page():
     made = []
     for line in open('crates.txt', encoding='utf-8').read().split('\n'):
         if line.startswith('#'):
-            made.append('\n## ' + line.lstrip('# ') + '\n')
+            title = line.lstrip('# ')
+            made.append('\n## ' + title[0].upper() + title[1:] + '\n')
         elif line:
             name, _, uses = line.partition(':')
             crate, *kind = name.split()

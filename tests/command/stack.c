@@ -3,9 +3,9 @@
 
        stack BUNDLE..      the bundles are tried one after the other, and the most is printed
 
-   Every call is measured on selectors that are as deep as rows may nest, with a list of names that is indexed, on the
-   longest documents, deep and wide, and on the rows and steps of the bundles; run.sh gives it one with a step by rule 59
-   on a path nested 28 deep, and a full one. */
+   Every call is measured on selectors that are as deep as rows may nest and one that is as deep as predicates may, with
+   a list of names that is indexed, on the longest documents, deep and wide, and on the rows and steps of the bundles;
+   run.sh gives it one with a step by rule 59 on a path nested 28 deep, and a full one. */
 #define _GNU_SOURCE
 #include <pthread.h>
 #include <stdio.h>

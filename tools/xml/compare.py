@@ -3,12 +3,12 @@
 
     tools/xml/compare.py [--mutations N] [--seed S] [--no-log] [--save FOLDER]
 
-It reads the files of tools/engines/xml, those of tools/xml/cases and examples, N mutations of them (100,000), and a
+It reads the files of tools/compare/xml, those of tools/xml/cases and examples, N mutations of them (100,000), and a
 log of a million nodes. A difference is explained where a rule of RULES names it, each with the sentence of the
 recommendation that settles it; the script fails where one is not explained, and saves those documents.
 
 It needs gcc, expat and libxml2 (Debian: gcc libexpat1-dev libxml2-dev), and builds target/bin/xml_rows by
-tools/programs.sh where it is missing.
+tools/programs.sh where it is missing. It installs nothing, and names what is missing.
 """
 import argparse
 import collections
@@ -22,6 +22,10 @@ import sys
 TOP = os.path.dirname(os.path.dirname(os.path.dirname(os.path.abspath(__file__))))
 TARGET = os.path.join(TOP, "target", "xml")
 PROGRAM = os.path.join(TOP, "target", "bin", "xml_rows")
+NEEDED = {"gcc": "gcc", "/usr/include/expat.h": "libexpat1-dev", "xml2-config": "libxml2-dev"}
+
+sys.path.append(os.path.join(TOP, "tools", "compare"))
+from shared import need  # noqa: E402
 
 EXPAT, LIBXML2 = "expat", "libxml2"
 
@@ -90,6 +94,7 @@ ROW_RULES = [
 
 def build():
     """The programs by their names."""
+    need(NEEDED)
     os.makedirs(TARGET, exist_ok=True)
     if not os.path.exists(PROGRAM):
         subprocess.run([os.path.join(TOP, "tools", "programs.sh"), "xml_rows"], check=True)
@@ -223,7 +228,7 @@ def main():
     parser.add_argument("--save", default=os.path.join(TARGET, "unexplained"))
     options = parser.parse_args()
     commands = build()
-    files = sorted(glob.glob(os.path.join(TOP, "tools", "engines", "xml", "*"))
+    files = sorted(glob.glob(os.path.join(TOP, "tools", "compare", "xml", "*"))
                    + glob.glob(os.path.join(TOP, "tools", "xml", "cases", "*"))
                    + glob.glob(os.path.join(TOP, "examples", "*.xml")))
     sources = [open(name, "rb").read() for name in files]
