@@ -66,9 +66,8 @@ impl<T: NodeSet> AxisStep<'_, T> {
             && candidate (axis_number self.now.axis) (T.has self.now.test) (doc self.now.document) y) }
     {
         for y in lo..hi {
-            // Each is written, with what it had where it stays: a branch takes longer.
-            let mark = if self.is_candidate(y) { 1 } else { out[y] };
-            out[y] = mark;
+            // Each is written: a branch, or a choice between 1 and what was there, takes longer.
+            out[y] = out[y].max(u8::from(self.is_candidate(y)));
         }
     }
 
