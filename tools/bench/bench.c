@@ -21,11 +21,24 @@
 #include <time.h>
 
 /* crates/bench_select: rows are four numbers each, a document's nodes three; counts are of numbers. */
-uint16_t bench_select(const uint16_t *rows, size_t row_numbers, uint16_t row, const uint16_t *document,
-                      size_t document_numbers, uint16_t context, uint32_t limit, uint8_t *marks, size_t room);
+typedef uint16_t Select(const uint16_t *rows, size_t row_numbers, uint16_t row, const uint16_t *document,
+                        size_t document_numbers, uint16_t context, uint32_t limit, uint8_t *marks, size_t room);
+Select bench_select;
 
-size_t bench_write(uint8_t *out, size_t room, const uint16_t *rows, size_t row_numbers, size_t row_count,
-                   const uint16_t *steps, size_t step_numbers, size_t step_count);
+typedef size_t Write(uint8_t *out, size_t room, const uint16_t *rows, size_t row_numbers, size_t row_count,
+                     const uint16_t *steps, size_t step_numbers, size_t step_count);
+Write bench_write;
+
+/* The same of an older commit, where its archive is there. */
+#ifdef OLD_ARCHIVE
+Select old_bench_select;
+Write old_bench_write;
+static Select *const OLD_SELECT = old_bench_select;
+static Write *const OLD_WRITE = old_bench_write;
+#else
+static Select *const OLD_SELECT;
+static Write *const OLD_WRITE;
+#endif
 
 uint32_t bench_order(const uint16_t *left, size_t left_numbers, uint16_t i, const uint16_t *right, size_t right_numbers,
                      uint16_t j);
@@ -148,12 +161,15 @@ static void run_reference_write(const void *of) {
     check(length == held->bundle.length, "the reference writes another length");
 }
 
-static void run_write(const void *of) {
-    const Held *held = of;
-    size_t length = bench_write(held->ours, ROOM, held->rows, held->row_numbers, held->row_numbers / 4, held->steps,
-                                held->step_numbers, held->step_numbers / 5);
+static void write_with(Write *write, const Held *held) {
+    size_t length = write(held->ours, ROOM, held->rows, held->row_numbers, held->row_numbers / 4, held->steps,
+                          held->step_numbers, held->step_numbers / 5);
     check(length == held->bundle.length, "another length is written");
 }
+
+static void run_write(const void *of) { write_with(bench_write, of); }
+
+static void run_old_write(const void *of) { write_with(OLD_WRITE, of); }
 
 /* The numbers of the lines from `at` up to `end`. */
 static size_t numbers_of(const char *at, const char *end, uint16_t *numbers, size_t most) {
@@ -186,6 +202,11 @@ static void bench_write_bundle(Bundle bundle) {
     printf("|---|---|---|---|---|---|---|\n");
     printf("| 1,024 rows and 2,048 steps, %zu bytes |", bundle.length);
     print_timings(&sides[0], &sides[1]);
+    if (!OLD_WRITE) return;
+    Timing beside[2] = {{.call = run_old_write}, {.call = run_write}};
+    measure(beside, 2, &held);
+    printf("| the same, beside the older commit |");
+    print_timings(&beside[0], &beside[1]);
 }
 
 /* The length up to the end of the second names line. */
@@ -502,15 +523,22 @@ typedef struct {
 
 static const uint32_t LIMIT = UINT32_MAX;
 
-static uint16_t our_select(const Selection *s, uint8_t *marks) {
+static uint16_t select_with(Select *select, const Selection *s, uint8_t *marks) {
     uint16_t row = (uint16_t)(s->selector->count - 1);
-    return bench_select(s->selector->rows[0], 4 * (size_t)s->selector->count, row, s->document->rows[0], 3 * NODES, s->context,
-                        LIMIT, marks, NODES);
+    return select(s->selector->rows[0], 4 * (size_t)s->selector->count, row, s->document->rows[0], 3 * NODES, s->context,
+                  LIMIT, marks, NODES);
 }
+
+static uint16_t our_select(const Selection *s, uint8_t *marks) { return select_with(bench_select, s, marks); }
 
 static void run_select(const void *of) {
     uint8_t marks[NODES];
     check(our_select(of, marks) == 0, "a selection is refused");
+}
+
+static void run_old_select(const void *of) {
+    uint8_t marks[NODES];
+    check(select_with(OLD_SELECT, of, marks) == 0, "a selection is refused");
 }
 
 static xmlXPathObjectPtr evaluate(const Selection *s) {
@@ -585,6 +613,31 @@ static void bench_documents(const Document *documents, Call *theirs, const char 
     printf("| document | selector | nodes | libxml2 min | median | ours min | median | ratio of min | of median |\n");
     printf("|---|---|---|---|---|---|---|---|---|\n");
     for (int i = 0; i < 2; i++) bench_selectors(&documents[i], theirs);
+}
+
+/* Beside an older commit's archive, where it is there. */
+static void bench_selectors_beside_old(const Document *d) {
+    for (size_t i = 0; i < sizeof SELECTORS / sizeof SELECTORS[0]; i++) {
+        uint16_t context = strcmp(d->name, "nested") == 0 ? SELECTORS[i].nested : SELECTORS[i].flat;
+        Selection s = {&SELECTORS[i], d, context, NULL, NULL};
+        uint8_t theirs[NODES], ours[NODES];
+        check(select_with(OLD_SELECT, &s, theirs) == 0 && our_select(&s, ours) == 0, "a selection is refused");
+        check(memcmp(theirs, ours, NODES) == 0, "the older commit selects other nodes");
+        Timing sides[2] = {{.call = run_old_select}, {.call = run_select}};
+        measure(sides, 2, &s);
+        printf("| %s | ", d->name);
+        print_cell(SELECTORS[i].xpath);
+        printf(" from %d |", context);
+        print_timings(&sides[0], &sides[1]);
+    }
+}
+
+static void bench_documents_beside_old(const Document *documents) {
+    if (!OLD_SELECT) return;
+    printf("\nSelecting on documents of %d nodes beside the older commit, in microseconds:\n\n", NODES);
+    printf("| document | selector | old min | median | ours min | median | ratio of min | of median |\n");
+    printf("|---|---|---|---|---|---|---|---|\n");
+    for (int i = 0; i < 2; i++) bench_selectors_beside_old(&documents[i]);
 }
 
 /* The void path on the same document, for which libxml2 has no expression: what a call costs beside the evaluation. */
@@ -959,6 +1012,7 @@ int main(int argc, char **argv) {
     for (int i = 0; i < 2; i++) make_tree(&documents[i]);
     bench_documents(documents, run_libxml2, "libxml2 on a tree that stands already");
     bench_documents(documents, run_parse_and_evaluate, "libxml2 with the parsing of the document");
+    bench_documents_beside_old(documents);
     printf("\nOurs on the void path, which selects nothing, in microseconds:\n\n| document | min | median |\n|---|---|---|\n");
     for (int i = 0; i < 2; i++) bench_void(&documents[i]);
     printf("\nOne visit, in microseconds: of AXIS::e1, the longest; the mean of descendant-or-self::node()/AXIS::e1 from the root:\n\n");

@@ -4,8 +4,8 @@
 #
 #     tools/bench/run.sh [SEED [OLD]]
 #
-# OLD is a clone of the repository at an older commit; the calls of its archive and its program replay are measured
-# beside ours.
+# OLD is a clone of the repository at an older commit; the calls of its archives, its selections and its program replay
+# are measured beside ours.
 #
 # It needs rt, cargo, Python 3, a C compiler and libxml2; it installs nothing, and names what is missing.
 set -eu
@@ -30,7 +30,13 @@ if [ -n "$old" ]; then
     done
     # shellcheck disable=SC2086
     objcopy $old_names "$old/$("$old/tools/archive.sh" exports)" $out/old.a
-    flags="-DOLD_ARCHIVE $out/old.a"
+    old_names=
+    for name in select write order bundle_order text; do
+        old_names="$old_names --redefine-sym bench_$name=old_bench_$name"
+    done
+    # shellcheck disable=SC2086
+    objcopy $old_names "$old/$("$old/tools/archive.sh" bench_select)" $out/old_select.a
+    flags="-DOLD_ARCHIVE $out/old.a $out/old_select.a"
     replays="$replays $old/target/bin/replay"
 fi
 cargo build --release --quiet --manifest-path tools/reference/Cargo.toml

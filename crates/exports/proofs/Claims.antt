@@ -31,11 +31,11 @@ use Rattle.calls.proofs.Runs.{run_map, run_follows}
 use Rattle.replacing.specs.Covered.{is_replaced, step_saying}
 use Rattle.replacing.proofs.NoneLost.{covered_none_lost}
 use Rattle.session.specs.declared.session.Session.{Session}
-use Rattle.session.specs.View.{view}
+use Rattle.session.specs.View.{view, fresh_session}
 use Rattle.session.specs.Promises.{session_answer, session_with}
 use Rattle.session.specs.Reading.{reading}
 use Rattle.session.proofs.Simulation.{Kept, fresh_kept, session_as_book}
-use Rattle.session.proofs.Source.{call_tied, read_tied, reads_exist, read_demand}
+use Rattle.session.proofs.Source.{Read, call_tied, read_tied, reads_exist, read_demand}
 use Rattle.exports.specs.ClaimCall.{Claimed, claimed, the_claim, the_bundle, old_selector, new_selector}
 use Rattle.exports.specs.ClaimCall.{said_answer, new_claimed, old_claimed, claim_answer}
 use Rattle.exports.proofs.Saying.{saying_found, saying_none, says_iff}
@@ -156,7 +156,8 @@ asked_cases false c d w x y z a e =
 -- the session of an accepted bundle is one that calls lead to
 read_kept : (bundle : Bytes) → (reading bundle).answer.number ≡ 0 → Kept (reading bundle).session
 read_kept bundle e =
-    let (t, r) = reads_exist bundle in
+    let (t, on_fresh) = reads_exist fresh_session bundle in
+    let r : Read bundle t = (fresh_session, on_fresh) in
     let met = read_tied bundle t r in
     let read = read_demand.accepted bundle t r (ap (λ (a : Answer). a.number) met.answer ∙ e) in
     let (shows, holds, whole, reachable) =

@@ -32,7 +32,8 @@ text_reads_back cs os s run fits =
     let met = write_tied t buffer w left wrote in
     let taken = written_where_room t buffer w left met (omega arith) in
     let bytes = written_text t buffer w left met taken in
-    let (r, is_read) = reads_exist (session_text t) in
+    let (r, on_fresh) = reads_exist fresh_session (session_text t) in
+    let is_read : Read (session_text t) r = (fresh_session, on_fresh) in
     let back = read_demand.written_reads_back cs shown t made fits buffer left w wrote taken r
     (subst (λ ys. Read ys r) (sym bytes) is_read) in
     let tied = read_tied (session_text t) r is_read in

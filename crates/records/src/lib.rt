@@ -31,15 +31,15 @@ pub struct Record {
 // for want of it. No ArrayVec: the definitions, which are believed, say what stands past the records held.
 #[derive(Clone, Copy)]
 pub struct Records {
-    pub held: [Record; MAX_RECORDS],
-    pub count: usize,
+    held: [Record; MAX_RECORDS],
+    count: usize,
 }
 
 // Which records are released: 1 at the place of each that is. Not as bool, and not in the records: the demand on
 // registers, which is to be believed, reads these numbers as they stand.
 #[derive(Clone, Copy)]
 pub struct Releases {
-    pub flags: [u8; MAX_RECORDS],
+    flags: [u8; MAX_RECORDS],
 }
 
 // What stands past the records held, as in the definition. No derived Default: as a default the zeros would look like a

@@ -137,8 +137,13 @@ pub data Write : Register → List ℕ → NumberOrRefusal → List ℕ → Type
       → Write a.0.now a.1.0.now r x.1.0.now
 
 -- `Register::read` on a register with bytes has the result
-pub data Read : List ℕ → ReadResult → Type 0 where
-  read_called : (κs : _) (a : _) (r : _) (x : _) → read-reads.Post κs a r x → Read a.1.0.now (read_result r x.0.now)
+pub data ReadOn : Register → List ℕ → ReadResult → Type 0 where
+  read_called : (κs : _) (a : _) (r : _) (x : _) → read-reads.Post κs a r x
+      → ReadOn a.0.now a.1.0.now (read_result r x.0.now)
+
+-- the same, whichever register it is called on
+abbrev pub Read : List ℕ → ReadResult → Type 0
+Read bytes t = (q : Register) × ReadOn q bytes t
 
 -- the contracts promise what the specifications say, word for word
 pub new_tied : (r : Register) → New r → r ≡ fresh_register
@@ -185,7 +190,7 @@ pub write_tied : (r : Register) (buffer : List ℕ) (w : NumberOrRefusal) (left 
 write_tied r buffer w left (write_called κs a s x m) = m
 
 pub read_tied : (bytes : List ℕ) (t : ReadResult) → Read bytes t → RegisterReadMet bytes t
-read_tied bytes t (read_called κs a r x m) = m.0
+read_tied bytes t (q, read_called κs a r x m) = m.0
 
 record_case : (rows : List Row) (ps : List Step) (rs : List Record) (r : Record)
     → HasCase done_answer_of (record_answer rows ps rs r)
@@ -383,13 +388,13 @@ writes_exist r buffer =
           (below.write_tied r.session buffer w left m),
     )
 
-pub reads_exist : (bytes : List ℕ) → (t : ReadResult) × Read bytes t
-reads_exist bytes =
-    let (read, m) = below.reads_exist bytes in
-    let met = below.read_tied bytes read m in
+pub reads_exist : (q : Register) (bytes : List ℕ) → (t : ReadResult) × ReadOn q bytes t
+reads_exist q bytes =
+    let (read, m) = below.reads_exist q.session bytes in
+    let met = below.read_tied bytes read (q.session, m) in
     let r : Register = record { session = read.session; records = no_records; releases = no_releases } in (
       read_result read.answer r,
-      read_called ([], ([], tt)) (lent_to_write fresh_register, (lent bytes, tt)) read.answer
+      read_called ([], ([], tt)) (lent_to_write q, (lent bytes, tt)) read.answer
           (lent_to_write r, (lent bytes, tt))
           (record { read = met; records = refl; releases = refl }, fresh_read bytes read met),
     )

@@ -88,8 +88,13 @@ pub data Selected : Session → (row : ℕ) → List ℕ → (x limit : ℕ) →
       a.1.1.1.1.1.0.now r x.1.1.1.1.1.0.now
 
 -- `Session::read` on a session with bytes has the result
-pub data Read : List ℕ → ReadResult → Type 0 where
-  read_called : (κs : _) (a : _) (r : _) (x : _) → read-reads.Post κs a r x → Read a.1.0.now (read_result r x.0.now)
+pub data ReadOn : Session → List ℕ → ReadResult → Type 0 where
+  read_called : (κs : _) (a : _) (r : _) (x : _) → read-reads.Post κs a r x
+      → ReadOn a.0.now a.1.0.now (read_result r x.0.now)
+
+-- the same, whichever session it is called on
+abbrev pub Read : List ℕ → ReadResult → Type 0
+Read bytes t = (s : Session) × ReadOn s bytes t
 
 -- `Session::replace` on a session with old rows, new rows and steps has the answer r
 pub data Replaced : Session → (old new by : List ℕ) → DoneOrRefusal → Type 0 where
@@ -126,7 +131,7 @@ pub select_tied : SelectsKept Selected SelectMet
 select_tied s row xs x limit buffer t left (select_called κs a r y m) = m
 
 pub read_tied : (bytes : List ℕ) (t : ReadResult) → Read bytes t → ReadMet bytes t
-read_tied bytes t (read_called κs a r x m) = m.0
+read_tied bytes t (s, read_called κs a r x m) = m.0
 
 pub replace_tied : ReplacesKept (λ s. s) Replaced
 replace_tied s old new by t (replace_called κs a r x m) = m
@@ -220,13 +225,13 @@ selects_exist s row xs x limit buffer =
           t (lent s, (row, (lent xs, (x, (limit, (lent_to_write left, tt)))))) (record { answer = e; bytes = refl }),
     )
 
-pub reads_exist : (bytes : List ℕ) → (t : ReadResult) × Read bytes t
-reads_exist bytes =
+pub reads_exist : (s : Session) (bytes : List ℕ) → (t : ReadResult) × ReadOn s bytes t
+reads_exist s bytes =
     let (o, e) = reading_case bytes in
     let t : ReadResult = record { answer = o; session = (reading bytes).session } in
     let met = read_met bytes t (λ i. record { answer = e i; session = t.session }) in (
       t,
-      read_called ([], ([], tt)) (lent_to_write fresh_session, (lent bytes, tt)) o
+      read_called ([], ([], tt)) (lent_to_write s, (lent bytes, tt)) o
           (lent_to_write t.session, (lent bytes, tt))
           (met, refused_fresh bytes t met),
     )

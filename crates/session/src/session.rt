@@ -31,8 +31,8 @@ pub struct Session {
     pub(crate) row_count: usize,
     pub(crate) steps: [u16; STEP_NUMBERS],
     pub(crate) step_count: usize,
-    pub(crate) points: [u16; POINT_NUMBERS],
-    pub(crate) point_count: usize,
+    points: [u16; POINT_NUMBERS],
+    point_count: usize,
 }
 
 // What a proof knows of arrays that are lent by themselves, and not of those within another type.

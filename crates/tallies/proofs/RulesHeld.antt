@@ -22,10 +22,10 @@ use Rattle.calls.proofs.Accepted.{by_accepted}
 use Rattle.calls.proofs.StepJudged.{step_accepted}
 use Rattle.calls.proofs.Tables.{few_steps}
 use Rattle.session.specs.declared.session.Session.{Session}
-use Rattle.session.specs.View.{view}
+use Rattle.session.specs.View.{view, fresh_session}
 use Rattle.session.specs.Reading.{reading}
 use Rattle.session.specs.ReadCall.{read_answer_of}
-use Rattle.session.proofs.Source.{read_tied, reads_exist, read_demand}
+use Rattle.session.proofs.Source.{Read, read_tied, reads_exist, read_demand}
 use Rattle.common.specs.Limits.{max_bytes}
 use Rattle.tallies.specs.Count.{File, is_accepted, counted_steps}
 
@@ -71,7 +71,8 @@ rules_after b (c ∷ cs) held =
 -- by demand 3 of read, an accepted reading leaves what calls lead to
 rules_read : (bytes : List ℕ) → accepted (reading bytes).answer ≡ true → RulesHeld (view (reading bytes).session)
 rules_read bytes taken =
-    let (t, read) = reads_exist bytes in
+    let (t, on_fresh) = reads_exist fresh_session bytes in
+    let read : Read bytes t = (fresh_session, on_fresh) in
     let met = read_tied bytes t read in
     let number : (read_answer_of t.answer).number ≡ 0 =
     ap (λ a. a.number) met.answer ∙ eqb-true (reading bytes).answer.number 0 taken in

@@ -183,7 +183,7 @@ pub record SessionTheorems : Type 0 where
       → (os : List CallSeen) × (t : Session) × Run view session.Called s cs os t
   pub selects_exist : (s : Session) (row : ℕ) (xs : List ℕ) (x limit : ℕ) (buffer : List ℕ)
       → (t : NumberOrRefusal) × (left : List ℕ) × session.Selected s row xs x limit buffer t left
-  pub reads_exist : (bytes : List ℕ) → (t : ReadResult) × session.Read bytes t
+  pub reads_exist : (s : Session) (bytes : List ℕ) → (t : ReadResult) × session.ReadOn s bytes t
   pub replaces_exist : (s : Session) (old new by : List ℕ) → (t : DoneOrRefusal) × session.Replaced s old new by t
   pub orders_exist : (s : Session) (i : ℕ) (t : Session) (j : ℕ) → (r : OrderOrRefusal) × session.Ordered s i t j r
   pub bundle_orders_exist : (s t : Session) → (r : OrderOrRefusal) × session.BundleOrdered s t r
@@ -278,7 +278,7 @@ pub record RegisterTheorems : Type 0 where
   pub bundle_orders_exist : (q r : Register) → (t : OrderOrRefusal) × register.BundleOrdered q r t
   pub writes_exist : (r : Register) (buffer : List ℕ)
       → (w : NumberOrRefusal) × (left : List ℕ) × register.Write r buffer w left
-  pub reads_exist : (bytes : List ℕ) → (t : register-read.ReadResult) × register.Read bytes t
+  pub reads_exist : (q : Register) (bytes : List ℕ) → (t : register-read.ReadResult) × register.ReadOn q bytes t
 
 -- the calls for a host in C
 pub record HostTheorems : Type 0 where
