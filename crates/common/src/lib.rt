@@ -1,4 +1,4 @@
-// What every crate uses: the papers' kinds, axes, tests and refusals, each with its number, and limits.
+// What every crate uses: kinds, axes, tests and refusals, each with its number, and limits.
 #![tactic(auto)]
 
 // Of axes, kinds and tests. Each enum's two conversions are written out: `rt ci` refuses an `impl` that a macro of this

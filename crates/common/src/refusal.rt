@@ -1,4 +1,4 @@
-// The refusals of documents 01 and 02, each with what its value is.
+// The refusals, each with what its value is.
 ghost use Rattle.std.specs.Prelude.{◌≡◌};
 ghost use Rattle.common.specs.code.Refusal.{refusal_number, refusal_value};
 

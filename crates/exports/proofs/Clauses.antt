@@ -1,4 +1,4 @@
--- Each clause of what is demanded of the exports, written out once more: without one of them this fails. Assumes
+-- Each clause of what is guaranteed of the exports, written out once more: without one of them this fails. Assumes
 -- nothing.
 use Prim.Native.Nat.{ℕ, ◌≤◌, ◌<◌}
 use mathlib.Core.Path.{◌≡◌}

@@ -8,7 +8,7 @@ use Rattle.xpath.specs.Term.{In}
 use Rattle.terms.specs.Terms.{Term, of_path, of_qualifier}
 use Rattle.ordering.specs.Order.{Order, less, greater, ◌and_then◌, number_order}
 
--- a term as document 01 has it: a row with its operands' terms in place of their numbers
+-- a term as a row with its operands' terms in place of their numbers
 mutual
   pub data TermRow : Type 0 where
     term_row : (kind : ℕ) → (a b c : TermField) → TermRow

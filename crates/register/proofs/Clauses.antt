@@ -1,4 +1,4 @@
--- Each clause of what is demanded of record, replace and the orders on registers, written out once more: without one of
+-- Each clause of what is guaranteed of record, replace and the orders on registers, written out once more: without one of
 -- them this fails. Assumes nothing.
 use Prim.Native.Nat.{ℕ, ◌+◌, ◌≤◌, ◌<◌}
 use mathlib.Core.Path.{◌≡◌}

@@ -1,4 +1,4 @@
--- What the register's contracts in the source say of each call, and demand 3 of them. Assumes nothing.
+-- What the register's contracts in the source say of each call, and the guarantees from them. Assumes nothing.
 use Prim.Native.Nat.{ℕ, ◌+◌}
 use mathlib.Core.Path.{◌≡◌, refl, sym, ap, subst, ◌∙◌}
 use mathlib.Core.Bool.{Bool, false, not, cond, ◌&&◌, and-false}
@@ -308,7 +308,7 @@ fresh_read bytes t m = by_case t.answer (refused_fresh bytes t m)
     by_case (Ok n) is = tt
     by_case (Err e) is = ap (λ s. record { session = s; records = no_records; releases = no_releases }) is
 
--- a fresh register can be made, and from it every list of calls: the demand is about something
+-- a fresh register can be made, and from it every list of calls: the guarantee is about something
 pub new_exists : New fresh_register
 new_exists = new_called _ _ fresh_register _ refl
 

@@ -35,7 +35,7 @@ pub record RecordsJudged (Called : RegisterRelation) (r : Register) (b : Book) (
   pub accepts : (g : Record) (a : Answer) (t : Register) → Called r (passed (own g)) a t
       → IsAccepted a ↔ AcceptableRecord b rs g
 
--- the demands: every list of calls, run from what `Register::new` gives, refused ones included
+-- the guarantees: every list of calls, run from what `Register::new` gives, refused ones included
 module _ (New : Register → Type 0) (Called : RegisterRelation) where
   abbrev pub RecordDemand : Type 0
   RecordDemand = (r₀ r : Register) (cs : List OfficeCall) (os : List OfficeSeen)

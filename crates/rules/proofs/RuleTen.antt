@@ -40,7 +40,7 @@ ending_yields t i u v x y n m c =
       premises = refl;
     })
 
--- 01's rule 10: all that it yields is yielded
+-- rule 10: all that it yields is yielded
 pub star_ending_yields : EndingYields star_test
 unfolding forms_of forms_in rules
 star_ending_yields = ending_yields star_test (Memᴰ.head refl)

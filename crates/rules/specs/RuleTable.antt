@@ -1,5 +1,5 @@
 -- The rule table: a line for each rule, its number, its conclusion, its premises in order, its conditions. Signs: `¦`,
--- `∕`, `⟦ ⟧` are document 01's `|`, `/`, `[ ]`; `≐` and `⇔` are `=`, of paths and of qualifiers; `self :: node_test` is
+-- `∕`, `⟦ ⟧` are the `|`, `/`, `[ ]` of terms; `≐` and `⇔` are `=`, of paths and of qualifiers; `self :: node_test` is
 -- `.`. Assumes nothing.
 use Rattle.std.specs.Prelude.{List, [], ◌∷◌, ◌++◌}
 use Rattle.rules.specs.Form.{Rule, Void, Root, ◌::◌, ◌¦◌, ◌∕◌, ◌⟦◌⟧, True, False, Not◌, ◌And◌, ◌Or◌, ◌In◌, ◌<=◌}

@@ -1,4 +1,4 @@
--- The way back of a path, a term of document 02: from each node that the path selects it leads to where the path
+-- The way back of a path, a term: from each node that the path selects it leads to where the path
 -- began. Assumes nothing.
 use Rattle.std.specs.Prelude.{ℕ, cond, List, [], ◌∷◌, eqb}
 use Rattle.std.proofs.Math.Option.{Option, none, some, map}

@@ -1,4 +1,5 @@
--- Each clause of demand 3, written out once more: without one of them this fails. Below it, those of the other demands.
+-- Each clause of the guarantee over lists of calls, written out once more: without one of them this fails. Below it,
+-- those of the others.
 -- Assumes nothing.
 pub mod AcceptClauses
 pub mod ReadClauses

@@ -1,4 +1,4 @@
--- An accepted reading makes the calls of the lines, and demand 3 holds of them; a refused one leaves a fresh session.
+-- An accepted reading makes the calls of the lines, and they follow the book; a refused one leaves a fresh session.
 -- Assumes nothing.
 use Prim.Native.Nat.{ℕ, ◌+◌}
 use mathlib.Core.Path.{◌≡◌, refl, sym, ap, subst, ◌∙◌}

@@ -1,4 +1,4 @@
--- What the contracts in the source say of each call, as the toolchain reads them off it, and demand 3 of them.
+-- What the contracts in the source say of each call, as the toolchain reads them off it, and the guarantees from them.
 -- Assumes nothing.
 use Rattle.calls.specs.code.Answers.{NumberOrRefusal, DoneOrRefusal, OrderOrRefusal, step_of, answer_of, done_answer_of}
 use Rattle.calls.specs.code.Answers.{answer_with, refusal_answer}
@@ -200,7 +200,7 @@ no_point_left = no_point_left_by New Called new_tied call_tied
 pub session_restored : SessionRestored New Called
 session_restored = restored_by New Called new_tied call_tied
 
--- a fresh session can be made, and from it every list of calls: the demand is about something
+-- a fresh session can be made, and from it every list of calls: the guarantee is about something
 pub new_exists : New fresh_session
 new_exists = new_called _ _ fresh_session _ refl
 

@@ -59,7 +59,7 @@ module _ {S : Type 0} (Ordered : OrderRelation S) (BundleOrdered : BundleOrderRe
     pub bundle_equal : (r : OrderOrRefusal) → BundleOrdered s t r
         → (order_answer_of r ≡ answer 0 1) ↔ (term_steps b ≡ term_steps c)
 
--- the demand: every two lists of calls, run from what `Session::new` gives, refused ones included
+-- the guarantee: every two lists of calls, run from what `Session::new` gives, refused ones included
 abbrev pub OrderDemand : (Ordered : OrderRelation Session) (BundleOrdered : BundleOrderRelation Session)
     (New : Session → Type 0) (Called : CallRelation) → Type 0
 OrderDemand Ordered BundleOrdered New Called = (s₀ t₀ s t : Session) (cs ds : List Call) (os us : List CallSeen)

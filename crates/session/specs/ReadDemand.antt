@@ -1,4 +1,4 @@
--- What is demanded of the calls read and write, with demand 3 of the calls that read makes. Assumes nothing.
+-- What is guaranteed of the calls read and write; the calls that read makes follow the book. Assumes nothing.
 use Rattle.calls.specs.code.Answers.{NumberOrRefusal, answer_of}
 use Rattle.std.specs.Prelude.{ℕ, ◌≤◌, ◌≡◌, true, List, ◌∷◌, ◌++◌, map, length, take}
 use Rattle.std.proofs.Math.Option.{some}
@@ -49,10 +49,10 @@ CallFits (text names t) = Unit {0}
 CallFits (point n) = Unit {0}
 CallFits (return n) = Unit {0}
 
--- `Selected` and `Called` as in demand 3
+-- `Selected` and `Called` as in FollowsBook
 module _ (Selected : SelectRelation) (Called : CallRelation) where
   -- an accepted reading of the bytes with the result t: the calls of the lines were made from a fresh session, all were
-  -- accepted, they left the session of the result, the value is the number of steps, and demand 3 holds of the calls
+  -- accepted, they left the session of the result, the value is the number of steps, and the calls follow the book
   pub record ReadAccepted (bytes : List ℕ) (t : ReadResult) : Type 0 where
     pub rows : List Row
     pub steps : List Step
@@ -66,7 +66,7 @@ module _ (Selected : SelectRelation) (Called : CallRelation) where
   -- `Read bytes t`: `Session::read` on the bytes has the result t; `Write s buffer w left`: `Session::write` on the
   -- session s answers w and leaves the bytes `left` of the buffer
   pub record ReadDemand (Read : List ℕ → ReadResult → Type 0) (Write : WriteRelation) : Type 0 where
-    -- read accepts only bundles, makes their calls, and demand 3 holds of them
+    -- read accepts only bundles, makes their calls, and they follow the book
     pub accepted : (bytes : List ℕ) (t : ReadResult) → Read bytes t
         → IsAccepted (read_answer_of t.answer) → ReadAccepted bytes t
     -- a refused reading leaves a fresh session

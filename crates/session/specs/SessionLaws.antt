@@ -55,7 +55,7 @@ SetsNoPoint (text names t) = Unit {0}
 SetsNoPoint (point n) = ⊥
 SetsNoPoint (return n) = Unit {0}
 
--- `New` and `Called` as in demand 3
+-- `New` and `Called` as in FollowsBook
 module _ (New : Session → Type 0) (Called : CallRelation) where
   -- every list of calls from a fresh session leaves, as a whole value, the session that the book after them determines
   abbrev pub WholeSession : Type 0

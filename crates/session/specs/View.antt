@@ -37,7 +37,7 @@ view s =
 abbrev pub no_points : List ℕ
 no_points = replicate (point_width * max_points) 0
 
--- the fresh session of document 01: no row and no step; and no point
+-- the fresh session: no row, no step and no point
 unfoldable pub fresh_session : Session
 fresh_session =
     record {

@@ -68,7 +68,7 @@ rules_after b (c ∷ cs) held =
     rules_after (next plain_book b c) cs
     (by_accepted RulesHeld (book_answer b c) (book_with b c) b (rules_with b c held) held)
 
--- by demand 3 of read, an accepted reading leaves what calls lead to
+-- by what is guaranteed of read, an accepted reading leaves what calls lead to
 rules_read : (bytes : List ℕ) → accepted (reading bytes).answer ≡ true → RulesHeld (view (reading bytes).session)
 rules_read bytes taken =
     let (t, read) = reads_exist bytes in

@@ -152,7 +152,7 @@ pub record SessionTheorems : Type 0 where
   -- premises while there is space, select exactly a held path on a well-formed document of 1 to 512 nodes, from one of
   -- them, with room for the marks and visits within the limit
   pub accept_demand : AcceptDemand session.Selected session.Called session.New
-  -- demand 3: after every list of calls from a fresh session all is as in the plain book, what is held is true on every
+  -- after every list of calls from a fresh session all is as in the plain book, what is held is true on every
   -- document, and select marks by it
   pub demand3 : DemandThree session.Selected session.New session.Called
   -- after every such list the session is, as a whole value, the one that the book determines, without points where none
@@ -161,8 +161,8 @@ pub record SessionTheorems : Type 0 where
   pub no_point_left : NoPointLeft session.New session.Called
   pub session_restored : SessionRestored session.New session.Called
   pub return_restores : ReturnRestores
-  -- what is demanded of read and write: read accepts just the bundles whose calls are all accepted, and demand 3 holds
-  -- of the calls; what is written of a session that calls lead to reads back as that session but for its points, and
+  -- what is guaranteed of read and write: read accepts just the bundles whose calls are all accepted, and the calls
+  -- follow the book; what is written of a session that calls lead to reads back as that session but for its points, and
   -- what is read is written again as the same bytes
   pub read_demand : ReadDemand session.Selected session.Called session.Read session.Write
   -- a whole set replaced: after every list of calls from a fresh session, each node that any path of a covered list
@@ -240,7 +240,7 @@ pub record RegisterTheorems : Type 0 where
       → WriteMet r.session buffer w left
   -- read gives what the session's does, without records and releases
   pub read : (bytes : List ℕ) (t : register-read.ReadResult) → register.Read bytes t → RegisterReadMet bytes t
-  -- after every list of calls from a fresh register: all that demand 3 asks, the older path's nodes among the
+  -- after every list of calls from a fresh register: all that is guaranteed of a session, the older path's nodes among the
   -- newer's where two editions of one series are held, or seen by a crew, and the current edition of both
   pub register_demand :
       DemandOfRegister register.Selected register.Current register.CrewCurrent register.New register.Called

@@ -18,6 +18,6 @@ mutual
     In : Path → Path → Qualifier
     deriving Discrete as Qualifier-discrete
 
--- "some p" of document 01
+-- "some p"
 abbrev pub some_of : Path → Qualifier
 some_of p = Not (In p Void)

@@ -1,4 +1,4 @@
--- Each clause of what is demanded of read and write, written out once more: without one of them this fails. Assumes
+-- Each clause of what is guaranteed of read and write, written out once more: without one of them this fails. Assumes
 -- nothing.
 use Rattle.calls.specs.code.Answers.{NumberOrRefusal, answer_of}
 use Prim.Native.Nat.{ℕ, ◌≤◌, ◌<◌}

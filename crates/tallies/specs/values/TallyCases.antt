@@ -78,7 +78,7 @@ lists :
 unfolding names opened but ascii lines in_first_line list_answer is_bad_name first_below Option-elim
 lists = refl
 
--- the bundle of document 01's example, with one step by rule 8, and further steps
+-- the bundle of Specification, Bundles, with one step by rule 8, and further steps
 bundle : String → File
 bundle more = file false (ascii ("kind a b c\n2 1 0 2\n2 3 1 0\nrule left right first second\n8 0 1 0 0\n" ++ more))
 
