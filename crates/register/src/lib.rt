@@ -11,8 +11,8 @@ ghost use Rattle.calls.specs.code.Answers.{answer_of, done_answer_of, step_of};
 ghost use Rattle.records.specs.Records.{current};
 ghost use Rattle.records.specs.code.Held.{records_in};
 ghost use Rattle.session.specs.Promises.{SelectMet};
-ghost use Rattle.session.specs.ReplaceDemand.{ReplaceMet};
-ghost use Rattle.session.specs.OrderDemand.{OrderMet, BundleOrderMet};
+ghost use Rattle.session.specs.ReplaceGuarantee.{ReplaceMet};
+ghost use Rattle.session.specs.OrderGuarantee.{OrderMet, BundleOrderMet};
 ghost use Rattle.session.specs.WriteCall.{WriteMet};
 ghost use Rattle.records.specs.Releases.{crew_listing, crew_current};
 ghost use Rattle.records.specs.code.Listed.{listed};
@@ -58,7 +58,7 @@ impl Register {
         self.session.record(&mut self.records, given)
     }
 
-    // The current edition of a series, 0 if it has none: a number and no Option, since specs/Demand, which is believed,
+    // The current edition of a series, 0 if it has none: a number and no Option, since specs/Guarantee, which is believed,
     // has it so, and editions count from 1.
     pub fn current(&self, series: u16) -> u16
         ensures { result ≡ current (records_in self.now.records) series }

@@ -1,5 +1,5 @@
 // The calls order and bundle order: two rows of two sessions as terms, and the steps of two sessions.
-ghost use Rattle.session.specs.OrderDemand.{OrderMet, BundleOrderMet};
+ghost use Rattle.session.specs.OrderGuarantee.{OrderMet, BundleOrderMet};
 
 use crate::session::Session;
 use common::Refusal;

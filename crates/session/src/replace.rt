@@ -2,7 +2,7 @@
 ghost use Rattle.terms.specs.code.RowTypes.{PlaceIs};
 ghost use Rattle.replacing.specs.Covered.{step_saying};
 ghost use Rattle.session.specs.View.{view};
-ghost use Rattle.session.specs.ReplaceDemand.{ReplaceMet};
+ghost use Rattle.session.specs.ReplaceGuarantee.{ReplaceMet};
 
 use crate::session::Session;
 use common::Refusal;

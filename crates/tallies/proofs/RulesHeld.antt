@@ -25,7 +25,7 @@ use Rattle.session.specs.declared.session.Session.{Session}
 use Rattle.session.specs.View.{view}
 use Rattle.session.specs.Reading.{reading}
 use Rattle.session.specs.ReadCall.{read_answer_of}
-use Rattle.session.proofs.Source.{read_tied, reads_exist, read_demand}
+use Rattle.session.proofs.Source.{read_tied, reads_exist, read_guarantee}
 use Rattle.common.specs.Limits.{max_bytes}
 use Rattle.tallies.specs.Count.{File, is_accepted, counted_steps}
 
@@ -75,8 +75,8 @@ rules_read bytes taken =
     let met = read_tied bytes t read in
     let number : (read_answer_of t.answer).number ≡ 0 =
     ap (λ a. a.number) met.answer ∙ eqb-true (reading bytes).answer.number 0 taken in
-    let bundle = read_demand.accepted bytes t read number in
-    subst RulesHeld (sym bundle.demand.held ∙ ap view met.session) (rules_after empty_book _ (tt, tt))
+    let bundle = read_guarantee.accepted bytes t read number in
+    subst RulesHeld (sym bundle.follows.held ∙ ap view met.session) (rules_after empty_book _ (tt, tt))
 
 -- what holds of an accepted bundle's steps, and of none, holds of those that count
 by_bundle : (P : List Step → Type 0) (f : File) → (is_accepted f ≡ true → P (view (reading f.bytes).session).steps)

@@ -65,6 +65,6 @@ module _ (Selected : SelectRelation) (Called : CallRelation) where
         → IsAccepted (answer_of t) ↔ AcceptableSelect b.rows row xs x limit (length buffer)
 
   -- the guarantee: every list of calls, run from what `Session::new` gives, refused ones included
-  abbrev pub AcceptDemand : (New : Session → Type 0) → Type 0
-  AcceptDemand New = (s₀ s : Session) (cs : List Call) (os : List CallSeen)
+  abbrev pub AcceptGuarantee : (New : Session → Type 0) → Type 0
+  AcceptGuarantee New = (s₀ s : Session) (cs : List Call) (os : List CallSeen)
       → New s₀ → Run view Called s₀ cs os s → AcceptsExactly s (book_after cs)

@@ -43,6 +43,6 @@ module _ {S : Type 0} (Replaced : ReplaceRelation S) where
         → Every (λ n. T (held_path b.rows n)) old × NoneLost (paths_of b.rows old) (paths_of b.rows new)
 
 -- the guarantee: every list of calls, run from what `Session::new` gives, refused ones included
-abbrev pub ReplaceDemand : ReplaceRelation Session → (New : Session → Type 0) (Called : CallRelation) → Type 0
-ReplaceDemand Replaced New Called = (s₀ s : Session) (cs : List Call) (os : List CallSeen)
+abbrev pub ReplaceGuarantee : ReplaceRelation Session → (New : Session → Type 0) (Called : CallRelation) → Type 0
+ReplaceGuarantee Replaced New Called = (s₀ s : Session) (cs : List Call) (os : List CallSeen)
     → New s₀ → Run view Called s₀ cs os s → SetsReplaced Replaced s (book_after cs)

@@ -12,14 +12,14 @@ use Rattle.records.specs.Register.{EditionsContained}
 use Rattle.records.specs.Releases.{released, crew_current, IsReleased, StillReleased}
 use Rattle.records.specs.Releases.{OfficeCall, OfficeSeen, office_seen, office_after}
 use Rattle.session.specs.Promises.{SelectRelation}
-use Rattle.session.specs.Demand3.{Upheld}
+use Rattle.session.specs.FollowsBook.{Upheld}
 use Rattle.register.specs.Promises.{RegisterRelation, holdings, released_in}
 
 -- `Selected` as in session's FollowsBook; `Current r series e`: current on the register r answers the edition e; `CrewCurrent`
 -- likewise for a crew
 module _ (Selected : SelectRelation) (Current CrewCurrent : Register → (series e : ℕ) → Type 0) where
   -- what is asked of the calls cs, of which os was seen and which left r
-  pub record RegisterDemand (cs : List OfficeCall) (os : List OfficeSeen) (r : Register) : Type 0 where
+  pub record FollowsRegister (cs : List OfficeCall) (os : List OfficeSeen) (r : Register) : Type 0 where
     -- each call's number and value, and after it all that is held, in order, are the plain register's
     pub seen : os ≡ office_seen cs
     pub held : holdings r ≡ office_after cs
@@ -37,9 +37,9 @@ module _ (Selected : SelectRelation) (Current CrewCurrent : Register → (series
 
   -- the guarantee: every list of calls, run from what `Register::new` gives; `New r` says that it gives r, and
   -- `Called r c a t` that the call c on the register r answers a and leaves the register t
-  abbrev pub DemandOfRegister : (New : Register → Type 0) (Called : RegisterRelation) → Type 0
-  DemandOfRegister New Called = (r₀ r : Register) (cs : List OfficeCall) (os : List OfficeSeen)
-      → New r₀ → Run holdings Called r₀ cs os r → RegisterDemand cs os r
+  abbrev pub RegisterGuarantee : (New : Register → Type 0) (Called : RegisterRelation) → Type 0
+  RegisterGuarantee New Called = (r₀ r : Register) (cs : List OfficeCall) (os : List OfficeSeen)
+      → New r₀ → Run holdings Called r₀ cs os r → FollowsRegister cs os r
 
 -- releasing can't be taken back: record i, once released, is released after every list of further calls
 abbrev pub ReleasesKept : (New : Register → Type 0) (Called : RegisterRelation) → Type 0

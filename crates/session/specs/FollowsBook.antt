@@ -55,7 +55,7 @@ module _ (Selected : SelectRelation) where
         → (y : ℕ) → y < length (document_of xs) → get_or left y 0 ≡ 1 → get_or left' y 0 ≡ 1
 
   -- what holds of the calls cs, of which os was seen and which left s
-  pub record Demand3 (cs : List Call) (os : List CallSeen) (s : Session) : Type 0 where
+  pub record FollowsBook (cs : List Call) (os : List CallSeen) (s : Session) : Type 0 where
     -- each call's number and value, and after it the rows, steps and points held, in order, are the book's
     pub seen : os ≡ book_seen cs
     pub held : view s ≡ book_after cs
@@ -64,6 +64,6 @@ module _ (Selected : SelectRelation) where
 
   -- the guarantee: every list of calls, run from what `Session::new` gives; `New s` says that it gives s, and
   -- `Called s c a t` that the call c on the session s answers a and leaves the session t
-  abbrev pub DemandThree : (New : Session → Type 0) (Called : CallRelation) → Type 0
-  DemandThree New Called = (s₀ s : Session) (cs : List Call) (os : List CallSeen)
-      → New s₀ → Run view Called s₀ cs os s → Demand3 cs os s
+  abbrev pub BookGuarantee : (New : Session → Type 0) (Called : CallRelation) → Type 0
+  BookGuarantee New Called = (s₀ s : Session) (cs : List Call) (os : List CallSeen)
+      → New s₀ → Run view Called s₀ cs os s → FollowsBook cs os s

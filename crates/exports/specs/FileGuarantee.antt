@@ -28,7 +28,7 @@ pub record Filed (script bundle : Bytes) : Type 0 where
     session = without_points session;
   }
 
-pub record FileDemand (Files : FileRelation) : Type 0 where
+pub record FileGuarantee (Files : FileRelation) : Type 0 where
   pub accepted : (script buffer left : Bytes) (a : Answer) → Files script buffer a left → IsAccepted a
       → Filed script (take a.value left)
   -- a refused one leaves the buffer
