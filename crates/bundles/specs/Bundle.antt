@@ -1,4 +1,4 @@
--- The text of a bundle: its names lines, its term lines and its step lines. Assumes nothing.
+-- The text of a bundle: its names lines, its term lines and its step lines.
 use Rattle.std.specs.Prelude.{ℕ, List, [], ◌∷◌, ◌++◌}
 use Rattle.std.proofs.Math.Option.{Option, map}
 use Rattle.terms.specs.Row.{Row, row_numbers, row_of_numbers}

@@ -157,8 +157,8 @@ impl<'a> Writer<'a> {
     }
 }
 
-// It writes nothing. Its contract says that the caller's buffer keeps what was appended, which a caller would not know of
-// a derived one.
+// It writes nothing. Its contract says that the caller's buffer keeps what was appended, which a caller would not know
+// of a derived one.
 impl Drop for Writer<'_> {
     fn drop(self)
         ensures { self.exit.0.now ≡ self.entry.out.now }

@@ -1,4 +1,4 @@
--- The plain book: a list of rows, a list of steps, and its points. Assumes nothing.
+-- The plain book: a list of rows, a list of steps, and its points.
 use Rattle.std.specs.Prelude.{ℕ, Bool, ◌≡◌, List, [], ◌∷◌, eqb, get_or}
 use Rattle.terms.specs.Row.{Row}
 

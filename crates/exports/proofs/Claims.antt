@@ -1,5 +1,4 @@
 -- What the answer to a claim means: the session that both texts leave has the bundle's steps, and its rows in front.
--- Assumes nothing.
 use Prim.Native.Nat.{ℕ, suc, ◌-◌, ◌≤◌, ◌<◌}
 use mathlib.Core.Path.{◌≡◌, refl, sym, ap, subst, ◌∙◌}
 use mathlib.Core.Bool.{Bool, true, false, cond}

@@ -1,5 +1,4 @@
--- Each clause of what is guaranteed of the exports, written out once more: without one of them this fails. Assumes
--- nothing.
+-- Each clause of what is guaranteed of the exports, written out once more: without one of them this fails.
 use Prim.Native.Nat.{ℕ, ◌≤◌, ◌<◌}
 use mathlib.Core.Path.{◌≡◌}
 use mathlib.Core.Bool.{cond}

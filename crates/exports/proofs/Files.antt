@@ -1,4 +1,4 @@
--- What filing a script means: its lines' calls are made, and what they leave is written. Assumes nothing.
+-- What filing a script means: its lines' calls are made, and what they leave is written.
 use Prim.Native.Nat.{ℕ, ◌+◌}
 use mathlib.Core.Path.{◌≡◌, refl, sym, ap, ap₂, ◌∙◌}
 use mathlib.Core.Bool.{Bool, true, false, cond}

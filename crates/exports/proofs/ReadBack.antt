@@ -1,4 +1,4 @@
--- The bundle of a session that calls lead to reads back as that session but for its points. Assumes nothing.
+-- The bundle of a session that calls lead to reads back as that session but for its points.
 use mathlib.Core.Path.{◌≡◌, sym, subst, ◌∙◌}
 use mathlib.Core.List.{List}
 use native.Mathlib.Omega.{arith}

@@ -1,4 +1,4 @@
--- What a select by a selector as text means: its row's path is the text's. Assumes nothing.
+-- What a select by a selector as text means: its row's path is the text's.
 use Prim.Native.Nat.{ℕ}
 use mathlib.Core.Path.{◌≡◌, refl, sym, ap, ◌∙◌}
 use mathlib.Core.Bool.{Bool, true, false, cond}

@@ -1,5 +1,4 @@
 -- What the contracts in the source say of each export, as the toolchain reads them off it, and what they mean.
--- Assumes nothing.
 use Prim.Native.Nat.{ℕ}
 use mathlib.Core.Path.{◌≡◌, refl}
 use mathlib.Core.List.{List, []}

@@ -1,4 +1,4 @@
--- What the answer to a claim means. Assumes nothing.
+-- What the answer to a claim means.
 use Rattle.std.specs.Prelude.{ℕ, ◌<◌, ◌≡◌, ◌⊎◌, T, length}
 use Rattle.xpath.specs.Document.{Document, well_formed}
 use Rattle.xpath.specs.Term.{Path}

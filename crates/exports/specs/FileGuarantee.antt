@@ -1,4 +1,4 @@
--- What filing a script means. Assumes nothing.
+-- What filing a script means.
 use Rattle.std.specs.Prelude.{◌≡◌, List, length, take}
 use Rattle.grammar.specs.Bytes.{Bytes}
 use Rattle.calls.specs.Book.{Answer, answer, IsAccepted}

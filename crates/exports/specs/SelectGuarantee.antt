@@ -1,4 +1,4 @@
--- What a select by a selector as text means. Assumes nothing.
+-- What a select by a selector as text means.
 use Rattle.std.specs.Prelude.{ℕ, ◌≤◌, ◌<◌, ◌≡◌, cond, List, T, length, get_or}
 use Rattle.xpath.specs.Document.{document_of, well_formed}
 use Rattle.xpath.specs.Meaning.{selects}

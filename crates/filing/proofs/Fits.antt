@@ -1,4 +1,4 @@
--- The numbers of a script's calls have 16 bits. Assumes nothing.
+-- The numbers of a script's calls have 16 bits.
 use Prim.Native.Nat.{ℕ, zero, suc, ◌≤◌}
 use mathlib.Core.Path.{◌≡◌, refl, subst}
 use mathlib.Core.Bool.{Bool, true, false, cond, ◌&&◌}

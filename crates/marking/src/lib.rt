@@ -1,5 +1,5 @@
-// The nodes that a step selects, marked beside those that are marked already: a mark is 1, and a node without one has 0.
-// The document is well formed, and `ends` has the ends of its rows' subtrees, so that no axis needs a look at every
+// The nodes that a step selects, marked beside those that are marked already: a mark is 1, and a node without one has
+// 0. The document is well formed, and `ends` has the ends of its rows' subtrees, so that no axis needs a look at every
 // node.
 #![tactic(auto)]
 

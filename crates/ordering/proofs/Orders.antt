@@ -1,4 +1,4 @@
--- Comparisons one after the other, and orders of numbers. Assumes nothing.
+-- Comparisons one after the other, and orders of numbers.
 use Prim.Native.Nat.{ℕ, ◌<◌}
 use mathlib.Core.Path.{◌≡◌, refl, sym, ap, ◌∙◌}
 use mathlib.Core.Logic.{◌⊎◌, inl, inr, ⊎_elim}

@@ -1,4 +1,4 @@
--- The order of terms: first by kind, then by fields from the left, operands compared as terms. Assumes nothing.
+-- The order of terms: first by kind, then by fields from the left, operands compared as terms.
 use Rattle.std.specs.Prelude.{ℕ}
 use Rattle.common.specs.RowKinds.{void_row, root_row, step_row, union_row, composition_row, filter_row}
 use Rattle.common.specs.RowKinds.{true_row, false_row, not_row, and_row, or_row, inclusion_row}

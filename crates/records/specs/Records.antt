@@ -1,4 +1,4 @@
--- The records of a register, editions of series, and the call record. Assumes nothing.
+-- The records of a register, editions of series, and the call record.
 use Rattle.std.specs.Prelude.{ℕ, ◌+◌, Bool, cond, not, ◌&&◌, List, [], ◌∷◌, leb, ltb, eqb, length}
 use Rattle.common.specs.Lists.{all_of}
 use Rattle.terms.specs.Row.{Row}

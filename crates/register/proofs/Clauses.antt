@@ -1,5 +1,5 @@
--- Each clause of what is guaranteed of record, replace and the orders on registers, written out once more: without one of
--- them this fails. Assumes nothing.
+-- Each clause of what is guaranteed of record, replace and the orders on registers, written out once more: without one
+-- of them this fails.
 use Prim.Native.Nat.{ℕ, ◌+◌, ◌≤◌, ◌<◌}
 use mathlib.Core.Path.{◌≡◌}
 use mathlib.Core.List.{List}

@@ -1,4 +1,4 @@
--- Replace, the orders and record on every register that calls lead to. Assumes nothing.
+-- Replace, the orders and record on every register that calls lead to.
 use Prim.Native.Nat.{ℕ, ◌+◌}
 use mathlib.Core.Path.{◌≡◌, refl, sym, ap, subst, ◌∙◌}
 use mathlib.Core.Bool.{true, false, ◌&&◌}

@@ -1,4 +1,4 @@
--- A register moves as the plain register does, since its session moves as the plain book does. Assumes nothing.
+-- A register moves as the plain register does, since its session moves as the plain book does.
 use Prim.Native.Nat.{ℕ, ◌+◌, ◌<◌, min}
 use mathlib.Core.Path.{◌≡◌, refl, sym, ap, subst, ◌∙◌}
 use mathlib.Core.List.{List, [], ◌∷◌, ◌++◌}

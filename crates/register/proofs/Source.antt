@@ -1,4 +1,4 @@
--- What the register's contracts in the source say of each call, and the guarantees from them. Assumes nothing.
+-- What the register's contracts in the source say of each call, and the guarantees from them.
 use Prim.Native.Nat.{ℕ, ◌+◌}
 use mathlib.Core.Path.{◌≡◌, refl, sym, ap, subst, ◌∙◌}
 use mathlib.Core.Bool.{Bool, false, not, cond, ◌&&◌, and-false}

@@ -1,5 +1,5 @@
 -- Every list of calls on a register, record and release among them, from a fresh start, refused ones included, is
--- answered as the plain register answers it; and what a crew sees. Assumes nothing.
+-- answered as the plain register answers it; and what a crew sees.
 use Rattle.std.specs.Prelude.{ℕ, ◌+◌, ◌<◌, ◌≡◌, List, length}
 use Rattle.register.specs.declared.Register.{Register}
 use Rattle.calls.specs.Book.{Answer, answer}
@@ -15,8 +15,8 @@ use Rattle.session.specs.Promises.{SelectRelation}
 use Rattle.session.specs.FollowsBook.{Upheld}
 use Rattle.register.specs.Promises.{RegisterRelation, holdings, released_in}
 
--- `Selected` as in session's FollowsBook; `Current r series e`: current on the register r answers the edition e; `CrewCurrent`
--- likewise for a crew
+-- `Selected` as in session's FollowsBook; `Current r series e`: current on the register r answers the edition e;
+-- `CrewCurrent` likewise for a crew
 module _ (Selected : SelectRelation) (Current CrewCurrent : Register → (series e : ℕ) → Type 0) where
   -- what is asked of the calls cs, of which os was seen and which left r
   pub record FollowsRegister (cs : List OfficeCall) (os : List OfficeSeen) (r : Register) : Type 0 where

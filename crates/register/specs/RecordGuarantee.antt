@@ -1,5 +1,5 @@
 -- What the call record accepts on every register that calls lead to, its step judged as terms; and replace and the
--- orders there. Assumes nothing.
+-- orders there.
 use Rattle.std.specs.Prelude.{ℕ, ◌+◌, ◌<◌, ◌≡◌, List, ◌↔◌, T, length}
 use Rattle.terms.specs.Fields.{held_path}
 use Rattle.terms.specs.Terms.{path_at}

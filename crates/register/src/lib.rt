@@ -58,8 +58,8 @@ impl Register {
         self.session.record(&mut self.records, given)
     }
 
-    // The current edition of a series, 0 if it has none: a number and no Option, since specs/Guarantee, which is believed,
-    // has it so, and editions count from 1.
+    // The current edition of a series, 0 if it has none: a number and no Option, since specs/Guarantee, which is
+    // believed, has it so, and editions count from 1.
     pub fn current(&self, series: u16) -> u16
         ensures { result ≡ current (records_in self.now.records) series }
     {
@@ -180,7 +180,8 @@ impl Register {
         self.session.write(out)
     }
 
-    // Makes the calls of a bundle's lines, from a fresh register whatever was held. A refused bundle leaves a fresh one.
+    // Makes the calls of a bundle's lines, from a fresh register whatever was held. A refused bundle leaves a fresh
+    // one.
     pub fn read(&mut self, bytes: &[u8]) -> Result<u16, LineRefusal>
         ensures met { RegisterReadMet bytes.now (read_result result self.new) }
         ensures refused { OnErr result (self.new ≡ fresh_register) }

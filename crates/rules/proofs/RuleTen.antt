@@ -1,5 +1,4 @@
--- Rule 10, whose second premise ends in `*` or in node(): all that it yields with either ending is yielded. Assumes
--- nothing.
+-- Rule 10, whose second premise ends in `*` or in node(): all that it yields with either ending is yielded.
 use Rattle.std.specs.Prelude.{ℕ, refl, true, ◌&&◌, leb}
 use mathlib.Core.List.{Memᴰ}
 use Rattle.std.proofs.Common.{inl}

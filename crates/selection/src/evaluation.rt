@@ -1,5 +1,5 @@
-// The evaluation of paths and qualifiers by their rows, under a limit on their visits: a result has the visits made, and
-// there is none where more are needed than the limit.
+// The evaluation of paths and qualifiers by their rows, under a limit on their visits: a result has the visits made,
+// and there is none where more are needed than the limit.
 ghost use Rattle.std.specs.Prelude.{◌≡◌, ◌&&◌, ◌||◌, not, cond, ◌≤◌, eqb, length, ⊤};
 ghost use Rattle.common.specs.Bounded.{all_below};
 ghost use Rattle.common.specs.RowKinds.{and_row};

@@ -1,4 +1,4 @@
--- A call is accepted just where it fits: the refusals, test by test, on a session that calls lead to. Assumes nothing.
+-- A call is accepted just where it fits: the refusals, test by test, on a session that calls lead to.
 use Rattle.calls.specs.code.Answers.{answer_of}
 use Prim.Native.Nat.{ℕ, ◌≤◌, ◌<◌}
 use mathlib.Core.Path.{◌≡◌, refl, sym, ap, ◌∙◌}

@@ -1,4 +1,4 @@
--- What order calls mean on two sessions that calls lead to. Assumes nothing.
+-- What order calls mean on two sessions that calls lead to.
 use Rattle.calls.specs.code.Answers.{OrderOrRefusal, order_answer_of}
 use Prim.Native.Nat.{ℕ, ◌≤◌}
 use mathlib.Core.Path.{◌≡◌, sym, ap, ap₂, subst, ◌∙◌}

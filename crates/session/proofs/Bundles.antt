@@ -1,4 +1,4 @@
--- A well-written bundle: its lines read back, and reading it is making its calls. Assumes nothing.
+-- A well-written bundle: its lines read back, and reading it is making its calls.
 use Rattle.calls.specs.code.Answers.{NumberOrRefusal}
 use Prim.Native.Nat.{ℕ, ◌+◌, ◌≤◌}
 use mathlib.Core.Path.{◌≡◌, refl, sym, ap, subst, ◌∙◌}

@@ -1,6 +1,5 @@
 -- Each clause of the guarantee over lists of calls, written out once more: without one of them this fails. Below it,
 -- those of the others.
--- Assumes nothing.
 pub mod AcceptClauses
 pub mod ReadClauses
 pub mod ReplaceClauses

@@ -1,4 +1,4 @@
--- Every list of calls from a fresh session follows the plain book, where the calls meet their promises. Assumes nothing.
+-- Every list of calls from a fresh session follows the plain book, where the calls meet their promises.
 use Rattle.calls.specs.code.Answers.{NumberOrRefusal}
 use Prim.Native.Nat.{ℕ, ◌<◌}
 use mathlib.Core.Path.{◌≡◌, refl, sym, ap, subst, ◌∙◌}

@@ -1,5 +1,4 @@
 -- An accepted reading makes the calls of the lines, and they follow the book; a refused one leaves a fresh session.
--- Assumes nothing.
 use Prim.Native.Nat.{ℕ, ◌+◌}
 use mathlib.Core.Path.{◌≡◌, refl, sym, ap, subst, ◌∙◌}
 use mathlib.Core.Bool.{Bool, true, false, cond, ◌&&◌, false≢true}

@@ -1,4 +1,4 @@
--- What calls leave is the whole session of the book, and a return restores it. Assumes nothing.
+-- What calls leave is the whole session of the book, and a return restores it.
 use Prim.Native.Nat.{ℕ, ◌+◌}
 use mathlib.Core.Path.{◌≡◌, refl, sym, ap, ◌∙◌}
 use mathlib.Core.List.{List, [], ◌∷◌}

@@ -1,4 +1,4 @@
--- What a replace call means on a session that calls lead to. Assumes nothing.
+-- What a replace call means on a session that calls lead to.
 use Rattle.calls.specs.code.Answers.{DoneOrRefusal, done_answer_of}
 use Prim.Native.Nat.{ℕ}
 use mathlib.Core.Path.{◌≡◌, sym, ap, subst, ◌∙◌}

@@ -1,4 +1,4 @@
--- The rows and then the steps of a book that calls lead to are accepted from the empty book. Assumes nothing.
+-- The rows and then the steps of a book that calls lead to are accepted from the empty book.
 use Prim.Native.Nat.{◌+◌, ◌≤◌, ◌<◌}
 use mathlib.Core.Path.{◌≡◌, refl, sym, ap, subst, ◌∙◌}
 use mathlib.Core.List.{List, [], ◌∷◌, ◌++◌, map, append_assoc, append-nil}

@@ -1,5 +1,4 @@
 -- What the contracts in the source say of each call, as the toolchain reads them off it, and the guarantees from them.
--- Assumes nothing.
 use Rattle.calls.specs.code.Answers.{NumberOrRefusal, DoneOrRefusal, OrderOrRefusal, step_of, answer_of, done_answer_of}
 use Rattle.calls.specs.code.Answers.{answer_with, refusal_answer}
 use Prim.Native.Nat.{ℕ}

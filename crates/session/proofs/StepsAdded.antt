@@ -1,4 +1,4 @@
--- What accepted calls add. Assumes nothing.
+-- What accepted calls add.
 use mathlib.Core.Path.{◌≡◌, refl, sym, ap, ◌∙◌}
 use mathlib.Core.List.{List, [], ◌∷◌, ◌++◌, map, append_assoc, append-nil}
 use Rattle.terms.specs.Row.{Row}

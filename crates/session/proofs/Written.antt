@@ -1,4 +1,4 @@
--- What a write call leaves, and what is read from it. Assumes nothing.
+-- What a write call leaves, and what is read from it.
 use Rattle.calls.specs.code.Answers.{NumberOrRefusal, answer_of}
 use Prim.Native.Nat.{ℕ, ◌+◌, ◌*◌, ◌≤◌, ◌<◌}
 use mathlib.Core.Path.{◌≡◌, refl, sym, ap, ap₂, ◌∙◌}

@@ -1,4 +1,4 @@
--- What is guaranteed of the calls read and write; the calls that read makes follow the book. Assumes nothing.
+-- What is guaranteed of the calls read and write; the calls that read makes follow the book.
 use Rattle.calls.specs.code.Answers.{NumberOrRefusal, answer_of}
 use Rattle.std.specs.Prelude.{ℕ, ◌≤◌, ◌≡◌, true, List, ◌∷◌, ◌++◌, map, length, take}
 use Rattle.std.proofs.Math.Option.{some}

@@ -1,4 +1,4 @@
--- The call replace on a session, and what its acceptance means on every session that calls lead to. Assumes nothing.
+-- The call replace on a session, and what its acceptance means on every session that calls lead to.
 use Rattle.calls.specs.code.Answers.{DoneOrRefusal, done_answer_of}
 use Rattle.std.specs.Prelude.{ℕ, ◌≡◌, false, List, ◌↔◌, T}
 use Rattle.common.specs.Lists.{Every}

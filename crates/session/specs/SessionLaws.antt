@@ -1,4 +1,4 @@
--- The session that a book determines, and what a return restores. Assumes nothing.
+-- The session that a book determines, and what a return restores.
 use Rattle.std.specs.Prelude.{ℕ, ◌-◌, ◌*◌, ◌≡◌, List, [], ◌∷◌, ◌++◌, length, replicate}
 use Rattle.common.specs.Lists.{Every, joined}
 use Rattle.terms.specs.Row.{max_rows}

@@ -1,4 +1,4 @@
--- A session as a book. Assumes nothing.
+-- A session as a book.
 use Rattle.std.specs.Prelude.{ℕ, ◌+◌, ◌*◌, List, map, length, replicate}
 use Rattle.std.proofs.lemmas.List.Edits.{sets}
 use Rattle.terms.specs.Row.{Row, max_rows, row_numbers, table_with}

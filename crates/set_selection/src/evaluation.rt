@@ -250,9 +250,9 @@ impl Evaluation<'_> {
         }
     }
 
-    // The nodes from which what the path in row a selects is selected by the path in row b, in general: from one node after
-    // the other, in the time of both paths for each. A set of what a path selects from several nodes doesn't say from which,
-    // and a set for each node at once would take as many bits as pairs of nodes.
+    // The nodes from which what the path in row a selects is selected by the path in row b, in general: from one node
+    // after the other, in the time of both paths for each. A set of what a path selects from several nodes doesn't say
+    // from which, and a set for each node at once would take as many bits as pairs of nodes.
     #[cycle(evaluation)]
     fn include(
         &self,

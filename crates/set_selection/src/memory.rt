@@ -1,5 +1,5 @@
-// What was found for the rows that a table uses more than once, so that each is evaluated once from one set: the table's
-// size counts then, and not its tree's.
+// What was found for the rows that a table uses more than once, so that each is evaluated once from one set: the
+// table's size counts then, and not its tree's.
 
 // The marks that a row was evaluated from, and those that came of them.
 #[derive(Drop)]

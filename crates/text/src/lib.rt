@@ -303,8 +303,8 @@ fn read_listed<'a>(
 }
 
 // The reading of the text `s` with the lent list of names, where the first rows of the table are held, as many as
-// `count` says; a count above the limit is read as the limit. Nothing is kept of the rows. A refused reading leaves rows
-// of no use in the table, whose numbers are put back.
+// `count` says; a count above the limit is read as the limit. Nothing is kept of the rows. A refused reading leaves
+// rows of no use in the table, whose numbers are put back.
 pub fn read_text(
     s: &[u8],
     names: &[u8],

@@ -1,4 +1,4 @@
--- The proofs of the list. Assumes nothing.
+-- The proofs of the list.
 use Rattle.calls.proofs.Returns.{return_restores}
 use Rattle.calls.proofs.SelectLaws.{limit_suffices, marks_same_elsewhere}
 use Rattle.calls.proofs.TextLaws.{answers_as_defined, as_term_calls, gives_its_term, gives_its_nesting}

@@ -1,6 +1,5 @@
 -- All that is promised, as one list. `session.Called`, `register.Selected`, `exports.Claims`, `tallies.Added` and so on
 -- (proofs/Source.antt of these crates) say of a call what its contract in the source does; Proved.antt has the proofs.
--- Assumes nothing.
 use Prim.Native.Nat.{ℕ, ◌*◌, ◌≤◌, ◌<◌}
 use mathlib.Core.Bool.{Bool}
 use mathlib.Core.List.{List, map}
@@ -240,8 +239,8 @@ pub record RegisterTheorems : Type 0 where
       → WriteMet r.session buffer w left
   -- read gives what the session's does, without records and releases
   pub read : (bytes : List ℕ) (t : register-read.ReadResult) → register.Read bytes t → RegisterReadMet bytes t
-  -- after every list of calls from a fresh register: all that is guaranteed of a session, the older path's nodes among the
-  -- newer's where two editions of one series are held, or seen by a crew, and the current edition of both
+  -- after every list of calls from a fresh register: all that is guaranteed of a session, the older path's nodes among
+  -- the newer's where two editions of one series are held, or seen by a crew, and the current edition of both
   pub register_guarantee :
       RegisterGuarantee register.Selected register.Current register.CrewCurrent register.New register.Called
   -- after every list of calls from a fresh register, record, release and refused returns among them: replace and the

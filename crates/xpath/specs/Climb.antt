@@ -1,5 +1,4 @@
--- The ancestor test: a climb from y that ends once it is at or below x, and need not go on to the root. Assumes
--- nothing.
+-- The ancestor test: a climb from y that ends once it is at or below x, and need not go on to the root.
 use Rattle.std.specs.Prelude.{ℕ, zero, suc, ◌≤◌, ◌<◌, ◌≡◌, Bool, cond, ◌&&◌, List, ◌⊎◌, T, ltb, eqb, length}
 use Rattle.xpath.specs.Document.{Document, parent_at, is_ancestor, well_formed, document_refusal, document_refusal_by}
 

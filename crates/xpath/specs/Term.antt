@@ -1,4 +1,4 @@
--- Terms: paths and qualifiers. Assumes nothing.
+-- Terms: paths and qualifiers.
 use Rattle.std.specs.Prelude.{ℕ}
 
 mutual

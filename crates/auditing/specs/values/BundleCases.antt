@@ -1,4 +1,4 @@
--- What audit prints of bundles and what read makes of them, by computation. Assumes nothing.
+-- What audit prints of bundles and what read makes of them, by computation.
 use Prim.Native.String.{String, ◌++◌}
 use Rattle.std.specs.Prelude.{refl, [], ◌∷◌}
 use Rattle.std.proofs.Math.Bool.{decide}

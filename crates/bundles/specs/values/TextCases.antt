@@ -1,4 +1,4 @@
--- The text of rows and steps, by computation. Assumes nothing.
+-- The text of rows and steps, by computation.
 use Rattle.std.specs.Prelude.{refl, [], ◌∷◌}
 use Rattle.common.specs.values.Expected.{◌is◌, AllRight}
 use Rattle.terms.specs.Row.{row}

@@ -1,5 +1,5 @@
 -- The mistakes of Specification, Mistakes that are ruled out, what attributes make false, and wider orders of targets,
--- each shown false by a document. Assumes nothing.
+-- each shown false by a document.
 use Rattle.std.specs.Prelude.{ℕ, [], ◌∷◌}
 use Rattle.std.proofs.Common.{arith}
 use Rattle.common.specs.Bounded.{any_below, all_below}

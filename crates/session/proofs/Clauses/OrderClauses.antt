@@ -1,5 +1,4 @@
 -- Each clause of what is guaranteed of order and bundle order, written out once more: without one of them this fails.
--- Assumes nothing.
 use Rattle.calls.specs.code.Answers.{OrderOrRefusal, order_answer_of}
 use Prim.Native.Nat.{ℕ, ◌≤◌, ◌<◌}
 use mathlib.Core.Path.{◌≡◌}

@@ -1,4 +1,4 @@
--- Each clause of what is promised of points, written out once more: without one of them this fails. Assumes nothing.
+-- Each clause of what is promised of points, written out once more: without one of them this fails.
 use Rattle.calls.specs.code.Answers.{NumberOrRefusal, answer_of}
 use Prim.Native.Nat.{ℕ}
 use mathlib.Core.Path.{◌≡◌, ◌∙◌}

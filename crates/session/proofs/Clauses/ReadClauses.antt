@@ -1,5 +1,4 @@
--- Each clause of what is guaranteed of read and write, written out once more: without one of them this fails. Assumes
--- nothing.
+-- Each clause of what is guaranteed of read and write, written out once more: without one of them this fails.
 use Rattle.calls.specs.code.Answers.{NumberOrRefusal, answer_of}
 use Prim.Native.Nat.{ℕ, ◌≤◌, ◌<◌}
 use mathlib.Core.Path.{◌≡◌, refl, sym, ap, subst, ◌∙◌}

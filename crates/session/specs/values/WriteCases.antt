@@ -1,4 +1,4 @@
--- What write answers and leaves, by computation; and the calls whose sessions it is guaranteed of. Assumes nothing.
+-- What write answers and leaves, by computation; and the calls whose sessions it is guaranteed of.
 use Rattle.std.specs.Prelude.{◌≡◌, refl, [], ◌∷◌, length, replicate}
 use Rattle.std.proofs.Common.{arith}
 use Rattle.common.specs.Lists.{Every}

@@ -1,4 +1,4 @@
--- Values of the definitions, by computation. Assumes nothing.
+-- Values of the definitions, by computation.
 use Rattle.std.specs.Prelude.{ℕ, zero, suc, ◌≤◌, ◌<◌, ◌≡◌, refl, Bool, true, false, cond, List, [], ◌∷◌, map, length}
 use Rattle.std.specs.Prelude.{get_or, replicate, set}
 use Prim.Native.String.{String, ◌++◌}

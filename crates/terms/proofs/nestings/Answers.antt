@@ -1,5 +1,4 @@
 -- `nestings` meets its contract. The invariant: the table's first i numbers are the nestings of the first i rows.
--- Assumes nothing.
 use native.Mathlib.Omega.{arith}
 use lib.ListN.{take, length-take}
 use Rattle.terms.specs.Row.{table_of}

@@ -1,4 +1,4 @@
--- The log cases (Specification, Log cases), together as one list. Assumes nothing.
+-- The log cases (Specification, Log cases), together as one list.
 use Rattle.std.specs.Prelude.{ℕ, ◌≡◌, refl, List, [], ◌∷◌}
 use Rattle.std.proofs.Math.Option.{none, Option-elim}
 use Rattle.common.specs.Bounded.{any_below, all_below, sum_below, list_below, first_below}
