@@ -11,7 +11,7 @@ use session::{LineRefusal, Session};
 use std::fmt;
 
 // What the program audit prints, as numbers: the answer's, the refused line or 0, the steps held, the rows of the last
-// step or zeros. No Result: `report`, the definition that is believed, has all five whatever the answer.
+// step or zeros.
 #[derive(Clone, Copy, Debug, PartialEq, Eq)]
 pub struct Report {
     pub answer: u16,

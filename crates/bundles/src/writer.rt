@@ -25,9 +25,7 @@ pub struct Writer<'a> {
     at: usize,
 }
 
-// Puts a text at `at`. It gives the position after what it puts, and so do the functions below. By bytes, and not by
-// `write!` with Display: of a lent slice std's `write!` doesn't say which bytes it leaves, and the contracts here fix
-// each, those behind the text too.
+// Puts a text at `at`. It gives the position after what it puts, and so do the functions below.
 fn put_text(out: &mut [u8], at: usize, text: &[u8]) -> usize
     requires { at + length text.now ≤ length out.old }
     ensures { Put out.old at text.now result out.new }
@@ -157,8 +155,7 @@ impl<'a> Writer<'a> {
     }
 }
 
-// It writes nothing. Its contract says that the caller's buffer keeps what was appended, which a caller would not know
-// of a derived one.
+// It writes nothing, so that the caller's buffer keeps what was appended.
 impl Drop for Writer<'_> {
     fn drop(self)
         ensures { self.exit.0.now ≡ self.entry.out.now }

@@ -14,7 +14,6 @@ pub trait Value {
         ensures { result ≡ value self };
 }
 
-// One for each width: no trait gives a usize of a u32 without fail.
 impl Value for u16 {
     ghost value = { λ n. n };
 

@@ -25,8 +25,7 @@ pub fn front(numbers: &[u16], count: usize) -> &[u16]
     numbers.get(..count).unwrap_or(numbers)
 }
 
-// The numbers of the first n rows. By name for rows, steps and points: a function of any width and limit would have
-// both at each call.
+// The numbers of the first n rows.
 pub fn first_rows(rows: &[u16], n: usize) -> &[u16]
     ensures { result.now ≡ first_row_numbers n rows.now }
 {

@@ -71,8 +71,7 @@ pub fn step_numbered(steps: &[u16], i: u16) -> Option<Step>
 }
 
 // The rows of step i, counted from 1, and of 0 those of step 1; zeros where there is no such step: a rule doesn't look
-// at a premise that it lacks. No derived Default of Sides: as a default the zeros would look like rows 0 and 0, which a
-// step may have; here they say that there is no step.
+// at a premise that it lacks.
 #[tactic(auto, unfolding(crate::specs::Promises::sides_of))]
 pub fn sides_of(steps: &[u16], i: u16) -> Sides
     ensures { sides_in result ≡ sides_of (step_numbered (steps_of steps.now) i) }

@@ -21,8 +21,7 @@ pub const MAX_BYTES: usize = 65536;
 pub const MAX_NUMBER: usize = u16::MAX as usize;
 
 // Record n, counted from 0, of lent numbers of which each W are a record, becomes `values`. Room is asked: each caller
-// has counted, and no answer could say that there is none. Reading one has no function here: `as_chunks` and `get` are
-// the library's, and each crate says what its numbers are.
+// has counted.
 #[tactic(auto, using(crate::proofs::Records::copied))]
 pub fn put_record<const W: usize>(numbers: &mut [u16], n: usize, values: [u16; W])
     requires { W * n + W ≤ length numbers.old }

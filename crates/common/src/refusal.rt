@@ -37,7 +37,6 @@ pub enum Refusal {
 }
 
 impl Refusal {
-    // By a match: a case that has a value has no number of its own.
     pub fn number(self) -> u16
         ensures { result ≡ refusal_number self }
     {

@@ -21,8 +21,7 @@ pub const DIGIT_0: u8 = b'0';
 // That of common, in the type of a bound.
 pub const MAX_NUMBER: u32 = common::MAX_NUMBER as u32;
 
-// A number, and the position after the byte that ends it. It and `NumbersLine` are no one generic type: that would have
-// one name for a number and for the numbers of a line, where contracts and callers say which they mean.
+// A number, and the position after the byte that ends it.
 #[derive(Clone, Copy)]
 pub struct Number {
     pub value: u32,
@@ -43,7 +42,7 @@ fn is_digit(b: u8) -> bool
     b.is_ascii_digit()
 }
 
-// The digit that b is. Not by `char::to_digit`: that gives an Option, where the clause says that b is a digit.
+// The digit that b is.
 #[tactic(auto, using(crate::proofs::Scan::digit_range))]
 fn digit(b: u8) -> u64
     requires { is_digit b ≡ true }
@@ -52,8 +51,7 @@ fn digit(b: u8) -> u64
     u64::from(b - DIGIT_0)
 }
 
-// No `try_from` with `filter`, which would test once more that the value fits into 32 bits: 3,325 lines of five numbers
-// would take 172 us to read, and take 149.
+// With `try_from` and `filter` 3,325 lines of five numbers take 172 us to read, and take 149 so.
 #[tactic(auto, unfolding(crate::specs::code::NumbersRead::up_to))]
 fn up_to(most: u32, value: u64) -> Option<u32>
     ensures { written_number result ≡ up_to most value }
@@ -86,8 +84,7 @@ fn one_more(most: u32, value: u32, b: u8) -> Option<u32>
     up_to(most, 10 * u64::from(value) + digit(b))
 }
 
-// The number at `at` that the byte `end` ends and that is at most `most`. Not by `str::parse`: that takes a `+` and
-// leading zeros, and what ends the number would have to be found first.
+// The number at `at` that the byte `end` ends and that is at most `most`.
 pub fn number_at(bytes: &[u8], at: usize, end: u8, most: u32) -> Option<Number>
     ensures { MatchOption result (none ≡ number_cut most end (drop at bytes.now))
         (λ n. NumberMet most end bytes.now at n.value n.next) }

@@ -24,7 +24,7 @@ use way_back::is_with_back;
 // The last rule.
 pub const MAX_RULE: u16 = WAY_BACK_RULE;
 
-// Notes of rows' ways back, before any is found; `terms::is_noted` says why notes and rows are no struct.
+// Notes of rows' ways back, before any is found.
 pub fn no_notes() -> [Option<u16>; MAX_ROWS]
     ensures { (rs : List Row) → Noted rs result }
 {
@@ -41,7 +41,7 @@ pub fn premise_count(rule: u16) -> usize
 
 // Whether the rule, by the rule table or by the way back, yields the step from premises with the rows given. The rows
 // of a premise that the rule doesn't have don't matter. What is found of ways back is noted. That the notes are true of
-// the rows is asked: they are lent, and a test of them would find each way back anew.
+// the rows is asked: a test of them would find each way back anew.
 pub fn yields(
     rows: &[u16],
     rule: u16,

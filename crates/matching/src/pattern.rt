@@ -27,7 +27,7 @@ pub enum Letter {
 pub const LETTER_COUNT: usize = 13;
 
 impl Letter {
-    // Its place among the letters. No From: an array is read at it, and its bound is promised beside it.
+    // Its place among the letters.
     pub fn place(self) -> usize
         ensures is { result ≡ letter_number self }
         ensures small { result < letter_count }
@@ -61,7 +61,7 @@ pub enum Pattern {
 #[derive(Clone, Copy)]
 pub struct RowPattern(pub RowKind, pub Pattern, pub Pattern, pub Pattern);
 
-// The left and the right row of a step. Not `Sides` of patterns: the table would name both fields in each claim.
+// The left and the right row of a step.
 #[derive(Clone, Copy)]
 pub struct Claim(pub Pattern, pub Pattern);
 

@@ -42,8 +42,7 @@ pub fn count(list: &[u8]) -> usize
     list.split_inclusive(|b| *b == lines::NEWLINE).count()
 }
 
-// Name k of the list, counted from 0; an empty one where there is none, as specs/Names, which is believed, has it. By
-// place: `split` and `nth` give a name's bytes, and not where they stand, which is promised too.
+// Name k of the list, counted from 0; an empty one where there is none.
 pub fn name_at(list: &[u8], k: usize) -> Name
     ensures { NameMet list.now k result.start result.end }
 {

@@ -29,16 +29,14 @@ fn find_point(points: &[u16], name: u16) -> Option<(usize, PointCounts)>
         .find(|(_, point)| point.name == name)
 }
 
-// What the definitions give where no point has the name. No derived Default: it would offer the zeros as a point, and
-// no point has the name 0.
+// What the definitions give where no point has the name.
 const NO_COUNTS: PointCounts = PointCounts {
     name: 0,
     rows: 0,
     steps: 0,
 };
 
-// The point of that name; zeros where there is none. They are no stand-in for an Option: whether a return would drop a
-// row or step in use is asked of any name, and one to no point leaves no rows and steps.
+// The point of that name; zeros where there is none.
 pub fn point_named(points: &[u16], name: u16) -> PointCounts
     ensures { result ≡ point_named (counts_of points.now) name }
 {

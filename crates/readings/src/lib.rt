@@ -24,12 +24,7 @@ use words::bytes::{byte_at, is_name, skip};
 
 // What was read ends before `at`, where no whitespace is. `row` is that of the last term read, `nesting` its nesting,
 // `count` how many rows there are. `missing` is the place of the first name that is not listed. A reading whose rows
-// don't all fit goes on, since a later byte may be refused; then its row and its count say nothing. `fits` is no Option
-// of the row: before the first term there is no row, and all rows fit. That `count` is within the table is no ghost
-// field: Rattle has no `..` for a struct with one, and all that changes a part of a reading would write out six. The
-// table is no field either: a reading is copied, since the left operand is kept while the right one is read.
-// The table's length is a clause, `Sized`, and no type `&mut [u16; TABLE_NUMBERS]`: of such an array, too, a proof
-// knows the length past a call only by what the call promises.
+// don't all fit goes on, since a later byte may be refused; then its row and its count say nothing.
 #[derive(Clone, Copy)]
 pub struct Reading {
     pub at: usize,
@@ -149,8 +144,7 @@ fn put_over(rows: &mut [u16], r: Reading, kind: RowKind) -> Reading
     put(rows, r, row, above(r.nesting, 0))
 }
 
-// A row of two operands, of which the right one was read last. Its kind is a number, as in a row: a RowKind would ask
-// more of callers, who may put any number.
+// A row of two operands, of which the right one was read last. Its kind may be any number.
 pub fn join(rows: &mut [u16], kind: u16, left: Reading, right: Reading) -> Reading
     requires { Sized rows.old right.count }
     ensures { PutMet (row kind left.row right.row 0)
@@ -328,7 +322,6 @@ pub fn pass_word(s: &[u8], r: Reading, word: &[u8]) -> Result<Reading, usize>
     requires no_zero { (k : ℕ) → k < length word.now → eqb 0 (get_or word.now k 0) ≡ false }
     ensures { WordPassed s.now word.now (stands r) (ended result) }
 {
-    // By `for`: with `position` the place would be made twice, in the closure and in the error.
     for (i, b) in word.iter().enumerate() {
         let at = r.at + i;
         if byte_at(s, at) != *b {

@@ -28,22 +28,20 @@ pub struct Record {
 }
 
 // Records, of which the first ones are held, as many as the count says. Fixed memory without a heap: no call can fail
-// for want of it. No ArrayVec: the definitions, which are believed, say what stands past the records held.
+// for want of it.
 #[derive(Clone, Copy)]
 pub struct Records {
     pub held: [Record; MAX_RECORDS],
     pub count: usize,
 }
 
-// Which records are released: 1 at the place of each that is. Not as bool, and not in the records: the demand on
-// registers, which is to be believed, reads these numbers as they stand.
+// Which records are released: 1 at the place of each that is.
 #[derive(Clone, Copy)]
 pub struct Releases {
     pub flags: [u8; MAX_RECORDS],
 }
 
-// What stands past the records held, as in the definition. No derived Default: as a default the zeros would look like a
-// record, and editions count from 1.
+// What stands past the records held, as in the definition; editions count from 1.
 const NO_RECORD: Record = Record {
     series: 0,
     edition: 0,
@@ -74,8 +72,7 @@ impl Records {
         }
     }
 
-    // How many records are held: a count above the limit is read as the limit. The fields are public, so a fact of the
-    // type that bounds it would ask more of whoever makes one.
+    // How many records are held: a count above the limit is read as the limit.
     pub fn size(&self) -> usize
         ensures { result ≡ size_of self.now }
     {

@@ -58,8 +58,7 @@ impl Register {
         self.session.record(&mut self.records, given)
     }
 
-    // The current edition of a series, 0 if it has none: a number and no Option, since specs/Guarantee, which is
-    // believed, has it so, and editions count from 1.
+    // The current edition of a series, 0 if it has none; editions count from 1.
     pub fn current(&self, series: u16) -> u16
         ensures { result ≡ current (records_in self.now.records) series }
     {
@@ -141,7 +140,7 @@ impl Register {
         self.session.point(name)
     }
 
-    // With the parameters of `Session::select`, which says why they are no struct.
+    // With the parameters of `Session::select`.
     pub fn select(
         &self,
         row: u16,

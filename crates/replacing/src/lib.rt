@@ -51,8 +51,7 @@ fn first_uncovered(held: Held, old: &[u16], new: &[u16], by: &[u16]) -> Option<u
 }
 
 // A replace call on lent rows and steps, as `Session::replace` makes it on those that it holds. `by` has the number of
-// a step for each old row. The lists are parameters of `Session::replace` too: a struct of them would be made there for
-// this call alone.
+// a step for each old row.
 pub fn replace_on(held: Held, old: &[u16], new: &[u16], by: &[u16]) -> Result<(), Refusal>
     ensures { done_answer_of result ≡ replace_answer (book_held held.entry) old.now new.now by.now }
 {

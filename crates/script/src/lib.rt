@@ -62,10 +62,8 @@ pub struct CallLine {
     pub next: usize,
 }
 
-// What is made of the N numbers at `at`, which go to the line's end, and of zeros behind them: the check doesn't cover
-// a bound `FnOnce` that names a const parameter, as one of `[u16; N]` would. Here and below a text and a place in it
-// are two parameters: places are counted in the whole text, and of a slice from `at` on each would have to be moved
-// back.
+// What is made of the N numbers at `at`, which go to the line's end, and of zeros behind them. Here and below places
+// are counted in the whole text.
 fn counted<const N: usize, F: FnOnce(u16, u16, u16, u16, u16) -> Command>(
     bytes: &[u8],
     at: usize,
@@ -215,8 +213,7 @@ fn alone(word: Word) -> Option<Command>
     }
 }
 
-// The call of the line at `at`. By `for`: a word is tried in two ways, and what `find_map` gives would be an Option of
-// an Option.
+// The call of the line at `at`.
 pub fn call_at(bytes: &[u8], at: usize) -> Option<CallLine>
     ensures { CallRead command_of bytes.now at result }
 {
@@ -257,8 +254,6 @@ fn newline_for_space(b: u8) -> u8
 }
 
 // Writes the list of names that the bytes write, as much of it as there is room for. It gives how many bytes these are.
-// Into a lent buffer of any length: this is public, and an ArrayVec has one capacity in its type, so it would ask more
-// of callers.
 pub fn put_names(bytes: &[u8], out: &mut [u8]) -> usize
     ensures { (result ≡ min (length bytes.now) (length out.old))
         × (take result out.new ≡ take result (names_of bytes.now))

@@ -40,8 +40,7 @@ fn is_included(a: &[u8; MAX_NODES], b: &[u8; MAX_NODES], n: usize) -> bool
     included
 }
 
-// The value of an `and` or an `or`, whichever the kind is. By the kind: with an arm for each, `eval_qualifier_row`
-// would write out the evaluation of both operands twice.
+// The value of an `and` or an `or`, whichever the kind is.
 fn and_or(kind: RowKind, left: bool, right: bool) -> bool
     ensures { result ≡ cond (eqb (row_number kind) and_row) (left && right) (left || right) }
 {
@@ -70,7 +69,6 @@ fn found_leaf(holds: bool, limit: u32) -> Option<Found>
     Some(Found { holds, visits })
 }
 
-// `limit` and `out` are no fields of a Context, which is copied for each node and row: they go with each call.
 impl Context<'_> {
     // Marks what a path without operands selects.
     fn mark_leaf(&self, row: Row, out: &mut [u8; MAX_NODES])

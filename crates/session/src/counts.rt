@@ -27,7 +27,7 @@ impl Session {
         step_calls::rule_uses(steps, rule)
     }
 
-    // The rows of the last step; zeros if there is none, as `report` of auditing's specs has them, which is believed.
+    // The rows of the last step; zeros if there is none.
     #[tactic(auto, using(crate::proofs::Views::steps_viewed), unfolding(crate::specs::View::view))]
     pub fn last_step(&self) -> Sides
         ensures { sides_in result ≡ sides_of (step_numbered (view self.now).steps (length (view self.now).steps)) }

@@ -8,8 +8,7 @@ use crate::session::Session;
 use common::Refusal;
 
 impl Session {
-    // `by` has the number of a step for each old row. Three lists, and no struct: a caller has them apart, and would
-    // make one for the call alone.
+    // `by` has the number of a step for each old row.
     pub fn replace(&self, old: &[u16], new: &[u16], by: &[u16]) -> Result<(), Refusal>
         ensures { ReplaceMet self.now old.now new.now by.now result }
     {

@@ -20,8 +20,7 @@ pub const LINES: usize = RULES + 1;
 
 const RULES: usize = matching::MAX_RULE as usize;
 
-// The uses of each rule, from 1 up, and the total of the steps. An array, since each rule has its uses from the start;
-// the total counts steps, and is no length of it.
+// The uses of each rule, from 1 up, and the total of the steps.
 #[derive(Clone, Copy)]
 pub struct Tally {
     uses: [u64; RULES],

@@ -46,7 +46,6 @@ fn add_all(alloc: Global, files: JudgedFiles) -> Tally {
     )
 }
 
-// Much as `print` of reports, which says why they are two functions.
 fn print_line<T: Display + Drop>(line: T) {
     let mut text = ArrayString::<LONGEST_LINE>::new();
     let _ = writeln!(text, "{line}");

@@ -14,8 +14,7 @@ use common::Refusal;
 use terms::{KeptRows, Row};
 
 // The answer of a term call on the rows, by the row's nesting and the search for an equal row: the first refusal that
-// applies, or the new row's number. That the rows are few is a clause, and no type: it would be made for this call
-// alone.
+// applies, or the new row's number.
 #[tactic(auto, unfolding(calls::specs::TermCall::term_answer))]
 fn term_answer(rows: &[u16], depth: u16, found: Option<usize>, row: Row) -> Result<u16, Refusal>
     requires { (length (table_of rows.now) ≤ max_rows) × (depth ≡ nesting (table_of rows.now) (row_of row))

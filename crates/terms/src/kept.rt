@@ -13,7 +13,7 @@ use crate::{MAX_ROWS, ROW_WIDTH, Row, TABLE_NUMBERS, deeper_operand, find_row, r
 pub const SLOTS: usize = 8192;
 
 // The first `count` rows of the table are put. A slot of the filter that is false says that no row falls in it. Fixed
-// memory: no call can fail for want of it. `nestings` is an array of its own, since rows are lent as their numbers.
+// memory: no call can fail for want of it.
 #[derive(Clone, Copy)]
 pub struct KeptRows {
     pub numbers: [u16; TABLE_NUMBERS],

@@ -43,8 +43,7 @@ pub struct Row {
     pub c: u16,
 }
 
-// What the definitions have past the end of a table: the void path, whose fields are unused. No derived Default: its
-// zeros wouldn't name the kind.
+// What the definitions have past the end of a table: the void path, whose fields are unused.
 const NO_ROW: Row = Row {
     kind: RowKind::Void as u16,
     a: 0,
@@ -267,9 +266,8 @@ pub fn nesting_of(rows: &[u16], row: Row) -> Option<u16>
     }
 }
 
-// Whether it is noted that a search found row j for row i: at i stands j. Notes are lent beside the rows, and that they
-// are true of these stands in the contracts (`Noted` of matching): `Held` has the rows with their steps, and a struct
-// of rows and notes would have them twice.
+// Whether it is noted that a search found row j for row i: at i stands j. That notes are true of the rows stands in the
+// contracts (`Noted` of matching).
 pub fn is_noted(noted: &[Option<u16>], i: u16, j: u16) -> bool
     ensures { IsTrue result ↔ (get_or noted.now i None ≡ Some j) }
 {

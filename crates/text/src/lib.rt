@@ -39,11 +39,6 @@ pub struct TextHeld {
     pub count: usize,
 }
 
-// What the readers ask of a reading, `Ready`, is no ghost field of it: it is of the reading, the text and the table
-// together, and each reader changes the table. Selector and rows are no struct with the readers as its methods: these
-// would have it by `&mut`, and each contract would have to say that the selector stays. The reading is another at each
-// call, and the depth in each predicate and group. That the table's length is a clause has the reason that stands at
-// `Reading`.
 
 // A predicate whose `[` is where `from`, the step so far, ends.
 #[cycle(expression)]
@@ -123,8 +118,7 @@ fn read_path(
     Ok(got)
 }
 
-// Paths joined by `|`. `read_and` and `read_or` are no one function with this: it would take the byte, the word, the
-// kind and the reader of a part, for a loop of five lines, and the trees that each promises are of three types.
+// Paths joined by `|`.
 #[cycle(expression)]
 fn read_union(
     selector: Selector<'_>,
@@ -259,8 +253,7 @@ fn is_indexed(s: &[u8], names: &[u8]) -> bool
     MIN_TEXT <= s.len() && MIN_LIST <= names.len() && names.len() <= MAX_LIST
 }
 
-// The same reading, by an index of the list. Text and list are no `Selector` up to here: that has the index, which is
-// made here. Rows and count are two, since the rows are lent and the count goes into the reading.
+// The same reading, by an index of the list.
 fn read_indexed<'a>(
     s: &'a [u8],
     names: &'a [u8],

@@ -33,9 +33,7 @@ pub fn is_name(b: u8) -> bool
     is_start(b) || matches!(b, b'0'..=b'9' | b'-' | b'.')
 }
 
-// The first place from `at` whose byte fails the test, or the text's end. A place within a text is no type of its own,
-// here and in crates heads and readings: every reader goes on to new places, and owes the bound of each as it does of
-// an argument.
+// The first place from `at` whose byte fails the test, or the text's end.
 pub(crate) fn pass<F: Fn(u8) -> bool>(s: &[u8], at: usize, test: F) -> usize
     requires at_in_bounds { at ≤ length s.now }
     requires can { F.IsAlwaysCallable test }

@@ -52,8 +52,7 @@ fn pass_line(list: &[u8], at: usize) -> (usize, u32)
     (list.len().min(i + 1), signed)
 }
 
-// Fixed memory without a heap: no call can fail for want of it. No derived Default: as a default the zeros would look
-// like a line, and a list's first line starts at 0.
+// Fixed memory without a heap: no call can fail for want of it.
 pub fn blank_index() -> [IndexedLine; MAX_LINES] {
     [IndexedLine {
         start: 0,

@@ -19,8 +19,7 @@ pub struct Node {
     pub name: u16,
 }
 
-// What stands past the last row: a node and no Option, since the definitions go on with it. No derived Default: its
-// zeros wouldn't name the kind.
+// What stands past the last row: the definitions go on with it.
 const NO_NODE: Node = Node {
     kind: node_kind::ROOT,
     parent: 0,
@@ -36,7 +35,6 @@ impl From<[u16; NODE_WIDTH]> for Node {
 }
 
 impl Node {
-    // By its number, here and below: a conversion to NodeKind before the one comparison would be no plainer.
     pub fn is_attribute(self) -> bool
         ensures { result ≡ eqb self.kind attribute_kind }
     {
@@ -70,9 +68,7 @@ pub fn node_at(d: &[u16], y: usize) -> Node
     }
 }
 
-// The node in a whole row, without the test of `node_at`: with it steps take up to 1.7 times as long. That y is a row
-// is a clause, here and below: an index with that fact would name the document that it is of, and each caller would
-// prove it there just as here.
+// The node in a whole row, without the test of `node_at`: with it steps take up to 1.7 times as long.
 pub fn whole_node(d: &[u16], y: usize) -> Node
     requires { y < length (document_of d.now) }
     ensures { node_of result ≡ get_or (document_of d.now) y root_node }
@@ -113,9 +109,7 @@ pub struct Climb {
 
 // The ancestor test: the climb from row y toward x. It ends once it is at or below x, and where a parent is not the
 // smaller row, which no document has. It closes at `end` the subtree of each row that it leaves. It asks that y is a
-// row as `whole_node` does: the check climbs from each of its rows. `d` and `ends` are no struct, here and below: each
-// of its methods would owe that `d` stays as it was. Nor is there a type of documents of at most `max_nodes` rows: it
-// would be made for this check alone, and each contract would read the rows through it.
+// row as `whole_node` does: the check climbs from each of its rows.
 pub fn climb_toward(d: &[u16], x: usize, y: usize, end: u16, ends: &mut [u16; MAX_NODES]) -> Climb
     requires y_in_bounds { y < length (document_of d.now) }
     requires y_lt_max_nodes { y < max_nodes }
@@ -221,7 +215,6 @@ fn first_bad_row(d: &[u16], ends: &mut [u16; MAX_NODES]) -> Option<usize>
         return Some(0);
     }
     let n = node_count(d);
-    // By `for`: `find` is no plainer, since its closure would write `ends` and owe what each call leaves there.
     for i in 1..n {
         if !later_row_ok(d, i - 1, ends) {
             return Some(i);

@@ -60,8 +60,7 @@ pub enum StepTest {
     Name(Named),
 }
 
-// The kind of node that a name or `*` selects on an axis. The axis is compared once, as its number: to read it first
-// is no plainer.
+// The kind of node that a name or `*` selects on an axis.
 fn principal_kind(axis: u16) -> NodeKind
     ensures { kind_number result ≡ principal axis }
 {
@@ -73,8 +72,7 @@ fn principal_kind(axis: u16) -> NodeKind
 }
 
 impl StepTest {
-    // None where the test selects nothing. By three numbers, here and below, as a row of any table has them: a struct
-    // of them would promise nothing, and be made for this call.
+    // None where the test selects nothing.
     #[tactic(auto, unfolding(crate::specs::Axis::passes))]
     pub fn new(axis: u16, test: u16, name: usize) -> Option<StepTest>
         ensures { Asks axis test name result }
