@@ -6,7 +6,7 @@ ghost use Rattle.std.specs.Prelude.{◌≡◌};
 use calls::Answer;
 use std::fmt;
 
-// The line of an answer, without its newline: the number, 0 or a refusal's, and the value.
+/// The line of an answer, without its newline: the number, 0 or a refusal's, and the value.
 #[derive(Clone, Copy, Debug, PartialEq, Eq)]
 pub struct AnswerLine {
     pub number: u16,

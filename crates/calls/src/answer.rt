@@ -6,7 +6,7 @@ ghost use Rattle.calls.specs.code.Answers.{answer_with, refusal_answer, line_ans
 use common::Refusal;
 use std::cmp::Ordering;
 
-// What an accepted call gives, as the value of its answer.
+/// What an accepted call gives, as the value of its answer.
 pub trait Value {
     ghost value: { Self → ℕ };
 
@@ -59,7 +59,7 @@ impl Value for Ordering {
     }
 }
 
-// What a call answers, or a refusal of its own.
+/// What a call answers, or a refusal of its own.
 pub trait Answer {
     ghost answer: { Self → BookAnswer };
 
@@ -82,7 +82,7 @@ impl Answer for Refusal {
     }
 }
 
-// The refusal of a line of a text, and which line it is.
+/// The refusal of a line of a text, and which line it is.
 #[derive(Clone, Copy, Debug, PartialEq, Eq)]
 pub struct LineRefusal {
     pub refusal: Refusal,

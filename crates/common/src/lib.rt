@@ -14,14 +14,14 @@ ghost use Rattle.std.proofs.lemmas.List.Edits.{sets};
 
 pub use refusal::Refusal;
 
-// The most bytes of a text that a program takes.
+/// The most bytes of a text that a program takes.
 pub const MAX_BYTES: usize = 65536;
 
-// The largest number that a line may have and the largest name: the largest of 16 bits.
+/// The largest number that a line may have and the largest name: the largest of 16 bits.
 pub const MAX_NUMBER: usize = u16::MAX as usize;
 
-// Record n, counted from 0, of lent numbers of which each W are a record, becomes `values`. Room is asked: each caller
-// has counted.
+/// Record n, counted from 0, of lent numbers of which each W are a record, becomes `values`. Room is asked: each caller
+/// has counted.
 #[tactic(auto, using(crate::proofs::Records::copied))]
 pub fn put_record<const W: usize>(numbers: &mut [u16], n: usize, values: [u16; W])
     requires { W * n + W ≤ length numbers.old }

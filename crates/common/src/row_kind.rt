@@ -20,7 +20,7 @@ pub enum RowKind {
 }
 
 impl RowKind {
-    // Whether it is a kind of paths; the others are kinds of qualifiers.
+    /// Whether it is a kind of paths; the others are kinds of qualifiers.
     pub fn is_path(self) -> bool
         ensures { result ≡ leb (row_number self) filter_row }
     {

@@ -13,7 +13,7 @@ use common::node_test::NodeTest;
 use words::bytes::{byte_at, is_start, name_end, skip};
 use words::{Names, Word};
 
-// The name of a step: its number in the list, or, where it is not listed, its place in the text.
+/// The name of a step: its number in the list, or, where it is not listed, its place in the text.
 #[derive(Clone, Copy)]
 pub enum StepName {
     Unnamed,
@@ -22,7 +22,7 @@ pub enum StepName {
 }
 
 impl StepName {
-    // Its number in the step's row, which has one for every step: 0 where the list gives none.
+    /// Its number in the step's row, which has one for every step: 0 where the list gives none.
     pub fn number(self) -> u16
         ensures { result ≡ name_number self }
     {
@@ -32,7 +32,7 @@ impl StepName {
         }
     }
 
-    // Its place, where it is not listed.
+    /// Its place, where it is not listed.
     pub fn unlisted(self) -> Option<usize>
         ensures { result ≡ name_place self }
     {
@@ -43,8 +43,8 @@ impl StepName {
     }
 }
 
-// A step without its predicates: `at` is the first place after it that has no whitespace. `filters`: predicates may
-// follow; no other part of the head hangs on it.
+/// A step without its predicates: `at` is the first place after it that has no whitespace. `filters`: predicates may
+/// follow; no other part of the head hangs on it.
 #[derive(Clone, Copy)]
 pub struct Head {
     pub at: usize,
@@ -54,7 +54,7 @@ pub struct Head {
     pub filters: bool,
 }
 
-// How an operand begins.
+/// How an operand begins.
 #[derive(Clone, Copy)]
 pub enum Opens {
     Paths,
@@ -64,7 +64,7 @@ pub enum Opens {
     False,
 }
 
-// How it begins, and the place of its `(`; of paths, some place in the text.
+/// How it begins, and the place of its `(`; of paths, some place in the text.
 #[derive(Clone, Copy)]
 pub struct Operand {
     pub opens: Opens,
@@ -126,7 +126,7 @@ fn dot_head(s: &[u8], at: usize) -> Head
     plain_head(skip(s, next), Axis::Itself, NodeTest::Node, false)
 }
 
-// A selector as text, and the list of its names.
+/// A selector as text, and the list of its names.
 #[derive(Clone, Copy)]
 pub struct Selector<'a> {
     pub s: &'a [u8],
@@ -243,8 +243,8 @@ impl Selector<'_> {
         self.test_head(skip(self.s, second + 1), axis)
     }
 
-    // The head that begins at `at`, where no whitespace is. That is asked, since it would refuse whitespace, which the
-    // grammar passes over; callers have passed it by `skip`.
+    /// The head that begins at `at`, where no whitespace is. That is asked, since it would refuse whitespace, which the
+    /// grammar passes over; callers have passed it by `skip`.
     pub fn read_head(self, at: usize) -> Result<Head, usize>
         requires at_in_bounds { at ≤ length self.s.now }
         requires at_value { is_space (byte_at self.s.now at) ≡ false }
@@ -268,7 +268,7 @@ impl Selector<'_> {
     }
 }
 
-// The byte begins a step.
+/// The byte begins a step.
 #[tactic(auto, unfolding(words::specs::code::Scan::begins_step))]
 pub fn begins_step(b: u8) -> bool
     ensures { result ≡ begins_step b }
@@ -290,7 +290,7 @@ fn opened_by(word: &[u8]) -> Opens
     words::find(&CALLS, word).unwrap_or(Opens::Paths)
 }
 
-// How the operand that begins at `at` begins, where no whitespace is.
+/// How the operand that begins at `at` begins, where no whitespace is.
 pub fn operand_at(s: &[u8], at: usize) -> Operand
     requires { at ≤ length s.now }
     ensures operand { OperandMet s.now at result.opens result.paren }

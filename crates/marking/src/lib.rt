@@ -216,8 +216,8 @@ fn mark_where<T: NodeSet + Copy>(
     .mark(out);
 }
 
-// Marks the nodes that a step selects from x, and leaves the others. It asks for a node of the document, which the
-// caller has shown; no user calls it. Axis, test and name may be any numbers, as in a lent row.
+/// Marks the nodes that a step selects from x, and leaves the others. It asks for a node of the document, which the
+/// caller has shown; no user calls it. Axis, test and name may be any numbers, as in a lent row.
 pub fn mark_step(
     document: Checked,
     axis: u16,

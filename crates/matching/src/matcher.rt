@@ -18,7 +18,7 @@ use common::row_kind::RowKind;
 use common::{axis, node_test};
 use terms::{Row, get_row, is_held_path, is_held_qualifier};
 
-// The rows that a step is about.
+/// The rows that a step is about.
 #[derive(Clone, Copy, PartialEq, Eq, Debug)]
 pub struct Sides {
     pub left: u16,
@@ -59,7 +59,7 @@ fn entry_at(part: &'static [&'static [Form]], i: usize) -> &'static [Form]
     part.get(i).copied().unwrap_or(&[])
 }
 
-// The forms of a rule, none where the table has no such rule.
+/// The forms of a rule, none where the table has no such rule.
 pub fn forms_of(rule: u16) -> &'static [Form]
     ensures { forms_in result ≡ map form_pattern (forms_of rule) }
 {
@@ -187,7 +187,7 @@ impl Letters {
 }
 
 impl Form {
-    // Whether it yields the step, from as many of the premises as it has.
+    /// Whether it yields the step, from as many of the premises as it has.
     pub fn yields(&self, rows: &[u16], step: Sides, premises: [Sides; 2]) -> bool
         ensures { result ≡ yields_by (table_of rows.now) (sides_in step) (map sides_in premises) (form_of self.now) }
     {

@@ -13,7 +13,7 @@ use common::row_kind::RowKind;
 use common::{axis, node_test, row_kind};
 use terms::{Row, is_noted, note, row_at};
 
-// Rule 59, which the table doesn't have.
+/// Rule 59, which the table doesn't have.
 pub const WAY_BACK_RULE: u16 = 59;
 
 // The axes of paths that have a way back, each with its opposite axis. By number, as rows have them (see `is_pair`).
@@ -134,8 +134,8 @@ fn is_back(rows: &[u16], i: u16, j: u16, noted: &mut [Option<u16>]) -> bool
     }
 }
 
-// Whether the right row is left[some w], and w is the way back of the left one; what is found on the way is noted. That
-// the notes are true is asked, as by `yields`.
+/// Whether the right row is left[some w], and w is the way back of the left one; what is found on the way is noted.
+/// That the notes are true is asked, as by `yields`.
 #[tactic(auto, unfolding(crate::specs::code::RowWayBack::is_with_back))]
 pub fn is_with_back(rows: &[u16], step: Sides, noted: &mut [Option<u16>]) -> bool
     requires { Noted (table_of rows.now) noted.old }

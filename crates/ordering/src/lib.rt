@@ -174,7 +174,7 @@ impl<'a> Tables<'a> {
     }
 }
 
-// Row i of the left rows and row j of the right ones: their order as terms, or which one is not held.
+/// Row i of the left rows and row j of the right ones: their order as terms, or which one is not held.
 pub fn order_on(left: &[u16], i: u16, right: &[u16], j: u16) -> Result<Ordering, Refusal>
     ensures { order_answer_of result
         ≡ order_answer (table_of left.now) i (table_of right.now) j }
@@ -190,7 +190,7 @@ pub fn order_on(left: &[u16], i: u16, right: &[u16], j: u16) -> Result<Ordering,
     Ok(tables.order_rows((i, j), &mut noted))
 }
 
-// The bundles of two sessions: their steps in turn.
+/// The bundles of two sessions: their steps in turn.
 pub fn bundle_order_on<'a>(left: Held<'a>, right: Held<'a>) -> Result<Ordering, Refusal>
     ensures { order_answer_of result ≡ bundle_order_answer (book_held left.entry) (book_held right.entry) }
 {

@@ -36,14 +36,14 @@ const NO_COUNTS: PointCounts = PointCounts {
     steps: 0,
 };
 
-// The point of that name; zeros where there is none.
+/// The point of that name; zeros where there is none.
 pub fn point_named(points: &[u16], name: u16) -> PointCounts
     ensures { result ≡ point_named (counts_of points.now) name }
 {
     find_point(points, name).map_or(NO_COUNTS, |(_, point)| point)
 }
 
-// The answer of a call that sets a point of that name after the points.
+/// The answer of a call that sets a point of that name after the points.
 #[tactic(auto, unfolding(calls::specs::PointCall::point_answer), using(calls::proofs::PointTables::names_count))]
 pub fn judge_point(points: &[u16], name: u16) -> Result<(), Refusal>
     ensures { done_answer_of result ≡ point_answer (counts_names (counts_of points.now)) name }
@@ -57,7 +57,7 @@ pub fn judge_point(points: &[u16], name: u16) -> Result<(), Refusal>
     Ok(())
 }
 
-// The point of that name, to which a call returns, with its place, counted from 0; or the call's refusal.
+/// The point of that name, to which a call returns, with its place, counted from 0; or the call's refusal.
 #[tactic(auto, unfolding(calls::specs::PointCall::return_answer), using(calls::proofs::PointTables::names_count))]
 pub fn judge_return(points: &[u16], name: u16) -> Result<(usize, PointCounts), Refusal>
     ensures { ReturnFound result (counts_of points.now) name }
@@ -65,7 +65,7 @@ pub fn judge_return(points: &[u16], name: u16) -> Result<(usize, PointCounts), R
     find_point(points, name).ok_or(Refusal::BadPoint(name))
 }
 
-// The numbers from place `from` on become 0.
+/// The numbers from place `from` on become 0.
 pub fn clear(numbers: &mut [u16], from: usize)
     ensures { numbers.new ≡ cleared from numbers.old }
 {

@@ -20,15 +20,15 @@ use terms::{ROW_WIDTH, Row};
 
 const MAX_LIMIT: u32 = u32::MAX;
 
-// The length of the longest marks buffer.
+/// The length of the longest marks buffer.
 pub const MAX_MARKS: usize = 1024;
 
-// The length of the longest buffer of a write.
+/// The length of the longest buffer of a write.
 pub const MAX_ROOM: usize = common::MAX_BYTES;
 
-// A word with the numbers after it, by place, as a script's line has them: of a select, the row, the context node, the
-// limit and the length of the marks buffer that it is lent; of a write, the length of its buffer. What `names` and
-// `text` take stays in the line.
+/// A word with the numbers after it, by place, as a script's line has them: of a select, the row, the context node, the
+/// limit and the length of the marks buffer that it is lent; of a write, the length of its buffer. What `names` and
+/// `text` take stays in the line.
 #[derive(Clone, Copy)]
 pub enum Command {
     Term(Row),
@@ -55,7 +55,7 @@ pub enum Command {
     CrewCurrent(u16),
 }
 
-// The command of a line, and the position of the next line.
+/// The command of a line, and the position of the next line.
 #[derive(Clone, Copy)]
 pub struct CallLine {
     pub command: Command,
@@ -213,7 +213,7 @@ fn alone(word: Word) -> Option<Command>
     }
 }
 
-// The call of the line at `at`.
+/// The call of the line at `at`.
 pub fn call_at(bytes: &[u8], at: usize) -> Option<CallLine>
     ensures { CallRead command_of bytes.now at result }
 {
@@ -234,7 +234,7 @@ pub fn call_at(bytes: &[u8], at: usize) -> Option<CallLine>
     None
 }
 
-// The bytes behind the first space of the line at `at`; none where it has none.
+/// The bytes behind the first space of the line at `at`; none where it has none.
 pub fn rest_at(bytes: &[u8], at: usize) -> &[u8]
     ensures { result.now ≡ rest_of (first_bytes (lines (drop at bytes.now))) }
 {
@@ -253,7 +253,8 @@ fn newline_for_space(b: u8) -> u8
     if b == lines::SPACE { lines::NEWLINE } else { b }
 }
 
-// Writes the list of names that the bytes write, as much of it as there is room for. It gives how many bytes these are.
+/// Writes the list of names that the bytes write, as much of it as there is room for. It gives how many bytes these
+/// are.
 pub fn put_names(bytes: &[u8], out: &mut [u8]) -> usize
     ensures { (result ≡ min (length bytes.now) (length out.old))
         × (take result out.new ≡ take result (names_of bytes.now))

@@ -4,7 +4,7 @@ ghost use Rattle.script_words.specs.Words.{max_numbers};
 
 use script_words::MAX_NUMBERS;
 
-// The first `count` of an array: a line is read whatever memory is left, without a heap.
+/// The first `count` of an array: a line is read whatever memory is left, without a heap.
 #[derive(Clone, Copy)]
 pub struct NumberList {
     numbers: [u16; MAX_NUMBERS],

@@ -7,7 +7,7 @@ ghost use Rattle.calls.specs.Promises.{SelectMade};
 use common::Refusal;
 use xpath::Checked;
 
-// A select call on lent rows, four numbers a row, as `Session::select` makes it on the rows that it holds.
+/// A select call on lent rows, four numbers a row, as `Session::select` makes it on the rows that it holds.
 pub fn select_on(
     rows: &[u16],
     row: u16,

@@ -89,7 +89,7 @@ impl Context<'_> {
         }
     }
 
-    // Marks what the path in row r selects; a row past the first `top` is read as the void path.
+    /// Marks what the path in row r selects; a row past the first `top` is read as the void path.
     #[cycle(evaluation)]
     pub fn eval_path(&self, r: usize, limit: u32, out: &mut [u8; MAX_NODES]) -> Option<u32>
         ensures { PathAdded self.now (path_in (terms_in self.now) r) limit result out.old out.new }

@@ -6,7 +6,7 @@ use common::Refusal;
 use std::cmp::Ordering;
 
 impl Session {
-    // Row `row` against row `other_row` of the other session.
+    /// Row `row` against row `other_row` of the other session.
     #[tactic(auto, unfolding(crate::specs::View::view))]
     pub fn order(&self, row: u16, other: &Session, other_row: u16) -> Result<Ordering, Refusal>
         ensures { OrderMet self.now row other.now other_row result }

@@ -33,7 +33,7 @@ fn is_void(rows: &[u16], r: usize) -> bool
     matches!(terms::row_at(rows, r).read_kind(), Some(RowKind::Void))
 }
 
-// The set of node x alone. It asks for a node among the n.
+/// The set of node x alone. It asks for a node among the n.
 pub fn only(alloc: Global, n: usize, x: usize) -> Result<Vec<bool>, AllocError>
     requires { x < n }
     ensures { IfOk result (λ v. Only n x v.items) }
@@ -278,8 +278,8 @@ impl Evaluation<'_> {
     }
 }
 
-// Marks each node that the path in row `row` selects from some marked node of the context; a row past the last one is
-// the void path.
+/// Marks each node that the path in row `row` selects from some marked node of the context; a row past the last one is
+/// the void path.
 pub fn select_all(
     alloc: Global,
     rows: &[u16],

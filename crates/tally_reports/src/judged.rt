@@ -5,7 +5,7 @@ use std::array;
 use std::fs::File;
 use std::rt::Files;
 
-// The open files, in the order of their names.
+/// The open files, in the order of their names.
 pub type OpenFiles = [Option<File>; tallies::MAX_FILES];
 
 const NO_FILE: Option<File> = None;
@@ -36,7 +36,7 @@ fn open_all(rt: &impl Files<File = File>, list: &[u8]) -> OpenFiles {
 }
 
 impl JudgedFiles {
-    // Opens the files that the list names and judges it by what was opened. No contract can speak of what is opened.
+    /// Opens the files that the list names and judges it by what was opened. No contract can speak of what is opened.
     pub fn open(rt: &impl Files<File = File>, list: &[u8]) -> Result<JudgedFiles, Refusal> {
         let files = open_all(rt, list);
         let opened: [bool; tallies::MAX_FILES] = array::from_fn(|k| files[k].is_some());

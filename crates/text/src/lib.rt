@@ -32,13 +32,12 @@ const MIN_TEXT: usize = 32;
 
 const MAX_LIST: usize = 4294967295;
 
-// The row of a text's term, and how many rows are held with those that it needs.
+/// The row of a text's term, and how many rows are held with those that it needs.
 #[derive(Clone, Copy)]
 pub struct TextHeld {
     pub row: u16,
     pub count: usize,
 }
-
 
 // A predicate whose `[` is where `from`, the step so far, ends.
 #[cycle(expression)]
@@ -295,9 +294,9 @@ fn read_listed<'a>(
     read_in(Selector { s, names }, rows, count)
 }
 
-// The reading of the text `s` with the lent list of names, where the first rows of the table are held, as many as
-// `count` says; a count above the limit is read as the limit. Nothing is kept of the rows. A refused reading leaves
-// rows of no use in the table, whose numbers are put back.
+/// The reading of the text `s` with the lent list of names, where the first rows of the table are held, as many as
+/// `count` says; a count above the limit is read as the limit. Nothing is kept of the rows. A refused reading leaves
+/// rows of no use in the table, whose numbers are put back.
 pub fn read_text(
     s: &[u8],
     names: &[u8],

@@ -161,8 +161,8 @@ pub record SessionTheorems : Type 0 where
   pub session_restored : SessionRestored session.New session.Called
   pub return_restores : ReturnRestores
   -- what is guaranteed of read and write: read accepts just the bundles whose calls are all accepted, and the calls
-  -- follow the book; what is written of a session that calls lead to reads back as that session but for its points, and
-  -- what is read is written again as the same bytes
+  -- follow the book; what is written of a session that calls lead to reads back as that session but for its points,
+  -- and what is read is written again as the same bytes
   pub read_guarantee : ReadGuarantee session.Selected session.Called session.Read session.Write
   -- a whole set replaced: after every list of calls from a fresh session, each node that any path of a covered list
   -- selects is selected by some new one, from the same node of every document; an accepted replace is a case of it

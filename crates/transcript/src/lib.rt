@@ -28,12 +28,12 @@ const LINE: usize = 8192;
 // Longer than the longest answer: a word and two numbers of at most 5 and 20 digits.
 const ANSWER: usize = 64;
 
-// What is printed. `Answers`: `NUMBER VALUE` for each call but document, old and new, after an accepted select the
-// marked nodes, after a listing the records' numbers, and after an accepted write the bundle's lines; `other` sets the
-// register aside and starts a new one, `order` and `bundle-order` compare the one set aside with it, and `fresh` is no
-// call. Other and what is lent print nothing. `Nodes`: the marked nodes of each accepted select, and `refused NUMBER
-// VALUE` for what is refused; `fresh` starts a new register, and `write`, `other`, `order`, `bundle-order` and the
-// listings are no calls.
+/// What is printed. `Answers`: `NUMBER VALUE` for each call but document, old and new, after an accepted select the
+/// marked nodes, after a listing the records' numbers, and after an accepted write the bundle's lines; `other` sets the
+/// register aside and starts a new one, `order` and `bundle-order` compare the one set aside with it, and `fresh` is no
+/// call. Other and what is lent print nothing. `Nodes`: the marked nodes of each accepted select, and `refused NUMBER
+/// VALUE` for what is refused; `fresh` starts a new register, and `write`, `other`, `order`, `bundle-order` and the
+/// listings are no calls.
 #[derive(Clone, Copy, Debug, PartialEq, Eq)]
 pub enum Style {
     Answers,
@@ -247,9 +247,9 @@ fn is_taken(command: &Command, style: Style) -> bool
     }
 }
 
-// Makes the calls of a script, a call a line, from a fresh register, and prints their answers. The error is the number
-// of the line that ends it, the first that is not taken. What is printed is beyond contracts, since the C library's
-// write is.
+/// Makes the calls of a script, a call a line, from a fresh register, and prints their answers. The error is the number
+/// of the line that ends it, the first that is not taken. What is printed is beyond contracts, since the C library's
+/// write is.
 pub fn run(input: &[u8], style: Style) -> Result<(), usize>
     ensures { PlaceIs (result_err result) (ending_line style 1 (lines input.now)) }
 {

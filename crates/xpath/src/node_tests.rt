@@ -10,8 +10,8 @@ use common::axis;
 use common::node_kind::NodeKind;
 use common::node_test::NodeTest;
 
-// Nodes told by their kinds and names. A loop over nodes takes them as a type parameter, so that it has no branch for
-// each of a test's forms.
+/// Nodes told by their kinds and names. A loop over nodes takes them as a type parameter, so that it has no branch for
+/// each of a test's forms.
 pub trait NodeSet {
     ghost has: { Self → ℕ → ℕ → Bool };
 
@@ -52,7 +52,7 @@ impl NodeSet for Named {
     }
 }
 
-// The nodes that a step's test selects: the test is read once, and asked of one node after the other.
+/// The nodes that a step's test selects: the test is read once, and asked of one node after the other.
 #[derive(Clone, Copy, Debug, PartialEq, Eq)]
 pub enum StepTest {
     Everything(AnyNode),
@@ -72,7 +72,7 @@ fn principal_kind(axis: u16) -> NodeKind
 }
 
 impl StepTest {
-    // None where the test selects nothing.
+    /// None where the test selects nothing.
     #[tactic(auto, unfolding(crate::specs::Axis::passes))]
     pub fn new(axis: u16, test: u16, name: usize) -> Option<StepTest>
         ensures { Asks axis test name result }
