@@ -6,8 +6,7 @@ ghost use Rattle.std.specs.Prelude.{◌≡◌};
 use calls::Answer;
 use std::fmt;
 
-// The line of an answer, without its newline: the number, 0 or a refusal's, and the value. Two numbers and no Result:
-// both are printed, and `answer` of calls' specs/Book, which is believed, has them so.
+/// The line of an answer, without its newline: the number, 0 or a refusal's, and the value.
 #[derive(Clone, Copy, Debug, PartialEq, Eq)]
 pub struct AnswerLine {
     pub number: u16,

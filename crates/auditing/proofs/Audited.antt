@@ -1,4 +1,4 @@
--- From the call read to what audit prints. Assumes nothing.
+-- From the call read to what audit prints.
 use Prim.Native.Nat.{ℕ, ◌≤◌, ◌<◌}
 use mathlib.Core.Path.{◌≡◌, sym, ap, ◌∙◌}
 use mathlib.Core.Bool.{cond}

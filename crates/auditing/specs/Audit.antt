@@ -1,4 +1,4 @@
--- What the program audit prints of a bundle. Assumes nothing.
+-- What the program audit prints of a bundle.
 use Rattle.std.specs.Prelude.{ℕ, cond, List, ltb, length}
 use Rattle.common.specs.Limits.{max_bytes}
 use Rattle.auditing.specs.declared.Report.{Report}

@@ -10,8 +10,8 @@ use common::Refusal;
 use session::{LineRefusal, Session};
 use std::fmt;
 
-// What the program audit prints, as numbers: the answer's, the refused line or 0, the steps held, the rows of the last
-// step or zeros. No Result: `report`, the definition that is believed, has all five whatever the answer.
+/// What the program audit prints, as numbers: the answer's, the refused line or 0, the steps held, the rows of the last
+/// step or zeros.
 #[derive(Clone, Copy, Debug, PartialEq, Eq)]
 pub struct Report {
     pub answer: u16,
@@ -39,7 +39,7 @@ fn refused_line(answer: Result<u16, LineRefusal>) -> usize
     answer.err().map_or(0, |refused| refused.line)
 }
 
-// What the program audit prints where no bundle was read: too many bytes, or a read that failed.
+/// What the program audit prints where no bundle was read: too many bytes, or a read that failed.
 pub fn unread() -> Report
     ensures { result ≡ unread }
 {
@@ -52,7 +52,7 @@ pub fn unread() -> Report
     }
 }
 
-// What the program audit prints of a bundle.
+/// What the program audit prints of a bundle.
 pub fn audit(bytes: &[u8]) -> Report
     ensures { result ≡ report bytes.now }
 {

@@ -1,4 +1,4 @@
--- The values of orders fit their types. Assumes nothing.
+-- The values of orders fit their types.
 use Prim.Native.Nat.{ℕ, ◌≤◌}
 use mathlib.Core.Path.{◌≡◌}
 use mathlib.Core.Bool.{Bool, true, false, cond}

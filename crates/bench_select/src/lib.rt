@@ -13,7 +13,7 @@ ghost use Rattle.bundles.specs.Bundle.{bundle_text};
 
 use calls::{Answer, Held};
 
-// The number of the answer; the marks are written as `Session::select` writes them.
+/// The number of the answer; the marks are written as `Session::select` writes them.
 #[unsafe(no_mangle)]
 pub extern "C" fn bench_select(
     rows: &[u16],
@@ -32,7 +32,7 @@ pub extern "C" fn bench_select(
     answer.number()
 }
 
-// The length of the bundle of the first n rows and m steps; its bytes are written as `Session::write` writes them.
+/// The length of the bundle of the first n rows and m steps; its bytes are written as `Session::write` writes them.
 #[unsafe(no_mangle)]
 pub extern "C" fn bench_write<'a>(
     out: &mut [u8],
@@ -53,8 +53,8 @@ pub extern "C" fn bench_write<'a>(
     size
 }
 
-// The value of the answer for row i of the left rows and row j of the right ones, compared as `Session::order` compares
-// them.
+/// The value of the answer for row i of the left rows and row j of the right ones, compared as `Session::order`
+/// compares them.
 #[unsafe(no_mangle)]
 pub extern "C" fn bench_order<'a>(left: &'a [u16], i: u16, right: &'a [u16], j: u16) -> u32
     ensures { result ≡ (order_answer (table_of left.now) i (table_of right.now) j).value }
@@ -63,7 +63,7 @@ pub extern "C" fn bench_order<'a>(left: &'a [u16], i: u16, right: &'a [u16], j: 
     answer.value() as u32
 }
 
-// The value of the answer for two bundles, which are compared as `Session::bundle_order` compares them.
+/// The value of the answer for two bundles, which are compared as `Session::bundle_order` compares them.
 #[unsafe(no_mangle)]
 pub extern "C" fn bench_bundle_order<'a>(
     left: &'a [u16],
@@ -87,7 +87,7 @@ pub extern "C" fn bench_bundle_order<'a>(
     answer.value() as u32
 }
 
-// The number of the answer to a selector as text, with a lent list of names, where no row is held.
+/// The number of the answer to a selector as text, with a lent list of names, where no row is held.
 #[unsafe(no_mangle)]
 pub extern "C" fn bench_text(names: &[u8], selector: &[u8]) -> u16
     ensures { result ≡ (text_reply names.now selector.now []).number }

@@ -1,4 +1,4 @@
--- The text of a number is what the library writes of it; how many digits it has. Assumes nothing.
+-- The text of a number is what the library writes of it; how many digits it has.
 use Prim.Native.Nat.{ℕ, zero, suc, ◌+◌, ◌*◌, ◌^◌, ◌/◌, ◌≤◌, ◌<◌}
 use mathlib.Core.Path.{◌≡◌}
 use native.Mathlib.Omega.{arith}

@@ -1,4 +1,4 @@
--- How long the lines of accepted rows and steps are, and a bundle of them. Assumes nothing.
+-- How long the lines of accepted rows and steps are, and a bundle of them.
 use Prim.Native.Nat.{ℕ, ◌+◌, ◌*◌, ◌≤◌, ◌<◌}
 use mathlib.Core.Path.{◌≡◌, refl, sym, ◌∙◌}
 use mathlib.Core.Bool.{Bool, true, false, false≢true}

@@ -1,4 +1,4 @@
--- Texts put one behind the other. Assumes nothing.
+-- Texts put one behind the other.
 use Prim.Native.Nat.{ℕ, suc, ◌+◌, ◌≤◌, ◌<◌}
 use mathlib.Core.Path.{◌≡◌, refl, sym, ap, subst, ◌∙◌}
 use mathlib.Core.Bool.{cond}

@@ -1,5 +1,4 @@
--- A number has one spelling, and so have a line and a text: what is read, written again, is the same bytes. Assumes
--- nothing.
+-- A number has one spelling, and so have a line and a text: what is read, written again, is the same bytes.
 use Prim.Native.Nat.{ℕ, zero, suc, ◌^◌, ◌<◌}
 use mathlib.Core.Path.{◌≡◌, refl, sym, ap, ap₂, ◌∙◌}
 use mathlib.Core.Bool.{Bool, true, false, cond, not, ◌&&◌, false≢true}

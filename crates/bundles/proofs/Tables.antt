@@ -1,4 +1,4 @@
--- The lines of lent rows and steps: how long they are, and how many there are. Assumes nothing.
+-- The lines of lent rows and steps: how long they are, and how many there are.
 use Prim.Native.Nat.{ℕ, ◌+◌, ◌*◌, ◌≤◌, ◌<◌, min}
 use mathlib.Core.Path.{◌≡◌, sym, ap, ◌∙◌}
 use mathlib.Core.List.{List, [], ◌∷◌, ◌++◌, map}

@@ -1,4 +1,4 @@
--- The text of a bundle: its names lines, its term lines and its step lines. Assumes nothing.
+-- The text of a bundle: its names lines, its term lines and its step lines.
 use Rattle.std.specs.Prelude.{ℕ, List, [], ◌∷◌, ◌++◌}
 use Rattle.std.proofs.Math.Option.{Option, map}
 use Rattle.terms.specs.Row.{Row, row_numbers, row_of_numbers}
@@ -9,7 +9,7 @@ use Rattle.lines.specs.Written.{line_text}
 use Rattle.calls.specs.Book.{Step, step_numbers, step_of_numbers}
 use Rattle.calls.specs.code.Tables.{row_width, step_width}
 
--- the names lines of document 01: the first stands before the term lines, the second before the step lines
+-- the names lines: the first stands before the term lines, the second before the step lines
 unfoldable pub row_names : List ℕ
 row_names = ascii "kind a b c"
 

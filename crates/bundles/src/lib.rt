@@ -17,7 +17,7 @@ use calls::{Held, Step};
 use terms::Row;
 use writer::Writer;
 
-// The names lines of a bundle.
+/// The names lines of a bundle.
 pub const ROW_NAMES: &[u8] = b"kind a b c";
 
 pub const STEP_NAMES: &[u8] = b"rule left right first second";
@@ -72,8 +72,8 @@ fn steps_length(steps: &[u16]) -> usize
     size
 }
 
-// How long the bundle of the rows and steps is. It asks for no more of them than a book may hold, so that the sum has
-// room; no user calls it.
+/// How long the bundle of the rows and steps is. It asks for no more of them than a book may hold, so that the sum has
+/// room; no user calls it.
 pub fn bundle_length(held: Held) -> usize
     requires { (length held.rows.now ≤ row_width * max_rows) × (length held.steps.now ≤ step_width * max_steps) }
     ensures { result ≡ length (held_text held.entry) }
@@ -82,8 +82,8 @@ pub fn bundle_length(held: Held) -> usize
     names + terms_length(held.rows) + steps_length(held.steps)
 }
 
-// Writes the bundle of the rows and steps from byte 0 on, line by line, and leaves later bytes. It asks for room, which
-// the caller has shown by `bundle_length`; no user calls it.
+/// Writes the bundle of the rows and steps from byte 0 on, line by line, and leaves later bytes. It asks for room,
+/// which the caller has shown by `bundle_length`; no user calls it.
 pub fn write_bundle(out: &mut [u8], held: Held)
     requires { length (held_text held) ≤ length out.old }
     ensures { out.new ≡ held_text held.entry ++ drop (length (held_text held.entry)) out.old }

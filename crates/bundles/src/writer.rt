@@ -11,7 +11,7 @@ use crate::{ROW_NAMES, STEP_NAMES, digits};
 use calls::{Held, STEP_WIDTH, Step};
 use terms::{ROW_WIDTH, Row};
 
-// A line of a bundle: a names line, a term's or a step's.
+/// A line of a bundle: a names line, a term's or a step's.
 #[derive(Clone, Copy)]
 pub enum Line<'a> {
     Names(&'a [u8]),
@@ -19,15 +19,13 @@ pub enum Line<'a> {
     Step(Step),
 }
 
-// What lines are appended to: a caller's buffer, and the position of the next line.
+/// What lines are appended to: a caller's buffer, and the position of the next line.
 pub struct Writer<'a> {
     out: &'a mut [u8],
     at: usize,
 }
 
-// Puts a text at `at`. It gives the position after what it puts, and so do the functions below. By bytes, and not by
-// `write!` with Display: of a lent slice std's `write!` doesn't say which bytes it leaves, and the contracts here fix
-// each, those behind the text too.
+// Puts a text at `at`. It gives the position after what it puts, and so do the functions below.
 fn put_text(out: &mut [u8], at: usize, text: &[u8]) -> usize
     requires { at + length text.now ≤ length out.old }
     ensures { Put out.old at text.now result out.new }
@@ -102,7 +100,7 @@ fn put_line(out: &mut [u8], at: usize, line: Line) -> usize
 
 // What appends asks for room, which the length of the whole bundle has shown before the first line.
 impl<'a> Writer<'a> {
-    // A writer at byte 0 of the buffer.
+    /// A writer at byte 0 of the buffer.
     pub fn at_start(out: &'a mut [u8]) -> Writer<'a>
         ensures same_buffer { result.out.ghost_name ≡ out.entry.ghost_name }
         ensures start { (result.out.now ≡ out.old) × (result.at ≡ 0) }
@@ -110,7 +108,7 @@ impl<'a> Writer<'a> {
         Writer { out, at: 0 }
     }
 
-    // Appends a line.
+    /// Appends a line.
     pub fn append(&mut self, line: Line)
         requires { self.old.at + length (text_of_line line) ≤ length self.old.out.now }
         ensures same_buffer { self.new.out.ghost_name ≡ self.old.out.ghost_name }
@@ -120,7 +118,7 @@ impl<'a> Writer<'a> {
         self.at = put_line(self.out, at, line);
     }
 
-    // Appends the lines of terms.
+    /// Appends the lines of terms.
     pub fn append_terms(&mut self, rows: &[u16])
         requires { self.old.at + length (rows_text (table_of rows.now)) ≤ length self.old.out.now }
         ensures same_buffer { self.new.out.ghost_name ≡ self.old.out.ghost_name }
@@ -132,7 +130,7 @@ impl<'a> Writer<'a> {
         }
     }
 
-    // Appends the lines of steps.
+    /// Appends the lines of steps.
     pub fn append_steps(&mut self, steps: &[u16])
         requires { self.old.at + length (steps_text (steps_of steps.now)) ≤ length self.old.out.now }
         ensures same_buffer { self.new.out.ghost_name ≡ self.old.out.ghost_name }
@@ -144,7 +142,7 @@ impl<'a> Writer<'a> {
         }
     }
 
-    // Appends the lines of a bundle.
+    /// Appends the lines of a bundle.
     pub fn append_bundle(&mut self, held: Held)
         requires { self.old.at + length (held_text held) ≤ length self.old.out.now }
         ensures same_buffer { self.new.out.ghost_name ≡ self.old.out.ghost_name }
@@ -157,8 +155,7 @@ impl<'a> Writer<'a> {
     }
 }
 
-// It writes nothing. Its contract says that the caller's buffer keeps what was appended, which a caller would not know of
-// a derived one.
+// It writes nothing, so that the caller's buffer keeps what was appended.
 impl Drop for Writer<'_> {
     fn drop(self)
         ensures { self.exit.0.now ≡ self.entry.out.now }

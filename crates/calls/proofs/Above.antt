@@ -1,4 +1,4 @@
--- Where the machine below moves as a book does, so does a machine above it. Assumes nothing.
+-- Where the machine below moves as a book does, so does a machine above it.
 use mathlib.Core.Path.{◌≡◌, refl, sym, ap, subst, ◌∙◌}
 use mathlib.Core.Bool.{Bool, true, false, cond, ◌&&◌}
 use borrow.Author.Tests.{eqb-true}

@@ -1,4 +1,4 @@
--- Accepted and refused answers. Assumes nothing.
+-- Accepted and refused answers.
 use mathlib.Core.Path.{◌≡◌, refl, sym}
 use Prim.Native.Nat.{◌<◌}
 use mathlib.Core.Bool.{Bool, true, false, cond, false≢true}

@@ -1,4 +1,4 @@
--- On every book that calls lead to, judging a step by row numbers is judging it by terms. Assumes nothing.
+-- On every book that calls lead to, judging a step by row numbers is judging it by terms.
 use Prim.Native.Nat.{ℕ, ◌+◌, ◌≤◌, ◌<◌}
 use mathlib.Core.Path.{◌≡◌, refl, sym, ap, subst}
 use mathlib.Core.Bool.{Bool, true, false, not, cond, ◌&&◌, ◌||◌, false≢true, decide_iff}

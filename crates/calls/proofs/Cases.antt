@@ -1,4 +1,4 @@
--- Every answer of the definitions is that of a case of the code's answers. Assumes nothing.
+-- Every answer of the definitions is that of a case of the code's answers.
 use Prim.Native.Nat.{ℕ, ◌+◌}
 use mathlib.Core.Path.{◌≡◌, refl}
 use mathlib.Core.Bool.{Bool, true, false, not, cond, ◌||◌}

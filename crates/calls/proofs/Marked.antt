@@ -1,4 +1,4 @@
--- What an accepted select leaves in the buffer. Assumes nothing.
+-- What an accepted select leaves in the buffer.
 use Prim.Native.Nat.{ℕ, zero, suc, ◌≤◌, ◌<◌}
 use mathlib.Core.Path.{◌≡◌, refl, sym, ap, ◌∙◌}
 use mathlib.Core.Bool.{Bool, not, cond}

@@ -1,4 +1,4 @@
--- What the answers of point and return tell. Assumes nothing.
+-- What the answers of point and return tell.
 use Prim.Native.Nat.{ℕ, ◌≤◌, ◌<◌}
 use mathlib.Core.Path.{◌≡◌}
 use mathlib.Core.Bool.{◌||◌}

@@ -1,4 +1,4 @@
--- The points of a list of numbers, the place of a name, and numbers that are cleared. Assumes nothing.
+-- The points of a list of numbers, the place of a name, and numbers that are cleared.
 use Prim.Native.Nat.{ℕ, ◌+◌, ◌*◌, ◌/◌, ◌≤◌, min}
 use mathlib.Core.Path.{◌≡◌, refl, sym, ap, ◌∙◌}
 use mathlib.Core.Bool.{Bool, true, false, cond}

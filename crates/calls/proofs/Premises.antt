@@ -1,4 +1,4 @@
--- What refusals 5 and 6 leave: rows that are held and of one sort, and premises that are held steps. Assumes nothing.
+-- What refusals 5 and 6 leave: rows that are held and of one sort, and premises that are held steps.
 use Prim.Native.Nat.{ℕ, zero, suc, ◌-◌, ◌≤◌, ◌<◌}
 use mathlib.Core.Path.{◌≡◌, refl}
 use mathlib.Core.Bool.{Bool, true, false, not, cond, ◌||◌}

@@ -1,4 +1,4 @@
--- Laws of every book that calls lead to. Assumes nothing.
+-- Laws of every book that calls lead to.
 use Prim.Native.Nat.{ℕ, suc, ◌+◌, ◌<◌}
 use mathlib.Core.Path.{◌≡◌, sym, subst}
 use mathlib.Core.Bool.{◌&&◌, decide_iff}

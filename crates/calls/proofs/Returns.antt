@@ -1,5 +1,5 @@
 -- Points and returns on the plain book: each point's rows and steps begin those of later points and those held, and a
--- return restores the book. Assumes nothing.
+-- return restores the book.
 use Prim.Native.Nat.{ℕ, zero, suc, ◌+◌, ◌≤◌, ◌<◌}
 use mathlib.Core.Path.{◌≡◌, refl, sym, ap, subst, ◌∙◌}
 use mathlib.Core.Bool.{Bool, true, false, cond}

@@ -1,4 +1,4 @@
--- A step call is answered as before when a row is added. Assumes nothing.
+-- A step call is answered as before when a row is added.
 use mathlib.Core.Path.{◌≡◌, refl, ap₂}
 use mathlib.Core.List.{List, [], ◌∷◌, map}
 use lib.ListN.{length}

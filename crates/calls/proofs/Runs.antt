@@ -1,4 +1,4 @@
--- Calls made one after the other, on something that moves as a book does. Assumes nothing.
+-- Calls made one after the other, on something that moves as a book does.
 use mathlib.Core.Path.{◌≡◌, refl, sym, ap, ap₂, subst, ◌∙◌}
 use mathlib.Core.Bool.{Bool, true, false, cond}
 use mathlib.Core.List.{List, [], ◌∷◌}

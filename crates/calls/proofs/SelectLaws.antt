@@ -1,4 +1,4 @@
--- What may be known of a select call before it is made, from the laws of visits and of names. Assumes nothing.
+-- What may be known of a select call before it is made, from the laws of visits and of names.
 use Prim.Native.Nat.{ℕ, ◌≤◌}
 use mathlib.Core.Path.{◌≡◌, sym, ap, ◌∙◌}
 use mathlib.Core.Bool.{Bool, true, false, not, cond}

@@ -1,4 +1,4 @@
--- What holds of a step that a step call takes. Assumes nothing.
+-- What holds of a step that a step call takes.
 use Prim.Native.Nat.{◌≤◌, ◌<◌}
 use mathlib.Core.Path.{◌≡◌}
 use mathlib.Core.Bool.{Bool, true, not, ◌||◌}

@@ -1,4 +1,4 @@
--- The rows and steps of a list of numbers. Assumes nothing.
+-- The rows and steps of a list of numbers.
 use Prim.Native.Nat.{ℕ, ◌*◌, ◌/◌, ◌≤◌, min}
 use mathlib.Core.Path.{◌≡◌, refl, ◌∙◌}
 use mathlib.Core.Bool.{cond}

@@ -1,4 +1,4 @@
--- What holds of a row that a term call takes. Assumes nothing.
+-- What holds of a row that a term call takes.
 use Prim.Native.Nat.{◌≤◌, ◌<◌}
 use mathlib.Core.Path.{◌≡◌}
 use mathlib.Core.List.{List}

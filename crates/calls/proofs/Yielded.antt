@@ -1,4 +1,4 @@
--- The rows of a step's premises, as the matcher takes them. Assumes nothing.
+-- The rows of a step's premises, as the matcher takes them.
 use Prim.Native.Nat.{ℕ, zero, suc}
 use mathlib.Core.Path.{◌≡◌, refl}
 use mathlib.Core.List.{List, [], ◌∷◌, map}

@@ -1,5 +1,5 @@
 -- A machine above another: it passes calls on, refuses some of those that would be accepted, and has calls and holdings
--- of its own. Assumes nothing.
+-- of its own.
 use Rattle.std.specs.Prelude.{Bool, cond, ◌&&◌}
 use Rattle.calls.specs.Book.{Answer, accepted}
 use Rattle.calls.specs.Runs.{Machine}

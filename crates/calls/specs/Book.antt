@@ -1,8 +1,8 @@
--- The plain book of document 01: a list of rows and a list of steps; document 02 gives it points. Assumes nothing.
+-- The plain book: a list of rows, a list of steps, and its points.
 use Rattle.std.specs.Prelude.{ℕ, Bool, ◌≡◌, List, [], ◌∷◌, eqb, get_or}
 use Rattle.terms.specs.Row.{Row}
 
--- a step of document 01: `rule left right first second`
+-- a step: `rule left right first second`
 pub record Step : Type 0 where
   pub rule : ℕ
   pub left : ℕ
@@ -27,7 +27,7 @@ no_step = step 0 0 0 0 0
 abbrev pub max_steps : ℕ
 max_steps = 2048
 
--- a named point of document 02: its name, and the rows and steps held when it was set
+-- a named point: its name, and the rows and steps held when it was set
 pub record Point : Type 0 where
   pub name : ℕ
   pub rows : List Row

@@ -1,4 +1,4 @@
--- The calls of a list, and the plain book that is fed them. Assumes nothing.
+-- The calls of a list, and the plain book that is fed them.
 use Rattle.std.specs.Prelude.{ℕ, List}
 use Rattle.common.specs.Lists.{Every}
 use Rattle.terms.specs.Row.{Row}

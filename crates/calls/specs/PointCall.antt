@@ -1,4 +1,4 @@
--- The calls point and return on the plain book. Assumes nothing.
+-- The calls point and return on the plain book.
 use Rattle.std.specs.Prelude.{ℕ, ◌+◌, cond, ◌||◌, List, [], ◌∷◌, ◌++◌, map, leb, ltb, eqb, length, get_or, take}
 use Rattle.calls.specs.Book.{Point, point, no_point, max_points, Book, pointed_book, Answer, answer}
 use Rattle.common.specs.Refusals.{bad_point, points_full}

@@ -1,4 +1,4 @@
--- What a return restores. Assumes nothing.
+-- What a return restores.
 use Rattle.std.specs.Prelude.{ℕ, ◌<◌, ◌≡◌, List, ◌∷◌, length}
 use Rattle.common.specs.Lists.{Every}
 use Rattle.calls.specs.Book.{Book, answer, IsAccepted}

@@ -1,4 +1,4 @@
--- What is promised of calls on lent rows and steps. Assumes nothing.
+-- What is promised of calls on lent rows and steps.
 use Rattle.std.specs.Prelude.{ℕ, ◌≡◌, Bool, List, map, length}
 use Rattle.terms.specs.Row.{Row}
 use Rattle.matching.specs.code.RowYields.{Sides, row_yields}

@@ -1,4 +1,4 @@
--- Calls made one after the other, on whatever answers calls and is moved by them. Assumes nothing.
+-- Calls made one after the other, on whatever answers calls and is moved by them.
 use Rattle.std.specs.Prelude.{◌≡◌, cond, List, [], ◌∷◌}
 use Rattle.calls.specs.Book.{Answer, accepted}
 

@@ -1,4 +1,4 @@
--- The call select: its answer, and the buffer that it leaves. Assumes nothing.
+-- The call select: its answer, and the buffer that it leaves.
 use Rattle.std.specs.Prelude.{ℕ, cond, not, List, leb, ltb, length}
 use Rattle.std.proofs.Math.Option.{Option-elim}
 use Rattle.xpath.specs.Document.{document_of, document_refusal}

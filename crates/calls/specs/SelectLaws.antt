@@ -1,4 +1,4 @@
--- What may be known of a select call before it is made. Assumes nothing.
+-- What may be known of a select call before it is made.
 use Rattle.std.specs.Prelude.{ℕ, ◌≤◌, ◌<◌, ◌≡◌, List, length, get_or}
 use Rattle.common.specs.RowKinds.{step_row}
 use Rattle.xpath.specs.Document.{document_of}

@@ -1,4 +1,4 @@
--- The call step on the plain book. Assumes nothing.
+-- The call step on the plain book.
 use Rattle.std.specs.Prelude.{ℕ, ◌+◌, ◌-◌, Bool, not, cond, ◌&&◌, ◌||◌, List, [], ◌∷◌, ◌++◌, map, leb, ltb, eqb, length}
 use Rattle.std.specs.Prelude.{get_or, take}
 use Rattle.std.proofs.Math.Bool.{decide}

@@ -1,4 +1,4 @@
--- The call term on the plain book. Assumes nothing.
+-- The call term on the plain book.
 use Rattle.std.specs.Prelude.{cond, List, [], ◌∷◌, ◌++◌, leb, ltb, length}
 use Rattle.terms.specs.Row.{Row, max_rows, find}
 use Rattle.terms.specs.Fields.{max_kind, bad_place}

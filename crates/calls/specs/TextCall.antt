@@ -1,4 +1,4 @@
--- The call text on the plain book. Assumes nothing.
+-- The call text on the plain book.
 use Rattle.std.specs.Prelude.{List}
 use Rattle.terms.specs.Row.{Row}
 use Rattle.grammar.specs.Bytes.{Bytes}

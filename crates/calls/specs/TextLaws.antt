@@ -1,4 +1,4 @@
--- What is known of text calls on books that calls lead to. Assumes nothing.
+-- What is known of text calls on books that calls lead to.
 use Rattle.std.specs.Prelude.{ℕ, ◌≡◌, List, map, ◌↔◌, length, get_or, drop}
 use Rattle.terms.specs.Row.{Row}
 use Rattle.terms.specs.Nesting.{nestings}

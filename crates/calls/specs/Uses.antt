@@ -1,4 +1,4 @@
--- The uses of a rule among steps. Assumes nothing.
+-- The uses of a rule among steps.
 use Rattle.std.specs.Prelude.{ℕ, ◌+◌, cond, List, [], ◌∷◌, eqb}
 use Rattle.calls.specs.Book.{Step}
 

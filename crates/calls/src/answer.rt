@@ -6,7 +6,7 @@ ghost use Rattle.calls.specs.code.Answers.{answer_with, refusal_answer, line_ans
 use common::Refusal;
 use std::cmp::Ordering;
 
-// What an accepted call gives, as the value of its answer.
+/// What an accepted call gives, as the value of its answer.
 pub trait Value {
     ghost value: { Self → ℕ };
 
@@ -14,7 +14,6 @@ pub trait Value {
         ensures { result ≡ value self };
 }
 
-// One for each width: no trait gives a usize of a u32 without fail.
 impl Value for u16 {
     ghost value = { λ n. n };
 
@@ -60,7 +59,7 @@ impl Value for Ordering {
     }
 }
 
-// What a call answers, or a refusal of its own.
+/// What a call answers, or a refusal of its own.
 pub trait Answer {
     ghost answer: { Self → BookAnswer };
 
@@ -83,7 +82,7 @@ impl Answer for Refusal {
     }
 }
 
-// The refusal of a line of a text, and which line it is.
+/// The refusal of a line of a text, and which line it is.
 #[derive(Clone, Copy, Debug, PartialEq, Eq)]
 pub struct LineRefusal {
     pub refusal: Refusal,

@@ -4,7 +4,7 @@ ghost use Rattle.calls.specs.code.Tables.{first_row_numbers, first_step_numbers}
 
 use crate::{first_rows, first_steps};
 
-// Rows and steps, lent as numbers.
+/// Rows and steps, lent as numbers.
 #[derive(Clone, Copy)]
 pub struct Held<'a> {
     pub rows: &'a [u16],
@@ -12,7 +12,7 @@ pub struct Held<'a> {
 }
 
 impl<'a> Held<'a> {
-    // The first n rows of a table and the first m steps of another.
+    /// The first n rows of a table and the first m steps of another.
     pub fn first(rows: &'a [u16], n: usize, steps: &'a [u16], m: usize) -> Held<'a>
         ensures { (result.rows.now ≡ first_row_numbers n rows.now)
             × (result.steps.now ≡ first_step_numbers m steps.now) }

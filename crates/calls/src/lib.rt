@@ -18,29 +18,28 @@ pub use held::Held;
 pub use points::{MAX_POINTS, POINT_WIDTH, PointCounts};
 pub use step::{MAX_STEPS, STEP_WIDTH, Step, sides_of, step_count, step_numbered, whole_steps};
 
-// The first numbers, as many as `count` says, or all.
+/// The first numbers, as many as `count` says, or all.
 pub fn front(numbers: &[u16], count: usize) -> &[u16]
     ensures { result.now ≡ take count numbers.now }
 {
     numbers.get(..count).unwrap_or(numbers)
 }
 
-// The numbers of the first n rows. By name for rows, steps and points: a function of any width and limit would have
-// both at each call.
+/// The numbers of the first n rows.
 pub fn first_rows(rows: &[u16], n: usize) -> &[u16]
     ensures { result.now ≡ first_row_numbers n rows.now }
 {
     front(rows, terms::ROW_WIDTH * n.min(terms::MAX_ROWS))
 }
 
-// The numbers of the first m steps.
+/// The numbers of the first m steps.
 pub fn first_steps(steps: &[u16], m: usize) -> &[u16]
     ensures { result.now ≡ first_step_numbers m steps.now }
 {
     front(steps, STEP_WIDTH * m.min(MAX_STEPS))
 }
 
-// The numbers of the first k points.
+/// The numbers of the first k points.
 pub fn first_points(points: &[u16], k: usize) -> &[u16]
     ensures { result.now ≡ first_point_numbers k points.now }
 {

@@ -2,12 +2,12 @@
 ghost use Rattle.std.specs.Prelude.{◌≡◌};
 ghost use Rattle.calls.specs.code.Points.{counts_in, counts_numbers};
 
-// A point has three numbers.
+/// A point has three numbers.
 pub const POINT_WIDTH: usize = 3;
 
 pub const MAX_POINTS: usize = 8;
 
-// A point: its name, and how many rows and steps were held when it was set.
+/// A point: its name, and how many rows and steps were held when it was set.
 #[derive(Clone, Copy, Debug, PartialEq, Eq)]
 pub struct PointCounts {
     pub name: u16,

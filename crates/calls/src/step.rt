@@ -9,12 +9,12 @@ ghost use Rattle.calls.specs.Promises.{sides_of};
 
 use matching::Sides;
 
-// A step has five numbers.
+/// A step has five numbers.
 pub const STEP_WIDTH: usize = 5;
 
 pub const MAX_STEPS: usize = 2048;
 
-// A step: a rule, two rows, and two premises by their numbers.
+/// A step: a rule, two rows, and two premises by their numbers.
 #[derive(Clone, Copy)]
 pub struct Step {
     pub rule: u16,
@@ -46,21 +46,21 @@ impl From<Step> for [u16; STEP_WIDTH] {
     }
 }
 
-// How many steps the numbers are, without an incomplete last one.
+/// How many steps the numbers are, without an incomplete last one.
 pub fn step_count(steps: &[u16]) -> usize
     ensures { result ≡ length (steps_of steps.now) }
 {
     whole_steps(steps).len()
 }
 
-// The steps, each as its numbers. `as_chunks` is what rows, steps and points share.
+/// The steps, each as its numbers. `as_chunks` is what rows, steps and points share.
 pub fn whole_steps(steps: &[u16]) -> &[[u16; STEP_WIDTH]]
     ensures { map step_of_numbers result.now ≡ steps_of steps.now }
 {
     steps.as_chunks().0
 }
 
-// Step i, counted from 1.
+/// Step i, counted from 1.
 pub fn step_numbered(steps: &[u16], i: u16) -> Option<Step>
     ensures { StepIs result (steps_of steps.now) i }
 {
@@ -70,9 +70,8 @@ pub fn step_numbered(steps: &[u16], i: u16) -> Option<Step>
         .map(|&numbers| Step::from(numbers))
 }
 
-// The rows of step i, counted from 1, and of 0 those of step 1; zeros where there is no such step: a rule doesn't look
-// at a premise that it lacks. No derived Default of Sides: as a default the zeros would look like rows 0 and 0, which a
-// step may have; here they say that there is no step.
+/// The rows of step i, counted from 1, and of 0 those of step 1; zeros where there is no such step: a rule doesn't look
+/// at a premise that it lacks.
 #[tactic(auto, unfolding(crate::specs::Promises::sides_of))]
 pub fn sides_of(steps: &[u16], i: u16) -> Sides
     ensures { sides_in result ≡ sides_of (step_numbered (steps_of steps.now) i) }

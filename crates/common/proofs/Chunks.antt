@@ -1,4 +1,4 @@
--- Records of w numbers, as `as_chunks` cuts them. Assumes nothing.
+-- Records of w numbers, as `as_chunks` cuts them.
 use Prim.Native.Nat.{ℕ, zero, suc, ◌+◌, ◌*◌, ◌≤◌, ◌<◌}
 use mathlib.Core.Path.{◌≡◌, refl, sym, ap, ◌∙◌}
 use mathlib.Core.Bool.{cond}

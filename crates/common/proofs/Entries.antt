@@ -1,4 +1,4 @@
--- Facts and tests of the entries of a list. Assumes nothing.
+-- Facts and tests of the entries of a list.
 use Prim.Native.Nat.{ℕ, zero, suc, ◌<◌}
 use mathlib.Core.Path.{refl}
 use mathlib.Core.Bool.{Bool}

@@ -1,4 +1,4 @@
--- What a `?` returns, where its contract names the error. Assumes nothing.
+-- What a `?` returns, where its contract names the error.
 use mathlib.Core.Path.{◌≡◌, ap, ◌∙◌}
 use Rattle.std.specs.Prelude.{Result, Err}
 use Rattle.std.specs.Result.{IsErrAnd}

@@ -1,4 +1,4 @@
--- Values as they are lent, for showing that a call can be made. Assumes nothing.
+-- Values as they are lent, for showing that a call can be made.
 use denote.Ref.{Bor}
 use denote.MutBor.{MutBor}
 

@@ -1,4 +1,4 @@
--- Records on lent numbers. Assumes nothing.
+-- Records on lent numbers.
 use Prim.Native.Nat.{ℕ, ◌+◌, ◌≤◌}
 use mathlib.Core.Path.{◌≡◌, sym, ◌∙◌}
 use mathlib.Core.List.{List, append_assoc}

@@ -1,5 +1,4 @@
 -- What a passed test says, and the way back (`mir.Facts` has both for the tests of numbers, `and`, and `or` one way).
--- Assumes nothing.
 use Prim.Native.Nat.{ℕ, zero, suc, ◌≤◌, ◌<◌}
 use mathlib.Core.Path.{◌≡◌, refl, subst}
 use mathlib.Core.Bool.{Bool, true, false, not, ◌&&◌, ◌||◌}

@@ -1,4 +1,4 @@
--- What holds of every refusal. Assumes nothing.
+-- What holds of every refusal.
 use mathlib.Core.Path.{◌≡◌}
 use native.Mathlib.Omega.{arith}
 use Rattle.common.specs.declared.refusal.Refusal.{Refusal}

@@ -1,4 +1,4 @@
--- What an Option or a Result was, by what a method of it gives. Assumes nothing.
+-- What an Option or a Result was, by what a method of it gives.
 use mathlib.Core.Path.{◌≡◌, refl}
 use Rattle.std.specs.Prelude.{Option, Some, None, Result, Ok, Err, ok_or, MatchResult, IsErrAnd}
 use Rattle.std.proofs.Common.{rules}

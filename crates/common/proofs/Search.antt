@@ -1,4 +1,4 @@
--- The search for the first number that passes. Assumes nothing.
+-- The search for the first number that passes.
 use Prim.Native.Nat.{ℕ, zero, suc, ◌<◌, ◌≤◌}
 use mathlib.Core.Path.{◌≡◌, refl, sym, ap, ◌∙◌}
 use mathlib.Core.Bool.{Bool, true, false, not, cond}

@@ -1,4 +1,4 @@
--- Facts about tests that more than one crate needs and the library lacks. Assumes nothing.
+-- Facts about tests that more than one crate needs and the library lacks.
 use Prim.Native.Nat.{ℕ, zero, suc, ◌≤◌, ◌<◌}
 use mathlib.Core.Path.{◌≡◌, refl, sym}
 use mathlib.Core.Bool.{Bool, true, false, not, cond, ◌||◌}

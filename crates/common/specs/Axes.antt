@@ -1,4 +1,4 @@
--- The numbers of the twelve axes. Assumes nothing.
+-- The numbers of the twelve axes.
 use Rattle.std.specs.Prelude.{ℕ}
 
 abbrev pub self : ℕ

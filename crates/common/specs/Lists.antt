@@ -1,4 +1,4 @@
--- Tests, facts and numbers of the entries of a list. Assumes nothing.
+-- Tests, facts and numbers of the entries of a list.
 use Rattle.std.specs.Prelude.{ℕ, Bool, true, false, ◌&&◌, ◌||◌, List, [], ◌∷◌, ◌++◌}
 
 -- every entry passes f

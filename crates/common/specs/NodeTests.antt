@@ -1,5 +1,5 @@
 -- The numbers of the seven node tests: a name, `*`, `node()`, `text()`, `comment()`, `processing-instruction()`, and
--- `processing-instruction('target')`. Assumes nothing.
+-- `processing-instruction('target')`.
 use Rattle.std.specs.Prelude.{ℕ}
 
 abbrev pub name_test : ℕ

@@ -1,4 +1,4 @@
--- The refusals of documents 01 and 02, each number by one name. Assumes nothing.
+-- The refusals, each number by one name.
 use Rattle.std.specs.Prelude.{ℕ}
 
 -- kind above 11

@@ -1,4 +1,4 @@
--- The numbers of the twelve kinds of rows: six of paths, then six of qualifiers. Assumes nothing.
+-- The numbers of the twelve kinds of rows: six of paths, then six of qualifiers.
 use Rattle.std.specs.Prelude.{ℕ}
 
 abbrev pub void_row : ℕ

@@ -51,8 +51,7 @@ impl TryFrom<u16> for Axis {
     }
 }
 
-// The enum's numbers by name: the patterns of `try_from`, the axes of the rule table and of the pairs of axes, and what
-// a number that is lent is compared with once, where a conversion before it would be no plainer.
+// The enum's numbers by name.
 pub const SELF: u16 = Axis::Itself as u16;
 
 pub const CHILD: u16 = Axis::Child as u16;

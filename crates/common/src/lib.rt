@@ -1,4 +1,4 @@
-// What every crate uses: the papers' kinds, axes, tests and refusals, each with its number, and limits.
+// What every crate uses: kinds, axes, tests and refusals, each with its number, and limits.
 #![tactic(auto)]
 
 // Of axes, kinds and tests. Each enum's two conversions are written out: `rt ci` refuses an `impl` that a macro of this
@@ -14,15 +14,14 @@ ghost use Rattle.std.proofs.lemmas.List.Edits.{sets};
 
 pub use refusal::Refusal;
 
-// The most bytes of a text that a program takes.
+/// The most bytes of a text that a program takes.
 pub const MAX_BYTES: usize = 65536;
 
-// The largest number that a line may have and the largest name: the largest of 16 bits.
+/// The largest number that a line may have and the largest name: the largest of 16 bits.
 pub const MAX_NUMBER: usize = u16::MAX as usize;
 
-// Record n, counted from 0, of lent numbers of which each W are a record, becomes `values`. Room is asked: each caller
-// has counted, and no answer could say that there is none. Reading one has no function here: `as_chunks` and `get` are
-// the library's, and each crate says what its numbers are.
+/// Record n, counted from 0, of lent numbers of which each W are a record, becomes `values`. Room is asked: each caller
+/// has counted.
 #[tactic(auto, using(crate::proofs::Records::copied))]
 pub fn put_record<const W: usize>(numbers: &mut [u16], n: usize, values: [u16; W])
     requires { W * n + W ≤ length numbers.old }

@@ -39,8 +39,7 @@ impl TryFrom<u16> for NodeKind {
     }
 }
 
-// The enum's numbers by name: the patterns of `try_from`, and what a number that is lent is compared with once, where a
-// conversion before it would be no plainer.
+// The enum's numbers by name.
 pub const ROOT: u16 = NodeKind::Root as u16;
 
 pub const ELEMENT: u16 = NodeKind::Element as u16;

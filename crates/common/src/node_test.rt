@@ -42,8 +42,7 @@ impl TryFrom<u16> for NodeTest {
     }
 }
 
-// The enum's numbers by name: the patterns of `try_from`, the tests of the rule table, and what a number that is lent
-// is compared with once, where a conversion before it would be no plainer.
+// The enum's numbers by name.
 pub const NAME: u16 = NodeTest::Name as u16;
 
 pub const STAR: u16 = NodeTest::Star as u16;

@@ -1,4 +1,4 @@
-// The refusals of documents 01 and 02, each with what its value is.
+// The refusals, each with what its value is.
 ghost use Rattle.std.specs.Prelude.{◌≡◌};
 ghost use Rattle.common.specs.code.Refusal.{refusal_number, refusal_value};
 
@@ -37,7 +37,6 @@ pub enum Refusal {
 }
 
 impl Refusal {
-    // By a match: a case that has a value has no number of its own.
     pub fn number(self) -> u16
         ensures { result ≡ refusal_number self }
     {

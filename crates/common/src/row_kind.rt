@@ -20,7 +20,7 @@ pub enum RowKind {
 }
 
 impl RowKind {
-    // Whether it is a kind of paths; the others are kinds of qualifiers.
+    /// Whether it is a kind of paths; the others are kinds of qualifiers.
     pub fn is_path(self) -> bool
         ensures { result ≡ leb (row_number self) filter_row }
     {
@@ -69,8 +69,7 @@ impl TryFrom<u16> for RowKind {
     }
 }
 
-// The enum's numbers by name: the patterns of `try_from`, and what a number that is lent is compared with once, where a
-// conversion before it would be no plainer.
+// The enum's numbers by name.
 pub const VOID: u16 = RowKind::Void as u16;
 
 pub const ROOT: u16 = RowKind::Root as u16;

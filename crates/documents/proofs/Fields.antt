@@ -1,4 +1,4 @@
--- The fields of the rows of columns. Assumes nothing.
+-- The fields of the rows of columns.
 use Prim.Native.Nat.{ℕ, zero, suc, ◌+◌}
 use mathlib.Core.Path.{◌≡◌, refl, ap}
 use mathlib.Core.List.{List, [], ◌∷◌, ◌++◌}

@@ -1,4 +1,4 @@
--- The first bad row by the climb is that of the definition; where no row is bad, the columns are sound. Assumes nothing.
+-- The first bad row by the climb is that of the definition; where no row is bad, the columns are sound.
 use Prim.Native.Nat.{ℕ, zero, suc, ◌-◌, ◌+◌, ◌≤◌, ◌<◌}
 use mathlib.Core.Path.{◌≡◌, refl, sym, ap, subst, ◌∙◌}
 use mathlib.Core.Bool.{Bool, true, false, not, ◌&&◌}

@@ -1,4 +1,4 @@
--- What the parts of the check promise each other. Assumes nothing.
+-- What the parts of the check promise each other.
 use Rattle.std.specs.Prelude.{ℕ, ◌≡◌, not, List, length, IfNone}
 use Rattle.std.specs.Prelude as code
 use Rattle.common.specs.Bounded.{first_below}

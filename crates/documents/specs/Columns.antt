@@ -1,4 +1,4 @@
--- Documents of any size, as columns. Assumes nothing.
+-- Documents of any size, as columns.
 use Rattle.std.specs.Prelude.{ℕ, ◌≡◌, ◌<◌, ◌≤◌, List, [], ◌∷◌, T, length, get_or}
 use Rattle.xpath.specs.Document.{Document, node, well_formed}
 use Rattle.xpath.specs.code.Ends.{Ends}

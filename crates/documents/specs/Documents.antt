@@ -1,4 +1,4 @@
--- The documents of the code's rows and documents, and what the check of rows answers. Assumes nothing.
+-- The documents of the code's rows and documents, and what the check of rows answers.
 use Rattle.std.specs.Prelude.{ℕ, ◌≡◌, not, length, Result, Ok, Err}
 use Rattle.std.proofs.Math.Option.{Option, none, some}
 use Rattle.xpath.specs.Document.{Document, row_ok, refused_rows}

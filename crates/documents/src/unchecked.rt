@@ -1,7 +1,7 @@
 // Columns that are not checked.
 ghost use Rattle.documents.specs.Columns.{Even};
 
-// The kinds, the parents and the names of the rows.
+/// The kinds, the parents and the names of the rows.
 #[derive(Clone, Copy)]
 pub struct Unchecked<'a> {
     pub kinds: &'a [u8],

@@ -1,5 +1,4 @@
 -- What the answer to a claim means: the session that both texts leave has the bundle's steps, and its rows in front.
--- Assumes nothing.
 use Prim.Native.Nat.{ℕ, suc, ◌-◌, ◌≤◌, ◌<◌}
 use mathlib.Core.Path.{◌≡◌, refl, sym, ap, subst, ◌∙◌}
 use mathlib.Core.Bool.{Bool, true, false, cond}
@@ -35,12 +34,12 @@ use Rattle.session.specs.View.{view, fresh_session}
 use Rattle.session.specs.Promises.{session_answer, session_with}
 use Rattle.session.specs.Reading.{reading}
 use Rattle.session.proofs.Simulation.{Kept, fresh_kept, session_as_book}
-use Rattle.session.proofs.Source.{Read, call_tied, read_tied, reads_exist, read_demand}
+use Rattle.session.proofs.Source.{Read, call_tied, read_tied, reads_exist, read_guarantee}
 use Rattle.exports.specs.ClaimCall.{Claimed, claimed, the_claim, the_bundle, old_selector, new_selector}
 use Rattle.exports.specs.ClaimCall.{said_answer, new_claimed, old_claimed, claim_answer}
 use Rattle.exports.proofs.Saying.{saying_found, saying_none, says_iff}
 use Rattle.exports.proofs.Texts.{TextHeld, text_held}
-use Rattle.exports.specs.ClaimDemand.{ClaimRelation, BundleSays, IsContained, ClaimDemand}
+use Rattle.exports.specs.ClaimGuarantee.{ClaimRelation, BundleSays, IsContained, ClaimGuarantee}
 
 -- what is asked after w answers 0 only where w accepts
 unless_refused : (w : Answer) (k : ℕ) (p c : Claimed) → c ≡ cond (accepted w) p (claimed k w) → c.answer.number ≡ 0
@@ -159,7 +158,7 @@ read_kept bundle e =
     let (t, on_fresh) = reads_exist fresh_session bundle in
     let r : Read bundle t = (fresh_session, on_fresh) in
     let met = read_tied bundle t r in
-    let read = read_demand.accepted bundle t r (ap (λ (a : Answer). a.number) met.answer ∙ e) in
+    let read = read_guarantee.accepted bundle t r (ap (λ (a : Answer). a.number) met.answer ∙ e) in
     let (shows, holds, whole, reachable) =
     run_follows session_as_book fresh_kept.whole fresh_kept.reachable (run_map call_tied read.made) in
     subst Kept met.session (record { whole = whole; reachable = reachable })
@@ -337,12 +336,12 @@ taken bundle names old new a e =
     record { read = eqb-true _ 0 b; old_taken = eqb-true _ 0 c; new_taken = eqb-true _ 0 d; told = told }
 
 -- where a claim is answered as it is defined
-pub claim_demand_by : (Claims : ClaimRelation)
+pub claim_guarantee_by : (Claims : ClaimRelation)
     → ((bundle names old new : Bytes) (c : Claimed) → Claims bundle names old new c
     → c ≡ claim_answer bundle names old new)
-    → ClaimDemand Claims
+    → ClaimGuarantee Claims
 unfolding said_answer
-claim_demand_by Claims tied =
+claim_guarantee_by Claims tied =
     record {
       whose = λ bundle names old new c m. zero_part bundle names old new c (tied bundle names old new c m);
       either = λ bundle names old new a m.

@@ -1,5 +1,4 @@
--- Each clause of what is demanded of the exports, written out once more: without one of them this fails. Assumes
--- nothing.
+-- Each clause of what is guaranteed of the exports, written out once more: without one of them this fails.
 use Prim.Native.Nat.{ℕ, ◌≤◌, ◌<◌}
 use mathlib.Core.Path.{◌≡◌}
 use mathlib.Core.Bool.{cond}
@@ -24,57 +23,57 @@ use Rattle.session.specs.SessionLaws.{without_points}
 use Rattle.session.specs.WriteCall.{session_text}
 use Rattle.filing.specs.Filing.{calls_in}
 use Rattle.exports.specs.ClaimCall.{Claimed, claimed}
-use Rattle.exports.specs.ClaimDemand.{ClaimRelation, ClaimDemand}
-use Rattle.exports.specs.SelectDemand.{TextSelectRelation, TextSelected, SelectDemand}
-use Rattle.exports.specs.FileDemand.{FileRelation, Filed, FileDemand}
+use Rattle.exports.specs.ClaimGuarantee.{ClaimRelation, ClaimGuarantee}
+use Rattle.exports.specs.SelectGuarantee.{TextSelectRelation, TextSelected, SelectGuarantee}
+use Rattle.exports.specs.FileGuarantee.{FileRelation, Filed, FileGuarantee}
 
 -- a claim
-module _ (Claims : ClaimRelation) (demand : ClaimDemand Claims) (bundle names old new : Bytes) where
+module _ (Claims : ClaimRelation) (guarantee : ClaimGuarantee Claims) (bundle names old new : Bytes) where
   pub of_the_claim : (c : Claimed) → Claims bundle names old new c → c.answer.number ≡ 0 → c.part ≡ 0
-  of_the_claim = demand.whose bundle names old new
+  of_the_claim = guarantee.whose bundle names old new
 
   pub yes_or_no : (a : Answer) → Claims bundle names old new (claimed 0 a) → (a.number ≡ 0) ⊎ (a ≡ answer 26 1)
-  yes_or_no = demand.either bundle names old new
+  yes_or_no = guarantee.either bundle names old new
 
   pub bundle_refused : (a : Answer) → Claims bundle names old new (claimed 1 a)
       → (a ≡ (reading bundle).answer) × (¬ (a.number ≡ 0))
-  bundle_refused = demand.of_bundle bundle names old new
+  bundle_refused = guarantee.of_bundle bundle names old new
 
   pub old_refused : (a : Answer) → Claims bundle names old new (claimed 2 a)
       → (a ≡ session_answer (reading bundle).session (text names old)) × (¬ (a.number ≡ 0))
-  old_refused = demand.of_old bundle names old new
+  old_refused = guarantee.of_old bundle names old new
 
   pub new_refused : (a : Answer) → Claims bundle names old new (claimed 3 a)
       → (a ≡ session_answer (session_with (reading bundle).session (text names old)) (text names new))
       × (¬ (a.number ≡ 0))
-  new_refused = demand.of_new bundle names old new
+  new_refused = guarantee.of_new bundle names old new
 
   pub of_selectors : (a : Answer) → Claims bundle names old new (claimed 0 a)
       → ((reading bundle).answer.number ≡ 0) × (u : Union) × (v : Union) × Spells old u × Spells new v
-  of_selectors = demand.asked bundle names old new
+  of_selectors = guarantee.asked bundle names old new
 
   pub said_and_contained : (i : ℕ) → Claims bundle names old new (claimed 0 (answer 0 i))
       → (u v : Union) → Spells old u → Spells new v
       → StepSays (view (reading bundle).session) i (union_of (number_of names) u) (union_of (number_of names) v)
       × ((d : Document) → T (well_formed d) → (x : ℕ) → x < length d
       → (y : ℕ) → T (selects d (union_of (number_of names) u) x y) → T (selects d (union_of (number_of names) v) x y))
-  said_and_contained = demand.yes bundle names old new
+  said_and_contained = guarantee.yes bundle names old new
 
   pub not_said : (n : ℕ) → Claims bundle names old new (claimed 0 (answer 26 n))
       → (u v : Union) → Spells old u → Spells new v → (i : ℕ)
       → ¬ StepSays (view (reading bundle).session) i (union_of (number_of names) u) (union_of (number_of names) v)
-  not_said = demand.no bundle names old new
+  not_said = guarantee.no bundle names old new
 
 -- a select by text
-module _ (Selects : TextSelectRelation) (demand : SelectDemand Selects) (names t : Bytes) (xs : List ℕ) (x limit : ℕ)
+module _ (Selects : TextSelectRelation) (guarantee : SelectGuarantee Selects) (names t : Bytes) (xs : List ℕ) (x limit : ℕ)
     (buffer left : List ℕ) (a : Answer) (selected : Selects names t xs x limit buffer a left)
   where
     pub marks_stay : ¬ (a.number ≡ 0) → left ≡ buffer
-    marks_stay = demand.refused names t xs x limit buffer left a selected
+    marks_stay = guarantee.refused names t xs x limit buffer left a selected
 
     module _ (accepts : a.number ≡ 0) where
       abbrev made : TextSelected names t xs x buffer left
-      made = demand.accepted names t xs x limit buffer left a selected accepts
+      made = guarantee.accepted names t xs x limit buffer left a selected accepts
 
       pub taken : T (well_formed (document_of xs)) × (x < length (document_of xs))
           × (length (document_of xs) ≤ length buffer) × Spells t made.tree
@@ -88,15 +87,15 @@ module _ (Selects : TextSelectRelation) (demand : SelectDemand Selects) (names t
       later_stay = made.later
 
 -- a script that is filed
-module _ (Files : FileRelation) (demand : FileDemand Files) (script buffer left : Bytes) (a : Answer)
+module _ (Files : FileRelation) (guarantee : FileGuarantee Files) (script buffer left : Bytes) (a : Answer)
     (is-filed : Files script buffer a left)
   where
     pub bytes_stay : ¬ (a.number ≡ 0) → left ≡ buffer
-    bytes_stay = demand.refused script buffer left a is-filed
+    bytes_stay = guarantee.refused script buffer left a is-filed
 
     module _ (accepts : a.number ≡ 0) where
       abbrev done : Filed script (take a.value left)
-      done = demand.accepted script buffer left a is-filed accepts
+      done = guarantee.accepted script buffer left a is-filed accepts
 
       pub calls_made_lem : CallsMade fresh_session (calls_in script) done.seen done.session
       calls_made_lem = done.made

@@ -1,4 +1,4 @@
--- What filing a script means: its lines' calls are made, and what they leave is written. Assumes nothing.
+-- What filing a script means: its lines' calls are made, and what they leave is written.
 use Prim.Native.Nat.{ℕ, ◌+◌}
 use mathlib.Core.Path.{◌≡◌, refl, sym, ap, ap₂, ◌∙◌}
 use mathlib.Core.Bool.{Bool, true, false, cond}
@@ -27,7 +27,7 @@ use Rattle.filing.specs.Filing.{file_answer, file_buffer, FileMet, calls_from, c
 use Rattle.filing.proofs.Fits.{calls_fit}
 use Rattle.exports.proofs.ReadBack.{text_reads_back}
 use Rattle.exports.proofs.Selects.{Both, both}
-use Rattle.exports.specs.FileDemand.{FileRelation, Filed, FileDemand}
+use Rattle.exports.specs.FileGuarantee.{FileRelation, Filed, FileGuarantee}
 
 -- calls made from s that are all accepted and leave t
 record AllMade (s : Session) (cs : List Call) (t : Session) : Type 0 where
@@ -131,10 +131,10 @@ module _ (script buffer left : Bytes) (a : Answer) (told : a ≡ file_answer scr
         by_test false q = cases.2 (eqb-false (filed script).answer.number 0 q)
 
 -- where a script is answered, and leaves the buffer, as it is defined
-pub file_demand_by : (Files : FileRelation)
+pub file_guarantee_by : (Files : FileRelation)
     → ((script buffer left : Bytes) (a : Answer) → Files script buffer a left → FileMet script buffer a left)
-    → FileDemand Files
-file_demand_by Files tied =
+    → FileGuarantee Files
+file_guarantee_by Files tied =
     record {
       accepted = λ script buffer left a m.
           let met = tied script buffer left a m in

@@ -1,4 +1,4 @@
--- The answers of the exports, by the answers of the session's calls that they make. Assumes nothing.
+-- The answers of the exports, by the answers of the session's calls that they make.
 use Prim.Native.Nat.{ℕ}
 use mathlib.Core.Path.{◌≡◌, refl, sym, ap, subst, ◌∙◌}
 use mathlib.Core.Bool.{true, false, cond}

@@ -1,4 +1,4 @@
--- The bundle of a session that calls lead to reads back as that session but for its points. Assumes nothing.
+-- The bundle of a session that calls lead to reads back as that session but for its points.
 use mathlib.Core.Path.{◌≡◌, sym, subst, ◌∙◌}
 use mathlib.Core.List.{List}
 use native.Mathlib.Omega.{arith}
@@ -10,12 +10,12 @@ use Rattle.session.specs.declared.session.Session.{Session}
 use Rattle.session.specs.View.{view, fresh_session}
 use Rattle.session.specs.Promises.{CallsMade}
 use Rattle.session.specs.Reading.{reading}
-use Rattle.session.specs.ReadDemand.{CallFits}
+use Rattle.session.specs.ReadGuarantee.{CallFits}
 use Rattle.session.specs.SessionLaws.{without_points}
 use Rattle.session.specs.WriteCall.{session_text}
 use Rattle.session.proofs.Restored.{whole_left}
 use Rattle.session.proofs.Written.{written_text, written_where_room}
-use Rattle.session.proofs.Source.{whole_session, new_exists, calls_exist, writes_exist, reads_exist, read_demand}
+use Rattle.session.proofs.Source.{whole_session, new_exists, calls_exist, writes_exist, reads_exist, read_guarantee}
 use Rattle.session.proofs.Source.{Read, write_tied, read_tied}
 
 pub text_reads_back : (cs : List Call) (os : List CallSeen) (s : Session) → CallsMade fresh_session cs os s
@@ -34,7 +34,7 @@ text_reads_back cs os s run fits =
     let bytes = written_text t buffer w left met taken in
     let (r, on_fresh) = reads_exist fresh_session (session_text t) in
     let is_read : Read (session_text t) r = (fresh_session, on_fresh) in
-    let back = read_demand.written_reads_back cs shown t made fits buffer left w wrote taken r
+    let back = read_guarantee.written_reads_back cs shown t made fits buffer left w wrote taken r
     (subst (λ ys. Read ys r) (sym bytes) is_read) in
     let tied = read_tied (session_text t) r is_read in
     let told = sym tied.answer ∙ back.0 in

@@ -1,5 +1,4 @@
 -- A step that says that one row is contained in another: what the search for it finds, and what it says of paths.
--- Assumes nothing.
 use Prim.Native.Nat.{ℕ, zero, suc, ◌<◌}
 use mathlib.Core.Path.{◌≡◌, refl, sym, subst, ◌∙◌}
 use mathlib.Core.Bool.{Bool, true, false, cond}

@@ -1,4 +1,4 @@
--- What a select by a selector as text means: its row's path is the text's. Assumes nothing.
+-- What a select by a selector as text means: its row's path is the text's.
 use Prim.Native.Nat.{ℕ}
 use mathlib.Core.Path.{◌≡◌, refl, sym, ap, ◌∙◌}
 use mathlib.Core.Bool.{Bool, true, false, cond}
@@ -24,7 +24,7 @@ use Rattle.session.specs.View.{fresh_session}
 use Rattle.session.proofs.Simulation.{fresh_kept}
 use Rattle.exports.specs.TextSelect.{read_answer, read_rows, text_select_answer, text_select_buffer}
 use Rattle.exports.specs.TextSelect.{TextSelectMade}
-use Rattle.exports.specs.SelectDemand.{TextSelectRelation, TextSelected, SelectDemand}
+use Rattle.exports.specs.SelectGuarantee.{TextSelectRelation, TextSelected, SelectGuarantee}
 use Rattle.exports.proofs.Texts.{TextHeld, text_held}
 
 -- an answer that comes after another one: both accept, or the first refuses
@@ -116,11 +116,11 @@ module _ (names t : Bytes) (xs : List ℕ) (x limit : ℕ) (buffer left : List �
         by_test false q = cases.2 (eqb-false (read_answer names t).number 0 q)
 
 -- where a select by text is answered, and leaves the buffer, as it is defined
-pub select_demand_by : (Selects : TextSelectRelation)
+pub select_guarantee_by : (Selects : TextSelectRelation)
     → ((names t : Bytes) (xs : List ℕ) (x limit : ℕ) (buffer left : List ℕ) (a : Answer)
     → Selects names t xs x limit buffer a left → TextSelectMade names t xs x limit buffer a left)
-    → SelectDemand Selects
-select_demand_by Selects tied =
+    → SelectGuarantee Selects
+select_guarantee_by Selects tied =
     record {
       accepted = λ names t xs x limit buffer left a m.
           let made = tied names t xs x limit buffer left a m in

@@ -1,5 +1,4 @@
 -- What the contracts in the source say of each export, as the toolchain reads them off it, and what they mean.
--- Assumes nothing.
 use Prim.Native.Nat.{ℕ}
 use mathlib.Core.Path.{◌≡◌, refl}
 use mathlib.Core.List.{List, []}
@@ -9,14 +8,14 @@ use Rattle.grammar.specs.Bytes.{Bytes}
 use Rattle.calls.specs.Book.{Answer, answer}
 use Rattle.session.specs.Reading.{reading}
 use Rattle.exports.specs.ClaimCall.{Claimed, claimed, claim_answer}
-use Rattle.exports.specs.ClaimDemand.{ClaimDemand}
+use Rattle.exports.specs.ClaimGuarantee.{ClaimGuarantee}
 use Rattle.exports.specs.TextSelect.{text_select_answer, text_select_buffer, TextSelectMade}
-use Rattle.exports.specs.SelectDemand.{SelectDemand}
-use Rattle.exports.specs.FileDemand.{FileDemand}
+use Rattle.exports.specs.SelectGuarantee.{SelectGuarantee}
+use Rattle.exports.specs.FileGuarantee.{FileGuarantee}
 use Rattle.filing.specs.Filing.{file_answer, file_buffer, FileMet}
-use Rattle.exports.proofs.Claims.{claim_demand_by}
-use Rattle.exports.proofs.Selects.{select_demand_by}
-use Rattle.exports.proofs.Files.{file_demand_by}
+use Rattle.exports.proofs.Claims.{claim_guarantee_by}
+use Rattle.exports.proofs.Selects.{select_guarantee_by}
+use Rattle.exports.proofs.Files.{file_guarantee_by}
 use Rattle.exports.proofs.read.spinebriar_read.Reads as read-reads
 use Rattle.exports.proofs.read.spinebriar_read_line.Reads as read-line-reads
 use Rattle.exports.proofs.claim.spinebriar_claim.Reads as claim-reads
@@ -114,11 +113,11 @@ files_exist script buffer =
           (lent script, (lent_to_write left, (lent_to_write a.value, tt))) (record { answer = refl; bytes = refl }),
     )
 
-pub claim_demand : ClaimDemand Claims
-claim_demand = claim_demand_by Claims claim_tied
+pub claim_guarantee : ClaimGuarantee Claims
+claim_guarantee = claim_guarantee_by Claims claim_tied
 
-pub select_demand : SelectDemand Selects
-select_demand = select_demand_by Selects select_tied
+pub select_guarantee : SelectGuarantee Selects
+select_guarantee = select_guarantee_by Selects select_tied
 
-pub file_demand : FileDemand Files
-file_demand = file_demand_by Files file_tied
+pub file_guarantee : FileGuarantee Files
+file_guarantee = file_guarantee_by Files file_tied

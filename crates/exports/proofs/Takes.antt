@@ -1,4 +1,4 @@
--- Every call takes every input: the contracts in the source ask nothing. Assumes nothing.
+-- Every call takes every input: the contracts in the source ask nothing.
 use Rattle.exports.proofs.read.spinebriar_read.Reads as read-reads
 use Rattle.exports.proofs.read.spinebriar_read_line.Reads as read-line-reads
 use Rattle.exports.proofs.claim.spinebriar_claim.Reads as claim-reads

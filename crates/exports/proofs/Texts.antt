@@ -1,4 +1,4 @@
--- An accepted text on a session that calls lead to. Assumes nothing.
+-- An accepted text on a session that calls lead to.
 use Prim.Native.Nat.{◌<◌}
 use mathlib.Core.Path.{◌≡◌, refl, sym, ap, subst, ◌∙◌}
 use mathlib.Core.List.{List, ◌++◌}

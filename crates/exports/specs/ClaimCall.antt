@@ -1,5 +1,5 @@
 -- Whether an accepted bundle has a step that says that one selector, as text, is contained in another: the answer, and
--- what it is about. Assumes nothing.
+-- what it is about.
 use Rattle.std.specs.Prelude.{ℕ, cond, eqb}
 use Rattle.grammar.specs.Bytes.{Bytes}
 use Rattle.calls.specs.Book.{Book, Answer, answer, accepted}

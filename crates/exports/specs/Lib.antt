@@ -1,7 +1,7 @@
 pub mod ClaimCall
-pub mod ClaimDemand
+pub mod ClaimGuarantee
 pub mod TextSelect
-pub mod SelectDemand
-pub mod FileDemand
+pub mod SelectGuarantee
+pub mod FileGuarantee
 pub mod code
 pub mod values

@@ -1,5 +1,4 @@
 -- A select by a selector as text: the text call on a fresh session, and then the select of the row that it answers.
--- Assumes nothing.
 use Rattle.std.specs.Prelude.{ℕ, ◌≡◌, cond, List, length}
 use Rattle.grammar.specs.Bytes.{Bytes}
 use Rattle.terms.specs.Row.{Row}

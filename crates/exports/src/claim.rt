@@ -70,7 +70,7 @@ fn claim_in(bundle: &[u8], names: &[u8], old: &[u8], new: &[u8]) -> Result<usize
     step.ok_or(ClaimRefusal::Claim(Refusal::NotCovered(1)))
 }
 
-// The number of the answer, its value, and what it is about.
+/// The number of the answer, its value, and what it is about.
 pub fn spinebriar_claim(
     bundle: &[u8],
     names: &[u8],

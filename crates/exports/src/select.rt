@@ -24,7 +24,7 @@ fn select_text(
     session.select(row, document, context, limit, marks)
 }
 
-// The number of the answer and its value.
+/// The number of the answer and its value.
 pub fn spinebriar_select(
     names: &[u8],
     selector: &[u8],

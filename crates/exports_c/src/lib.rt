@@ -9,7 +9,7 @@ ghost use Rattle.exports.specs.ClaimCall.{claimed, claim_answer};
 ghost use Rattle.exports.specs.TextSelect.{TextSelectMade};
 ghost use Rattle.filing.specs.Filing.{FileMet};
 
-// The number of the answer to a bundle's bytes.
+/// The number of the answer to a bundle's bytes.
 #[unsafe(no_mangle)]
 pub extern "C" fn spinebriar_read(bytes: &[u8]) -> u16
     ensures { result ≡ (reading bytes.now).answer.number }
@@ -17,7 +17,7 @@ pub extern "C" fn spinebriar_read(bytes: &[u8]) -> u16
     exports::spinebriar_read(bytes)
 }
 
-// The same, with the answer's value: the number of steps held, or the refused line.
+/// The same, with the answer's value: the number of steps held, or the refused line.
 #[unsafe(no_mangle)]
 pub extern "C" fn spinebriar_read_line(bytes: &[u8], value: &mut usize) -> u16
     ensures { answer result value.new ≡ (reading bytes.now).answer }
@@ -25,8 +25,8 @@ pub extern "C" fn spinebriar_read_line(bytes: &[u8], value: &mut usize) -> u16
     exports::spinebriar_read_line(bytes, value)
 }
 
-// Whether an accepted bundle has a step that says that the old selector is contained in the new one: the number of the
-// answer, its value, and what it is about. Its parameters are those of the host's call.
+/// Whether an accepted bundle has a step that says that the old selector is contained in the new one: the number of the
+/// answer, its value, and what it is about. Its parameters are those of the host's call.
 #[unsafe(no_mangle)]
 pub extern "C" fn spinebriar_claim(
     bundle: &[u8],
@@ -42,8 +42,8 @@ pub extern "C" fn spinebriar_claim(
     exports::spinebriar_claim(bundle, names, old, new, value, part)
 }
 
-// The number of the answer and its value; the nodes that a selector as text selects on a lent document are marked. As
-// many parameters as the C call has.
+/// The number of the answer and its value; the nodes that a selector as text selects on a lent document are marked. As
+/// many parameters as the C call has.
 #[unsafe(no_mangle)]
 pub extern "C" fn spinebriar_select(
     names: &[u8],
@@ -60,8 +60,8 @@ pub extern "C" fn spinebriar_select(
     exports::spinebriar_select(names, selector, document, context, limit, marks, value)
 }
 
-// The number of the answer and its value: the bundle's length, which is written to the buffer's start, or the refused
-// line, or the length needed.
+/// The number of the answer and its value: the bundle's length, which is written to the buffer's start, or the refused
+/// line, or the length needed.
 #[unsafe(no_mangle)]
 pub extern "C" fn spinebriar_file(calls: &[u8], out: &mut [u8], value: &mut usize) -> u16
     ensures { FileMet calls.now out.old (answer result value.new)

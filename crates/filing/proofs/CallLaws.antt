@@ -1,4 +1,4 @@
--- What the functions that file a script leave, by what they call. Assumes nothing.
+-- What the functions that file a script leave, by what they call.
 use Rattle.std.specs.Prelude.{Result, Ok, Err}
 use Prim.Native.Nat.{ℕ, ◌≤◌, ◌<◌, min}
 use mathlib.Core.Path.{◌≡◌, refl, sym, ap, subst, ◌∙◌}

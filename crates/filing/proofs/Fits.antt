@@ -1,4 +1,4 @@
--- The numbers of a script's calls have 16 bits. Assumes nothing.
+-- The numbers of a script's calls have 16 bits.
 use Prim.Native.Nat.{ℕ, zero, suc, ◌≤◌}
 use mathlib.Core.Path.{◌≡◌, refl, subst}
 use mathlib.Core.Bool.{Bool, true, false, cond, ◌&&◌}
@@ -14,7 +14,7 @@ use Rattle.lines.specs.Line.{Line, parts}
 use Rattle.lines.specs.Number.{max_number, is_decimal, append_digits, number_up_to, numbers_up_to, line_numbers}
 use Rattle.grammar.specs.Bytes.{Bytes}
 use Rattle.calls.specs.Calls.{Call}
-use Rattle.session.specs.ReadDemand.{CallFits}
+use Rattle.session.specs.ReadGuarantee.{CallFits}
 use Rattle.script_words.specs.declared.Word.{Word}
 use Rattle.script_words.specs.declared.Word.TheVariants.{Term, Step, Select, Document, Fresh, Old, New, Replace}
 use Rattle.script_words.specs.declared.Word.TheVariants.{Write, Point, Return, Other, Order, BundleOrder, Names, Text}

@@ -1,4 +1,4 @@
--- What one line leaves: where it is no call, and where it is one. Assumes nothing.
+-- What one line leaves: where it is no call, and where it is one.
 use Rattle.std.specs.Prelude.{Result, Err}
 use Prim.Native.Nat.{ℕ}
 use mathlib.Core.Path.{◌≡◌, refl, sym, ap, subst, ◌∙◌}

@@ -1,4 +1,4 @@
--- The lines of a script: what the first one does, and what is filed from there on. Assumes nothing.
+-- The lines of a script: what the first one does, and what is filed from there on.
 use Rattle.std.specs.Prelude.{Result, Ok, Err, is_ok, MatchResult}
 use Prim.Native.Nat.{ℕ, ◌+◌}
 use mathlib.Core.Path.{◌≡◌, refl, sym, ap, subst, ◌∙◌}

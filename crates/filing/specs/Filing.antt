@@ -1,5 +1,4 @@
 -- A script's lines, filed: their calls made in order from a fresh session, and the bundle of what these leave.
--- Assumes nothing.
 use Rattle.std.specs.Prelude.{ℕ, ◌+◌, ◌≡◌, cond, List, [], ◌∷◌, ◌++◌, eqb, leb, length, get_or}
 use Rattle.std.proofs.Math.Option.{Option, none, some, Option-elim}
 use Rattle.common.specs.Limits.{max_bytes}

@@ -21,7 +21,7 @@ use common::Refusal;
 use script::Command;
 use session::{LineRefusal, Session};
 
-// Why a script is refused: its first refused line, or what write refuses.
+/// Why a script is refused: its first refused line, or what write refuses.
 #[derive(Clone, Copy, Debug, PartialEq, Eq)]
 pub enum FileRefusal {
     Line(LineRefusal),
@@ -148,8 +148,8 @@ fn make_lines<'a>(script: &'a [u8], filed: &mut Filed<'a>) -> Result<(), LineRef
     Ok(())
 }
 
-// Makes the calls of the script's lines, and writes the bundle of what they leave into the buffer; it gives the
-// bundle's length. A refused script leaves the buffer.
+/// Makes the calls of the script's lines, and writes the bundle of what they leave into the buffer; it gives the
+/// bundle's length. A refused script leaves the buffer.
 pub fn file(script: &[u8], out: &mut [u8]) -> Result<usize, FileRefusal>
     ensures { FileMet script.now out.old (answer_with (λ n. n) file_refusal_answer result) out.new }
 {

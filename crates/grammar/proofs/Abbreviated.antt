@@ -1,4 +1,4 @@
--- The laws of abbreviations and of predicates. Assumes nothing.
+-- The laws of abbreviations and of predicates.
 use Prim.Native.Nat.{ℕ, zero, suc, ◌<◌}
 use mathlib.Core.Path.{◌≡◌, refl, sym, ap}
 use mathlib.Core.Bool.{Bool, true, false, not, ◌&&◌, ◌||◌}

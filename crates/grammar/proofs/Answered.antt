@@ -1,4 +1,4 @@
--- The answer of the book is the one that the grammar gives, and there is no other. Assumes nothing.
+-- The answer of the book is the one that the grammar gives, and there is no other.
 use Prim.Native.Nat.{ℕ, ◌-◌}
 use mathlib.Core.Path.{◌≡◌, refl, ap}
 use mathlib.Core.Bool.{Bool, true, false}

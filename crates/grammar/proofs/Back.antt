@@ -1,4 +1,4 @@
--- What a state has read: its bytes are those of its trees, and the trees are fine. Assumes nothing.
+-- What a state has read: its bytes are those of its trees, and the trees are fine.
 use Prim.Native.Nat.{ℕ, ◌<◌}
 use mathlib.Core.Path.{◌≡◌, refl, sym, ap, ◌∙◌, subst}
 use mathlib.Core.Bool.{Bool, true, false, ◌&&◌}

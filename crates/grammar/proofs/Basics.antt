@@ -1,4 +1,4 @@
--- Tests as facts, and walks of the reader over parts of a text. Assumes nothing.
+-- Tests as facts, and walks of the reader over parts of a text.
 use Prim.Native.Nat.{ℕ}
 use mathlib.Core.Path.{◌≡◌, refl, ◌∙◌}
 use mathlib.Core.Bool.{Bool, true, false, cond, ◌||◌}

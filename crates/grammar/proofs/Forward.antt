@@ -1,4 +1,4 @@
--- A text of the grammar is read to its end. Assumes nothing.
+-- A text of the grammar is read to its end.
 use Prim.Native.Nat.{ℕ, ◌<◌}
 use mathlib.Core.Path.{◌≡◌, refl, sym, ◌∙◌}
 use mathlib.Core.Bool.{Bool, true, false, not, ◌&&◌, ◌||◌}

@@ -1,4 +1,4 @@
--- Rows that are put are only added: what was held stays, in front of the new rows. Assumes nothing.
+-- Rows that are put are only added: what was held stays, in front of the new rows.
 use Prim.Native.Nat.{ℕ, ◌≤◌}
 use mathlib.Core.Path.{◌≡◌, refl, sym, ap, ◌∙◌}
 use mathlib.Core.Bool.{Bool, true, false, cond}

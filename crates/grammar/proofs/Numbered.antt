@@ -1,4 +1,4 @@
--- The numbers of names have 16 bits, and so have those in the rows that are put for a term. Assumes nothing.
+-- The numbers of names have 16 bits, and so have those in the rows that are put for a term.
 use Prim.Native.Nat.{ℕ, suc, ◌≤◌}
 use mathlib.Core.Path.{◌≡◌, refl}
 use mathlib.Core.Bool.{Bool, true, false, cond}

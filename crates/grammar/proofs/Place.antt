@@ -1,5 +1,4 @@
 -- The reader accepts just the texts of the grammar, with their trees, and stops at the first byte that can't continue.
--- Assumes nothing.
 use Prim.Native.Nat.{ℕ, suc, ◌+◌, ◌-◌, ◌<◌, ◌≤◌}
 use mathlib.Core.Path.{◌≡◌, refl, sym, ap, ◌∙◌, subst}
 use mathlib.Core.Bool.{true}

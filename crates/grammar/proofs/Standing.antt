@@ -1,5 +1,4 @@
--- The rows that an accepted text leaves are accepted rows, and the row that it answers is the text's term. Assumes
--- nothing.
+-- The rows that an accepted text leaves are accepted rows, and the row that it answers is the text's term.
 use Prim.Native.Nat.{ℕ}
 use mathlib.Core.Path.{◌≡◌}
 use mathlib.Core.List.{List}

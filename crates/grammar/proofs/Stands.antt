@@ -1,5 +1,4 @@
--- The rows of a term that are put after accepted rows are accepted, and the last one's term is that term. Assumes
--- nothing.
+-- The rows of a term that are put after accepted rows are accepted, and the last one's term is that term.
 use Prim.Native.Nat.{ℕ, suc, ◌+◌, ◌<◌, ◌≤◌, max}
 use mathlib.Core.Path.{◌≡◌, refl, sym, ap, subst, ◌∙◌}
 use mathlib.Core.Bool.{Bool, true, false, cond, ◌&&◌}

@@ -1,5 +1,5 @@
 -- What the abbreviations of XPath 1.0, clause 2.5, stand for, and what is meant in predicates: laws of the terms of
--- trees. Assumes nothing.
+-- trees.
 use Rattle.std.specs.Prelude.{ℕ, ◌<◌, ◌≡◌, Bool, not, ◌&&◌, ◌||◌, [], ltb, eqb, length}
 use Prim.Native.String.{String}
 use Rattle.common.specs.Bounded.{any_below}

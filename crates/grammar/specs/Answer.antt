@@ -1,5 +1,4 @@
 -- The answer to a text call on the rows held, by the grammar, the term of a tree, its names and the rows that it needs.
--- Assumes nothing.
 use Rattle.std.specs.Prelude.{ℕ, ◌<◌, ◌≤◌, ◌≡◌, List, length}
 use Rattle.std.proofs.Math.Option.{none, some}
 use Rattle.common.specs.Refusals.{too_deep, terms_full, outside_grammar, unlisted_name}

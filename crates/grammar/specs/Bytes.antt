@@ -1,5 +1,4 @@
--- Bytes of a text: whitespace (XPath 1.0, clause 3.7, ExprWhitespace) and names as T-06 restricts them. Assumes
--- nothing.
+-- Bytes of a text: whitespace (XPath 1.0, clause 3.7, ExprWhitespace) and names (Specification, Selectors as text).
 use Rattle.std.specs.Prelude.{ℕ, Bool, true, false, not, ◌&&◌, ◌||◌, List, [], ◌∷◌, eqb, leb}
 use Rattle.common.specs.Lists.{all_of}
 use Rattle.lines.specs.Ascii.{ascii}

@@ -1,4 +1,4 @@
--- The term of a tree, the names in it with their places, and the rows that a term needs. Assumes nothing.
+-- The term of a tree, the names in it with their places, and the rows that a term needs.
 use Rattle.std.specs.Prelude.{ℕ, suc, ◌+◌, max, Bool, true, false, cond, List, [], ◌∷◌, ◌++◌, eqb, ltb, length}
 use Rattle.std.proofs.Math.Option.{Option, none, some}
 use Rattle.grammar.specs.Bytes.{Bytes, not_word}

@@ -1,5 +1,5 @@
--- T-06's grammar: XPath 1.0 cut down. A constructor is a production; a tree keeps the whitespace before each of its
--- tokens, so `spell..` is the very text. Bytes are w whitespace, n a name. Assumes nothing.
+-- The grammar of selectors: XPath 1.0 cut down. A constructor is a production; a tree keeps the whitespace before each
+-- of its tokens, so `spell..` is the very text. Bytes are w whitespace, n a name.
 use Rattle.std.specs.Prelude.{ℕ, suc, ◌<◌, ◌≤◌, ◌-◌, ◌≡◌, Bool, true, false, [], ◌∷◌, ◌++◌, length, take}
 use Rattle.common.specs.Lists.{all_of}
 use Rattle.grammar.specs.Bytes.{Bytes, is_space, is_quote, is_word, nonempty, apart, not_word}
@@ -16,7 +16,7 @@ pub data Axis : Type 0 where
   axis : (w n v : Bytes) → Axis
 
 -- [7] NodeTest: [37] NameTest, `*` or a name; [38] NodeType and `( )`; or `processing-instruction ( )` with a target m
--- in quotes q (T-09)
+-- in quotes q
 pub data Test : Type 0 where
   any : (w : Bytes) → Test
   called : (w n : Bytes) → Test

@@ -1,4 +1,4 @@
--- Words of the grammar with their numbers in document 01, and the numbers of a lent list of names. Assumes nothing.
+-- Words of the grammar with their numbers, and the numbers of a lent list of names.
 use Rattle.std.specs.Prelude.{ℕ, suc, ◌+◌, Bool, true, false, cond, List, [], ◌∷◌, leb}
 use Rattle.std.proofs.Math.Option.{Option, none, some}
 use Rattle.common.specs.NodeTests.{node_test}

@@ -1,4 +1,4 @@
--- Runs of the grammar's reader over parts of a text. Assumes nothing.
+-- Runs of the grammar's reader over parts of a text.
 use Prim.Native.Nat.{ℕ, suc, ◌+◌, ◌-◌, ◌<◌, ◌≤◌}
 use mathlib.Core.Path.{◌≡◌, refl, sym, ap, ◌∙◌}
 use mathlib.Core.Bool.{Bool, true, false}

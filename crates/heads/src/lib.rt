@@ -13,8 +13,7 @@ use common::node_test::NodeTest;
 use words::bytes::{byte_at, is_start, name_end, skip};
 use words::{Names, Word};
 
-// The name of a step: its number in the list, or, where it is not listed, its place in the text. No Option of a Result:
-// the row's number is asked of all three cases, and the place of one.
+/// The name of a step: its number in the list, or, where it is not listed, its place in the text.
 #[derive(Clone, Copy)]
 pub enum StepName {
     Unnamed,
@@ -23,7 +22,7 @@ pub enum StepName {
 }
 
 impl StepName {
-    // Its number in the step's row, which has one for every step: 0 where the list gives none.
+    /// Its number in the step's row, which has one for every step: 0 where the list gives none.
     pub fn number(self) -> u16
         ensures { result ≡ name_number self }
     {
@@ -33,7 +32,7 @@ impl StepName {
         }
     }
 
-    // Its place, where it is not listed.
+    /// Its place, where it is not listed.
     pub fn unlisted(self) -> Option<usize>
         ensures { result ≡ name_place self }
     {
@@ -44,8 +43,8 @@ impl StepName {
     }
 }
 
-// A step without its predicates: `at` is the first place after it that has no whitespace. `filters`: predicates may
-// follow; no other part of the head hangs on it.
+/// A step without its predicates: `at` is the first place after it that has no whitespace. `filters`: predicates may
+/// follow; no other part of the head hangs on it.
 #[derive(Clone, Copy)]
 pub struct Head {
     pub at: usize,
@@ -55,7 +54,7 @@ pub struct Head {
     pub filters: bool,
 }
 
-// How an operand begins.
+/// How an operand begins.
 #[derive(Clone, Copy)]
 pub enum Opens {
     Paths,
@@ -65,16 +64,14 @@ pub enum Opens {
     False,
 }
 
-// How it begins, and the place of its `(`; of paths, some place in the text. The place is no part of each kind: the
-// kinds alone stand in the table of words below, and tell which row is put for an expression.
+/// How it begins, and the place of its `(`; of paths, some place in the text.
 #[derive(Clone, Copy)]
 pub struct Operand {
     pub opens: Opens,
     pub paren: usize,
 }
 
-// A name in the text, and the first place after it that has no whitespace. That the text has it there, `NameAt`, is no
-// ghost field: the text would have to be a field too, and each method ask that it is its selector's.
+// A name in the text, and the first place after it that has no whitespace.
 #[derive(Clone, Copy)]
 struct NameRead {
     start: usize,
@@ -129,8 +126,7 @@ fn dot_head(s: &[u8], at: usize) -> Head
     plain_head(skip(s, next), Axis::Itself, NodeTest::Node, false)
 }
 
-// A selector as text, and the list of its names. That a place is within the text is a clause of the methods: a place
-// with that fact would name the text that it is of, and each caller would prove it there just as here.
+/// A selector as text, and the list of its names.
 #[derive(Clone, Copy)]
 pub struct Selector<'a> {
     pub s: &'a [u8],
@@ -138,8 +134,7 @@ pub struct Selector<'a> {
 }
 
 impl Selector<'_> {
-    // A head with the name that stands from `from` up to `to`. These are no `NameRead`: behind the name of a target
-    // stands no whitespace, but its quote.
+    // A head with the name that stands from `from` up to `to`.
     fn named_head(self, from: usize, to: usize, at: usize, axis: Axis, test: NodeTest) -> Head
         requires from_le_to { (from ≤ to) × (to ≤ length self.s.now) }
         requires to_value { is_word (part self.s.now from to) ≡ true }
@@ -248,8 +243,8 @@ impl Selector<'_> {
         self.test_head(skip(self.s, second + 1), axis)
     }
 
-    // The head that begins at `at`, where no whitespace is. That is asked, since it would refuse whitespace, which the
-    // grammar passes over; callers have passed it by `skip`.
+    /// The head that begins at `at`, where no whitespace is. That is asked, since it would refuse whitespace, which the
+    /// grammar passes over; callers have passed it by `skip`.
     pub fn read_head(self, at: usize) -> Result<Head, usize>
         requires at_in_bounds { at ≤ length self.s.now }
         requires at_value { is_space (byte_at self.s.now at) ≡ false }
@@ -273,7 +268,7 @@ impl Selector<'_> {
     }
 }
 
-// The byte begins a step.
+/// The byte begins a step.
 #[tactic(auto, unfolding(words::specs::code::Scan::begins_step))]
 pub fn begins_step(b: u8) -> bool
     ensures { result ≡ begins_step b }
@@ -295,7 +290,7 @@ fn opened_by(word: &[u8]) -> Opens
     words::find(&CALLS, word).unwrap_or(Opens::Paths)
 }
 
-// How the operand that begins at `at` begins, where no whitespace is.
+/// How the operand that begins at `at` begins, where no whitespace is.
 pub fn operand_at(s: &[u8], at: usize) -> Operand
     requires { at ≤ length s.now }
     ensures operand { OperandMet s.now at result.opens result.paren }

@@ -1,4 +1,4 @@
--- Texts cut at a byte: their lines, and the parts of a line. Assumes nothing.
+-- Texts cut at a byte: their lines, and the parts of a line.
 use Prim.Native.Nat.{ℕ, suc, ◌≤◌, ◌<◌}
 use mathlib.Core.Path.{◌≡◌, refl, ap}
 use mathlib.Core.Bool.{Bool, true, false, cond, not, ◌&&◌, false≢true}

@@ -1,4 +1,4 @@
--- Where a byte stands first. Assumes nothing.
+-- Where a byte stands first.
 use Prim.Native.Nat.{ℕ, suc, ◌+◌, ◌<◌}
 use mathlib.Core.Path.{◌≡◌, refl, ap, ◌∙◌}
 use mathlib.Core.Bool.{Bool, true, false, cond, not}

@@ -1,4 +1,4 @@
--- Where the first line of a text ends. Assumes nothing.
+-- Where the first line of a text ends.
 use Prim.Native.Nat.{ℕ, suc, ◌+◌}
 use mathlib.Core.Path.{◌≡◌, refl}
 use mathlib.Core.Bool.{Bool, true, false, cond, not}

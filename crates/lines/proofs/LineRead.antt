@@ -1,4 +1,4 @@
--- A line of numbers is read number by number. Assumes nothing.
+-- A line of numbers is read number by number.
 use Prim.Native.Nat.{ℕ, zero, suc, ◌<◌}
 use mathlib.Core.Path.{◌≡◌, refl, sym, ap, subst}
 use mathlib.Core.List.{List, [], ◌∷◌, ◌++◌}

@@ -1,4 +1,4 @@
--- Bytes that are the same. Assumes nothing.
+-- Bytes that are the same.
 use Prim.Native.Nat.{ℕ}
 use mathlib.Core.Path.{◌≡◌, refl}
 use mathlib.Core.Bool.{Bool, true, false, ◌&&◌, false≢true}

@@ -1,4 +1,4 @@
--- A line that is known: the text starts with it and a newline. Assumes nothing.
+-- A line that is known: the text starts with it and a newline.
 use Prim.Native.Nat.{ℕ, suc, ◌+◌, ◌≤◌, ◌<◌}
 use mathlib.Core.Path.{◌≡◌, refl, sym, ap, ◌∙◌}
 use mathlib.Core.Bool.{Bool, true, false, cond, ◌&&◌, false≢true, and-false, and-true, and_assoc}

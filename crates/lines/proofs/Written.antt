@@ -1,4 +1,4 @@
--- The text of a number reads back as the number, and the text of a line of numbers as those numbers. Assumes nothing.
+-- The text of a number reads back as the number, and the text of a line of numbers as those numbers.
 use Prim.Native.Nat.{ℕ, zero, suc, ◌+◌, ◌/◌, ◌%◌, ◌≤◌, ◌<◌}
 use mathlib.Core.Path.{◌≡◌, refl, ap, ◌∙◌}
 use mathlib.Core.Bool.{Bool, true, false, cond, ◌&&◌, false≢true}

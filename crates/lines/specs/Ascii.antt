@@ -1,4 +1,4 @@
--- The bytes of an ASCII text. Assumes nothing.
+-- The bytes of an ASCII text.
 use Rattle.std.specs.Prelude.{ℕ, ◌≡◌, refl, List, [], ◌∷◌}
 use Prim.Native.Char.{code}
 use Prim.Native.String.{String, [] as no_text, ◌∷◌ as ◌then◌}

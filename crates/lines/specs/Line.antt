@@ -1,4 +1,4 @@
--- The lines of a text, and the parts of a line between spaces. Assumes nothing.
+-- The lines of a text, and the parts of a line between spaces.
 use Rattle.std.specs.Prelude.{ℕ, Bool, true, false, cond, ◌&&◌, List, [], ◌∷◌, eqb}
 use Rattle.std.proofs.Math.Option.{Option, none}
 

@@ -1,4 +1,4 @@
--- Numbers in base ten, and lines of them. Assumes nothing.
+-- Numbers in base ten, and lines of them.
 use Rattle.std.specs.Prelude.{ℕ, ◌+◌, ◌-◌, ◌*◌, Bool, false, cond, not, ◌&&◌, List, [], ◌∷◌, leb, eqb, replicate}
 use Rattle.std.proofs.Math.Option.{Option, none, some, Option-elim}
 pub use Rattle.common.specs.Limits.{max_number}

@@ -1,4 +1,4 @@
--- The text of numbers. Assumes nothing.
+-- The text of numbers.
 use Rattle.std.specs.Prelude.{ℕ, zero, suc, ◌+◌, ◌/◌, ◌%◌, ◌≤◌, cond, List, [], ◌∷◌, ◌++◌, ltb}
 use Rattle.lines.specs.Line.{newline, space}
 use Rattle.lines.specs.Number.{digit0, max_number}

@@ -18,18 +18,17 @@ pub const SPACE: u8 = b' ';
 
 pub const DIGIT_0: u8 = b'0';
 
-// That of common, in the type of a bound.
+/// That of common, in the type of a bound.
 pub const MAX_NUMBER: u32 = common::MAX_NUMBER as u32;
 
-// A number, and the position after the byte that ends it. It and `NumbersLine` are no one generic type: that would have
-// one name for a number and for the numbers of a line, where contracts and callers say which they mean.
+/// A number, and the position after the byte that ends it.
 #[derive(Clone, Copy)]
 pub struct Number {
     pub value: u32,
     pub next: usize,
 }
 
-// The numbers of a line, and the position of the next line.
+/// The numbers of a line, and the position of the next line.
 #[derive(Clone, Copy)]
 pub struct NumbersLine<const N: usize> {
     pub numbers: [u16; N],
@@ -43,7 +42,7 @@ fn is_digit(b: u8) -> bool
     b.is_ascii_digit()
 }
 
-// The digit that b is. Not by `char::to_digit`: that gives an Option, where the clause says that b is a digit.
+// The digit that b is.
 #[tactic(auto, using(crate::proofs::Scan::digit_range))]
 fn digit(b: u8) -> u64
     requires { is_digit b ≡ true }
@@ -52,8 +51,7 @@ fn digit(b: u8) -> u64
     u64::from(b - DIGIT_0)
 }
 
-// No `try_from` with `filter`, which would test once more that the value fits into 32 bits: 3,325 lines of five numbers
-// would take 172 us to read, and take 149.
+// With `try_from` and `filter` 3,325 lines of five numbers take 172 us to read, and take 149 so.
 #[tactic(auto, unfolding(crate::specs::code::NumbersRead::up_to))]
 fn up_to(most: u32, value: u64) -> Option<u32>
     ensures { written_number result ≡ up_to most value }
@@ -86,8 +84,7 @@ fn one_more(most: u32, value: u32, b: u8) -> Option<u32>
     up_to(most, 10 * u64::from(value) + digit(b))
 }
 
-// The number at `at` that the byte `end` ends and that is at most `most`. Not by `str::parse`: that takes a `+` and
-// leading zeros, and what ends the number would have to be found first.
+/// The number at `at` that the byte `end` ends and that is at most `most`.
 pub fn number_at(bytes: &[u8], at: usize, end: u8, most: u32) -> Option<Number>
     ensures { MatchOption result (none ≡ number_cut most end (drop at bytes.now))
         (λ n. NumberMet most end bytes.now at n.value n.next) }
@@ -106,7 +103,7 @@ pub fn number_at(bytes: &[u8], at: usize, end: u8, most: u32) -> Option<Number>
     None
 }
 
-// The line at `at`, if it has N numbers. No line has none.
+/// The line at `at`, if it has N numbers. No line has none.
 pub fn numbers_line<const N: usize>(bytes: &[u8], at: usize) -> Option<NumbersLine<N>>
     ensures { MatchOption result (none ≡ first_numbers N (lines (drop at bytes.now)))
         (λ line. LineMet N bytes.now at line.numbers line.next) }
@@ -127,21 +124,21 @@ pub fn numbers_line<const N: usize>(bytes: &[u8], at: usize) -> Option<NumbersLi
     })
 }
 
-// The bytes from `at` on; none from the text's end on.
+/// The bytes from `at` on; none from the text's end on.
 pub fn rest(bytes: &[u8], at: usize) -> &[u8]
     ensures { result.now ≡ drop at bytes.now }
 {
     bytes.get(at..).unwrap_or(&[])
 }
 
-// Where `byte` stands first in the text, if it does.
+/// Where `byte` stands first in the text, if it does.
 pub fn find(text: &[u8], byte: u8) -> Option<usize>
     ensures { result ≡ position (λ x. x == byte) text.now }
 {
     text.iter().position(|b| *b == byte)
 }
 
-// Where the line that starts at `at` ends: at its newline, or with the text; at `at` itself past the text's end.
+/// Where the line that starts at `at` ends: at its newline, or with the text; at `at` itself past the text's end.
 pub fn line_end(text: &[u8], at: usize) -> usize
     ensures { result ≡ at + first_length (lines (drop at text.now)) }
 {
@@ -149,7 +146,7 @@ pub fn line_end(text: &[u8], at: usize) -> usize
     at + find(rest, NEWLINE).unwrap_or(rest.len())
 }
 
-// Whether `word` stands at `at`.
+/// Whether `word` stands at `at`.
 #[tactic(auto, using(crate::proofs::Start::same_start))]
 pub fn starts_with(bytes: &[u8], at: usize, word: &[u8]) -> bool
     ensures { result ≡ starts_with word.now (drop at bytes.now) }
@@ -157,7 +154,7 @@ pub fn starts_with(bytes: &[u8], at: usize, word: &[u8]) -> bool
     rest(bytes, at).starts_with(word)
 }
 
-// Whether `word` stands at `at`, and the byte `end` behind it.
+/// Whether `word` stands at `at`, and the byte `end` behind it.
 pub fn word_at(bytes: &[u8], at: usize, word: &[u8], end: u8) -> bool
     ensures { result ≡ starts_with (word.now ++ end ∷ []) (drop at bytes.now) }
 {
@@ -165,7 +162,7 @@ pub fn word_at(bytes: &[u8], at: usize, word: &[u8], end: u8) -> bool
     rest.starts_with(word) && rest.get(word.len()) == Some(&end)
 }
 
-// Whether `line` and a newline stand at `at`.
+/// Whether `line` and a newline stand at `at`.
 pub fn is_line(bytes: &[u8], at: usize, line: &[u8]) -> bool
     ensures { result ≡ starts_with (line.now ++ newline ∷ []) (drop at bytes.now) }
 {

@@ -1,4 +1,4 @@
--- The test for the attribute axis, by its number. Assumes nothing.
+-- The test for the attribute axis, by its number.
 use Rattle.std.proofs.Common.{◌≡◌, eqb, refl}
 use denote.Enum.Bare.{sameb}
 use Rattle.common.specs.contracts.axis.Axis.{the_type}

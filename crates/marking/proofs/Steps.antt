@@ -1,4 +1,4 @@
--- Each axis by the walk that marks it, on a well-formed document. Assumes nothing.
+-- Each axis by the walk that marks it, on a well-formed document.
 use Prim.Native.Nat.{ℕ, suc, ◌+◌, ◌≤◌, ◌<◌}
 use mathlib.Core.Path.{◌≡◌, sym, ◌∙◌}
 use mathlib.Core.Bool.{Bool, true, false, not, ◌&&◌, ◌||◌, and_assoc, and-or_distrib_right}

@@ -1,4 +1,4 @@
--- The walks from child to child and from parent to parent, on a well-formed document. Assumes nothing.
+-- The walks from child to child and from parent to parent, on a well-formed document.
 use Prim.Native.Nat.{ℕ, ◌≤◌, ◌<◌}
 use mathlib.Core.Path.{◌≡◌, refl, sym, ◌∙◌}
 use mathlib.Core.Bool.{Bool, true, false, ◌&&◌, and-false}

@@ -1,5 +1,5 @@
-// The nodes that a step selects, marked beside those that are marked already: a mark is 1, and a node without one has 0.
-// The document is well formed, and `ends` has the ends of its rows' subtrees, so that no axis needs a look at every
+// The nodes that a step selects, marked beside those that are marked already: a mark is 1, and a node without one has
+// 0. The document is well formed, and `ends` has the ends of its rows' subtrees, so that no axis needs a look at every
 // node.
 #![tactic(auto)]
 
@@ -15,8 +15,7 @@ ghost use Rattle.marking.specs.code.Added.{Added, candidate, ChildrenFrom};
 use common::axis::Axis;
 use xpath::{Checked, MAX_NODES, NodeSet, StepTest};
 
-// A step from node x of a document that was checked. Document and x are no struct shared with selection's `Context`:
-// that lends the document with the rows, and has another x for each node.
+// A step from node x of a document that was checked.
 #[derive(Drop)]
 struct AxisStep<'a, T> {
     document: Checked<'a>,
@@ -27,8 +26,7 @@ struct AxisStep<'a, T> {
 }
 
 impl<T: NodeSet> AxisStep<'_, T> {
-    // Whether y passes the test. That y is a row is a clause, here and below: a type for such a y would have to name
-    // the document (see `xpath::whole_node`).
+    // Whether y passes the test.
     #[tactic(auto, unfolding(xpath::specs::Document::kind_at, xpath::specs::Document::name_at))]
     fn passes(&self, y: usize) -> bool
         requires { y < length (doc self.now.document) }
@@ -196,8 +194,7 @@ impl<T: NodeSet> AxisStep<'_, T> {
     }
 }
 
-// What a step with a test of this form selects from x. A function, since the arms of `mark_step` differ in the test's
-// type alone; its parameters are the fields of the step that it makes.
+// What a step with a test of this form selects from x.
 fn mark_where<T: NodeSet + Copy>(
     document: Checked,
     axis: Axis,
@@ -218,9 +215,8 @@ fn mark_where<T: NodeSet + Copy>(
     .mark(out);
 }
 
-// Marks the nodes that a step selects from x, and leaves the others. It asks for a node of the document,
-// which the caller has shown; no user calls it. Axis, test and name are numbers, since a lent row may have any: a
-// struct of them would promise nothing.
+/// Marks the nodes that a step selects from x, and leaves the others. It asks for a node of the document, which the
+/// caller has shown; no user calls it. Axis, test and name may be any numbers, as in a lent row.
 pub fn mark_step(
     document: Checked,
     axis: u16,

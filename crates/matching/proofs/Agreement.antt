@@ -1,5 +1,4 @@
 -- When a pattern matches: its letters stand for numbers, by a relation that gives each letter at most one.
--- Assumes nothing.
 use Prim.Native.Nat.{ℕ, ◌<◌}
 use mathlib.Core.Path.{◌≡◌, sym, ◌∙◌}
 use mathlib.Core.Bool.{Bool, true, false, not, cond}

@@ -1,4 +1,4 @@
--- Searches through a table of pairs, and through one that holds the same pairs. Assumes nothing.
+-- Searches through a table of pairs, and through one that holds the same pairs.
 use Prim.Native.Nat.{ℕ}
 use mathlib.Core.Path.{◌≡◌, refl, ap}
 use mathlib.Core.Bool.{Bool, true, ◌&&◌, ◌||◌}

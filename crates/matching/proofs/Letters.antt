@@ -1,4 +1,4 @@
--- What the letters stand for on a table of accepted rows: at most one number each. Assumes nothing.
+-- What the letters stand for on a table of accepted rows: at most one number each.
 use Prim.Native.Nat.{ℕ, zero, suc, ◌<◌, ◌≤◌}
 use mathlib.Core.Path.{◌≡◌, refl, sym, ◌∙◌, ap, subst}
 use mathlib.Core.List.{List, [], ◌∷◌}

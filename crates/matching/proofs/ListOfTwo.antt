@@ -1,4 +1,4 @@
--- A list of two, of which an array of two is one, by its elements. Assumes nothing.
+-- A list of two, of which an array of two is one, by its elements.
 use mathlib.Core.Path.{◌≡◌, refl}
 use mathlib.Core.List.{List, [], ◌∷◌, map}
 use native.Mathlib.Omega.{arith}

@@ -1,4 +1,4 @@
--- The ways through the matcher's functions, over the results of their calls. Assumes nothing.
+-- The ways through the matcher's functions, over the results of their calls.
 use Prim.Native.Nat.{ℕ, ◌<◌, ◌≤◌}
 use mathlib.Core.Path.{◌≡◌, refl, sym, ◌∙◌, ap, subst}
 use mathlib.Core.Bool.{Bool, true, false, not, cond, ◌||◌, false≢true, and-false}

@@ -1,5 +1,4 @@
 -- On a table of accepted rows, a row is an instance of a form's pattern just where its term is the form's term.
--- Assumes nothing.
 use Prim.Native.Nat.{ℕ, ◌<◌}
 use mathlib.Core.Path.{◌≡◌, refl, sym, ◌∙◌, ap}
 use mathlib.Core.Bool.{Bool, ◌&&◌}

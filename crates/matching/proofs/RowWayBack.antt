@@ -1,4 +1,4 @@
--- One level of the way back on row numbers, and the ways through the code that finds it. Assumes nothing.
+-- One level of the way back on row numbers, and the ways through the code that finds it.
 use Prim.Native.Nat.{ℕ, zero, suc, ◌<◌, ◌≤◌}
 use mathlib.Core.Path.{◌≡◌, refl, sym, ◌∙◌, ap, subst, subst₂}
 use mathlib.Core.Bool.{Bool, true, false, ◌&&◌, false≢true, and-false}

@@ -1,4 +1,4 @@
--- On a table of accepted rows the answer on row numbers decides what a rule yields: `row_yields_iff`. Assumes nothing.
+-- On a table of accepted rows the answer on row numbers decides what a rule yields: `row_yields_iff`.
 use Prim.Native.Nat.{ℕ, zero, suc, ◌<◌}
 use mathlib.Core.Path.{◌≡◌, refl, sym, ◌∙◌, ap, ap₂, subst}
 use mathlib.Core.Bool.{Bool, false, ◌&&◌, ◌||◌}

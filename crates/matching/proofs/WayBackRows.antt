@@ -1,4 +1,4 @@
--- On a table of accepted rows, the way back on row numbers is the way back of terms. Assumes nothing.
+-- On a table of accepted rows, the way back on row numbers is the way back of terms.
 use Prim.Native.Nat.{ℕ, zero, suc, ◌<◌, ◌≤◌}
 use mathlib.Core.Path.{◌≡◌, refl, sym, ◌∙◌, ap, ap₂, subst}
 use mathlib.Core.Bool.{Bool, false, ◌&&◌}

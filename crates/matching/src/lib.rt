@@ -21,17 +21,17 @@ use terms::MAX_ROWS;
 pub use way_back::WAY_BACK_RULE;
 use way_back::is_with_back;
 
-// The last rule.
+/// The last rule.
 pub const MAX_RULE: u16 = WAY_BACK_RULE;
 
-// Notes of rows' ways back, before any is found; `terms::is_noted` says why notes and rows are no struct.
+/// Notes of rows' ways back, before any is found.
 pub fn no_notes() -> [Option<u16>; MAX_ROWS]
     ensures { (rs : List Row) → Noted rs result }
 {
     [None; MAX_ROWS]
 }
 
-// How many premises a rule has; 0 where there is no such rule, as the definition has it.
+/// How many premises a rule has; 0 where there is no such rule, as the definition has it.
 #[tactic(auto, unfolding(rules::specs::Yields::premise_count, rules::specs::Yields::first_count))]
 pub fn premise_count(rule: u16) -> usize
     ensures { result ≡ premise_count rule }
@@ -39,9 +39,9 @@ pub fn premise_count(rule: u16) -> usize
     forms_of(rule).first().map_or(0, |form| form.premises.len())
 }
 
-// Whether the rule, by the rule table or by the way back, yields the step from premises with the rows given. The rows
-// of a premise that the rule doesn't have don't matter. What is found of ways back is noted. That the notes are true of
-// the rows is asked: they are lent, and a test of them would find each way back anew.
+/// Whether the rule, by the rule table or by the way back, yields the step from premises with the rows given. The rows
+/// of a premise that the rule doesn't have don't matter. What is found of ways back is noted. That the notes are true
+/// of the rows is asked: a test of them would find each way back anew.
 pub fn yields(
     rows: &[u16],
     rule: u16,

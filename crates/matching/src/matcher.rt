@@ -18,16 +18,14 @@ use common::row_kind::RowKind;
 use common::{axis, node_test};
 use terms::{Row, get_row, is_held_path, is_held_qualifier};
 
-// The rows that a step is about.
+/// The rows that a step is about.
 #[derive(Clone, Copy, PartialEq, Eq, Debug)]
 pub struct Sides {
     pub left: u16,
     pub right: u16,
 }
 
-// What each letter stands for, where it stands for something yet. An array: each letter has its own place. The rows
-// stand beside it: `fit` and its like change the letters, and with the rows in one struct each would have to promise
-// that the rows stay as they are.
+// What each letter stands for, where it stands for something yet.
 #[derive(Clone, Copy)]
 struct Letters {
     values: [Option<u16>; LETTER_COUNT],
@@ -61,7 +59,7 @@ fn entry_at(part: &'static [&'static [Form]], i: usize) -> &'static [Form]
     part.get(i).copied().unwrap_or(&[])
 }
 
-// The forms of a rule, none where the table has no such rule.
+/// The forms of a rule, none where the table has no such rule.
 pub fn forms_of(rule: u16) -> &'static [Form]
     ensures { forms_in result ≡ map form_pattern (forms_of rule) }
 {
@@ -123,8 +121,6 @@ impl Letters {
         old == v
     }
 
-    // By numbers, as letters have them: 3 to 10 is a range of numbers, and of the others each is compared with one
-    // number or two, where a conversion before it would be no plainer.
     fn meet(&self, condition: Condition) -> bool
         ensures { result ≡ meets (numbers_in (values_in self.now)) (condition_of condition) }
     {
@@ -172,8 +168,7 @@ impl Letters {
         self.fit(rows, claim.0, s.left) && self.fit(rows, claim.1, s.right)
     }
 
-    // The rows of the premises, of as many as the form has, against the form's claims. By cases: no fact says what a
-    // closure that `all` takes leaves in `self`, and a `for` over both, after a test of the lengths, is no plainer.
+    // The rows of the premises, of as many as the form has, against the form's claims.
     fn fit_premises(&mut self, rows: &[u16], claims: &[Claim], premises: [Sides; 2]) -> bool
         ensures { Matches result self.new
             (match_claims (table_of rows.now) (map claim_of claims.now)
@@ -192,7 +187,7 @@ impl Letters {
 }
 
 impl Form {
-    // Whether it yields the step, from as many of the premises as it has.
+    /// Whether it yields the step, from as many of the premises as it has.
     pub fn yields(&self, rows: &[u16], step: Sides, premises: [Sides; 2]) -> bool
         ensures { result ≡ yields_by (table_of rows.now) (sides_in step) (map sides_in premises) (form_of self.now) }
     {

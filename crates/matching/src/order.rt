@@ -6,8 +6,7 @@ ghost use Rattle.matching.specs.code.MatchTypes.{same_pairs};
 use crate::tables::AXIS_PAIRS;
 use common::node_test::NodeTest;
 
-// Whether (a, b) is one of the pairs. Numbers of axes, as lent rows and letters have them: two conversions before each
-// search are no plainer.
+/// Whether (a, b) is one of the pairs.
 pub fn is_pair(pairs: &[(u16, u16)], a: u16, b: u16) -> bool
     ensures { result ≡ is_pair pairs.now a b }
 {
@@ -22,15 +21,14 @@ fn axis_pairs() -> &'static [(u16, u16)]
     &AXIS_PAIRS
 }
 
-// Whether axis a is below axis b, which the test of the table tells of each pair that is sought.
+/// Whether axis a is below axis b, which the test of the table tells of each pair that is sought.
 pub fn axis_below(a: u16, b: u16) -> bool
     ensures { result ≡ axis_below a b }
 {
     is_pair(axis_pairs(), a, b)
 }
 
-// Whether test t with name c is below test u with name e. By the four numbers, as the definition has them: letters hold
-// a test and its name apart, and a struct of the two would be made for this one call.
+/// Whether test t with name c is below test u with name e.
 #[tactic(auto, unfolding(rules::specs::Order::test_below))]
 pub fn test_below(t: u16, c: u16, u: u16, e: u16) -> bool
     ensures { result ≡ test_below t c u e }

@@ -5,7 +5,7 @@ ghost use Rattle.matching.specs.code.PatternTypes.{letter_number};
 
 use common::row_kind::RowKind;
 
-// The letters: P to S stand for paths, F to H for qualifiers, A and B for axes; N and M are tests, each with its name.
+/// The letters: P to S stand for paths, F to H for qualifiers, A and B for axes; N and M are tests, each with its name.
 #[derive(Clone, Copy, PartialEq, Eq, Debug)]
 pub enum Letter {
     P,
@@ -23,11 +23,11 @@ pub enum Letter {
     NameOfM,
 }
 
-// How many letters there are.
+/// How many letters there are.
 pub const LETTER_COUNT: usize = 13;
 
 impl Letter {
-    // Its place among the letters. No From: an array is read at it, and its bound is promised beside it.
+    /// Its place among the letters.
     pub fn place(self) -> usize
         ensures is { result ≡ letter_number self }
         ensures small { result < letter_count }
@@ -36,7 +36,7 @@ impl Letter {
     }
 }
 
-// The side conditions.
+/// The side conditions.
 #[derive(Clone, Copy, PartialEq, Eq, Debug)]
 pub enum Condition {
     ABelowB,
@@ -47,7 +47,7 @@ pub enum Condition {
     ANotAttribute,
 }
 
-// Of a number in a row: this number; the one that a letter stands for; the number of such a row.
+/// Of a number in a row: this number; the one that a letter stands for; the number of such a row.
 #[cycle(pattern)]
 #[derive(Clone, Copy)]
 pub enum Pattern {
@@ -56,12 +56,12 @@ pub enum Pattern {
     Row(&'static RowPattern),
 }
 
-// A held row of a kind, with patterns of its fields.
+/// A held row of a kind, with patterns of its fields.
 #[cycle(pattern)]
 #[derive(Clone, Copy)]
 pub struct RowPattern(pub RowKind, pub Pattern, pub Pattern, pub Pattern);
 
-// The left and the right row of a step. Not `Sides` of patterns: the table would name both fields in each claim.
+/// The left and the right row of a step.
 #[derive(Clone, Copy)]
 pub struct Claim(pub Pattern, pub Pattern);
 

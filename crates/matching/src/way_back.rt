@@ -1,5 +1,4 @@
-// The way back of a path, judged on the rows' numbers. A kind that is compared once is compared as its number: to read
-// it first is no plainer.
+// The way back of a path, judged on the rows' numbers.
 ghost use Rattle.std.specs.Prelude.{◌≡◌};
 ghost use Rattle.terms.specs.Row.{table_of};
 ghost use Rattle.terms.specs.code.RowTypes.{row_of};
@@ -14,7 +13,7 @@ use common::row_kind::RowKind;
 use common::{axis, node_test, row_kind};
 use terms::{Row, is_noted, note, row_at};
 
-// Rule 59, which the table doesn't have.
+/// Rule 59, which the table doesn't have.
 pub const WAY_BACK_RULE: u16 = 59;
 
 // The axes of paths that have a way back, each with its opposite axis. By number, as rows have them (see `is_pair`).
@@ -43,8 +42,7 @@ fn is_opposite(a: u16, b: u16) -> bool
     is_pair(&OPPOSITES, a, b)
 }
 
-// Whether row i is a step on that axis with that test and name. By the three, as the definition has them: with a Row
-// each of the three calls would write out the literal below.
+// Whether row i is a step on that axis with that test and name.
 #[tactic(auto, unfolding(crate::specs::code::RowWayBack::is_step, terms::specs::Row::same_row))]
 fn is_step(rows: &[u16], i: u16, a: u16, t: u16, c: u16) -> bool
     ensures { result ≡ is_step (table_of rows.now) i a t c }
@@ -58,8 +56,7 @@ fn is_step(rows: &[u16], i: u16, a: u16, t: u16, c: u16) -> bool
         }
 }
 
-// Whether y is self::N, then the opposite axis with node(), for the step x. Rows, x and y are parameters, here and
-// below: `is_back` alone makes such a pair, and methods of a struct would only read `self.x.b` for `x.b`.
+// Whether y is self::N, then the opposite axis with node(), for the step x.
 #[tactic(auto, unfolding(crate::specs::code::RowWayBack::is_step_back))]
 fn is_step_back(rows: &[u16], x: Row, y: Row) -> bool
     ensures { result ≡ is_step_back (table_of rows.now) (row_of x) (row_of y) }
@@ -137,8 +134,8 @@ fn is_back(rows: &[u16], i: u16, j: u16, noted: &mut [Option<u16>]) -> bool
     }
 }
 
-// Whether the right row is left[some w], and w is the way back of the left one; what is found on the way is noted. That
-// the notes are true is asked, as by `yields`.
+/// Whether the right row is left[some w], and w is the way back of the left one; what is found on the way is noted.
+/// That the notes are true is asked, as by `yields`.
 #[tactic(auto, unfolding(crate::specs::code::RowWayBack::is_with_back))]
 pub fn is_with_back(rows: &[u16], step: Sides, noted: &mut [Option<u16>]) -> bool
     requires { Noted (table_of rows.now) noted.old }

@@ -1,4 +1,4 @@
--- The pieces of a text that its newlines end. Assumes nothing.
+-- The pieces of a text that its newlines end.
 use Prim.Native.Nat.{ℕ, zero, suc, ◌+◌, ◌<◌, ◌≤◌, min}
 use mathlib.Core.Path.{◌≡◌, refl, sym, ap, subst, ◌∙◌}
 use mathlib.Core.Bool.{Bool, true, false, cond, false≢true}

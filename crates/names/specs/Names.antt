@@ -1,4 +1,4 @@
--- The names of a list, one a line. Assumes nothing.
+-- The names of a list, one a line.
 use Rattle.std.specs.Prelude.{ℕ, ◌-◌, ◌≤◌, ◌≡◌, List, [], map, length, get_or, take, drop}
 use Rattle.lines.specs.Line.{lines}
 

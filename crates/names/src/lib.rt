@@ -6,14 +6,14 @@ ghost use Rattle.lines.specs.Line.{lines};
 ghost use Rattle.names.specs.Names.{NameMet};
 ghost use Rattle.names.specs.code.LineStarts.{NextMet, StartMet};
 
-// A name stands in a list from `start` on, and before `end`.
+/// A name stands in a list from `start` on, and before `end`.
 #[derive(Clone, Copy)]
 pub struct Name {
     pub start: usize,
     pub end: usize,
 }
 
-// Where the next line starts; the list's length where there is none, so that what goes from line to line ends there.
+/// Where the next line starts; the list's length where there is none, so that what goes from line to line ends there.
 pub fn next_line(list: &[u8], at: usize) -> usize
     ensures { NextMet list.now at result }
 {
@@ -35,15 +35,14 @@ fn line_start(list: &[u8], k: usize) -> usize
         .sum()
 }
 
-// How many names the list has.
+/// How many names the list has.
 pub fn count(list: &[u8]) -> usize
     ensures { result ≡ length (lines list.now) }
 {
     list.split_inclusive(|b| *b == lines::NEWLINE).count()
 }
 
-// Name k of the list, counted from 0; an empty one where there is none, as specs/Names, which is believed, has it. By
-// place: `split` and `nth` give a name's bytes, and not where they stand, which is promised too.
+/// Name k of the list, counted from 0; an empty one where there is none.
 pub fn name_at(list: &[u8], k: usize) -> Name
     ensures { NameMet list.now k result.start result.end }
 {

@@ -1,4 +1,4 @@
--- The order of lists of steps, as terms, is a total order. Assumes nothing.
+-- The order of lists of steps, as terms, is a total order.
 use mathlib.Core.Path.{◌≡◌, refl, sym, ap, ap₂, ◌∙◌}
 use mathlib.Core.List.{List, [], ◌∷◌}
 use Rattle.ordering.specs.Order.{equal, ◌and_then◌, number_order}

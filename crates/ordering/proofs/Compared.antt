@@ -1,4 +1,4 @@
--- The ways through the code that compares two rows. Assumes nothing.
+-- The ways through the code that compares two rows.
 use Prim.Native.Nat.{ℕ}
 use mathlib.Core.Path.{◌≡◌, refl, sym, ap, ap₂, subst, ◌∙◌}
 use mathlib.Core.Bool.{Bool, true, false, false≢true}

@@ -1,4 +1,4 @@
--- The answers of order calls, case by case. Assumes nothing.
+-- The answers of order calls, case by case.
 use Prim.Native.Nat.{ℕ, ◌≤◌, ◌<◌}
 use mathlib.Core.Path.{◌≡◌, refl, sym, ap, ◌∙◌}
 use mathlib.Core.Bool.{Bool, true, false, cond}

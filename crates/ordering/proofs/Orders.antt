@@ -1,4 +1,4 @@
--- Comparisons one after the other, and orders of numbers. Assumes nothing.
+-- Comparisons one after the other, and orders of numbers.
 use Prim.Native.Nat.{ℕ, ◌<◌}
 use mathlib.Core.Path.{◌≡◌, refl, sym, ap, ◌∙◌}
 use mathlib.Core.Logic.{◌⊎◌, inl, inr, ⊎_elim}
@@ -165,7 +165,7 @@ numbers_ordered =
         are (above h e) (alike g f) t = rw (e, f) (third_greater (omega arith) t)
         are (above h e) (above g f) t = rw (e, f) (third_greater (omega arith) t)
 
--- the laws in the words of the demand
+-- the laws in the words of the guarantee
 module _ {A : Type 0} {order : A → A → Order} (laws : Orders order) where
   pub total_order : TotalOrder order
   total_order =

@@ -1,4 +1,4 @@
--- The terms of rows, field by field, and the ways through the comparison of two rows. Assumes nothing.
+-- The terms of rows, field by field, and the ways through the comparison of two rows.
 use Prim.Native.Nat.{ℕ, ◌≤◌, ◌<◌}
 use mathlib.Core.Path.{◌≡◌, refl, sym, ap, ap₂, ◌∙◌}
 use mathlib.Core.Bool.{Bool, true, false, cond, ◌&&◌, false≢true}

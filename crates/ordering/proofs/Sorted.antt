@@ -1,5 +1,5 @@
 -- Sorted lists that hold the same are the same list: what comes first is in the other list, so that each first entry is
--- at most the other. Assumes nothing.
+-- at most the other.
 use Prim.Native.Nat.{ℕ, ◌+◌, ◌≤◌}
 use mathlib.Core.Path.{◌≡◌, refl, sym, ap, ap₂, subst, ◌∙◌}
 use mathlib.Core.List.{List, [], ◌∷◌}

@@ -1,4 +1,4 @@
--- Steps read from lent numbers, and the steps of two bundles in turn. Assumes nothing.
+-- Steps read from lent numbers, and the steps of two bundles in turn.
 use Prim.Native.Nat.{ℕ, ◌+◌, ◌<◌, min}
 use mathlib.Core.Path.{◌≡◌, refl, sym, ap, ap₂, ◌∙◌}
 use mathlib.Core.Bool.{true, false}

@@ -1,4 +1,4 @@
--- The order of terms is a total order, and equal holds just when the terms are the same. Assumes nothing.
+-- The order of terms is a total order, and equal holds just when the terms are the same.
 use Prim.Native.Nat.{ℕ}
 use mathlib.Core.Path.{◌≡◌, refl, sym, ap, ap₂, ◌∙◌}
 use mathlib.Core.Bool.{cond}

@@ -1,4 +1,4 @@
--- The order of bundles: the steps in turn, rule first, then left and right, as terms. Assumes nothing.
+-- The order of bundles: the steps in turn, rule first, then left and right, as terms.
 use Rattle.std.specs.Prelude.{ℕ, List, [], ◌∷◌, map}
 use Rattle.terms.specs.Row.{Row}
 use Rattle.terms.specs.Terms.{Term, term_at}

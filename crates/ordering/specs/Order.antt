@@ -1,4 +1,4 @@
--- What a comparison finds, and comparisons one after the other. Assumes nothing.
+-- What a comparison finds, and comparisons one after the other.
 use Rattle.std.specs.Prelude.{ℕ, cond, ltb}
 
 pub data Order : Type 0 where

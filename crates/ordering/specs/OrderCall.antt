@@ -1,4 +1,4 @@
--- The calls order and bundle order: their answers. Assumes nothing.
+-- The calls order and bundle order: their answers.
 use Rattle.std.specs.Prelude.{ℕ, cond, List, leb, length}
 use Rattle.terms.specs.Row.{Row}
 use Rattle.terms.specs.Terms.{term_at}

@@ -1,4 +1,4 @@
--- What is demanded of an order, and of lists that are sorted by it. Assumes nothing.
+-- What is guaranteed of an order, and of lists that are sorted by it.
 use Rattle.std.specs.Prelude.{ℕ, ◌+◌, ◌≡◌, List, [], ◌∷◌, ◌↔◌, ◌⊎◌}
 use Rattle.ordering.specs.Order.{Order, less, equal, greater}
 

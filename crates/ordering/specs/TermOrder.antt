@@ -1,4 +1,4 @@
--- The order of terms: first by kind, then by fields from the left, operands compared as terms. Assumes nothing.
+-- The order of terms: first by kind, then by fields from the left, operands compared as terms.
 use Rattle.std.specs.Prelude.{ℕ}
 use Rattle.common.specs.RowKinds.{void_row, root_row, step_row, union_row, composition_row, filter_row}
 use Rattle.common.specs.RowKinds.{true_row, false_row, not_row, and_row, or_row, inclusion_row}
@@ -8,7 +8,7 @@ use Rattle.xpath.specs.Term.{In}
 use Rattle.terms.specs.Terms.{Term, of_path, of_qualifier}
 use Rattle.ordering.specs.Order.{Order, less, greater, ◌and_then◌, number_order}
 
--- a term as document 01 has it: a row with its operands' terms in place of their numbers
+-- a term as a row with its operands' terms in place of their numbers
 mutual
   pub data TermRow : Type 0 where
     term_row : (kind : ℕ) → (a b c : TermField) → TermRow

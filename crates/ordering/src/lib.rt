@@ -19,8 +19,7 @@ use common::row_kind::RowKind;
 use std::cmp::Ordering;
 use terms::{Field, Row, fields_of, is_noted, note, row_at};
 
-// The kind of a row's term: a row of no kind is read as the void path. By its number, which is what the definition
-// orders kinds by: a RowKind with a derived order would be made a number again for `fields_of`, which takes any row's.
+// The kind of a row's term: a row of no kind is read as the void path. Kinds are ordered by their numbers.
 fn term_kind(row: Row) -> u16
     ensures { result ≡ term_kind (row_of row).kind }
 {
@@ -78,8 +77,7 @@ impl<'a> Entry<'a> {
     }
 }
 
-// The rows of two sessions. The notes stand beside them: in one struct with their fact each method would have to
-// promise that the rows stay as they are, where it promises `Noted`.
+// The rows of two sessions.
 #[derive(Clone, Copy)]
 struct Tables<'a> {
     left: &'a [u16],
@@ -121,8 +119,7 @@ impl<'a> Tables<'a> {
     }
 
     // The terms of two rows: first by kind, then by fields from the left. Operands are earlier rows; a pair that is
-    // found equal is noted, so that it is compared once. Not by `then_with`, here and for steps: of a closure that it
-    // doesn't call, its contract doesn't say that what the closure borrows, the notes, stays as it is.
+    // found equal is noted, so that it is compared once.
     #[cycle(order_fields_order_rows)]
     fn order_rows(self, rows: (u16, u16), noted: &mut [Option<u16>]) -> Ordering
         requires { Noted (table_of self.left.now) (table_of self.right.now) noted.old }
@@ -177,8 +174,7 @@ impl<'a> Tables<'a> {
     }
 }
 
-// Row i of the left rows and row j of the right ones: their order as terms, or which one is not held. Of rows alone,
-// not of `Held`: no step is looked at, and a caller without steps would have to lend some.
+/// Row i of the left rows and row j of the right ones: their order as terms, or which one is not held.
 pub fn order_on(left: &[u16], i: u16, right: &[u16], j: u16) -> Result<Ordering, Refusal>
     ensures { order_answer_of result
         ≡ order_answer (table_of left.now) i (table_of right.now) j }
@@ -194,7 +190,7 @@ pub fn order_on(left: &[u16], i: u16, right: &[u16], j: u16) -> Result<Ordering,
     Ok(tables.order_rows((i, j), &mut noted))
 }
 
-// The bundles of two sessions: their steps in turn.
+/// The bundles of two sessions: their steps in turn.
 pub fn bundle_order_on<'a>(left: Held<'a>, right: Held<'a>) -> Result<Ordering, Refusal>
     ensures { order_answer_of result ≡ bundle_order_answer (book_held left.entry) (book_held right.entry) }
 {

@@ -29,23 +29,21 @@ fn find_point(points: &[u16], name: u16) -> Option<(usize, PointCounts)>
         .find(|(_, point)| point.name == name)
 }
 
-// What the definitions give where no point has the name. No derived Default: it would offer the zeros as a point, and
-// no point has the name 0.
+// What the definitions give where no point has the name.
 const NO_COUNTS: PointCounts = PointCounts {
     name: 0,
     rows: 0,
     steps: 0,
 };
 
-// The point of that name; zeros where there is none. They are no stand-in for an Option: whether a return would drop a
-// row or step in use is asked of any name, and one to no point leaves no rows and steps.
+/// The point of that name; zeros where there is none.
 pub fn point_named(points: &[u16], name: u16) -> PointCounts
     ensures { result ≡ point_named (counts_of points.now) name }
 {
     find_point(points, name).map_or(NO_COUNTS, |(_, point)| point)
 }
 
-// The answer of a call that sets a point of that name after the points.
+/// The answer of a call that sets a point of that name after the points.
 #[tactic(auto, unfolding(calls::specs::PointCall::point_answer), using(calls::proofs::PointTables::names_count))]
 pub fn judge_point(points: &[u16], name: u16) -> Result<(), Refusal>
     ensures { done_answer_of result ≡ point_answer (counts_names (counts_of points.now)) name }
@@ -59,7 +57,7 @@ pub fn judge_point(points: &[u16], name: u16) -> Result<(), Refusal>
     Ok(())
 }
 
-// The point of that name, to which a call returns, with its place, counted from 0; or the call's refusal.
+/// The point of that name, to which a call returns, with its place, counted from 0; or the call's refusal.
 #[tactic(auto, unfolding(calls::specs::PointCall::return_answer), using(calls::proofs::PointTables::names_count))]
 pub fn judge_return(points: &[u16], name: u16) -> Result<(usize, PointCounts), Refusal>
     ensures { ReturnFound result (counts_of points.now) name }
@@ -67,7 +65,7 @@ pub fn judge_return(points: &[u16], name: u16) -> Result<(usize, PointCounts), R
     find_point(points, name).ok_or(Refusal::BadPoint(name))
 }
 
-// The numbers from place `from` on become 0.
+/// The numbers from place `from` on become 0.
 pub fn clear(numbers: &mut [u16], from: usize)
     ensures { numbers.new ≡ cleared from numbers.old }
 {

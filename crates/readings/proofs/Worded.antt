@@ -1,4 +1,4 @@
--- The operator names `and` and `or`. Assumes nothing.
+-- The operator names `and` and `or`.
 use Prim.Native.Nat.{ℕ, zero, suc, ◌+◌, ◌-◌, ◌<◌, ◌≤◌, max}
 use Rattle.terms.specs.Row.{row}
 use mathlib.Core.Path.{◌≡◌, refl, sym, subst, ◌∙◌}

@@ -22,14 +22,9 @@ use heads::{Head, Opens};
 use terms::Row;
 use words::bytes::{byte_at, is_name, skip};
 
-// What was read ends before `at`, where no whitespace is. `row` is that of the last term read, `nesting` its nesting,
-// `count` how many rows there are. `missing` is the place of the first name that is not listed. A reading whose rows
-// don't all fit goes on, since a later byte may be refused; then its row and its count say nothing. `fits` is no Option
-// of the row: before the first term there is no row, and all rows fit. That `count` is within the table is no ghost
-// field: Rattle has no `..` for a struct with one, and all that changes a part of a reading would write out six. The
-// table is no field either: a reading is copied, since the left operand is kept while the right one is read.
-// The table's length is a clause, `Sized`, and no type `&mut [u16; TABLE_NUMBERS]`: of such an array, too, a proof
-// knows the length past a call only by what the call promises.
+/// What was read ends before `at`, where no whitespace is. `row` is that of the last term read, `nesting` its nesting,
+/// `count` how many rows there are. `missing` is the place of the first name that is not listed. A reading whose rows
+/// don't all fit goes on, since a later byte may be refused; then its row and its count say nothing.
 #[derive(Clone, Copy)]
 pub struct Reading {
     pub at: usize,
@@ -40,8 +35,8 @@ pub struct Reading {
     pub missing: Option<usize>,
 }
 
-// A path's beginning: a step must follow, with nothing before it, or below what the reading's row selects; or `/`
-// alone.
+/// A path's beginning: a step must follow, with nothing before it, or below what the reading's row selects; or `/`
+/// alone.
 #[derive(Clone, Copy)]
 pub enum Start {
     First(Reading),
@@ -49,7 +44,7 @@ pub enum Start {
     Root(Reading),
 }
 
-// Before the first byte.
+/// Before the first byte.
 pub fn nothing_read(count: usize) -> Reading
     ensures { stands result ≡ nothing_read count }
 {
@@ -88,7 +83,7 @@ fn no_row(r: Reading, nesting: u16) -> Reading
     }
 }
 
-// A row that is held is used again; else it is added.
+/// A row that is held is used again; else it is added.
 #[tactic(auto, using(crate::proofs::Built::table_count))]
 pub fn put(rows: &mut [u16], r: Reading, row: Row, nesting: u16) -> Reading
     requires { Sized rows.old r.count }
@@ -149,8 +144,7 @@ fn put_over(rows: &mut [u16], r: Reading, kind: RowKind) -> Reading
     put(rows, r, row, above(r.nesting, 0))
 }
 
-// A row of two operands, of which the right one was read last. Its kind is a number, as in a row: a RowKind would ask
-// more of callers, who may put any number.
+/// A row of two operands, of which the right one was read last. Its kind may be any number.
 pub fn join(rows: &mut [u16], kind: u16, left: Reading, right: Reading) -> Reading
     requires { Sized rows.old right.count }
     ensures { PutMet (row kind left.row right.row 0)
@@ -177,8 +171,8 @@ fn step_row(axis: Axis, test: NodeTest, name: u16) -> Row
     }
 }
 
-// The row of a step that ends before `at`; `unlisted` is the place of its name, if that is not listed. Any row may be
-// put.
+/// The row of a step that ends before `at`; `unlisted` is the place of its name, if that is not listed. Any row may be
+/// put.
 pub fn put_step(
     rows: &mut [u16],
     from: Reading,
@@ -194,7 +188,7 @@ pub fn put_step(
     Reading { missing, ..step }
 }
 
-// The step of a head.
+/// The step of a head.
 pub fn put_head(rows: &mut [u16], from: Reading, head: Head) -> Reading
     requires { Sized rows.old from.count }
     ensures { HeadPut rows.old (stands from) head rows.new (stands result) }
@@ -203,7 +197,7 @@ pub fn put_head(rows: &mut [u16], from: Reading, head: Head) -> Reading
     put_step(rows, from, head.at, row, head.name.unlisted())
 }
 
-// A step ends where nothing follows that only a step could take.
+/// A step ends where nothing follows that only a step could take.
 #[tactic(auto, unfolding(crate::specs::code::Build::only_in_step))]
 pub fn step_end(s: &[u8], r: Reading) -> Result<Reading, usize>
     ensures { ended result ≡ cond (only_in_step (byte_at s.now r.at)) (refused_at r.at) (stands r) }
@@ -214,7 +208,7 @@ pub fn step_end(s: &[u8], r: Reading) -> Result<Reading, usize>
     }
 }
 
-// The closing byte b is due. It isn't 0, which `byte_at` gives past the end.
+/// The closing byte b is due. It isn't 0, which `byte_at` gives past the end.
 pub fn close(s: &[u8], r: Reading, b: u8) -> Result<Reading, usize>
     requires { eqb 0 b ≡ false }
     ensures { CloseMet s.now (stands r) b (ended result) }
@@ -236,8 +230,8 @@ fn every_below(rows: &mut [u16], path: Reading) -> Reading
     join(rows, RowKind::Composition.into(), path, step)
 }
 
-// Passes the `/` or `//` that follows a path, and the whitespace after it. That the `/` is there, the caller's loop has
-// tested.
+/// Passes the `/` or `//` that follows a path, and the whitespace after it. That the `/` is there, the caller's loop
+/// has tested.
 pub fn pass_slash(s: &[u8], rows: &mut [u16], path: Reading) -> Reading
     requires { (byte_at s.now path.at ≡ slash_byte) × Sized rows.old path.count }
     ensures { SlashPut s.now rows.old (stands path) rows.new (stands result) }
@@ -266,7 +260,7 @@ fn begin_root(s: &[u8], root: Reading) -> Result<Start, usize>
     Ok(Start::Root(root))
 }
 
-// A path's beginning, up to its first step.
+/// A path's beginning, up to its first step.
 pub fn begin_path(s: &[u8], rows: &mut [u16], from: Reading) -> Result<Start, usize>
     requires at_in_bounds { from.at ≤ length s.now }
     requires sized { Sized rows.old from.count }
@@ -288,7 +282,7 @@ pub fn begin_path(s: &[u8], rows: &mut [u16], from: Reading) -> Result<Start, us
     Ok(Start::Below(Reading { at: place, ..below }))
 }
 
-// Some node is selected by the paths: not (paths in V).
+/// Some node is selected by the paths: not (paths in V).
 pub fn some_of(rows: &mut [u16], paths: Reading) -> Reading
     requires { Sized rows.old paths.count }
     ensures { Grown some_of_put (λ n. suc (suc (max n 1))) rows.old (stands paths) rows.new (stands result) }
@@ -298,8 +292,8 @@ pub fn some_of(rows: &mut [u16], paths: Reading) -> Reading
     put_over(rows, inclusion, RowKind::Not)
 }
 
-// The row of `not` over the expression in `not ( )`; a group is what it holds. `opens` is no switch that the caller
-// sets: it is what the text has there, and crate text reads what either holds in one place.
+/// The row of `not` over the expression in `not ( )`; a group is what it holds. `opens` is no switch that the caller
+/// sets: it is what the text has there, and crate text reads what either holds in one place.
 pub fn negate_if(rows: &mut [u16], opens: Opens, r: Reading) -> Reading
     requires { Sized rows.old r.count }
     ensures { NegatePut opens rows.old (stands r) rows.new (stands result) }
@@ -310,7 +304,7 @@ pub fn negate_if(rows: &mut [u16], opens: Opens, r: Reading) -> Reading
     }
 }
 
-// What follows the `(` of `true ( )` or `false ( )`. Any kind may be put, as in `join`.
+/// What follows the `(` of `true ( )` or `false ( )`. Any kind may be put, as in `join`.
 pub fn constant(s: &[u8], rows: &mut [u16], from: Reading, kind: u16) -> Result<Reading, usize>
     requires at_in_bounds { from.at ≤ length s.now }
     requires sized { Sized rows.old from.count }
@@ -321,14 +315,13 @@ pub fn constant(s: &[u8], rows: &mut [u16], from: Reading, kind: u16) -> Result<
     Ok(put_leaf(rows, shut, kind))
 }
 
-// An operator name, which begins where r ends; its bytes aren't 0, as in `close`. What is refused is the first byte
-// that is not the name's, or the byte after the name, if that is a name's too.
+/// An operator name, which begins where r ends; its bytes aren't 0, as in `close`. What is refused is the first byte
+/// that is not the name's, or the byte after the name, if that is a name's too.
 pub fn pass_word(s: &[u8], r: Reading, word: &[u8]) -> Result<Reading, usize>
     requires at_in_bounds { r.at ≤ length s.now }
     requires no_zero { (k : ℕ) → k < length word.now → eqb 0 (get_or word.now k 0) ≡ false }
     ensures { WordPassed s.now word.now (stands r) (ended result) }
 {
-    // By `for`: with `position` the place would be made twice, in the closure and in the error.
     for (i, b) in word.iter().enumerate() {
         let at = r.at + i;
         if byte_at(s, at) != *b {

@@ -1,5 +1,5 @@
 -- After every list of calls from a fresh start: of two editions of one series, the older path's nodes are among the
--- newer's, on every document. Assumes nothing.
+-- newer's, on every document.
 use Prim.Native.Nat.{ℕ, zero, suc, ◌+◌, ◌-◌, ◌≤◌, ◌<◌}
 use mathlib.Core.Path.{◌≡◌, refl, sym, ap, subst, ◌∙◌}
 use mathlib.Core.Bool.{Bool, true, false, cond, not, ◌&&◌, false≢true}

@@ -1,4 +1,4 @@
--- The answer of the call record, test by test, and what an accepted one tells. Assumes nothing.
+-- The answer of the call record, test by test, and what an accepted one tells.
 use Prim.Native.Nat.{ℕ, ◌+◌, ◌<◌}
 use mathlib.Core.Path.{◌≡◌}
 use mathlib.Core.Bool.{Bool, true, false, not}

@@ -1,4 +1,4 @@
--- Releases judged, and a listing of the released records, made from one place to the next. Assumes nothing.
+-- Releases judged, and a listing of the released records, made from one place to the next.
 use Prim.Native.Nat.{ℕ, zero, suc, ◌+◌, ◌-◌, ◌≤◌, ◌<◌, min}
 use mathlib.Core.Path.{◌≡◌, refl, sym, ap, subst, ◌∙◌}
 use mathlib.Core.Bool.{cond}

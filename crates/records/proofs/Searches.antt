@@ -1,4 +1,4 @@
--- What the searches among the records find. Assumes nothing.
+-- What the searches among the records find.
 use Prim.Native.Nat.{ℕ, max}
 use mathlib.Core.Path.{◌≡◌, refl, sym, ap, ◌∙◌}
 use mathlib.Core.Bool.{Bool, true, false, cond, ◌&&◌}

@@ -1,4 +1,4 @@
--- What a crew gets is in the register's order, each released record once. Assumes nothing.
+-- What a crew gets is in the register's order, each released record once.
 use Prim.Native.Nat.{ℕ, zero, suc, ◌<◌}
 use mathlib.Core.Path.{◌≡◌, refl, ap, ◌∙◌}
 use mathlib.Core.Bool.{Bool, true, false}

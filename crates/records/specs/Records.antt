@@ -1,4 +1,4 @@
--- The records of document 02's register, editions of series, and the call record. Assumes nothing.
+-- The records of a register, editions of series, and the call record.
 use Rattle.std.specs.Prelude.{ℕ, ◌+◌, Bool, cond, not, ◌&&◌, List, [], ◌∷◌, leb, ltb, eqb, length}
 use Rattle.common.specs.Lists.{all_of}
 use Rattle.terms.specs.Row.{Row}
@@ -8,7 +8,7 @@ use Rattle.calls.specs.Book.{Step, Answer, answer}
 use Rattle.calls.specs.StepCall.{step_numbered}
 use Rattle.common.specs.Refusals.{not_next, bad_record, full_or_in_use}
 
--- a record of document 02: a series, an edition from 1, a path row and a step
+-- a record: a series, an edition from 1, a path row and a step
 abbrev pub recorded : (series edition row step : ℕ) → Record
 recorded s e r p = record { series = s; edition = e; row = r; step = p }
 

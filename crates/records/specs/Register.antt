@@ -1,4 +1,4 @@
--- The plain register: a plain book with records beside it, and what is asked of it. Assumes nothing.
+-- The plain register: a plain book with records beside it, and what is asked of it.
 use Rattle.std.specs.Prelude.{ℕ, ◌<◌, ◌≡◌, Bool, false, not, List, [], ◌∷◌, ◌++◌, T, length, get_or}
 use Rattle.xpath.specs.Document.{Document, well_formed}
 use Rattle.xpath.specs.Meaning.{selects}

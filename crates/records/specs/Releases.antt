@@ -1,4 +1,4 @@
--- Releases of document 02's register: what the office and a crew see of its records. Assumes nothing.
+-- Releases of a register: what the office and a crew see of its records.
 use Rattle.std.specs.Prelude.{ℕ, ◌-◌, ◌<◌, ◌≡◌, cond, false, ◌&&◌, List, [], ◌∷◌, leb, eqb, length, get_or, set}
 use Rattle.std.specs.Prelude.{replicate, map, T}
 use Rattle.common.specs.Lists.{any_of, Every}

@@ -18,7 +18,7 @@ use common::Refusal;
 
 pub const MAX_RECORDS: usize = 256;
 
-// A record: a series, an edition from 1, a path row and a step.
+/// A record: a series, an edition from 1, a path row and a step.
 #[derive(Clone, Copy, PartialEq, Eq, Debug)]
 pub struct Record {
     pub series: u16,
@@ -27,23 +27,21 @@ pub struct Record {
     pub step: u16,
 }
 
-// Records, of which the first ones are held, as many as the count says. Fixed memory without a heap: no call can fail
-// for want of it. No ArrayVec: the definitions, which are believed, say what stands past the records held.
+/// Records, of which the first ones are held, as many as the count says. Fixed memory without a heap: no call can fail
+/// for want of it.
 #[derive(Clone, Copy)]
 pub struct Records {
     held: [Record; MAX_RECORDS],
     count: usize,
 }
 
-// Which records are released: 1 at the place of each that is. Not as bool, and not in the records: the demand on
-// registers, which is to be believed, reads these numbers as they stand.
+/// Which records are released: 1 at the place of each that is.
 #[derive(Clone, Copy)]
 pub struct Releases {
     flags: [u8; MAX_RECORDS],
 }
 
-// What stands past the records held, as in the definition. No derived Default: as a default the zeros would look like a
-// record, and editions count from 1.
+// What stands past the records held, as in the definition; editions count from 1.
 const NO_RECORD: Record = Record {
     series: 0,
     edition: 0,
@@ -74,15 +72,14 @@ impl Records {
         }
     }
 
-    // How many records are held: a count above the limit is read as the limit. The fields are public, so a fact of the
-    // type that bounds it would ask more of whoever makes one.
+    /// How many records are held: a count above the limit is read as the limit.
     pub fn size(&self) -> usize
         ensures { result ≡ size_of self.now }
     {
         self.count.min(MAX_RECORDS)
     }
 
-    // The records held.
+    /// The records held.
     pub fn list(&self) -> &[Record]
         ensures { result.now ≡ records_in self.now }
     {
@@ -95,7 +92,7 @@ impl Records {
         MAX_RECORDS <= self.size()
     }
 
-    // The highest edition of a series, 0 if it has none: editions count from 1, and the next one is due.
+    /// The highest edition of a series, 0 if it has none: editions count from 1, and the next one is due.
     pub fn current(&self, series: u16) -> u16
         ensures { result ≡ current (records_in self.now) series }
     {
@@ -118,8 +115,8 @@ impl Records {
             .map_or(0, |r| r.row)
     }
 
-    // Whether every row and every step in use is among the first ones, as many as given. Of counts, not of `Held`: no
-    // row or step is looked at.
+    /// Whether every row and every step in use is among the first ones, as many as given. Of counts, not of `Held`: no
+    /// row or step is looked at.
     pub fn all_kept(&self, rows: usize, steps: usize) -> bool
         ensures { result ≡ all_kept rows steps (records_in self.now) }
     {
@@ -159,7 +156,7 @@ impl Records {
         self.count = n + 1;
     }
 
-    // A record call on lent rows and steps: the answer, and the record after those held where it is accepted.
+    /// A record call on lent rows and steps: the answer, and the record after those held where it is accepted.
     pub fn record(&mut self, held: Held, given: Record) -> Result<(), Refusal>
         ensures met { RecordMade (table_of held.entry.rows.now) (steps_of held.entry.steps.now) self.old given result
             self.new }
@@ -172,7 +169,7 @@ impl Records {
 }
 
 impl Records {
-    // A listing of the released records, in their order.
+    /// A listing of the released records, in their order.
     pub fn released(&self, releases: &Releases) -> Records
         ensures { result ≡ listed (released (records_in self.now) releases.now.flags) }
     {
@@ -185,7 +182,7 @@ impl Records {
         shown
     }
 
-    // A listing of all records.
+    /// A listing of all records.
     pub fn listing(&self) -> Records
         ensures { result ≡ listed (records_in self.now) }
     {
@@ -213,7 +210,7 @@ impl Releases {
         }
     }
 
-    // A release of the record at a place, counted from 1: the answer, and the releases left.
+    /// A release of the record at a place, counted from 1: the answer, and the releases left.
     pub fn release(&mut self, records: &Records, place: u16) -> Result<(), Refusal>
         ensures met { ReleaseMade (records_in records.now) self.old place result self.new }
         ensures refused { OnErr result (self.new ≡ self.old) }

@@ -1,4 +1,4 @@
--- Releasing a record again. Assumes nothing.
+-- Releasing a record again.
 use Prim.Native.Nat.{ℕ, ◌+◌, ◌<◌}
 use mathlib.Core.Path.{◌≡◌, refl, sym, ap, ◌∙◌}
 use mathlib.Core.Bool.{cond}

@@ -1,5 +1,5 @@
--- Each clause of what is demanded of record, replace and the orders on registers, written out once more: without one of
--- them this fails. Assumes nothing.
+-- Each clause of what is guaranteed of record, replace and the orders on registers, written out once more: without one
+-- of them this fails.
 use Prim.Native.Nat.{ℕ, ◌+◌, ◌≤◌, ◌<◌}
 use mathlib.Core.Path.{◌≡◌}
 use mathlib.Core.List.{List}
@@ -16,13 +16,13 @@ use Rattle.calls.specs.Above.{passed, own}
 use Rattle.records.specs.declared.Record.{Record}
 use Rattle.records.specs.Records.{current, row_of, is_fit_step}
 use Rattle.records.specs.Releases.{OfficeCall, OfficeSeen, plain_office, empty_office}
-use Rattle.session.specs.ReplaceDemand.{SetsReplaced}
-use Rattle.session.specs.OrderDemand.{ArchivesOrdered}
+use Rattle.session.specs.ReplaceGuarantee.{SetsReplaced}
+use Rattle.session.specs.OrderGuarantee.{ArchivesOrdered}
 use Rattle.register.specs.declared.Register.{Register}
 use Rattle.register.specs.Promises.{holdings}
-use Rattle.register.specs.RecordDemand.{RecordsJudged}
-use Rattle.register.proofs.Source.{New, Called, Replaced, Ordered, BundleOrdered, record_demand, replace_demand}
-use Rattle.register.proofs.Source.{order_demand}
+use Rattle.register.specs.RecordGuarantee.{RecordsJudged}
+use Rattle.register.proofs.Source.{New, Called, Replaced, Ordered, BundleOrdered, record_guarantee, replace_guarantee}
+use Rattle.register.proofs.Source.{order_guarantee}
 
 module _ (r₀ r : Register) (cs : List OfficeCall) (os : List OfficeSeen) (is-new : New r₀)
     (run : Run holdings Called r₀ cs os r) where
@@ -34,7 +34,7 @@ module _ (r₀ r : Register) (cs : List OfficeCall) (os : List OfficeSeen) (is-n
   records = (final plain_office empty_office cs).below.beside
 
   abbrev judged : RecordsJudged Called r book records
-  judged = record_demand r₀ r cs os is-new run
+  judged = record_guarantee r₀ r cs os is-new run
 
   -- step i, counted from 1, is held and says that the path of row m is contained in that of row n
   abbrev Says : (i m n : ℕ) → Type 0
@@ -61,10 +61,10 @@ module _ (r₀ r : Register) (cs : List OfficeCall) (os : List OfficeSeen) (is-n
         (record { next = next; path = path; first = first; later = later; space = space })
 
   pub replaced : SetsReplaced Replaced r book
-  replaced = replace_demand r₀ r cs os is-new run
+  replaced = replace_guarantee r₀ r cs os is-new run
 
   -- another register
   pub ordered : (q₀ q : Register) (ds : List OfficeCall) (us : List OfficeSeen) → New q₀
       → Run holdings Called q₀ ds us q
       → ArchivesOrdered Ordered BundleOrdered q r (final plain_office empty_office ds).below.below book
-  ordered q₀ q ds us new run-q = order_demand q₀ r₀ q r ds cs us os new is-new run-q run
+  ordered q₀ q ds us new run-q = order_guarantee q₀ r₀ q r ds cs us os new is-new run-q run

@@ -1,4 +1,4 @@
--- Replace, the orders and record on every register that calls lead to. Assumes nothing.
+-- Replace, the orders and record on every register that calls lead to.
 use Prim.Native.Nat.{ℕ, ◌+◌}
 use mathlib.Core.Path.{◌≡◌, refl, sym, ap, subst, ◌∙◌}
 use mathlib.Core.Bool.{true, false, ◌&&◌}
@@ -30,14 +30,14 @@ use Rattle.records.specs.Releases.{OfficeCall, OfficeSeen, office_after}
 use Rattle.records.proofs.Judged.{record_accepted, is_recorded}
 use Rattle.records.proofs.Editions.{current_path}
 use Rattle.session.specs.View.{view}
-use Rattle.session.specs.ReplaceDemand.{ReplaceRelation}
-use Rattle.session.specs.OrderDemand.{OrderRelation, BundleOrderRelation}
+use Rattle.session.specs.ReplaceGuarantee.{ReplaceRelation}
+use Rattle.session.specs.OrderGuarantee.{OrderRelation, BundleOrderRelation}
 use Rattle.session.proofs.SetsReplaced.{ReplacesKept, sets_replaced}
 use Rattle.session.proofs.ArchivesOrdered.{OrdersKept, BundleOrdersKept, ordered}
 use Rattle.register.specs.declared.Register.{Register}
 use Rattle.register.specs.Promises.{fresh_register, RegisterRelation, RegisterMet, holdings}
-use Rattle.register.specs.RecordDemand.{AcceptableRecord, RecordDemand, RegisterReplaceDemand}
-use Rattle.register.specs.RecordDemand.{RegisterOrderDemand}
+use Rattle.register.specs.RecordGuarantee.{AcceptableRecord, RecordGuarantee, RegisterReplaceGuarantee}
+use Rattle.register.specs.RecordGuarantee.{RegisterOrderGuarantee}
 use Rattle.register.proofs.Simulation.{RegisterLaws, register_laws}
 
 -- a later edition's step, by row numbers and by terms
@@ -144,10 +144,10 @@ module _ (New : Register → Type 0) (new_tied : (r : Register) → New r → r 
       register_laws cs os r
       (subst (λ z. Run holdings RegisterMet z cs os r) (new_tied r₀ new) (run_map call_tied run))
 
-  pub record_demand_by : ((r : Register) (g : Record) (a : Answer) (t : Register) → Called r (passed (own g)) a t
+  pub record_guarantee_by : ((r : Register) (g : Record) (a : Answer) (t : Register) → Called r (passed (own g)) a t
       → a ≡ record_answer (view r.session).rows (view r.session).steps (records_in r.records) g)
-      → RecordDemand New Called
-  record_demand_by told r₀ r cs os new run =
+      → RecordGuarantee New Called
+  record_guarantee_by told r₀ r cs os new run =
       let w = led r₀ r cs os new run in
       let b = (office_after cs).below.below in
       let rs = (office_after cs).below.beside in
@@ -164,16 +164,16 @@ module _ (New : Register → Type 0) (new_tied : (r : Register) → New r → r 
             );
       }
 
-  pub replace_demand_by : (Replaced : ReplaceRelation Register) → ReplacesKept (λ r. r.session) Replaced
-      → RegisterReplaceDemand New Called Replaced
-  replace_demand_by Replaced replace_tied r₀ r cs os new run =
+  pub replace_guarantee_by : (Replaced : ReplaceRelation Register) → ReplacesKept (λ r. r.session) Replaced
+      → RegisterReplaceGuarantee New Called Replaced
+  replace_guarantee_by Replaced replace_tied r₀ r cs os new run =
       let w = led r₀ r cs os new run in
       sets_replaced (λ r. r.session) Replaced replace_tied r _ (ap (λ h. h.below.below) w.held) w.laws.held
 
-  pub order_demand_by : (Ordered : OrderRelation Register) → OrdersKept (λ r. r.session) Ordered
+  pub order_guarantee_by : (Ordered : OrderRelation Register) → OrdersKept (λ r. r.session) Ordered
       → (BundleOrdered : BundleOrderRelation Register) → BundleOrdersKept (λ r. r.session) BundleOrdered
-      → RegisterOrderDemand New Called Ordered BundleOrdered
-  order_demand_by Ordered order_tied BundleOrdered bundle_order_tied q₀ r₀ q r cs ds os us new-q new-r run-q run-r =
+      → RegisterOrderGuarantee New Called Ordered BundleOrdered
+  order_guarantee_by Ordered order_tied BundleOrdered bundle_order_tied q₀ r₀ q r cs ds os us new-q new-r run-q run-r =
       ordered (λ r. r.session) Ordered order_tied BundleOrdered bundle_order_tied q r _ _
       (ap (λ h. h.below.below) (led q₀ q cs os new-q run-q).held)
       (ap (λ h. h.below.below) (led r₀ r ds us new-r run-r).held)

@@ -1,4 +1,4 @@
--- A register moves as the plain register does, since its session moves as the plain book does. Assumes nothing.
+-- A register moves as the plain register does, since its session moves as the plain book does.
 use Prim.Native.Nat.{ℕ, ◌+◌, ◌<◌, min}
 use mathlib.Core.Path.{◌≡◌, refl, sym, ap, subst, ◌∙◌}
 use mathlib.Core.List.{List, [], ◌∷◌, ◌++◌}
@@ -32,10 +32,10 @@ use Rattle.session.specs.View.{view}
 use Rattle.session.specs.Promises.{SelectRelation, SelectMet}
 use Rattle.session.proofs.Views.{fresh_view}
 use Rattle.session.proofs.Simulation.{Whole, session_as_book, fresh_kept}
-use Rattle.session.proofs.Demand3.{SelectsKept, upheld}
+use Rattle.session.proofs.FollowsBook.{SelectsKept, upheld}
 use Rattle.register.specs.Promises.{fresh_register, records, releases, apart, together, register}
 use Rattle.register.specs.Promises.{RegisterRelation, RegisterMet, holdings, released_in}
-use Rattle.register.specs.Demand.{RegisterDemand, DemandOfRegister, ReleasesKept}
+use Rattle.register.specs.FollowsRegister.{FollowsRegister, RegisterGuarantee, ReleasesKept}
 
 abbrev Sized : Records → Type 0
 Sized e = length e.held ≡ max_records
@@ -144,10 +144,10 @@ module _ (Selected : SelectRelation) (select_tied : SelectsKept Selected SelectM
     (current_tied : (r : Register) (series e : ℕ) → Current r series e
     → e ≡ current (records_in r.records) series)
     (crew-tied : (r : Register) (series e : ℕ) → CrewCurrent r series e → e ≡ crew_current (released_in r) series) where
-  demanded : (cs : List OfficeCall) (os : List OfficeSeen) (r : Register)
+  calls_follow_register : (cs : List OfficeCall) (os : List OfficeSeen) (r : Register)
       → Run holdings RegisterMet fresh_register cs os r
-      → RegisterDemand Selected Current CrewCurrent cs os r
-  demanded cs os r run =
+      → FollowsRegister Selected Current CrewCurrent cs os r
+  calls_follow_register cs os r run =
       let w = register_laws cs os r run in
       let is = w.held in
       record {
@@ -162,12 +162,12 @@ module _ (Selected : SelectRelation) (select_tied : SelectsKept Selected SelectM
       }
 
   -- so for every `new` and all calls that meet their promises
-  pub demand_by : (New : Register → Type 0) (Called : RegisterRelation)
+  pub register_guarantee_by : (New : Register → Type 0) (Called : RegisterRelation)
       → ((r : Register) → New r → r ≡ fresh_register)
       → ((r : Register) (c : OfficeCall) (a : _) (t : Register) → Called r c a t → RegisterMet r c a t)
-      → DemandOfRegister Selected Current CrewCurrent New Called
-  demand_by New Called new_tied call_tied r₀ r cs os new run =
-      demanded cs os r (subst (λ z. Run holdings RegisterMet z cs os r) (new_tied r₀ new) (run_map call_tied run))
+      → RegisterGuarantee Selected Current CrewCurrent New Called
+  register_guarantee_by New Called new_tied call_tied r₀ r cs os new run =
+      calls_follow_register cs os r (subst (λ z. Run holdings RegisterMet z cs os r) (new_tied r₀ new) (run_map call_tied run))
 
 pub kept_by : (New : Register → Type 0) (Called : RegisterRelation)
     → ((r : Register) → New r → r ≡ fresh_register)

@@ -1,4 +1,4 @@
--- What the register's contracts in the source say of each call, and demand 3 of them. Assumes nothing.
+-- What the register's contracts in the source say of each call, and the guarantees from them.
 use Prim.Native.Nat.{ℕ, ◌+◌}
 use mathlib.Core.Path.{◌≡◌, refl, sym, ap, subst, ◌∙◌}
 use mathlib.Core.Bool.{Bool, false, not, cond, ◌&&◌, and-false}
@@ -40,19 +40,19 @@ use Rattle.session.specs.ReadCall.{ReadMet}
 use Rattle.session.proofs.Refused.{refused_kept}
 use Rattle.session.proofs.ReadCalls.{refused_fresh}
 use Rattle.session.specs.Promises.{SelectMet}
-use Rattle.session.specs.ReplaceDemand.{ReplaceMet}
-use Rattle.session.specs.OrderDemand.{OrderMet, BundleOrderMet}
+use Rattle.session.specs.ReplaceGuarantee.{ReplaceMet}
+use Rattle.session.specs.OrderGuarantee.{OrderMet, BundleOrderMet}
 use Rattle.session.specs.WriteCall.{WriteMet}
-use Rattle.session.proofs.Demand3.{SelectsKept}
+use Rattle.session.proofs.FollowsBook.{SelectsKept}
 use Rattle.session.proofs.Source as below
 use Rattle.session.proofs.Source.{given_row, given_step}
 use Rattle.register.specs.Promises.{fresh_register, register, RegisterMet, holdings, released_in}
 use Rattle.register.specs.Promises.{RegisterReadMet}
-use Rattle.register.specs.Demand.{DemandOfRegister, ReleasesKept, ReleasedAgain, CrewIsolated}
+use Rattle.register.specs.FollowsRegister.{RegisterGuarantee, ReleasesKept, ReleasedAgain, CrewIsolated}
 use Rattle.register.proofs.Calls.{again_made}
-use Rattle.register.specs.RecordDemand.{RecordDemand, RegisterReplaceDemand, RegisterOrderDemand}
-use Rattle.register.proofs.Simulation.{demand_by, kept_by}
-use Rattle.register.proofs.Judged.{replace_demand_by, order_demand_by, record_demand_by}
+use Rattle.register.specs.RecordGuarantee.{RecordGuarantee, RegisterReplaceGuarantee, RegisterOrderGuarantee}
+use Rattle.register.proofs.Simulation.{register_guarantee_by, kept_by}
+use Rattle.register.proofs.Judged.{replace_guarantee_by, order_guarantee_by, record_guarantee_by}
 use Rattle.register.proofs.Register.new.Reads as new-reads
 use Rattle.register.proofs.Register.term.Reads as term-reads
 use Rattle.register.proofs.Register.step.Reads as step-reads
@@ -282,9 +282,9 @@ met_called r (own p) a t m =
     (release_called ([], tt) (lent_to_write r, (p, tt)) o (lent_to_write t, (p, tt))
     (with_case (λ u. 0) o e m, kept_case (λ u. 0) o e m))
 
-pub register_demand : DemandOfRegister Selected Current CrewCurrent New Called
-register_demand =
-    demand_by Selected select_tied Current CrewCurrent current_tied crew_current_tied New Called new_tied call_tied
+pub register_guarantee : RegisterGuarantee Selected Current CrewCurrent New Called
+register_guarantee =
+    register_guarantee_by Selected select_tied Current CrewCurrent current_tied crew_current_tied New Called new_tied call_tied
 
 pub releases_kept : ReleasesKept New Called
 releases_kept = kept_by New Called new_tied call_tied
@@ -313,7 +313,7 @@ fresh_read bytes t m = by_case t.answer (refused_fresh bytes t m)
     by_case (Ok n) is = tt
     by_case (Err e) is = ap (λ s. record { session = s; records = no_records; releases = no_releases }) is
 
--- a fresh register can be made, and from it every list of calls: the demand is about something
+-- a fresh register can be made, and from it every list of calls: the guarantee is about something
 pub new_exists : New fresh_register
 new_exists = new_called _ _ fresh_register _ refl
 
@@ -400,13 +400,13 @@ reads_exist q bytes =
     )
 
 -- replace, the orders and record after every list of calls
-pub replace_demand : RegisterReplaceDemand New Called Replaced
-replace_demand = replace_demand_by New new_tied Called call_tied Replaced replace_tied
+pub replace_guarantee : RegisterReplaceGuarantee New Called Replaced
+replace_guarantee = replace_guarantee_by New new_tied Called call_tied Replaced replace_tied
 
-pub order_demand : RegisterOrderDemand New Called Ordered BundleOrdered
-order_demand = order_demand_by New new_tied Called call_tied Ordered order_tied BundleOrdered bundle_order_tied
+pub order_guarantee : RegisterOrderGuarantee New Called Ordered BundleOrdered
+order_guarantee = order_guarantee_by New new_tied Called call_tied Ordered order_tied BundleOrdered bundle_order_tied
 
-pub record_demand : RecordDemand New Called
-record_demand =
-    record_demand_by New new_tied Called call_tied
+pub record_guarantee : RecordGuarantee New Called
+record_guarantee =
+    record_guarantee_by New new_tied Called call_tied
     (λ r g a t m. (call_tied r (passed (own g)) a t m).answer ∙ sym (not_barred _ (answer no_record 0)))

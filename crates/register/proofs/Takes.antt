@@ -1,4 +1,4 @@
--- Every call takes every input: the contracts in the source ask nothing. Assumes nothing.
+-- Every call takes every input: the contracts in the source ask nothing.
 use Rattle.register.proofs.Register.new.Reads as new-reads
 use Rattle.register.proofs.Register.term.Reads as term-reads
 use Rattle.register.proofs.Register.step.Reads as step-reads

@@ -1,4 +1,4 @@
 pub mod Promises
-pub mod Demand
-pub mod RecordDemand
+pub mod FollowsRegister
+pub mod RecordGuarantee
 pub mod code

@@ -1,4 +1,4 @@
--- What the register's calls promise, for every register. Assumes nothing.
+-- What the register's calls promise, for every register.
 use Rattle.std.specs.Prelude.{◌≡◌, false, List, ℕ}
 use Rattle.session.specs.declared.session.Session.{Session}
 use Rattle.records.specs.declared.Record.{Record}

@@ -11,8 +11,8 @@ ghost use Rattle.calls.specs.code.Answers.{answer_of, done_answer_of, step_of};
 ghost use Rattle.records.specs.Records.{current};
 ghost use Rattle.records.specs.code.Held.{records_in};
 ghost use Rattle.session.specs.Promises.{SelectMet};
-ghost use Rattle.session.specs.ReplaceDemand.{ReplaceMet};
-ghost use Rattle.session.specs.OrderDemand.{OrderMet, BundleOrderMet};
+ghost use Rattle.session.specs.ReplaceGuarantee.{ReplaceMet};
+ghost use Rattle.session.specs.OrderGuarantee.{OrderMet, BundleOrderMet};
 ghost use Rattle.session.specs.WriteCall.{WriteMet};
 ghost use Rattle.records.specs.Releases.{crew_listing, crew_current};
 ghost use Rattle.records.specs.code.Listed.{listed};
@@ -36,7 +36,7 @@ pub struct Register {
 }
 
 impl Register {
-    // The most records, for callers, as a session names its limits.
+    /// The most records, for callers, as a session names its limits.
     pub const RECORDS: usize = records::MAX_RECORDS;
 
     pub fn new() -> Register
@@ -49,8 +49,8 @@ impl Register {
         }
     }
 
-    // Records an edition of a series: its path row, and the step by which the previous edition's path is contained in
-    // it.
+    /// Records an edition of a series: its path row, and the step by which the previous edition's path is contained in
+    /// it.
     pub fn record(&mut self, given: Record) -> Result<(), Refusal>
         ensures met { RegisterMet self.old (Above.passed (Above.own given)) (done_answer_of result) self.new }
         ensures refused { OnErr result (self.new ≡ self.old) }
@@ -58,15 +58,14 @@ impl Register {
         self.session.record(&mut self.records, given)
     }
 
-    // The current edition of a series, 0 if it has none: a number and no Option, since specs/Demand, which is believed,
-    // has it so, and editions count from 1.
+    /// The current edition of a series, 0 if it has none; editions count from 1.
     pub fn current(&self, series: u16) -> u16
         ensures { result ≡ current (records_in self.now.records) series }
     {
         self.records.current(series)
     }
 
-    // Releases the record at a place, counted from 1.
+    /// Releases the record at a place, counted from 1.
     pub fn release(&mut self, place: u16) -> Result<(), Refusal>
         ensures met { RegisterMet self.old (Above.own place) (done_answer_of result) self.new }
         ensures refused { OnErr result (self.new ≡ self.old) }
@@ -74,21 +73,21 @@ impl Register {
         self.releases.release(&self.records, place)
     }
 
-    // All records, in the order of recording.
+    /// All records, in the order of recording.
     pub fn listing(&self) -> Records
         ensures { result ≡ listed (records_in self.now.records) }
     {
         self.records.listing()
     }
 
-    // The released records, in that order.
+    /// The released records, in that order.
     pub fn crew_listing(&self) -> Records
         ensures { result ≡ listed (crew_listing (released_in self.now)) }
     {
         self.records.released(&self.releases)
     }
 
-    // The highest released edition of a series; 0 if it has none, as of `current`.
+    /// The highest released edition of a series; 0 if it has none, as of `current`.
     pub fn crew_current(&self, series: u16) -> u16
         ensures { result ≡ crew_current (released_in self.now) series }
     {
@@ -96,7 +95,7 @@ impl Register {
         shown.current(series)
     }
 
-    // Returns to the point of that name, where that drops no row and no step in use.
+    /// Returns to the point of that name, where that drops no row and no step in use.
     pub fn return_to(&mut self, name: u16) -> Result<(), Refusal>
         ensures met { RegisterMet self.old (Above.passed (Above.passed (Call.return name)))
             (done_answer_of result) self.new }
@@ -141,7 +140,7 @@ impl Register {
         self.session.point(name)
     }
 
-    // With the parameters of `Session::select`, which says why they are no struct.
+    /// With the parameters of `Session::select`.
     pub fn select(
         &self,
         row: u16,
@@ -180,7 +179,8 @@ impl Register {
         self.session.write(out)
     }
 
-    // Makes the calls of a bundle's lines, from a fresh register whatever was held. A refused bundle leaves a fresh one.
+    /// Makes the calls of a bundle's lines, from a fresh register whatever was held. A refused bundle leaves a fresh
+    /// one.
     pub fn read(&mut self, bytes: &[u8]) -> Result<u16, LineRefusal>
         ensures met { RegisterReadMet bytes.now (read_result result self.new) }
         ensures refused { OnErr result (self.new ≡ fresh_register) }

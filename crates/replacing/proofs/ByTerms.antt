@@ -1,5 +1,5 @@
 -- Where the book's laws hold, a row is replaced by a step just where the step says so of their terms, since two held
--- paths that are the same term are one row. Assumes nothing.
+-- paths that are the same term are one row.
 use Prim.Native.Nat.{ℕ, ◌-◌, ◌≤◌}
 use mathlib.Core.Path.{◌≡◌, refl, sym, ap, subst, ◌∙◌}
 use mathlib.Core.Bool.{Bool, true, false, cond, ◌&&◌}

@@ -1,4 +1,4 @@
--- The search for a number in a list. Assumes nothing.
+-- The search for a number in a list.
 use Prim.Native.Nat.{ℕ}
 use mathlib.Core.Path.{◌≡◌, refl, ap}
 use mathlib.Core.Bool.{◌||◌}

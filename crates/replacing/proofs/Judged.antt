@@ -1,4 +1,4 @@
--- The answer of a replace call, test by test. Assumes nothing.
+-- The answer of a replace call, test by test.
 use Prim.Native.Nat.{ℕ, suc, ◌+◌, ◌≤◌, ◌<◌}
 use mathlib.Core.Path.{◌≡◌, refl, sym, ap}
 use mathlib.Core.Bool.{Bool, true, false, not, cond, ◌||◌}

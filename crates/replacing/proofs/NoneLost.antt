@@ -1,4 +1,4 @@
--- What a covered list selects, the new list selects, where the book's laws hold. Assumes nothing.
+-- What a covered list selects, the new list selects, where the book's laws hold.
 use Prim.Native.Nat.{ℕ, suc, ◌-◌, ◌≤◌, ◌<◌}
 use mathlib.Core.Path.{subst}
 use mathlib.Core.List.{List, [], ◌∷◌}

@@ -1,4 +1,4 @@
--- What a search of the code gives, as a definition has it. Assumes nothing.
+-- What a search of the code gives, as a definition has it.
 use Prim.Native.Nat.{ℕ}
 use mathlib.Core.Path.{refl}
 use mathlib.Core.Bool.{Bool, true, false, cond}

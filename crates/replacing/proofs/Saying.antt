@@ -1,4 +1,4 @@
--- The search for a step that says that one row is contained in another. Assumes nothing.
+-- The search for a step that says that one row is contained in another.
 use Prim.Native.Nat.{ℕ, suc, ◌+◌, ◌-◌, ◌<◌}
 use mathlib.Core.Path.{◌≡◌, refl, sym, ap, ◌∙◌}
 use mathlib.Core.Bool.{Bool, true, false, ◌&&◌, ◌||◌}

@@ -1,4 +1,4 @@
--- A list of old rows that is covered by a list of new rows, by a step for each. Assumes nothing.
+-- A list of old rows that is covered by a list of new rows, by a step for each.
 use Rattle.std.specs.Prelude.{ℕ, suc, Bool, ◌&&◌, List, [], ◌∷◌, leb, eqb, length, get_or}
 use Rattle.std.proofs.Math.Option.{Option-elim}
 use Rattle.common.specs.Bounded.{all_below, first_below}

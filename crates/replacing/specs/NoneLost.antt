@@ -1,4 +1,4 @@
--- Lists of paths, of any length: what a covered list selects, the new list selects. Assumes nothing.
+-- Lists of paths, of any length: what a covered list selects, the new list selects.
 use Rattle.std.specs.Prelude.{ℕ, ◌≤◌, ◌<◌, ◌≡◌, cond, List, [], ◌∷◌, ◌⊎◌, T, length}
 use Rattle.common.specs.Lists.{Every}
 use Rattle.xpath.specs.Document.{Document, well_formed}

@@ -1,4 +1,4 @@
--- The call replace: its answer. Assumes nothing.
+-- The call replace: its answer.
 use Rattle.std.specs.Prelude.{ℕ, suc, Bool, not, cond, ◌||◌, List, ltb, eqb, length}
 use Rattle.std.proofs.Math.Option.{Option, Option-elim}
 use Rattle.common.specs.Bounded.{first_below}

@@ -12,7 +12,7 @@ ghost use Rattle.replacing.specs.code.Places.{IndexIs};
 use calls::{Held, Step};
 use common::Refusal;
 
-// The most old rows of a call, and the most new ones.
+/// The most old rows of a call, and the most new ones.
 pub const MAX_LIST: usize = 64;
 
 // Whether the list has the number n. With `contains` itself in `is_replaced` the check doesn't find that one's proof.
@@ -50,9 +50,8 @@ fn first_uncovered(held: Held, old: &[u16], new: &[u16], by: &[u16]) -> Option<u
         .position(|(row, step)| !is_replaced(held, new, *row, *step))
 }
 
-// A replace call on lent rows and steps, as `Session::replace` makes it on those that it holds. `by` has the number of
-// a step for each old row. The lists are parameters of `Session::replace` too: a struct of them would be made there for
-// this call alone.
+/// A replace call on lent rows and steps, as `Session::replace` makes it on those that it holds. `by` has the number of
+/// a step for each old row.
 pub fn replace_on(held: Held, old: &[u16], new: &[u16], by: &[u16]) -> Result<(), Refusal>
     ensures { done_answer_of result ≡ replace_answer (book_held held.entry) old.now new.now by.now }
 {
@@ -65,7 +64,7 @@ pub fn replace_on(held: Held, old: &[u16], new: &[u16], by: &[u16]) -> Result<()
     }
 }
 
-// The first step, counted from 1, that says that the row `old`, a path, is contained in the row `new`.
+/// The first step, counted from 1, that says that the row `old`, a path, is contained in the row `new`.
 pub fn step_saying(held: Held, old: u16, new: u16) -> Option<usize>
     ensures { PlaceIs result (step_saying (book_held held.entry) old new) }
 {

@@ -13,9 +13,7 @@ use std::io::Read;
 // Longer than the heading and five numbers of at most twenty digits.
 const LONGEST_REPORT: usize = 256;
 
-// The answer, the refused line or 0, the steps held, and the rows of the last step, or zeros, under a heading. Not one
-// function with `print_line` of tally_reports: it would be a new public function, which must have a contract, and none
-// can speak of what is printed. No `println!`: callers would have to lend a handle for it.
+// The answer, the refused line or 0, the steps held, and the rows of the last step, or zeros, under a heading.
 fn print(report: Report) {
     let mut text = ArrayString::<LONGEST_REPORT>::new();
     let _ = writeln!(text, "answer line steps left right\n{report}");

@@ -1,4 +1,4 @@
--- The rules that name axes or tests are sound on every well-formed document. Assumes nothing.
+-- The rules that name axes or tests are sound on every well-formed document.
 use Prim.Native.Nat.{◌<◌}
 use mathlib.Core.Path.{◌≡◌, refl, sym, ◌∙◌, subst}
 use mathlib.Core.List.{[], ◌∷◌}

@@ -1,4 +1,4 @@
--- What a lower axis or test selects, a higher one selects. Assumes nothing.
+-- What a lower axis or test selects, a higher one selects.
 use Prim.Native.Nat.{ℕ, zero, suc, ◌<◌}
 use mathlib.Core.Path.{◌≡◌, refl, sym, subst, subst₂}
 use mathlib.Core.Bool.{Bool, ◌&&◌, ◌||◌}

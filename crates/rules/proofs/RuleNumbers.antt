@@ -1,4 +1,4 @@
--- A rule that yields anything is one of 1 to 59. Assumes nothing.
+-- A rule that yields anything is one of 1 to 59.
 use Prim.Native.Nat.{ℕ, zero, suc, ◌≤◌, ◌<◌}
 use mathlib.Core.Path.{◌≡◌, refl, subst}
 use mathlib.Core.List.{List, [], ◌∷◌}

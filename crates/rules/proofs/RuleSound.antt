@@ -1,4 +1,4 @@
--- What it is for a form, and for a rule, to be sound on a document. Assumes nothing.
+-- What it is for a form, and for a rule, to be sound on a document.
 use Prim.Native.Nat.{ℕ, ◌<◌}
 use mathlib.Core.Bool.{Bool, true, false}
 use mathlib.Core.List.{List, [], ◌∷◌, map}

@@ -1,5 +1,4 @@
--- Rule 10, whose second premise ends in `*` or in node(): all that it yields with either ending is yielded. Assumes
--- nothing.
+-- Rule 10, whose second premise ends in `*` or in node(): all that it yields with either ending is yielded.
 use Rattle.std.specs.Prelude.{ℕ, refl, true, ◌&&◌, leb}
 use mathlib.Core.List.{Memᴰ}
 use Rattle.std.proofs.Common.{inl}
@@ -40,7 +39,7 @@ ending_yields t i u v x y n m c =
       premises = refl;
     })
 
--- 01's rule 10: all that it yields is yielded
+-- rule 10: all that it yields is yielded
 pub star_ending_yields : EndingYields star_test
 unfolding forms_of forms_in rules
 star_ending_yields = ending_yields star_test (Memᴰ.head refl)

@@ -1,4 +1,4 @@
--- The rules that name no axis and no test are sound on every well-formed document. Assumes nothing.
+-- The rules that name no axis and no test are sound on every well-formed document.
 use mathlib.Core.Logic.{inl, inr, ⊎_elim}
 use lib.Dec.{T}
 use Rattle.xpath.specs.Document.{Document, well_formed}

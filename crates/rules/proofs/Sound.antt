@@ -1,5 +1,4 @@
 -- What a rule yields from claims that are true on every well-formed document, of any length, is true there.
--- Assumes nothing.
 use Prim.Native.Nat.{ℕ}
 use mathlib.Core.Path.{◌≡◌, sym, subst}
 use mathlib.Core.Bool.{Bool, true, false, cond}

@@ -1,4 +1,4 @@
--- Where a path that has a way back selects y from x, its way back selects x from y. Assumes nothing.
+-- Where a path that has a way back selects y from x, its way back selects x from y.
 use Prim.Native.Nat.{ℕ, ◌<◌}
 use mathlib.Core.Path.{◌≡◌, refl, sym, subst}
 use mathlib.Core.Bool.{Bool, true, false, cond, ◌&&◌}

@@ -1,4 +1,4 @@
--- What a step says, and when that is true. Assumes nothing.
+-- What a step says, and when that is true.
 use Rattle.std.specs.Prelude.{ℕ, ◌<◌, cond, List, T, length}
 use Rattle.xpath.specs.Document.{Document, well_formed}
 use Rattle.xpath.specs.Term.{Path, Qualifier}

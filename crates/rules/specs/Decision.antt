@@ -1,4 +1,4 @@
--- Whether a rule yields a step is decided. Assumes nothing.
+-- Whether a rule yields a step is decided.
 use Rattle.std.specs.Prelude.{ℕ, List}
 use Rattle.rules.specs.Claim.{Claim}
 use Rattle.rules.specs.Yields.{Yields}

@@ -1,5 +1,4 @@
 -- A choice of the letters, the terms and claims that forms are for it, and the conditions that it meets.
--- Assumes nothing.
 use Rattle.std.specs.Prelude.{ℕ, Bool, not, ◌&&◌, ◌||◌, leb, eqb}
 use Rattle.common.specs.Axes.{descendant, preceding, attribute}
 use Rattle.common.specs.NodeTests.{name_test, star_test, node_test}

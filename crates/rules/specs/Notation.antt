@@ -1,4 +1,4 @@
--- The words and signs of the rule table. Assumes nothing.
+-- The words and signs of the rule table.
 use Rattle.std.specs.Prelude.{ℕ, List, [], ◌∷◌, ◌++◌}
 use Rattle.common.specs.Axes
 use Rattle.common.specs.NodeTests

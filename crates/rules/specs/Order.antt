@@ -1,4 +1,4 @@
--- The order of the axes and the order of the tests. Assumes nothing.
+-- The order of the axes and the order of the tests.
 use Rattle.std.specs.Prelude.{ℕ, Bool, false, ◌&&◌, ◌||◌, List, [], ◌∷◌, eqb}
 use Rattle.common.specs.Axes.{self, child, parent, descendant, ancestor, descendant_or_self, ancestor_or_self}
 use Rattle.common.specs.Axes.{following_sibling, preceding_sibling, following, preceding, attribute}

@@ -1,6 +1,6 @@
 -- The rule table: a line for each rule, its number, its conclusion, its premises in order, its conditions. Signs: `¦`,
--- `∕`, `⟦ ⟧` are document 01's `|`, `/`, `[ ]`; `≐` and `⇔` are `=`, of paths and of qualifiers; `self :: node_test` is
--- `.`. Assumes nothing.
+-- `∕`, `⟦ ⟧` are the `|`, `/`, `[ ]` of terms; `≐` and `⇔` are `=`, of paths and of qualifiers; `self :: node_test` is
+-- `.`.
 use Rattle.std.specs.Prelude.{List, [], ◌∷◌, ◌++◌}
 use Rattle.rules.specs.Form.{Rule, Void, Root, ◌::◌, ◌¦◌, ◌∕◌, ◌⟦◌⟧, True, False, Not◌, ◌And◌, ◌Or◌, ◌In◌, ◌<=◌}
 use Rattle.rules.specs.Form.{◌=>◌, a_below_b, N_below_M, b_from_3_to_10, N_a_name_or_star, N_not_node}

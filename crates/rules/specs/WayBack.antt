@@ -1,5 +1,5 @@
--- The way back of a path, a term of document 02: from each node that the path selects it leads to where the path
--- began. Assumes nothing.
+-- The way back of a path, a term: from each node that the path selects it leads to where the path
+-- began.
 use Rattle.std.specs.Prelude.{ℕ, cond, List, [], ◌∷◌, eqb}
 use Rattle.std.proofs.Math.Option.{Option, none, some, map}
 use Rattle.common.specs.Axes.{self, child, parent, descendant, ancestor, descendant_or_self, ancestor_or_self}

@@ -1,4 +1,4 @@
--- When a rule yields a step, and how many premises a rule has. Assumes nothing.
+-- When a rule yields a step, and how many premises a rule has.
 use Rattle.std.specs.Prelude.{ℕ, ◌≡◌, refl, Bool, cond, ◌⊎◌, T, eqb, length}
 use mathlib.Core.List.{List, [], ◌∷◌, map, Memᴰ}
 use Rattle.std.proofs.Math.Option.{some}

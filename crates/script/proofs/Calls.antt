@@ -1,4 +1,4 @@
--- The command of a line whose numbers are read. Assumes nothing.
+-- The command of a line whose numbers are read.
 use Prim.Native.Nat.{ℕ, ◌+◌, ◌*◌, ◌≤◌}
 use mathlib.Core.Path.{◌≡◌, refl, sym, ap, subst, ◌∙◌}
 use mathlib.Core.List.{List, [], ◌∷◌, ◌++◌, map}

@@ -1,4 +1,4 @@
--- A text taken line by line, each with its newline: `split_inclusive` with `enumerate`. Assumes nothing.
+-- A text taken line by line, each with its newline: `split_inclusive` with `enumerate`.
 use Prim.Native.Nat.{ℕ, ◌+◌, ◌≤◌, ◌<◌}
 use mathlib.Core.Path.{◌≡◌, refl, sym, ap, ap₂, ◌∙◌}
 use mathlib.Core.Bool.{Bool, true, false, cond}

@@ -1,4 +1,4 @@
--- The numbers of a list are read one after the other. Assumes nothing.
+-- The numbers of a list are read one after the other.
 use Prim.Native.Nat.{ℕ}
 use mathlib.Core.Path.{◌≡◌, sym, ap}
 use mathlib.Core.List.{List}

@@ -1,4 +1,4 @@
--- Names that are written. Assumes nothing.
+-- Names that are written.
 use Prim.Native.Nat.{ℕ, ◌≤◌, min}
 use mathlib.Core.Path.{◌≡◌, sym, ap, ◌∙◌}
 use mathlib.Core.List.{List, ◌++◌, map, append-nil}

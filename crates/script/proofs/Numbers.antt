@@ -1,4 +1,4 @@
--- All numbers of a line, one after the other. Assumes nothing.
+-- All numbers of a line, one after the other.
 use Prim.Native.Nat.{ℕ}
 use mathlib.Core.Path.{◌≡◌, refl, sym, ◌∙◌}
 use mathlib.Core.List.{List, [], ◌∷◌, ◌++◌}

@@ -1,4 +1,4 @@
--- The first line of a text, and what stands behind its word. Assumes nothing.
+-- The first line of a text, and what stands behind its word.
 use Prim.Native.Nat.{ℕ, ◌+◌, ◌≤◌}
 use mathlib.Core.Path.{◌≡◌, refl, sym, ap, ◌∙◌}
 use mathlib.Core.Bool.{Bool, true, false}

@@ -1,4 +1,4 @@
--- The four numbers of a select, one after the other. Assumes nothing.
+-- The four numbers of a select, one after the other.
 use Prim.Native.Nat.{ℕ}
 use mathlib.Core.Path.{◌≡◌, refl, ap}
 use mathlib.Core.List.{List, [], ◌∷◌}

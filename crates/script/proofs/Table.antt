@@ -1,4 +1,4 @@
--- The words of the table are tried one after the other. Assumes nothing.
+-- The words of the table are tried one after the other.
 use Prim.Native.Nat.{ℕ, ◌+◌, ◌≤◌, ◌<◌}
 use mathlib.Core.Path.{◌≡◌, refl, sym, ap, subst, ◌∙◌}
 use mathlib.Core.Bool.{Bool, true, false}

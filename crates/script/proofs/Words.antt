@@ -1,4 +1,4 @@
--- The first part of a line says which call it is. Assumes nothing.
+-- The first part of a line says which call it is.
 use Prim.Native.Nat.{ℕ, ◌+◌}
 use mathlib.Core.Path.{◌≡◌, refl, sym, ap, ◌∙◌}
 use mathlib.Core.Bool.{Bool, true, false, false≢true}

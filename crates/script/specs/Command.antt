@@ -1,4 +1,4 @@
--- The command that a line of a script is: a word, and numbers. Assumes nothing.
+-- The command that a line of a script is: a word, and numbers.
 use Rattle.std.specs.Prelude.{ℕ, cond, List, [], ◌∷◌, leb, length}
 use Rattle.std.proofs.Math.Option.{Option, none, some, Option-elim}
 use Rattle.common.specs.Limits.{max_bytes}

@@ -1,4 +1,4 @@
--- What stands behind the word of a line. Assumes nothing.
+-- What stands behind the word of a line.
 use Rattle.std.specs.Prelude.{ℕ, cond, List, [], ◌∷◌, map, eqb}
 use Rattle.lines.specs.Line.{newline, space, Line}
 

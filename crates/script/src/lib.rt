@@ -20,15 +20,15 @@ use terms::{ROW_WIDTH, Row};
 
 const MAX_LIMIT: u32 = u32::MAX;
 
-// The length of the longest marks buffer.
+/// The length of the longest marks buffer.
 pub const MAX_MARKS: usize = 1024;
 
-// The length of the longest buffer of a write.
+/// The length of the longest buffer of a write.
 pub const MAX_ROOM: usize = common::MAX_BYTES;
 
-// A word with the numbers after it, by place, as a script's line has them: of a select, the row, the context node, the
-// limit and the length of the marks buffer that it is lent; of a write, the length of its buffer. What `names` and
-// `text` take stays in the line.
+/// A word with the numbers after it, by place, as a script's line has them: of a select, the row, the context node, the
+/// limit and the length of the marks buffer that it is lent; of a write, the length of its buffer. What `names` and
+/// `text` take stays in the line.
 #[derive(Clone, Copy)]
 pub enum Command {
     Term(Row),
@@ -55,17 +55,15 @@ pub enum Command {
     CrewCurrent(u16),
 }
 
-// The command of a line, and the position of the next line.
+/// The command of a line, and the position of the next line.
 #[derive(Clone, Copy)]
 pub struct CallLine {
     pub command: Command,
     pub next: usize,
 }
 
-// What is made of the N numbers at `at`, which go to the line's end, and of zeros behind them: the check doesn't cover
-// a bound `FnOnce` that names a const parameter, as one of `[u16; N]` would. Here and below a text and a place in it
-// are two parameters: places are counted in the whole text, and of a slice from `at` on each would have to be moved
-// back.
+// What is made of the N numbers at `at`, which go to the line's end, and of zeros behind them. Here and below places
+// are counted in the whole text.
 fn counted<const N: usize, F: FnOnce(u16, u16, u16, u16, u16) -> Command>(
     bytes: &[u8],
     at: usize,
@@ -215,8 +213,7 @@ fn alone(word: Word) -> Option<Command>
     }
 }
 
-// The call of the line at `at`. By `for`: a word is tried in two ways, and what `find_map` gives would be an Option of
-// an Option.
+/// The call of the line at `at`.
 pub fn call_at(bytes: &[u8], at: usize) -> Option<CallLine>
     ensures { CallRead command_of bytes.now at result }
 {
@@ -237,7 +234,7 @@ pub fn call_at(bytes: &[u8], at: usize) -> Option<CallLine>
     None
 }
 
-// The bytes behind the first space of the line at `at`; none where it has none.
+/// The bytes behind the first space of the line at `at`; none where it has none.
 pub fn rest_at(bytes: &[u8], at: usize) -> &[u8]
     ensures { result.now ≡ rest_of (first_bytes (lines (drop at bytes.now))) }
 {
@@ -256,9 +253,8 @@ fn newline_for_space(b: u8) -> u8
     if b == lines::SPACE { lines::NEWLINE } else { b }
 }
 
-// Writes the list of names that the bytes write, as much of it as there is room for. It gives how many bytes these are.
-// Into a lent buffer of any length: this is public, and an ArrayVec has one capacity in its type, so it would ask more
-// of callers.
+/// Writes the list of names that the bytes write, as much of it as there is room for. It gives how many bytes these
+/// are.
 pub fn put_names(bytes: &[u8], out: &mut [u8]) -> usize
     ensures { (result ≡ min (length bytes.now) (length out.old))
         × (take result out.new ≡ take result (names_of bytes.now))

@@ -4,8 +4,7 @@ ghost use Rattle.script_words.specs.Words.{max_numbers};
 
 use script_words::MAX_NUMBERS;
 
-// The first `count` of an array: a line is read whatever memory is left, without a heap. No ArrayVec: it isn't Copy, as
-// a line's command is for callers.
+/// The first `count` of an array: a line is read whatever memory is left, without a heap.
 #[derive(Clone, Copy)]
 pub struct NumberList {
     numbers: [u16; MAX_NUMBERS],

@@ -1,4 +1,4 @@
--- The code's words are the specification's, entry by entry. Assumes nothing.
+-- The code's words are the specification's, entry by entry.
 use Prim.Native.Nat.{ℕ, zero, suc, ◌<◌}
 use mathlib.Core.Path.{◌≡◌, refl, sym, ap, ◌∙◌}
 use mathlib.Core.Bool.{Bool, true, ◌&&◌}

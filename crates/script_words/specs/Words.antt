@@ -1,4 +1,4 @@
--- The words of a script's lines, and what stands after each. Assumes nothing.
+-- The words of a script's lines, and what stands after each.
 use Rattle.std.specs.Prelude.{ℕ, ◌+◌, ◌*◌, List, [], ◌∷◌}
 use Rattle.xpath.specs.Document.{max_nodes, node_width}
 use Rattle.lines.specs.Ascii.{ascii}

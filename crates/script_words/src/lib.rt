@@ -4,10 +4,10 @@
 ghost use Rattle.std.specs.Prelude.{◌≡◌};
 ghost use Rattle.script_words.specs.code.Entries.{text_of};
 
-// The numbers of the longest document, three a node: one node more than a select takes.
+/// The numbers of the longest document, three a node: one node more than a select takes.
 pub const MAX_NUMBERS: usize = xpath::NODE_WIDTH * (xpath::MAX_NODES + 1);
 
-// The most numbers of a line of old rows, of new rows, or of steps: more than a replace takes.
+/// The most numbers of a line of old rows, of new rows, or of steps: more than a replace takes.
 pub const MAX_LISTED: usize = 100;
 
 #[derive(Clone, Copy)]
@@ -36,7 +36,7 @@ pub enum Word {
     CrewCurrent,
 }
 
-// The words, in the order in which they are tried.
+/// The words, in the order in which they are tried.
 pub const WORDS: [Word; 22] = [
     Word::Term,
     Word::Step,
@@ -63,7 +63,7 @@ pub const WORDS: [Word; 22] = [
 ];
 
 impl Word {
-    // The bytes of the word.
+    /// The bytes of the word.
     #[tactic(auto, unfolding(crate::specs::code::Entries::text_of, lines::specs::Ascii::ascii))]
     pub fn text(self) -> &'static [u8]
         ensures { result.now ≡ text_of self }

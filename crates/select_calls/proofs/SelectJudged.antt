@@ -1,4 +1,4 @@
--- The answer of a select call, test by test, and the buffer that it leaves. Assumes nothing.
+-- The answer of a select call, test by test, and the buffer that it leaves.
 use Prim.Native.Nat.{ℕ, ◌≤◌, ◌<◌}
 use mathlib.Core.Path.{◌≡◌, refl, sym, ap, ◌∙◌}
 use mathlib.Core.Bool.{Bool, true, false, cond, ◌||◌}

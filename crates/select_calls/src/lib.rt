@@ -7,8 +7,7 @@ ghost use Rattle.calls.specs.Promises.{SelectMade};
 use common::Refusal;
 use xpath::Checked;
 
-// A select call on lent rows, four numbers a row, as `Session::select` makes it on the rows that it holds. No struct of
-// its parameters: `SelectMade` names them one by one, and each is judged or passed on apart from the others.
+/// A select call on lent rows, four numbers a row, as `Session::select` makes it on the rows that it holds.
 pub fn select_on(
     rows: &[u16],
     row: u16,

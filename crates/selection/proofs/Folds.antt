@@ -1,4 +1,4 @@
--- Laws of the tests and sums over the numbers below a bound. Assumes nothing.
+-- Laws of the tests and sums over the numbers below a bound.
 use Prim.Native.Nat.{ℕ, zero, suc, ◌+◌, ◌≤◌, ◌<◌}
 use mathlib.Core.Path.{◌≡◌, refl}
 use mathlib.Core.Bool.{Bool, ◌&&◌, ◌||◌}

@@ -1,4 +1,4 @@
--- Laws of results under a limit of visits. Assumes nothing.
+-- Laws of results under a limit of visits.
 use Prim.Native.Nat.{ℕ, ◌+◌, ◌-◌, ◌≤◌, ◌<◌}
 use mathlib.Core.Path.{◌≡◌, sym, ◌∙◌}
 use mathlib.Core.Bool.{Bool, true, false, cond}

@@ -1,4 +1,4 @@
--- Laws of marks: the loops that set them, and the copy into a buffer. Assumes nothing.
+-- Laws of marks: the loops that set them, and the copy into a buffer.
 use Prim.Native.Nat.{ℕ, zero, suc, ◌+◌, ◌≤◌, ◌<◌}
 use mathlib.Core.Path.{◌≡◌, refl, sym, ap, ap₂, ◌∙◌}
 use mathlib.Core.Bool.{Bool, true, false, cond, not, ◌&&◌, ◌||◌, or-false}

@@ -1,4 +1,4 @@
--- What the evaluation of a path answers, by its result under the limit. Assumes nothing.
+-- What the evaluation of a path answers, by its result under the limit.
 use Prim.Native.Nat.{ℕ, ◌≤◌, ◌<◌}
 use mathlib.Core.Path.{◌≡◌, ◌∙◌}
 use mathlib.Core.List.{List, ◌++◌}

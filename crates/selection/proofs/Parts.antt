@@ -1,4 +1,4 @@
--- What the ways through the evaluation of a row find. Assumes nothing.
+-- What the ways through the evaluation of a row find.
 use Prim.Native.Nat.{ℕ, ◌+◌, ◌≤◌, ◌<◌}
 use mathlib.Core.Path.{◌≡◌, refl, sym}
 use mathlib.Core.Bool.{cond, false, ◌&&◌}
@@ -57,8 +57,8 @@ module _ (d : Document) (ts : List Term) (r : Row) (x limit : ℕ) where
   unfolding holds qualifier_visits
   false_row_found l m n o p v w = rw (false_qualifier ts r l m n o p) w
 
--- the second operand, where `first` marks what the first, p, selects from x; `start` visits are the term's own and those
--- of p
+-- the second operand, where `first` marks what the first, p, selects from x; `start` visits are the term's own and
+-- those of p
 module _ (d : Document) (p : Path) (x limit start : ℕ) (first : List ℕ)
     (a : Added (length d) (replicate max_nodes 0) first (selects d p x)) (e : start ≡ 1 + visits d p x) where
   same_visits : (v : ℕ → ℕ) → sum_below (length d) (λ z. cond (marked first z) (v z) 0) ≡ sum_below (length d)

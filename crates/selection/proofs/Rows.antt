@@ -1,4 +1,4 @@
--- The terms of rows by the code's tests: past the rows held, without operands, with operands. Assumes nothing.
+-- The terms of rows by the code's tests: past the rows held, without operands, with operands.
 use Prim.Native.Nat.{ℕ, zero, suc, ◌+◌, ◌≤◌, ◌<◌}
 use mathlib.Core.Path.{◌≡◌, refl, ◌∙◌}
 use mathlib.Core.Bool.{false, cond, ◌&&◌, ◌||◌, and-false}

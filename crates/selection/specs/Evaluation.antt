@@ -1,4 +1,4 @@
--- What an evaluation answers, and the buffer that it leaves. Assumes nothing.
+-- What an evaluation answers, and the buffer that it leaves.
 use Rattle.std.specs.Prelude.{ℕ, cond, ◌||◌, List, leb, ltb, length}
 use Rattle.xpath.specs.Document.{Document, max_nodes}
 use Rattle.xpath.specs.Term.{Path}

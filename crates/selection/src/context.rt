@@ -7,14 +7,14 @@ ghost use Rattle.terms.specs.code.RowTypes.{row_of};
 use terms::Row;
 use xpath::Checked;
 
-// A table of rows, and a document that was checked.
+/// A table of rows, and a document that was checked.
 #[derive(Clone, Copy)]
 pub struct Lent<'a> {
     pub rows: &'a [u16],
     pub document: Checked<'a>,
 }
 
-// A node of the document, from which the first `top` rows are evaluated.
+/// A node of the document, from which the first `top` rows are evaluated.
 #[derive(Clone, Copy)]
 pub struct Context<'a> {
     pub lent: &'a Lent<'a>,
@@ -24,7 +24,7 @@ pub struct Context<'a> {
 }
 
 impl<'a> Context<'a> {
-    // How many nodes the document has.
+    /// How many nodes the document has.
     pub fn node_count(&self) -> usize
         ensures { result ≡ length (doc self.now.lent.now.document) }
     {
@@ -39,7 +39,8 @@ impl<'a> Context<'a> {
         terms::row_at(lent.rows, r)
     }
 
-    // The same rows from node z. Each field by name, here and below: beside a ghost field the check doesn't cover `..`.
+    /// The same rows from node z. Each field by name, here and below: beside a ghost field the check doesn't cover
+    /// `..`.
     pub fn at(&self, z: usize) -> Context<'a>
         requires { z < length (doc self.now.lent.now.document) }
         ensures lent { result.lent ≡ self.now.lent }
@@ -53,7 +54,7 @@ impl<'a> Context<'a> {
         }
     }
 
-    // The rows before row r from the same node.
+    /// The rows before row r from the same node.
     pub fn below(&self, r: usize) -> Context<'a>
         ensures lent { result.lent ≡ self.now.lent }
         ensures top { result.top ≡ r }

@@ -1,5 +1,5 @@
-// The evaluation of paths and qualifiers by their rows, under a limit on their visits: a result has the visits made, and
-// there is none where more are needed than the limit.
+// The evaluation of paths and qualifiers by their rows, under a limit on their visits: a result has the visits made,
+// and there is none where more are needed than the limit.
 ghost use Rattle.std.specs.Prelude.{◌≡◌, ◌&&◌, ◌||◌, not, cond, ◌≤◌, eqb, length, ⊤};
 ghost use Rattle.common.specs.Bounded.{all_below};
 ghost use Rattle.common.specs.RowKinds.{and_row};
@@ -40,8 +40,7 @@ fn is_included(a: &[u8; MAX_NODES], b: &[u8; MAX_NODES], n: usize) -> bool
     included
 }
 
-// The value of an `and` or an `or`, whichever the kind is. By the kind: with an arm for each, `eval_qualifier_row`
-// would write out the evaluation of both operands twice.
+// The value of an `and` or an `or`, whichever the kind is.
 fn and_or(kind: RowKind, left: bool, right: bool) -> bool
     ensures { result ≡ cond (eqb (row_number kind) and_row) (left && right) (left || right) }
 {
@@ -70,7 +69,6 @@ fn found_leaf(holds: bool, limit: u32) -> Option<Found>
     Some(Found { holds, visits })
 }
 
-// `limit` and `out` are no fields of a Context, which is copied for each node and row: they go with each call.
 impl Context<'_> {
     // Marks what a path without operands selects.
     fn mark_leaf(&self, row: Row, out: &mut [u8; MAX_NODES])
@@ -91,7 +89,7 @@ impl Context<'_> {
         }
     }
 
-    // Marks what the path in row r selects; a row past the first `top` is read as the void path.
+    /// Marks what the path in row r selects; a row past the first `top` is read as the void path.
     #[cycle(evaluation)]
     pub fn eval_path(&self, r: usize, limit: u32, out: &mut [u8; MAX_NODES]) -> Option<u32>
         ensures { PathAdded self.now (path_in (terms_in self.now) r) limit result out.old out.new }

@@ -14,7 +14,7 @@ use common::Refusal;
 use context::{Context, Lent};
 use xpath::{Checked, MAX_NODES};
 
-// The marks have no room for the document; or more visits are needed than the limit.
+/// The marks have no room for the document; or more visits are needed than the limit.
 #[derive(Clone, Copy, Debug, PartialEq, Eq)]
 pub enum EvaluationError {
     NoRoom,
@@ -32,10 +32,9 @@ impl From<EvaluationError> for Refusal {
     }
 }
 
-// Writes 1 or 0 for each node of the document into `marks`, as the path in row `row` selects it from x, and answers
-// the visits made. Where it answers an error, `marks` is as it was. It asks for a node of the document, since
-// the caller answers for all other input; no user calls it. No struct of its parameters: rows, document and x go into
-// the two that the evaluation reads, `Lent` and `Context`, and the limit and the marks each another way.
+/// Writes 1 or 0 for each node of the document into `marks`, as the path in row `row` selects it from x, and answers
+/// the visits made. Where it answers an error, `marks` is as it was. It asks for a node of the document, since the
+/// caller answers for all other input; no user calls it.
 pub fn evaluate(
     rows: &[u16],
     row: usize,

@@ -1,4 +1,4 @@
--- A call is accepted just where it fits: the refusals, test by test, on a session that calls lead to. Assumes nothing.
+-- A call is accepted just where it fits: the refusals, test by test, on a session that calls lead to.
 use Rattle.calls.specs.code.Answers.{answer_of}
 use Prim.Native.Nat.{ℕ, ◌≤◌, ◌<◌}
 use mathlib.Core.Path.{◌≡◌, refl, sym, ap, ◌∙◌}
@@ -35,9 +35,9 @@ use Rattle.calls.proofs.Premises.{sides_held}
 use Rattle.session.specs.declared.session.Session.{Session}
 use Rattle.session.specs.View.{view, fresh_session}
 use Rattle.session.specs.Promises.{CallRelation, SelectRelation, Met, SelectMet}
-use Rattle.session.specs.AcceptDemand.{AcceptableRow, AcceptableStep, AcceptableSelect, AcceptsExactly, AcceptDemand}
+use Rattle.session.specs.AcceptGuarantee.{AcceptableRow, AcceptableStep, AcceptableSelect, AcceptsExactly, AcceptGuarantee}
 use Rattle.session.proofs.Simulation.{Kept, answers_by_terms, calls_follow}
-use Rattle.session.proofs.Demand3.{CallsKept, SelectsKept, made_from_fresh}
+use Rattle.session.proofs.FollowsBook.{CallsKept, SelectsKept, made_from_fresh}
 
 -- the first of two or three places whose test fails is 0 just where all hold
 two_places : (u v : Bool) → (cond (not u) 1 (cond (not v) 2 0) ≤ 0) ↔ (T u × T v)
@@ -193,8 +193,8 @@ module _ (Selected : SelectRelation) (select_tied : SelectsKept Selected SelectM
       }
 
   -- so for every `new` and every calls that meet theirs
-  pub accept_demand_by : (New : Session → Type 0) → ((s : Session) → New s → s ≡ fresh_session)
-      → AcceptDemand Selected Called New
-  accept_demand_by New new_tied s₀ s cs os new run =
+  pub accept_guarantee_by : (New : Session → Type 0) → ((s : Session) → New s → s ≡ fresh_session)
+      → AcceptGuarantee Selected Called New
+  accept_guarantee_by New new_tied s₀ s cs os new run =
       let f = calls_follow (made_from_fresh new_tied call_tied new run) in
       accepts_exactly s (book_after cs) f.held f.kept

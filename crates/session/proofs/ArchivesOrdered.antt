@@ -1,4 +1,4 @@
--- What order calls mean on two sessions that calls lead to. Assumes nothing.
+-- What order calls mean on two sessions that calls lead to.
 use Rattle.calls.specs.code.Answers.{OrderOrRefusal, order_answer_of}
 use Prim.Native.Nat.{ℕ, ◌≤◌}
 use mathlib.Core.Path.{◌≡◌, sym, ap, ap₂, subst, ◌∙◌}
@@ -13,13 +13,13 @@ use Rattle.ordering.specs.OrderLaws.{Sorted}
 use Rattle.session.specs.declared.session.Session.{Session}
 use Rattle.session.specs.View.{view, fresh_session}
 use Rattle.session.specs.Promises.{CallRelation, Met}
-use Rattle.session.specs.OrderDemand.{OrderRelation, BundleOrderRelation, OrderMet, BundleOrderMet}
-use Rattle.session.specs.OrderDemand.{SortedRows, ArchivesOrdered, OrderDemand}
+use Rattle.session.specs.OrderGuarantee.{OrderRelation, BundleOrderRelation, OrderMet, BundleOrderMet}
+use Rattle.session.specs.OrderGuarantee.{SortedRows, ArchivesOrdered, OrderGuarantee}
 use Rattle.ordering.proofs.TermOrder.{terms_ordered}
 use Rattle.ordering.proofs.Sorted.{sorted_match}
 use Rattle.ordering.proofs.Judged.{equal_iff, bundles_equal_iff, at_most_lem}
 use Rattle.session.proofs.Simulation.{calls_follow}
-use Rattle.session.proofs.Demand3.{CallsKept, made_from_fresh}
+use Rattle.session.proofs.FollowsBook.{CallsKept, made_from_fresh}
 
 -- order calls on sessions, or on what has a session, that meet the session's promises
 abbrev pub OrdersKept : {S : Type 0} → (S → Session) → OrderRelation S → Type 0
@@ -71,12 +71,12 @@ module _ {S : Type 0} (session : S → Session)
       }
 
 -- so for every `new`, every calls and every orders on sessions that meet their promises
-pub order_demand_by : (Ordered : OrderRelation Session) → OrdersKept (λ s. s) Ordered
+pub order_guarantee_by : (Ordered : OrderRelation Session) → OrdersKept (λ s. s) Ordered
     → (BundleOrdered : BundleOrderRelation Session) → BundleOrdersKept (λ s. s) BundleOrdered
     → (New : Session → Type 0) (Called : CallRelation)
     → ((s : Session) → New s → s ≡ fresh_session) → CallsKept Called Met
-    → OrderDemand Ordered BundleOrdered New Called
-order_demand_by Ordered order_tied BundleOrdered bundle_order_tied New Called new_tied call_tied s₀ t₀ s t cs ds os us
+    → OrderGuarantee Ordered BundleOrdered New Called
+order_guarantee_by Ordered order_tied BundleOrdered bundle_order_tied New Called new_tied call_tied s₀ t₀ s t cs ds os us
     new-s new-t run-s run-t =
     ordered (λ s. s) Ordered order_tied BundleOrdered bundle_order_tied s t (book_after cs) (book_after ds)
     (calls_follow (made_from_fresh new_tied call_tied new-s run-s)).held

@@ -1,4 +1,4 @@
--- A well-written bundle: its lines read back, and reading it is making its calls. Assumes nothing.
+-- A well-written bundle: its lines read back, and reading it is making its calls.
 use Rattle.calls.specs.code.Answers.{NumberOrRefusal}
 use Prim.Native.Nat.{ℕ, ◌+◌, ◌≤◌}
 use mathlib.Core.Path.{◌≡◌, refl, sym, ap, subst, ◌∙◌}
@@ -32,10 +32,10 @@ use Rattle.session.specs.Promises.{CallRelation, SelectRelation, session_answer,
 use Rattle.session.specs.Promises.{Met, CallsMade, SelectMet}
 use Rattle.session.specs.ReadCall.{ReadMet}
 use Rattle.session.specs.WriteCall.{session_text, WriteRelation, WriteMet}
-use Rattle.session.specs.ReadDemand.{calls_of, RowFits, StepFits, CallFits, ReadDemand}
+use Rattle.session.specs.ReadGuarantee.{calls_of, RowFits, StepFits, CallFits, ReadGuarantee}
 use Rattle.session.specs.SessionLaws.{session_of, without_points}
 use Rattle.calls.proofs.Runs.{run_map, accepted_made}
-use Rattle.session.proofs.Demand3.{CallsKept, SelectsKept}
+use Rattle.session.proofs.FollowsBook.{CallsKept, SelectsKept}
 use Rattle.session.proofs.LineCalls.{row_names_free, step_names_free}
 use Rattle.session.proofs.LinesRead.{names_read, row_held, step_held}
 use Rattle.session.proofs.ReadByRows.{reading_by_rows}
@@ -178,14 +178,14 @@ module _ (cs : List Call) (os : List CallSeen) (s : Session) (run : CallsMade fr
     left_taken = subst (λ b. length (bundle_text b.rows b.steps) ≤ max_bytes) (sym shown) (sorted_taken sorted)
 
 -- where read, write and the calls meet their promises, and calls that meet them can be made
-pub read_demand_by : (Selected : SelectRelation) (Called : CallRelation) (Read : List ℕ → ReadResult
+pub read_guarantee_by : (Selected : SelectRelation) (Called : CallRelation) (Read : List ℕ → ReadResult
     → Type 0) (Write : WriteRelation)
     → SelectsKept Selected SelectMet → CallsKept Called Met → CallsKept Met Called
     → ((bytes : List ℕ) (t : ReadResult) → Read bytes t → ReadMet bytes t)
     → ((s : Session) (buffer : List ℕ) (w : NumberOrRefusal) (left : List ℕ) → Write s buffer w left
     → WriteMet s buffer w left)
-    → ReadDemand Selected Called Read Write
-read_demand_by Selected Called Read Write select_tied call_tied met_called read_tied write_tied =
+    → ReadGuarantee Selected Called Read Write
+read_guarantee_by Selected Called Read Write select_tied call_tied met_called read_tied write_tied =
     record {
       accepted = λ bytes t m. read_accepted Selected Called select_tied met_called bytes t (read_tied bytes t m);
       refused = λ bytes t m. read_refused bytes t (read_tied bytes t m);

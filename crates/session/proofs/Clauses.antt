@@ -1,5 +1,5 @@
--- Each clause of demand 3, written out once more: without one of them this fails. Below it, those of the other demands.
--- Assumes nothing.
+-- Each clause of the guarantee over lists of calls, written out once more: without one of them this fails. Below it,
+-- those of the others.
 pub mod AcceptClauses
 pub mod ReadClauses
 pub mod ReplaceClauses
@@ -25,17 +25,17 @@ use Rattle.calls.specs.Calls.{Call, CallSeen, plain_book}
 use Rattle.session.specs.declared.session.Session.{Session}
 use Rattle.session.specs.View.{view}
 use Rattle.session.specs.Promises.{CallRelation, SelectRelation}
-use Rattle.session.specs.Demand3.{Demand3, DemandThree}
+use Rattle.session.specs.FollowsBook.{FollowsBook, BookGuarantee}
 
 module _ (Selected : SelectRelation) (New : Session → Type 0) (Called : CallRelation)
-    (demand : DemandThree Selected New Called)
+    (guarantee : BookGuarantee Selected New Called)
     (s₀ s : Session) (cs : List Call) (os : List CallSeen) (new : New s₀) (run : Run view Called s₀ cs os s)
   where
     abbrev held : Book
     held = final plain_book empty_book cs
 
-    abbrev met : Demand3 Selected cs os s
-    met = demand s₀ s cs os new run
+    abbrev met : FollowsBook Selected cs os s
+    met = guarantee s₀ s cs os new run
 
     pub as_the_book : (os ≡ shown plain_book empty_book cs) × (view s ≡ held)
     as_the_book = (met.seen, met.held)

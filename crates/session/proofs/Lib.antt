@@ -6,7 +6,7 @@ pub mod Views
 pub mod PointsHeld
 pub mod Whole
 pub mod Simulation
-pub mod Demand3
+pub mod FollowsBook
 pub mod AcceptsExactly
 pub mod SetsReplaced
 pub mod Restored

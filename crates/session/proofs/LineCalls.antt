@@ -1,4 +1,4 @@
--- What the code does at a line of a bundle is what the reading does. Assumes nothing.
+-- What the code does at a line of a bundle is what the reading does.
 use Rattle.calls.specs.code.Answers.{NumberOrRefusal, answer_of}
 use Prim.Native.Nat.{ℕ, ◌+◌, ◌*◌, ◌≤◌, ◌<◌, min}
 use mathlib.Core.Path.{◌≡◌, refl, sym, ap, ◌∙◌}

@@ -1,4 +1,4 @@
--- The reading of a bundle, call by call. Assumes nothing.
+-- The reading of a bundle, call by call.
 use Prim.Native.Nat.{ℕ, ◌+◌}
 use mathlib.Core.Path.{◌≡◌, refl, sym, ap, ◌∙◌}
 use mathlib.Core.Bool.{true, false, cond, false≢true}

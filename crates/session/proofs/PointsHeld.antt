@@ -1,4 +1,4 @@
--- How many rows and steps a session's point holds. Assumes nothing.
+-- How many rows and steps a session's point holds.
 use Prim.Native.Nat.{ℕ}
 use mathlib.Core.Path.{◌≡◌, refl, sym, ap, ◌∙◌}
 use mathlib.Core.List.{map}

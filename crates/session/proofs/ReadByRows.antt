@@ -1,5 +1,4 @@
 -- Reading by the book's answers is reading by row numbers: every session on the way is one that calls lead to.
--- Assumes nothing.
 use Prim.Native.Nat.{ℕ, ◌+◌}
 use mathlib.Core.Path.{◌≡◌, refl, ap}
 use mathlib.Core.Bool.{Bool, true, false, cond}

@@ -1,5 +1,4 @@
--- An accepted reading makes the calls of the lines, and demand 3 holds of them; a refused one leaves a fresh session.
--- Assumes nothing.
+-- An accepted reading makes the calls of the lines, and they follow the book; a refused one leaves a fresh session.
 use Prim.Native.Nat.{ℕ, ◌+◌}
 use mathlib.Core.Path.{◌≡◌, refl, sym, ap, subst, ◌∙◌}
 use mathlib.Core.Bool.{Bool, true, false, cond, ◌&&◌, false≢true}
@@ -27,10 +26,10 @@ use Rattle.bundles.specs.Bundle.{row_names, step_names, row_of_line, step_of_lin
 use Rattle.common.specs.Refusals.{wrong_form}
 use Rattle.session.specs.Reading.{Reading, refused_at, steps_read, rows_read, lines_read}
 use Rattle.session.specs.ReadCall.{read_answer_of, ReadMet}
-use Rattle.session.specs.ReadDemand.{calls_of, IsBundle, ReadAccepted}
+use Rattle.session.specs.ReadGuarantee.{calls_of, IsBundle, ReadAccepted}
 use Rattle.calls.proofs.Runs.{accepted_made, run_map}
 use Rattle.session.proofs.ReadByRows.{reading_by_rows}
-use Rattle.session.proofs.Demand3.{CallsKept, SelectsKept, demanded}
+use Rattle.session.proofs.FollowsBook.{CallsKept, SelectsKept, calls_follow_book}
 use Rattle.session.proofs.StepsAdded.{calls_held}
 
 -- the line is the bytes and a newline
@@ -301,7 +300,7 @@ module _ (Selected : SelectRelation) (Called : CallRelation)
           made = run_map met_called run;
           all_accepted = made.accepted;
           count = told ∙ ap (λ s. answer 0 (length (view s).steps)) (sym left) ∙ ap (answer 0) held;
-          demand = demanded Selected select_tied calls made.seen t.session run;
+          follows = calls_follow_book Selected select_tied calls made.seen t.session run;
         }
 
 pub read_refused : (bytes : List ℕ) (t : ReadResult) → ReadMet bytes t

@@ -1,4 +1,4 @@
--- Every answer of a reading is that of a case of the code's: a count, or a refusal at a line. Assumes nothing.
+-- Every answer of a reading is that of a case of the code's: a count, or a refusal at a line.
 use Prim.Native.Nat.{ℕ, ◌+◌}
 use mathlib.Core.Path.{refl, subst}
 use mathlib.Core.Bool.{Bool, true, false, cond}

@@ -1,4 +1,4 @@
--- From the reading of a bundle's parts to the call read. Assumes nothing.
+-- From the reading of a bundle's parts to the call read.
 use Prim.Native.Nat.{ℕ, ◌≤◌}
 use Rattle.std.specs.Prelude.{Result, Ok, Err, is_ok}
 use Rattle.common.specs.code.Refusal.{refusal_number}

@@ -1,4 +1,4 @@
--- A refused call leaves all as it was. Assumes nothing.
+-- A refused call leaves all as it was.
 use Prim.Native.Nat.{ℕ}
 use mathlib.Core.Path.{◌≡◌, sym, ◌∙◌}
 use Rattle.std.specs.Prelude.{Result, Ok, Err, OnErr}

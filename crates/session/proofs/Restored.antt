@@ -1,4 +1,4 @@
--- What calls leave is the whole session of the book, and a return restores it. Assumes nothing.
+-- What calls leave is the whole session of the book, and a return restores it.
 use Prim.Native.Nat.{ℕ, ◌+◌}
 use mathlib.Core.Path.{◌≡◌, refl, sym, ap, ◌∙◌}
 use mathlib.Core.List.{List, [], ◌∷◌}
@@ -19,7 +19,7 @@ use Rattle.session.specs.SessionLaws.{WholeSession, NoPointLeft, SessionRestored
 use Rattle.calls.proofs.Accepted.{if_accepted, by_accepted}
 use Rattle.calls.proofs.Runs.{run_map, run_follows}
 use Rattle.calls.proofs.Returns.{return_restores}
-use Rattle.session.proofs.Demand3.{CallsKept, made_from_fresh}
+use Rattle.session.proofs.FollowsBook.{CallsKept, made_from_fresh}
 use Rattle.session.proofs.Simulation.{session_as_book, Kept, calls_follow, call_follows, kept_on}
 
 pub whole_left : (s : Session) (cs : List Call) (os : List CallSeen) → CallsMade fresh_session cs os s

@@ -1,4 +1,4 @@
--- What a replace call means on a session that calls lead to. Assumes nothing.
+-- What a replace call means on a session that calls lead to.
 use Rattle.calls.specs.code.Answers.{DoneOrRefusal, done_answer_of}
 use Prim.Native.Nat.{ℕ}
 use mathlib.Core.Path.{◌≡◌, sym, ap, subst, ◌∙◌}
@@ -10,13 +10,13 @@ use Rattle.replacing.specs.NoneLost.{paths_of}
 use Rattle.session.specs.declared.session.Session.{Session}
 use Rattle.session.specs.View.{view, fresh_session}
 use Rattle.session.specs.Promises.{CallRelation, Met}
-use Rattle.session.specs.ReplaceDemand.{ReplaceRelation, ReplaceMet, SetsReplaced, ReplaceDemand}
+use Rattle.session.specs.ReplaceGuarantee.{ReplaceRelation, ReplaceMet, SetsReplaced, ReplaceGuarantee}
 use Rattle.calls.proofs.Reached.{HeldLaws, reachable_laws}
 use Rattle.replacing.proofs.Judged.{accepts_iff}
 use Rattle.replacing.proofs.ByTerms.{replaced_iff}
 use Rattle.replacing.proofs.NoneLost.{covered_none_lost, rows_covered}
 use Rattle.session.proofs.Simulation.{calls_follow}
-use Rattle.session.proofs.Demand3.{CallsKept, made_from_fresh}
+use Rattle.session.proofs.FollowsBook.{CallsKept, made_from_fresh}
 
 -- replace calls on sessions, or on what has a session, that meet the session's promise
 abbrev pub ReplacesKept : {S : Type 0} → (S → Session) → ReplaceRelation S → Type 0
@@ -49,10 +49,10 @@ module _ {S : Type 0} (session : S → Session) (Replaced : ReplaceRelation S)
       }
 
 -- so for every `new`, every calls and every replace on sessions that meet their promises
-pub replace_demand_by : (Replaced : ReplaceRelation Session) → ReplacesKept (λ s. s) Replaced
+pub replace_guarantee_by : (Replaced : ReplaceRelation Session) → ReplacesKept (λ s. s) Replaced
     → (New : Session → Type 0) (Called : CallRelation)
-    → ((s : Session) → New s → s ≡ fresh_session) → CallsKept Called Met → ReplaceDemand Replaced New Called
-replace_demand_by Replaced replace_tied New Called new_tied call_tied s₀ s cs os new run =
+    → ((s : Session) → New s → s ≡ fresh_session) → CallsKept Called Met → ReplaceGuarantee Replaced New Called
+replace_guarantee_by Replaced replace_tied New Called new_tied call_tied s₀ s cs os new run =
     let f = calls_follow (made_from_fresh new_tied call_tied new run) in
     sets_replaced (λ s. s) Replaced replace_tied s (book_after cs) f.held
     (subst (λ b. HeldLaws b.rows b.steps) f.held (reachable_laws f.kept.reachable).held)

@@ -1,4 +1,4 @@
--- A session moves as the plain book does. Assumes nothing.
+-- A session moves as the plain book does.
 use mathlib.Core.Path.{◌≡◌, sym, ap, subst, ◌∙◌}
 use mathlib.Core.List.{List}
 use Rattle.session.specs.declared.session.Session.{Session}

@@ -1,4 +1,4 @@
--- The rows and then the steps of a book that calls lead to are accepted from the empty book. Assumes nothing.
+-- The rows and then the steps of a book that calls lead to are accepted from the empty book.
 use Prim.Native.Nat.{◌+◌, ◌≤◌, ◌<◌}
 use mathlib.Core.Path.{◌≡◌, refl, sym, ap, subst, ◌∙◌}
 use mathlib.Core.List.{List, [], ◌∷◌, ◌++◌, map, append_assoc, append-nil}
@@ -23,7 +23,7 @@ use Rattle.calls.specs.Calls.{Call, term, step, text, point, return, book_answer
 use Rattle.calls.specs.Calls.{Reachable}
 use Rattle.bundles.specs.Bundle.{row_text, step_text}
 use Rattle.bundles.proofs.Lengths.{row_numbers_lem, row_short, step_short}
-use Rattle.session.specs.ReadDemand.{calls_of, RowFits, StepFits, CallFits}
+use Rattle.session.specs.ReadGuarantee.{calls_of, RowFits, StepFits, CallFits}
 use Rattle.calls.proofs.Accepted.{if_accepted, by_accepted}
 use Rattle.calls.proofs.ByTerms.{answer_by_terms}
 use Rattle.calls.proofs.PointJudged.{return_accepted}

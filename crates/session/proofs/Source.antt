@@ -1,5 +1,4 @@
--- What the contracts in the source say of each call, as the toolchain reads them off it, and demand 3 of them.
--- Assumes nothing.
+-- What the contracts in the source say of each call, as the toolchain reads them off it, and the guarantees from them.
 use Rattle.calls.specs.code.Answers.{NumberOrRefusal, DoneOrRefusal, OrderOrRefusal, step_of, answer_of, done_answer_of}
 use Rattle.calls.specs.code.Answers.{answer_with, refusal_answer}
 use Prim.Native.Nat.{ℕ}
@@ -21,7 +20,7 @@ use Rattle.calls.specs.Runs.{next, Run}
 use Rattle.calls.specs.Promises.{row_yielded, row_step_answer}
 use Rattle.session.specs.View.{view, fresh_session}
 use Rattle.session.specs.Promises.{session_answer, session, Met, SelectMet}
-use Rattle.session.specs.Demand3.{DemandThree}
+use Rattle.session.specs.FollowsBook.{BookGuarantee}
 use Rattle.session.specs.SessionLaws.{WholeSession, NoPointLeft, SessionRestored}
 use Rattle.std.specs.Prelude.{Result, Ok, Err, OnErr}
 use Rattle.common.specs.declared.refusal.Refusal.{Refusal}
@@ -30,25 +29,25 @@ use Rattle.common.proofs.Lent.{lent, lent_to_write}
 use Rattle.session.specs.Reading.{reading}
 use Rattle.session.specs.ReadCall.{ReadMet}
 use Rattle.session.specs.WriteCall.{session_text, write_answer, write_buffer, WriteMet}
-use Rattle.session.specs.ReadDemand.{ReadDemand}
-use Rattle.session.specs.ReplaceDemand.{ReplaceDemand}
-use Rattle.session.specs.OrderDemand.{OrderDemand}
-use Rattle.session.specs.AcceptDemand.{AcceptDemand}
+use Rattle.session.specs.ReadGuarantee.{ReadGuarantee}
+use Rattle.session.specs.ReplaceGuarantee.{ReplaceGuarantee}
+use Rattle.session.specs.OrderGuarantee.{OrderGuarantee}
+use Rattle.session.specs.AcceptGuarantee.{AcceptGuarantee}
 use Rattle.replacing.proofs.Judged.{replace_case}
 use Rattle.ordering.proofs.Judged.{order_case, bundle_order_case}
 use Rattle.calls.proofs.Runs.{made, run_exists}
 use Rattle.calls.proofs.Cases.{HasCase, either_case, term_case, step_case, text_case, point_case, return_case}
 use Rattle.calls.proofs.Cases.{select_case}
-use Rattle.session.proofs.Demand3.{CallsKept, SelectsKept, demand3_by}
+use Rattle.session.proofs.FollowsBook.{CallsKept, SelectsKept, book_guarantee_by}
 use Rattle.session.proofs.Restored.{whole_by, no_point_left_by, restored_by}
 use Rattle.session.proofs.Refused.{refused_kept}
 use Rattle.session.proofs.ReadMade.{read_met}
 use Rattle.session.proofs.ReadCalls.{refused_fresh}
 use Rattle.session.proofs.ReadCases.{reading_case}
-use Rattle.session.proofs.Bundles.{read_demand_by}
-use Rattle.session.proofs.AcceptsExactly.{accept_demand_by}
-use Rattle.session.proofs.SetsReplaced.{ReplacesKept, replace_demand_by}
-use Rattle.session.proofs.ArchivesOrdered.{OrdersKept, BundleOrdersKept, order_demand_by}
+use Rattle.session.proofs.Bundles.{read_guarantee_by}
+use Rattle.session.proofs.AcceptsExactly.{accept_guarantee_by}
+use Rattle.session.proofs.SetsReplaced.{ReplacesKept, replace_guarantee_by}
+use Rattle.session.proofs.ArchivesOrdered.{OrdersKept, BundleOrdersKept, order_guarantee_by}
 use Rattle.session.proofs.session.Session.new.Reads as new-reads
 use Rattle.session.proofs.session.Session.term.Reads as term-reads
 use Rattle.session.proofs.session.Session.step.Reads as step-reads
@@ -193,8 +192,8 @@ met_called s (return n) a t m =
     (return_called ([], tt) (lent_to_write s, (n, tt)) o (lent_to_write t, (n, tt))
     (with_case (λ u. 0) o e m, kept_case (λ u. 0) o e m))
 
-pub demand3 : DemandThree Selected New Called
-demand3 = demand3_by Selected select_tied New Called new_tied call_tied
+pub book_guarantee : BookGuarantee Selected New Called
+book_guarantee = book_guarantee_by Selected select_tied New Called new_tied call_tied
 
 pub whole_session : WholeSession New Called
 whole_session = whole_by New Called new_tied call_tied
@@ -205,7 +204,7 @@ no_point_left = no_point_left_by New Called new_tied call_tied
 pub session_restored : SessionRestored New Called
 session_restored = restored_by New Called new_tied call_tied
 
--- a fresh session can be made, and from it every list of calls: the demand is about something
+-- a fresh session can be made, and from it every list of calls: the guarantee is about something
 pub new_exists : New fresh_session
 new_exists = new_called _ _ fresh_session _ refl
 
@@ -244,8 +243,8 @@ replaces_exist s old new by =
           (lent s, (lent old, (lent new, (lent by, tt)))) e,
     )
 
-pub replace_demand : ReplaceDemand Replaced New Called
-replace_demand = replace_demand_by Replaced replace_tied New Called new_tied call_tied
+pub replace_guarantee : ReplaceGuarantee Replaced New Called
+replace_guarantee = replace_guarantee_by Replaced replace_tied New Called new_tied call_tied
 
 pub orders_exist : (s : Session) (i : ℕ) (t : Session) (j : ℕ) → (r : OrderOrRefusal) × Ordered s i t j r
 orders_exist s i t j =
@@ -257,8 +256,8 @@ bundle_orders_exist s t =
     let (r, e) = bundle_order_case (view s) (view t) in
     (r, bundle_order_called ([], ([], tt)) (lent s, (lent t, tt)) r (lent s, (lent t, tt)) e)
 
-pub order_demand : OrderDemand Ordered BundleOrdered New Called
-order_demand = order_demand_by Ordered order_tied BundleOrdered bundle_order_tied New Called new_tied call_tied
+pub order_guarantee : OrderGuarantee Ordered BundleOrdered New Called
+order_guarantee = order_guarantee_by Ordered order_tied BundleOrdered bundle_order_tied New Called new_tied call_tied
 
 write_case : (bundle : List ℕ) (room : ℕ) → HasCase answer_of (write_answer bundle room)
 write_case bundle room =
@@ -275,8 +274,8 @@ writes_exist s buffer =
           (record { answer = e; bytes = refl }),
     )
 
-pub read_demand : ReadDemand Selected Called Read Write
-read_demand = read_demand_by Selected Called Read Write select_tied call_tied met_called read_tied write_tied
+pub read_guarantee : ReadGuarantee Selected Called Read Write
+read_guarantee = read_guarantee_by Selected Called Read Write select_tied call_tied met_called read_tied write_tied
 
-pub accept_demand : AcceptDemand Selected Called New
-accept_demand = accept_demand_by Selected select_tied Called call_tied New new_tied
+pub accept_guarantee : AcceptGuarantee Selected Called New
+accept_guarantee = accept_guarantee_by Selected select_tied Called call_tied New new_tied

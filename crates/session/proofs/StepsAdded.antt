@@ -1,4 +1,4 @@
--- What accepted calls add. Assumes nothing.
+-- What accepted calls add.
 use mathlib.Core.Path.{◌≡◌, refl, sym, ap, ◌∙◌}
 use mathlib.Core.List.{List, [], ◌∷◌, ◌++◌, map, append_assoc, append-nil}
 use Rattle.terms.specs.Row.{Row}
@@ -8,7 +8,7 @@ use Rattle.calls.specs.Runs.{done, then}
 use Rattle.calls.specs.Calls.{Call, term, step, CallSeen, AllAccepted, book_with}
 use Rattle.session.specs.View.{view, fresh_session}
 use Rattle.session.specs.Promises.{Met, CallsMade}
-use Rattle.session.specs.ReadDemand.{calls_of}
+use Rattle.session.specs.ReadGuarantee.{calls_of}
 use Rattle.calls.proofs.Accepted.{if_accepted}
 use Rattle.session.proofs.Simulation.{Kept, fresh_kept, call_follows, kept_on}
 use Rattle.session.proofs.Views.{fresh_view}

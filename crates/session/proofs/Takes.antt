@@ -1,4 +1,4 @@
--- Every call takes every input: the contracts in the source ask nothing. Assumes nothing.
+-- Every call takes every input: the contracts in the source ask nothing.
 use Rattle.session.proofs.session.Session.new.Reads as new-reads
 use Rattle.session.proofs.session.Session.term.Reads as term-reads
 use Rattle.session.proofs.session.Session.step.Reads as step-reads

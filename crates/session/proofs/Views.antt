@@ -1,4 +1,4 @@
--- What a session shows of its steps and of its points' names. Assumes nothing.
+-- What a session shows of its steps and of its points' names.
 use Prim.Native.Nat.{ℕ, ◌*◌}
 use mathlib.Core.Path.{◌≡◌, refl, ap}
 use mathlib.Core.List.{List, [], ◌∷◌, map}

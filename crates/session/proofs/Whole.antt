@@ -1,4 +1,4 @@
--- The session that a book determines shows that book, and moves as it does. Assumes nothing.
+-- The session that a book determines shows that book, and moves as it does.
 use Prim.Native.Nat.{ℕ, zero, suc, ◌+◌, ◌-◌, ◌*◌, ◌≤◌, ◌<◌, min}
 use mathlib.Core.Path.{◌≡◌, refl, sym, ap, subst, ◌∙◌}
 use mathlib.Core.List.{List, [], ◌∷◌, ◌++◌, map, append_assoc, append-nil}

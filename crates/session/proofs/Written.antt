@@ -1,4 +1,4 @@
--- What a write call leaves, and what is read from it. Assumes nothing.
+-- What a write call leaves, and what is read from it.
 use Rattle.calls.specs.code.Answers.{NumberOrRefusal, answer_of}
 use Prim.Native.Nat.{ℕ, ◌+◌, ◌*◌, ◌≤◌, ◌<◌}
 use mathlib.Core.Path.{◌≡◌, refl, sym, ap, ap₂, ◌∙◌}
@@ -27,7 +27,7 @@ use Rattle.bundles.proofs.Spelling.{text_of, lines_joined, text_append, rows_spe
 use Rattle.session.specs.View.{view, fresh_session}
 use Rattle.session.specs.Promises.{CallsMade}
 use Rattle.session.specs.WriteCall.{session_text, WriteMet}
-use Rattle.session.specs.ReadDemand.{calls_of, IsBundle}
+use Rattle.session.specs.ReadGuarantee.{calls_of, IsBundle}
 use Rattle.session.proofs.Sorted.{AllSorted}
 use Rattle.session.proofs.StepsAdded.{calls_held}
 

@@ -1,4 +1,4 @@
--- From calls on a session's tables to calls on the session. Assumes nothing.
+-- From calls on a session's tables to calls on the session.
 pub mod TermMade
 pub mod TextMade
 pub mod StepMade

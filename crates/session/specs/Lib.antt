@@ -4,11 +4,11 @@ pub mod Promises
 pub mod Reading
 pub mod ReadCall
 pub mod WriteCall
-pub mod Demand3
+pub mod FollowsBook
 pub mod SessionLaws
-pub mod ReadDemand
-pub mod AcceptDemand
-pub mod ReplaceDemand
-pub mod OrderDemand
+pub mod ReadGuarantee
+pub mod AcceptGuarantee
+pub mod ReplaceGuarantee
+pub mod OrderGuarantee
 pub mod code
 pub mod values

@@ -1,4 +1,4 @@
--- What the calls promise, for every session, and what calls lead to. Assumes nothing.
+-- What the calls promise, for every session, and what calls lead to.
 use Rattle.calls.specs.code.Answers.{NumberOrRefusal}
 use Rattle.std.specs.Prelude.{ℕ, ◌≡◌, List}
 use Rattle.session.specs.declared.session.Session.{Session}

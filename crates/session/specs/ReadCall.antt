@@ -1,4 +1,4 @@
--- What the call read promises. Assumes nothing.
+-- What the call read promises.
 use Rattle.std.specs.Prelude.{ℕ, ◌≡◌, List, Result, is_ok}
 use Rattle.calls.specs.declared.answer.LineRefusal.{LineRefusal}
 use Rattle.session.specs.code.Results.{ReadResult}

@@ -1,4 +1,4 @@
--- The reading of a bundle: the calls that it makes, line by line, from a fresh session. Assumes nothing.
+-- The reading of a bundle: the calls that it makes, line by line, from a fresh session.
 use Rattle.std.specs.Prelude.{ℕ, ◌+◌, cond, List, [], ◌∷◌, length}
 use Rattle.std.proofs.Math.Option.{Option-elim}
 use Rattle.lines.specs.Line.{Line, lines, is_line}

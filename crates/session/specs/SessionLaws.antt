@@ -1,4 +1,4 @@
--- The session that a book determines, and what a return restores. Assumes nothing.
+-- The session that a book determines, and what a return restores.
 use Rattle.std.specs.Prelude.{ℕ, ◌-◌, ◌*◌, ◌≡◌, List, [], ◌∷◌, ◌++◌, length, replicate}
 use Rattle.common.specs.Lists.{Every, joined}
 use Rattle.terms.specs.Row.{max_rows}
@@ -55,7 +55,7 @@ SetsNoPoint (text names t) = Unit {0}
 SetsNoPoint (point n) = ⊥
 SetsNoPoint (return n) = Unit {0}
 
--- `New` and `Called` as in demand 3
+-- `New` and `Called` as in FollowsBook
 module _ (New : Session → Type 0) (Called : CallRelation) where
   -- every list of calls from a fresh session leaves, as a whole value, the session that the book after them determines
   abbrev pub WholeSession : Type 0

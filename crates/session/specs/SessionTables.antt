@@ -1,4 +1,4 @@
--- What a session is to specifications. Assumes nothing.
+-- What a session is to specifications.
 use Rattle.std.specs.Prelude.{ℕ, List}
 
 -- the numbers of its tables of rows, steps and points, and how many of each are held

@@ -1,4 +1,4 @@
--- A session as a book. Assumes nothing.
+-- A session as a book.
 use Rattle.std.specs.Prelude.{ℕ, ◌+◌, ◌*◌, List, map, length, replicate}
 use Rattle.std.proofs.lemmas.List.Edits.{sets}
 use Rattle.terms.specs.Row.{Row, max_rows, row_numbers, table_with}
@@ -37,7 +37,7 @@ view s =
 abbrev pub no_points : List ℕ
 no_points = replicate (point_width * max_points) 0
 
--- the fresh session of document 01: no row and no step; and no point
+-- the fresh session: no row, no step and no point
 unfoldable pub fresh_session : Session
 fresh_session =
     record {

@@ -1,4 +1,4 @@
--- What the call write promises. Assumes nothing.
+-- What the call write promises.
 use Rattle.calls.specs.code.Answers.{NumberOrRefusal, answer_of}
 use Rattle.std.specs.Prelude.{ℕ, ◌≡◌, cond, List, ◌++◌, leb, length, drop}
 use Rattle.session.specs.declared.session.Session.{Session}

@@ -18,7 +18,7 @@ impl Session {
         self.steps_counted() as u16
     }
 
-    // How many of the steps are held by the rule.
+    /// How many of the steps are held by the rule.
     #[tactic(auto, unfolding(crate::specs::View::view))]
     pub fn rule_uses(&self, rule: u16) -> usize
         ensures { result ≡ uses_of rule (view self.now).steps }
@@ -27,7 +27,7 @@ impl Session {
         step_calls::rule_uses(steps, rule)
     }
 
-    // The rows of the last step; zeros if there is none, as `report` of auditing's specs has them, which is believed.
+    /// The rows of the last step; zeros if there is none.
     #[tactic(auto, using(crate::proofs::Views::steps_viewed), unfolding(crate::specs::View::view))]
     pub fn last_step(&self) -> Sides
         ensures { sides_in result ≡ sides_of (step_numbered (view self.now).steps (length (view self.now).steps)) }

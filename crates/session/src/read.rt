@@ -105,7 +105,8 @@ impl Session {
         Ok(())
     }
 
-    // Makes the calls of a bundle's lines, from a fresh session whatever was held. A refused bundle leaves a fresh one.
+    /// Makes the calls of a bundle's lines, from a fresh session whatever was held. A refused bundle leaves a fresh
+    /// one.
     pub fn read(&mut self, bytes: &[u8]) -> Result<u16, LineRefusal>
         ensures met { ReadMet bytes.now (read_result result self.new) }
         ensures refused { OnErr result (self.new ≡ fresh_session) }

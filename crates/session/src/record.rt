@@ -15,7 +15,7 @@ use common::Refusal;
 use records::{Record, Records};
 
 impl Session {
-    // A record call on the caller's records.
+    /// A record call on the caller's records.
     #[tactic(auto, unfolding(crate::specs::View::view))]
     pub fn record(&self, records: &mut Records, given: Record) -> Result<(), Refusal>
         ensures met { RecordMade (view self.now).rows (view self.now).steps records.old given result records.new }
@@ -24,7 +24,7 @@ impl Session {
         records.record(self.held(), given)
     }
 
-    // The answer of a return to the point of that name, which is not made.
+    /// The answer of a return to the point of that name, which is not made.
     pub fn judge_return(&self, name: u16) -> Result<(), Refusal>
         ensures { done_answer_of result ≡ session_answer self.now (Call.return name) }
     {
@@ -32,7 +32,7 @@ impl Session {
         Ok(())
     }
 
-    // Whether a return to the point of that name would drop a row or step in use by the caller's records.
+    /// Whether a return to the point of that name would drop a row or step in use by the caller's records.
     pub fn drops_in_use(&self, records: &Records, name: u16) -> bool
         ensures { result ≡ drops_in_use (view self.now) (records_in records.now) (Call.return name) }
     {

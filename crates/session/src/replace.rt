@@ -2,22 +2,21 @@
 ghost use Rattle.terms.specs.code.RowTypes.{PlaceIs};
 ghost use Rattle.replacing.specs.Covered.{step_saying};
 ghost use Rattle.session.specs.View.{view};
-ghost use Rattle.session.specs.ReplaceDemand.{ReplaceMet};
+ghost use Rattle.session.specs.ReplaceGuarantee.{ReplaceMet};
 
 use crate::session::Session;
 use common::Refusal;
 
 impl Session {
-    // `by` has the number of a step for each old row. Three lists, and no struct: a caller has them apart, and would
-    // make one for the call alone.
+    /// `by` has the number of a step for each old row.
     pub fn replace(&self, old: &[u16], new: &[u16], by: &[u16]) -> Result<(), Refusal>
         ensures { ReplaceMet self.now old.now new.now by.now result }
     {
         replacing::replace_on(self.held(), old, new, by)
     }
 
-    // The first step, counted from 1 and so at most `Session::STEPS`, that says that row `old`, a path, is contained in
-    // row `new`.
+    /// The first step, counted from 1 and so at most `Session::STEPS`, that says that row `old`, a path, is contained
+    /// in row `new`.
     pub fn step_saying(&self, old: u16, new: u16) -> Option<usize>
         ensures { PlaceIs result (step_saying (view self.now) old new) }
     {

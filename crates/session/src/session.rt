@@ -20,11 +20,9 @@ const STEP_NUMBERS: usize = calls::STEP_WIDTH * calls::MAX_STEPS;
 
 const POINT_NUMBERS: usize = calls::POINT_WIDTH * calls::MAX_POINTS;
 
-// Rows, four numbers each, steps, five each, and points, three each; of each the first ones are held, as many as the
-// counts say. Numbers, and no arrays of Row or Step: specs/View, which is believed, reads numbers, and calls on tables
-// take any numbers that are lent, an incomplete last row among them. Fixed memory without a heap: no call can fail for
-// want of it. The rows are with what is kept of them for the term calls; of rows that came another way it is found at
-// the next term call.
+/// Rows, four numbers each, steps, five each, and points, three each; of each the first ones are held, as many as the
+/// counts say. Fixed memory without a heap: no call can fail for want of it. The rows are with what is kept of them for
+/// the term calls; of rows that came another way it is found at the next term call.
 #[derive(Drop)]
 pub struct Session {
     pub(crate) rows: KeptRows,
@@ -114,7 +112,7 @@ impl Session {
         calls::first_steps(&self.steps, self.step_count)
     }
 
-    // The same of the points. Not in `Held`: a call on points takes no other table.
+    // The same of the points.
     pub(crate) fn held_points(&self) -> &[u16]
         ensures { result.now ≡ first_point_numbers self.now.point_count self.now.points }
     {
@@ -156,7 +154,7 @@ impl Session {
         Ok(number)
     }
 
-    // Sets a point of that name.
+    /// Sets a point of that name.
     pub fn point(&mut self, name: u16) -> Result<(), Refusal>
         ensures met { Met self.old (Call.point name) (done_answer_of result) self.new }
         ensures refused { OnErr result (self.new ≡ self.old) }
@@ -175,8 +173,8 @@ impl Session {
         Ok(())
     }
 
-    // Returns to the point of that name: just the rows and steps held when it was set are left, and later points are
-    // forgotten.
+    /// Returns to the point of that name: just the rows and steps held when it was set are left, and later points are
+    /// forgotten.
     pub fn return_to(&mut self, name: u16) -> Result<(), Refusal>
         ensures met { Met self.old (Call.return name) (done_answer_of result) self.new }
         ensures refused { OnErr result (self.new ≡ self.old) }
@@ -193,7 +191,7 @@ impl Session {
         Ok(())
     }
 
-    // Holds the rows that the term of the selector needs, with the numbers that the lent list gives to names.
+    /// Holds the rows that the term of the selector needs, with the numbers that the lent list gives to names.
     pub fn text(&mut self, names: &[u8], selector: &[u8]) -> Result<u16, Refusal>
         ensures met { Met self.old (Call.text names.now selector.now) (answer_of result) self.new }
         ensures refused { OnErr result (self.new ≡ self.old) }
@@ -203,9 +201,7 @@ impl Session {
         Ok(held.row)
     }
 
-    // Marks the nodes that the path in row `row` selects from the context node, in bytes, as C lends them. Five
-    // parameters, and no struct: C and a script's line have them apart, `SelectMet` names them one by one, and
-    // `select_on` would take it apart again.
+    /// Marks the nodes that the path in row `row` selects from the context node, in bytes, as C lends them.
     #[tactic(auto, unfolding(crate::specs::View::view))]
     pub fn select(
         &self,

@@ -5,7 +5,7 @@ use crate::session::Session;
 use common::Refusal;
 
 impl Session {
-    // Writes the bundle of the rows and steps held into the buffer.
+    /// Writes the bundle of the rows and steps held into the buffer.
     pub fn write(&self, out: &mut [u8]) -> Result<usize, Refusal>
         ensures { WriteMet self.now out.old result out.new }
     {

@@ -1,4 +1,4 @@
--- Whether some number below a bound passes a test, step by step. Assumes nothing.
+-- Whether some number below a bound passes a test, step by step.
 use Prim.Native.Nat.{ℕ, zero, suc, ◌≤◌, ◌<◌}
 use mathlib.Core.Path.{◌≡◌, sym, subst, ◌∙◌}
 use mathlib.Core.Bool.{Bool, true, false, ◌&&◌, ◌||◌}

@@ -1,4 +1,4 @@
--- What paths select from sets and back, and where qualifiers hold, by their parts. Assumes nothing.
+-- What paths select from sets and back, and where qualifiers hold, by their parts.
 use Prim.Native.Nat.{ℕ, zero, suc, ◌+◌, ◌≤◌, ◌<◌}
 use mathlib.Core.Path.{◌≡◌, refl, sym, ap, subst, ◌∙◌}
 use mathlib.Core.Bool.{Bool, true, false, not, ◌&&◌, ◌||◌, and-false, or-false, and-true}

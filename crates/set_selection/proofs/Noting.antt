@@ -1,4 +1,4 @@
--- What is noted stays right, and what is found again is right. Assumes nothing.
+-- What is noted stays right, and what is found again is right.
 use Prim.Native.Nat.{ℕ, zero, suc}
 use mathlib.Core.Path.{◌≡◌, refl, sym, ap, subst}
 use mathlib.Core.Bool.{Bool, true, false, beq}

@@ -1,4 +1,4 @@
--- The relations of the columns are those of the document. Assumes nothing.
+-- The relations of the columns are those of the document.
 use Prim.Native.Nat.{ℕ, zero, suc, ◌≤◌, ◌<◌}
 use mathlib.Core.Path.{◌≡◌, refl, sym, ap, ◌∙◌}
 use mathlib.Core.Bool.{Bool, true, false, not, ◌&&◌, ◌||◌}

@@ -1,4 +1,4 @@
--- Steps from sets, by the walk and the test. Assumes nothing.
+-- Steps from sets, by the walk and the test.
 use Prim.Native.Nat.{ℕ, suc, ◌≤◌, ◌<◌}
 use mathlib.Core.Path.{◌≡◌, refl, sym, ap, ◌∙◌}
 use mathlib.Core.Bool.{Bool, true, false, ◌&&◌, and-false}

@@ -1,4 +1,4 @@
--- The documents of trees, and sets of their nodes. Assumes nothing.
+-- The documents of trees, and sets of their nodes.
 use Rattle.std.specs.Prelude.{ℕ, ◌≡◌, ◌<◌, Bool, List, eqb, length, take}
 use Rattle.xpath.specs.Document.{Document}
 use Rattle.xpath.specs.Term.{Qualifier}

@@ -1,4 +1,4 @@
--- What memories have, and when it is right. Assumes nothing.
+-- What memories have, and when it is right.
 use Rattle.std.specs.Prelude.{ℕ, ◌≡◌, Bool, List, get_or, take}
 use mathlib.Core.Logic.{◌⊎◌}
 use Rattle.xpath.specs.Document.{Document}

@@ -1,4 +1,4 @@
--- Sets of nodes, as marks. Assumes nothing.
+-- Sets of nodes, as marks.
 use Rattle.std.specs.Prelude.{ℕ, Bool, false, ◌&&◌, ◌||◌, ◌≡◌, ◌<◌, List, length, get_or}
 use Rattle.common.specs.Bounded.{any_below}
 

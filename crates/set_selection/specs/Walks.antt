@@ -1,4 +1,4 @@
--- How two nodes stand to each other, by the columns of parents and of ends. Assumes nothing.
+-- How two nodes stand to each other, by the columns of parents and of ends.
 use Rattle.std.specs.Prelude.{ℕ, Bool, not, ◌&&◌, List, leb, ltb, eqb, get_or}
 
 -- y is under x, its parent

@@ -1,7 +1,7 @@
 // The columns of a checked document, lent.
 ghost use Rattle.documents.specs.Columns.{Sound};
 
-// The kind, the parent and the name of each node, in document order, and where its subtree ends.
+/// The kind, the parent and the name of each node, in document order, and where its subtree ends.
 #[derive(Clone, Copy)]
 pub struct Columns<'a> {
     pub kinds: &'a [u8],

@@ -33,7 +33,7 @@ fn is_void(rows: &[u16], r: usize) -> bool
     matches!(terms::row_at(rows, r).read_kind(), Some(RowKind::Void))
 }
 
-// The set of node x alone. It asks for a node among the n.
+/// The set of node x alone. It asks for a node among the n.
 pub fn only(alloc: Global, n: usize, x: usize) -> Result<Vec<bool>, AllocError>
     requires { x < n }
     ensures { IfOk result (λ v. Only n x v.items) }
@@ -250,9 +250,9 @@ impl Evaluation<'_> {
         }
     }
 
-    // The nodes from which what the path in row a selects is selected by the path in row b, in general: from one node after
-    // the other, in the time of both paths for each. A set of what a path selects from several nodes doesn't say from which,
-    // and a set for each node at once would take as many bits as pairs of nodes.
+    // The nodes from which what the path in row a selects is selected by the path in row b, in general: from one node
+    // after the other, in the time of both paths for each. A set of what a path selects from several nodes doesn't say
+    // from which, and a set for each node at once would take as many bits as pairs of nodes.
     #[cycle(evaluation)]
     fn include(
         &self,
@@ -278,8 +278,8 @@ impl Evaluation<'_> {
     }
 }
 
-// Marks each node that the path in row `row` selects from some marked node of the context; a row past the last one is
-// the void path.
+/// Marks each node that the path in row `row` selects from some marked node of the context; a row past the last one is
+/// the void path.
 pub fn select_all(
     alloc: Global,
     rows: &[u16],

@@ -7,7 +7,7 @@ ghost use Rattle.xpath.specs.code.Tests.{fits};
 use common::node_kind::{self, NodeKind};
 use xpath::StepTest;
 
-// Leaves the nodes of the other kinds out.
+/// Leaves the nodes of the other kinds out.
 pub fn keep_kind(kinds: &[u8], kind: NodeKind, out: &mut [bool])
     requires { length out.old ≡ length kinds.now }
     ensures { Pointwise out.old out.new (λ y m. m && eqb (get_or kinds.now y 0) (kind_number kind)) }
@@ -18,7 +18,7 @@ pub fn keep_kind(kinds: &[u8], kind: NodeKind, out: &mut [bool])
     }
 }
 
-// Leaves the attributes out.
+/// Leaves the attributes out.
 pub fn leave_attributes(kinds: &[u8], out: &mut [bool])
     requires { length out.old ≡ length kinds.now }
     ensures { Pointwise out.old out.new (λ y m. m && not (eqb (get_or kinds.now y 0) 5)) }
@@ -28,7 +28,7 @@ pub fn leave_attributes(kinds: &[u8], out: &mut [bool])
     }
 }
 
-// Leaves the nodes of other names out.
+/// Leaves the nodes of other names out.
 pub fn keep_name(names: &[u16], name: usize, out: &mut [bool])
     requires { length out.old ≡ length names.now }
     ensures { Pointwise out.old out.new (λ y m. m && eqb (get_or names.now y 0) name) }
@@ -38,7 +38,7 @@ pub fn keep_name(names: &[u16], name: usize, out: &mut [bool])
     }
 }
 
-// Leaves the nodes out that are not the test's.
+/// Leaves the nodes out that are not the test's.
 pub fn keep_test(kinds: &[u8], names: &[u16], test: StepTest, out: &mut [bool])
     requires kinds { length out.old ≡ length kinds.now }
     requires names { length out.old ≡ length names.now }

@@ -67,7 +67,7 @@ impl Memory {
         Ok(Memory { slots })
     }
 
-    // What was last found for row r, if it was evaluated from the same marks.
+    /// What was last found for row r, if it was evaluated from the same marks.
     pub fn recall(&self, r: usize, from: &[bool]) -> Option<&[bool]>
         ensures { IfSome result (λ to. Has (slot self.now r) from.now to.now) }
     {
@@ -86,7 +86,7 @@ impl Memory {
         }
     }
 
-    // Notes what was found for row r, if it is shared.
+    /// Notes what was found for row r, if it is shared.
     pub fn note(
         &mut self,
         alloc: Global,
@@ -106,7 +106,7 @@ impl Memory {
 }
 
 impl Memories {
-    // For the first `count` rows, with nothing found.
+    /// For the first `count` rows, with nothing found.
     pub fn new(alloc: Global, rows: &[u16], count: usize) -> Result<Memories, AllocError>
         ensures { IfOk result (λ m. Fresh m.forward × Fresh m.back × Fresh m.holding) }
     {

@@ -17,14 +17,14 @@ use common::node_kind::NodeKind;
 use std::alloc::{AllocError, Global};
 use xpath::StepTest;
 
-// No marks.
+/// No marks.
 pub fn no_marks(alloc: Global, n: usize) -> Result<Vec<bool>, AllocError>
     ensures { IfOk result (λ v. v.items ≡ replicate n false) }
 {
     vec![in alloc; false; n]
 }
 
-// The nodes of either set.
+/// The nodes of either set.
 pub fn united(mut out: Vec<bool>, other: &[bool]) -> Vec<bool>
     requires { length out.items ≡ length other.now }
     ensures { Pointwise out.items result.items (λ y m. m || marked other.now y) }
@@ -33,7 +33,7 @@ pub fn united(mut out: Vec<bool>, other: &[bool]) -> Vec<bool>
     out
 }
 
-// The nodes of both sets.
+/// The nodes of both sets.
 pub fn intersected(mut out: Vec<bool>, other: &[bool]) -> Vec<bool>
     requires { length out.items ≡ length other.now }
     ensures { Pointwise out.items result.items (λ y m. m && marked other.now y) }
@@ -42,7 +42,7 @@ pub fn intersected(mut out: Vec<bool>, other: &[bool]) -> Vec<bool>
     out
 }
 
-// The nodes out of the set.
+/// The nodes out of the set.
 pub fn complemented(mut out: Vec<bool>) -> Vec<bool>
     ensures { Pointwise out.items result.items (λ y m. not m) }
 {
@@ -66,7 +66,7 @@ fn marked_at(alloc: Global, n: usize, x: usize, mark: bool) -> Result<Vec<bool>,
     Ok(out)
 }
 
-// Whether some node is marked.
+/// Whether some node is marked.
 pub fn any(marks: &[bool]) -> bool
     ensures { result ≡ any_below (length marks.now) (marked marks.now) }
 {
@@ -298,7 +298,7 @@ impl Columns<'_> {
         }
     }
 
-    // The nodes that the step selects from some marked node.
+    /// The nodes that the step selects from some marked node.
     pub fn step(
         &self,
         alloc: Global,
@@ -320,7 +320,7 @@ impl Columns<'_> {
         Ok(self.tested(test, out))
     }
 
-    // The nodes from which the step selects some marked node.
+    /// The nodes from which the step selects some marked node.
     pub fn step_back(
         &self,
         alloc: Global,
@@ -343,7 +343,7 @@ impl Columns<'_> {
         self.back_on_axis(alloc, on, &kept)
     }
 
-    // The root, if some node is marked.
+    /// The root, if some node is marked.
     pub fn root(&self, alloc: Global, marks: &[bool]) -> Result<Vec<bool>, AllocError>
         requires { length marks.now ≡ length self.now.kinds.now }
         ensures { IfOk result (λ v. Image (selects (doc self.now) Root) marks.now v.items) }
@@ -351,7 +351,7 @@ impl Columns<'_> {
         marked_at(alloc, marks.len(), 0, any(marks))
     }
 
-    // Every node, if the root is marked.
+    /// Every node, if the root is marked.
     pub fn root_back(&self, alloc: Global, marks: &[bool]) -> Result<Vec<bool>, AllocError>
         requires { length marks.now ≡ length self.now.kinds.now }
         ensures { IfOk result (λ v. Image (λ x y. selects (doc self.now) Root y x) marks.now v.items) }

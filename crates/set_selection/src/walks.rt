@@ -4,7 +4,7 @@ ghost use Rattle.set_selection.specs.Sets.{Image, MoreImage, NoMarks};
 ghost use Rattle.documents.specs.Columns.{Within, EndsWithin};
 ghost use Rattle.set_selection.specs.Walks.{is_under, is_over, is_below, is_above, is_after, is_before, is_later, is_earlier};
 
-// Marks each node whose parent is marked, and no other.
+/// Marks each node whose parent is marked, and no other.
 pub fn mark_children(parents: &[u32], marks: &[bool], out: &mut [bool])
     requires within { Within parents.now }
     requires marks { length marks.now ≡ length parents.now }
@@ -18,7 +18,7 @@ pub fn mark_children(parents: &[u32], marks: &[bool], out: &mut [bool])
     }
 }
 
-// Marks the parent of each marked node too.
+/// Marks the parent of each marked node too.
 pub fn mark_parents(parents: &[u32], marks: &[bool], out: &mut [bool])
     requires within { Within parents.now }
     requires marks { length marks.now ≡ length parents.now }
@@ -32,7 +32,7 @@ pub fn mark_parents(parents: &[u32], marks: &[bool], out: &mut [bool])
     }
 }
 
-// Marks each node that is below some marked node, and no other.
+/// Marks each node that is below some marked node, and no other.
 pub fn mark_below(ends: &[u32], marks: &[bool], out: &mut [bool])
     requires marks { length marks.now ≡ length ends.now }
     requires out { length out.old ≡ length ends.now }
@@ -47,7 +47,7 @@ pub fn mark_below(ends: &[u32], marks: &[bool], out: &mut [bool])
     }
 }
 
-// Marks each node that is above some marked node, and no other.
+/// Marks each node that is above some marked node, and no other.
 pub fn mark_above(ends: &[u32], marks: &[bool], out: &mut [bool])
     requires within { EndsWithin ends.now }
     requires marks { length marks.now ≡ length ends.now }
@@ -63,7 +63,7 @@ pub fn mark_above(ends: &[u32], marks: &[bool], out: &mut [bool])
     }
 }
 
-// Marks each node after the subtree of some marked node, and no other.
+/// Marks each node after the subtree of some marked node, and no other.
 pub fn mark_after(ends: &[u32], marks: &[bool], out: &mut [bool])
     requires marks { length marks.now ≡ length ends.now }
     requires out { length out.old ≡ length ends.now }
@@ -80,7 +80,7 @@ pub fn mark_after(ends: &[u32], marks: &[bool], out: &mut [bool])
     }
 }
 
-// Marks each node whose subtree ends before some marked node, and no other.
+/// Marks each node whose subtree ends before some marked node, and no other.
 pub fn mark_before(ends: &[u32], marks: &[bool], out: &mut [bool])
     requires marks { length marks.now ≡ length ends.now }
     requires out { length out.old ≡ length ends.now }
@@ -97,7 +97,7 @@ pub fn mark_before(ends: &[u32], marks: &[bool], out: &mut [bool])
     }
 }
 
-// Marks each node with a marked sibling before it, row 0 apart; `seen` is for a mark of each parent.
+/// Marks each node with a marked sibling before it, row 0 apart; `seen` is for a mark of each parent.
 pub fn mark_later(parents: &[u32], marks: &[bool], seen: &mut [bool], out: &mut [bool])
     requires within { Within parents.now }
     requires marks { length marks.now ≡ length parents.now }
@@ -116,7 +116,7 @@ pub fn mark_later(parents: &[u32], marks: &[bool], seen: &mut [bool], out: &mut 
     }
 }
 
-// Marks each node with a marked sibling after it, row 0 apart.
+/// Marks each node with a marked sibling after it, row 0 apart.
 pub fn mark_earlier(parents: &[u32], marks: &[bool], seen: &mut [bool], out: &mut [bool])
     requires within { Within parents.now }
     requires marks { length marks.now ≡ length parents.now }

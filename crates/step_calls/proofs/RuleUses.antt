@@ -1,4 +1,4 @@
--- The uses of a rule, counted step by step. Assumes nothing.
+-- The uses of a rule, counted step by step.
 use Prim.Native.Nat.{ℕ, ◌+◌}
 use mathlib.Core.Path.{◌≡◌, refl}
 use mathlib.Core.Bool.{Bool, true, false, cond}

@@ -17,7 +17,7 @@ use calls::{Held, MAX_STEPS, Step, sides_of, step_count, whole_steps};
 use common::Refusal;
 use matching::Sides;
 
-// How many of the steps are held by the rule.
+/// How many of the steps are held by the rule.
 pub fn rule_uses(steps: &[u16], rule: u16) -> usize
     ensures { result ≡ uses_of rule (steps_of steps.now) }
 {
@@ -99,8 +99,8 @@ fn is_yielded(held: Held, step: Step, noted: &mut [Option<u16>]) -> bool
     matching::yields(held.rows, step.rule, sides, premises, noted)
 }
 
-// The answer of a step call on the rows and steps held: the first refusal that applies, or the new step's number. The
-// notes of what is known of rows' ways back are lent; that they are true is asked, as by `matching::yields`.
+/// The answer of a step call on the rows and steps held: the first refusal that applies, or the new step's number. The
+/// notes of what is known of rows' ways back are lent; that they are true is asked, as by `matching::yields`.
 #[tactic(auto, unfolding(calls::specs::Promises::row_step_answer, calls::specs::StepCall::step_answer_by))]
 pub fn judge_noted(held: Held, step: Step, noted: &mut [Option<u16>]) -> Result<u16, Refusal>
     requires { Noted (table_of held.rows.now) noted.old }
@@ -122,7 +122,7 @@ pub fn judge_noted(held: Held, step: Step, noted: &mut [Option<u16>]) -> Result<
     Ok((count + 1) as u16)
 }
 
-// The same of one step by itself. Only the way back takes notes: for another rule none are cleared.
+/// The same of one step by itself. Only the way back takes notes: for another rule none are cleared.
 pub fn judge_step(held: Held, step: Step) -> Result<u16, Refusal>
     ensures { answer_of result ≡ row_step_answer (book_held held.entry) (step_of step) }
 {

@@ -1,5 +1,4 @@
--- Each clause of what the calls of a tally come to, with its whole type, so that none is dropped or narrowed. Assumes
--- nothing.
+-- Each clause of what the calls of a tally come to, with its whole type, so that none is dropped or narrowed.
 use Rattle.std.specs.Prelude.{◌≤◌, ◌≡◌, List, length}
 use Rattle.tallies.specs.declared.Tally.{Tally}
 use Rattle.tallies.specs.Count.{File, uses, total, each_rule, Entry, entries, sum}

@@ -1,4 +1,4 @@
--- Lists with a number for each rule. Assumes nothing.
+-- Lists with a number for each rule.
 use Prim.Native.Nat.{ℕ, zero, suc, ◌+◌, ◌≤◌, ◌<◌}
 use mathlib.Core.Path.{◌≡◌, refl, ap, ◌∙◌}
 use mathlib.Core.List.{List, [], ◌∷◌}

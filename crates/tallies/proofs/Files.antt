@@ -1,4 +1,4 @@
--- The lines of the tally after files. Assumes nothing.
+-- The lines of the tally after files.
 use Prim.Native.Nat.{ℕ, ◌+◌, ◌≤◌}
 use mathlib.Core.Path.{◌≡◌, refl, ap, ◌∙◌}
 use mathlib.Core.Bool.{Bool, true, false, cond}

@@ -1,4 +1,4 @@
--- The lines of a tally, one by one, and the uses with those of a session's steps. Assumes nothing.
+-- The lines of a tally, one by one, and the uses with those of a session's steps.
 use Prim.Native.Nat.{ℕ, zero, suc, ◌+◌, ◌≤◌, ◌<◌}
 use mathlib.Core.Path.{◌≡◌, refl, sym, ap, subst, ◌∙◌}
 use mathlib.Core.List.{List, [], ◌∷◌, map}

@@ -1,4 +1,4 @@
--- The first refused line of a list. Assumes nothing.
+-- The first refused line of a list.
 use Prim.Native.Nat.{ℕ, ◌+◌, ◌≤◌, ◌<◌}
 use mathlib.Core.Path.{◌≡◌, ap}
 use mathlib.Core.Bool.{Bool, true, false}

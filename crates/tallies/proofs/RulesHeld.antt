@@ -1,5 +1,4 @@
 -- The steps of an accepted bundle are held by rules of the table, and are no more than a session has room for.
--- Assumes nothing.
 use Prim.Native.Nat.{ℕ, zero, suc, ◌+◌, ◌≤◌}
 use mathlib.Core.Path.{◌≡◌, refl, sym, ap, subst, ◌∙◌}
 use mathlib.Core.Bool.{Bool, true, false, cond, not, ◌&&◌}
@@ -25,7 +24,7 @@ use Rattle.session.specs.declared.session.Session.{Session}
 use Rattle.session.specs.View.{view, fresh_session}
 use Rattle.session.specs.Reading.{reading}
 use Rattle.session.specs.ReadCall.{read_answer_of}
-use Rattle.session.proofs.Source.{Read, read_tied, reads_exist, read_demand}
+use Rattle.session.proofs.Source.{Read, read_tied, reads_exist, read_guarantee}
 use Rattle.common.specs.Limits.{max_bytes}
 use Rattle.tallies.specs.Count.{File, is_accepted, counted_steps}
 
@@ -68,7 +67,7 @@ rules_after b (c ∷ cs) held =
     rules_after (next plain_book b c) cs
     (by_accepted RulesHeld (book_answer b c) (book_with b c) b (rules_with b c held) held)
 
--- by demand 3 of read, an accepted reading leaves what calls lead to
+-- by what is guaranteed of read, an accepted reading leaves what calls lead to
 rules_read : (bytes : List ℕ) → accepted (reading bytes).answer ≡ true → RulesHeld (view (reading bytes).session)
 rules_read bytes taken =
     let (t, on_fresh) = reads_exist fresh_session bytes in
@@ -76,8 +75,8 @@ rules_read bytes taken =
     let met = read_tied bytes t read in
     let number : (read_answer_of t.answer).number ≡ 0 =
     ap (λ a. a.number) met.answer ∙ eqb-true (reading bytes).answer.number 0 taken in
-    let bundle = read_demand.accepted bytes t read number in
-    subst RulesHeld (sym bundle.demand.held ∙ ap view met.session) (rules_after empty_book _ (tt, tt))
+    let bundle = read_guarantee.accepted bytes t read number in
+    subst RulesHeld (sym bundle.follows.held ∙ ap view met.session) (rules_after empty_book _ (tt, tt))
 
 -- what holds of an accepted bundle's steps, and of none, holds of those that count
 by_bundle : (P : List Step → Type 0) (f : File) → (is_accepted f ≡ true → P (view (reading f.bytes).session).steps)

@@ -1,5 +1,5 @@
 -- What the contracts in the source say of a tally's calls and of the judge of a list of names, and what the calls come
--- to over lists of bundles. Assumes nothing.
+-- to over lists of bundles.
 use Prim.Native.Nat.{ℕ, suc}
 use mathlib.Core.Path.{◌≡◌, refl, ap, ◌∙◌}
 use mathlib.Core.Bool.{Bool}

@@ -1,4 +1,4 @@
--- The uses of each rule over bundles, and the total of their steps. Assumes nothing.
+-- The uses of each rule over bundles, and the total of their steps.
 use Rattle.std.specs.Prelude.{ℕ, zero, suc, ◌+◌, Bool, true, false, cond, not, ◌&&◌, List, [], ◌∷◌, ◌++◌, leb, length}
 use Rattle.std.specs.Prelude.{Option, Some, None}
 use Rattle.rules.specs.Yields.{max_rule}

@@ -1,4 +1,4 @@
--- The list of file names that a tally is made of, and its refusal. Assumes nothing.
+-- The list of file names that a tally is made of, and its refusal.
 use Rattle.std.specs.Prelude.{ℕ, suc, Bool, false, not, ◌||◌, List, leb, length, get_or}
 use Rattle.std.proofs.Math.Option.{Option-elim}
 use Rattle.common.specs.Bounded.{first_below}

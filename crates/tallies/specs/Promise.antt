@@ -1,4 +1,4 @@
--- What the calls of a tally come to, over lists of bundles that they added. Assumes nothing.
+-- What the calls of a tally come to, over lists of bundles that they added.
 use Rattle.std.specs.Prelude.{◌≤◌, ◌≡◌, List, [], ◌∷◌, length}
 use Rattle.tallies.specs.declared.Tally.{Tally}
 use Rattle.tallies.specs.NameList.{max_files}

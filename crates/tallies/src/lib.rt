@@ -12,23 +12,22 @@ use common::Refusal;
 use session::Session;
 use std::{array, fmt};
 
-// The most names of a list.
+/// The most names of a list.
 pub const MAX_FILES: usize = 64;
 
-// The lines of a tally: one for each rule, and one for the total.
+/// The lines of a tally: one for each rule, and one for the total.
 pub const LINES: usize = RULES + 1;
 
 const RULES: usize = matching::MAX_RULE as usize;
 
-// The uses of each rule, from 1 up, and the total of the steps. An array, since each rule has its uses from the start;
-// the total counts steps, and is no length of it.
+/// The uses of each rule, from 1 up, and the total of the steps.
 #[derive(Clone, Copy)]
 pub struct Tally {
     uses: [u64; RULES],
     total: u64,
 }
 
-// A line of a tally.
+/// A line of a tally.
 #[derive(Clone, Copy, Debug, PartialEq, Eq)]
 pub enum TallyLine {
     Rule { rule: u16, uses: u64 },
@@ -53,7 +52,7 @@ fn is_bad_name(opened: &[bool], k: usize) -> bool
     MAX_FILES <= k || !opened.get(k).copied().unwrap_or(false)
 }
 
-// Judges a list of names, where `opened` says of each place, counted from 0, whether its file was opened.
+/// Judges a list of names, where `opened` says of each place, counted from 0, whether its file was opened.
 pub fn judge_list(list: &[u8], opened: &[bool]) -> Result<(), Refusal>
     ensures { done_answer_of result ≡ list_answer list.now opened.now }
 {
@@ -85,7 +84,7 @@ impl Tally {
         }
     }
 
-    // The tally with one file more: its bytes, or none where its reading failed.
+    /// The tally with one file more: its bytes, or none where its reading failed.
     pub fn add(self, bytes: Option<&[u8]>) -> Tally
         ensures { result ≡ with_file self (file_read bytes.entry) }
     {
@@ -119,7 +118,7 @@ impl Tally {
         }
     }
 
-    // The lines of the tally, in order.
+    /// The lines of the tally, in order.
     pub fn lines(self) -> [TallyLine; LINES]
         ensures { map entry_of result ≡ entries_of self }
     {

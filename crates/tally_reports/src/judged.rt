@@ -5,8 +5,7 @@ use std::array;
 use std::fs::File;
 use std::rt::Files;
 
-// The open files, in the order of their names. Of Option<File> an ArrayVec would be this array and a length that
-// nothing asks for; of File it can't be made, since it asks for a default, and a file has none.
+/// The open files, in the order of their names.
 pub type OpenFiles = [Option<File>; tallies::MAX_FILES];
 
 const NO_FILE: Option<File> = None;
@@ -16,8 +15,7 @@ pub struct JudgedFiles {
     files: OpenFiles,
 }
 
-// The file of that name; none if it can't be opened. A name that is no UTF-8 can't be. By `names::name_at` and not by
-// a walk over the list's lines: that the file opened is name k rests on its contract.
+// The file of that name; none if it can't be opened. A name that is no UTF-8 can't be.
 fn open_at(rt: &impl Files<File = File>, list: &[u8], k: usize) -> Option<File> {
     let name = names::name_at(list, k);
     let path = str::from_utf8(&list[name.start..name.end]).ok()?;
@@ -38,10 +36,9 @@ fn open_all(rt: &impl Files<File = File>, list: &[u8]) -> OpenFiles {
 }
 
 impl JudgedFiles {
-    // Opens the files that the list names and judges it by what was opened. No contract can speak of what is opened.
+    /// Opens the files that the list names and judges it by what was opened. No contract can speak of what is opened.
     pub fn open(rt: &impl Files<File = File>, list: &[u8]) -> Result<JudgedFiles, Refusal> {
         let files = open_all(rt, list);
-        // Beside the files, since a list is judged by what was opened, and no definition knows a file.
         let opened: [bool; tallies::MAX_FILES] = array::from_fn(|k| files[k].is_some());
         tallies::judge_list(list, &opened)?;
         Ok(JudgedFiles { files })

@@ -20,8 +20,8 @@ use tallies::Tally;
 // The longest name that can be opened.
 const LONGEST_NAME: usize = 4095;
 
-// The bytes of a list that are read: as many names as it may have, of the longest, with their newlines, and one byte
-// more. Of a longer list this much has one name more, or a name that is too long.
+/// The bytes of a list that are read: as many names as it may have, of the longest, with their newlines, and one byte
+/// more. Of a longer list this much has one name more, or a name that is too long.
 pub const LONGEST_LIST: usize = tallies::MAX_FILES * (LONGEST_NAME + 1) + 1;
 
 // Longer than a line of two numbers.
@@ -46,7 +46,6 @@ fn add_all(alloc: Global, files: JudgedFiles) -> Tally {
     )
 }
 
-// Much as `print` of reports, which says why they are two functions.
 fn print_line<T: Display + Drop>(line: T) {
     let mut text = ArrayString::<LONGEST_LINE>::new();
     let _ = writeln!(text, "{line}");

@@ -14,7 +14,7 @@ use common::Refusal;
 use terms::{KeptRows, Row};
 
 // The answer of a term call on the rows, by the row's nesting and the search for an equal row: the first refusal that
-// applies, or the new row's number. That the rows are few is a clause, and no type: it would be made for this call alone.
+// applies, or the new row's number.
 #[tactic(auto, unfolding(calls::specs::TermCall::term_answer))]
 fn term_answer(rows: &[u16], depth: u16, found: Option<usize>, row: Row) -> Result<u16, Refusal>
     requires { (length (table_of rows.now) ≤ max_rows) × (depth ≡ nesting (table_of rows.now) (row_of row))
@@ -36,8 +36,8 @@ fn term_answer(rows: &[u16], depth: u16, found: Option<usize>, row: Row) -> Resu
     Ok(count as u16)
 }
 
-// A term call on rows of which their nestings and a filter are kept: the answer; where the row is held, it is put after
-// them.
+/// A term call on rows of which their nestings and a filter are kept: the answer; where the row is held, it is put
+/// after them.
 pub fn term_kept(held: &mut KeptRows, row: Row) -> Result<u16, Refusal>
     ensures { TermKept held.old.numbers held.old.count (row_of row) held.new.numbers held.new.count result }
 {
@@ -48,7 +48,7 @@ pub fn term_kept(held: &mut KeptRows, row: Row) -> Result<u16, Refusal>
     Ok(number)
 }
 
-// Clears the numbers of the table from place `from` on. Nothing is kept of the rows.
+/// Clears the numbers of the table from place `from` on. Nothing is kept of the rows.
 pub fn clear_from(held: &mut KeptRows, from: usize)
     ensures { held.new.numbers ≡ cleared from held.old.numbers }
 {
@@ -56,8 +56,8 @@ pub fn clear_from(held: &mut KeptRows, from: usize)
     point_calls::clear(&mut held.numbers, from);
 }
 
-// Keeps the first n rows of the table, of which some may be kept already. It asks for as many as a table has room for:
-// a session counts no more.
+/// Keeps the first n rows of the table, of which some may be kept already. It asks for as many as a table has room for:
+/// a session counts no more.
 pub fn keep_first(held: &mut KeptRows, n: usize)
     requires { n ≤ max_rows }
     ensures { (held.new.numbers ≡ held.old.numbers) × (held.new.count ≡ n) }

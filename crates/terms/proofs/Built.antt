@@ -1,5 +1,4 @@
 -- The tables that accepted rows build: what holds of each row, and that two rows with the same term are the same row.
--- Assumes nothing.
 use Prim.Native.Nat.{ℕ, zero, suc, ◌<◌, ◌≤◌}
 use mathlib.Core.Path.{◌≡◌, refl, sym, ◌∙◌, ap}
 use mathlib.Core.Bool.{Bool, true, false, not, cond}

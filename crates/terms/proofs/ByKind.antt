@@ -1,4 +1,4 @@
--- The twelve kinds of rows, for proofs by cases. Assumes nothing.
+-- The twelve kinds of rows, for proofs by cases.
 use Prim.Native.Nat.{ℕ, zero, suc, ◌≤◌, ◌<◌}
 use mathlib.Core.Path.{◌≡◌, refl}
 use mathlib.Core.List.{List}

@@ -1,4 +1,4 @@
--- The table of lent numbers, row by row. Assumes nothing.
+-- The table of lent numbers, row by row.
 use Prim.Native.Nat.{ℕ, zero, suc, ◌+◌, ◌*◌, ◌/◌, ◌≤◌}
 use mathlib.Core.Path.{◌≡◌, refl, ap, ◌∙◌}
 use mathlib.Core.Bool.{cond}

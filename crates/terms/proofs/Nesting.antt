@@ -1,4 +1,4 @@
--- The nestings of the rows of a table. Assumes nothing.
+-- The nestings of the rows of a table.
 use Prim.Native.Nat.{ℕ, zero, suc, ◌+◌, ◌<◌, ◌≤◌}
 use mathlib.Core.Path.{◌≡◌}
 use mathlib.Core.List.{List, [], ◌∷◌, ◌++◌}

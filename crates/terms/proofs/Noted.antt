@@ -1,4 +1,4 @@
--- A table of notes: at i stands j where row j was found for row i, or none. Assumes nothing.
+-- A table of notes: at i stands j where row j was found for row i, or none.
 use Prim.Native.Nat.{ℕ, zero, suc, ◌<◌}
 use mathlib.Core.Path.{◌≡◌, sym, ◌∙◌, ap, subst, subst₂}
 use mathlib.Core.List.{List}

@@ -1,4 +1,4 @@
--- What is kept of the rows of a table, row by row. Assumes nothing.
+-- What is kept of the rows of a table, row by row.
 use Prim.Native.Nat.{ℕ, suc, ◌+◌, ◌*◌, ◌<◌, ◌≤◌}
 use mathlib.Core.Path.{◌≡◌, refl, sym, ap, subst, ◌∙◌}
 use mathlib.Core.Bool.{Bool, true, false, cond, false≢true}

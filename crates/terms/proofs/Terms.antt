@@ -1,4 +1,4 @@
--- The terms of the rows of a table. Assumes nothing.
+-- The terms of the rows of a table.
 use Prim.Native.Nat.{ℕ, ◌<◌, ◌≤◌}
 use mathlib.Core.Path.{◌≡◌, sym, ◌∙◌, ap}
 use mathlib.Core.List.{List, ◌++◌}

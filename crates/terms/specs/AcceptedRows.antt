@@ -1,4 +1,4 @@
--- The tables that accepted rows build. Assumes nothing.
+-- The tables that accepted rows build.
 use Rattle.std.specs.Prelude.{Bool, ◌&&◌, List, [], ◌∷◌, ◌++◌, T, leb, eqb, length}
 use Rattle.terms.specs.Row.{Row, find}
 use Rattle.terms.specs.Fields.{max_kind, bad_place}

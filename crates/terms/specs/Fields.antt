@@ -1,4 +1,4 @@
--- What each field of each kind of row must be, and the place of the first bad field. Assumes nothing.
+-- What each field of each kind of row must be, and the place of the first bad field.
 use Rattle.std.specs.Prelude.{ℕ, Bool, cond, ◌&&◌, ◌||◌, not, List, [], ◌∷◌, ltb, leb, eqb, length, get_or}
 use Rattle.common.specs.Axes.{max_axis}
 use Rattle.common.specs.NodeTests.{name_test, target_test, max_test}

@@ -1,4 +1,4 @@
--- The nesting of rows: 1, or 1 + that of the deeper operand. Assumes nothing.
+-- The nesting of rows: 1, or 1 + that of the deeper operand.
 use Rattle.std.specs.Prelude.{ℕ, ◌+◌, max, List, [], get_or}
 use Rattle.terms.specs.Row.{Row, entries_from}
 use Rattle.terms.specs.Fields.{Field, unused, axis, test, name, path, qualifier, fields_of}

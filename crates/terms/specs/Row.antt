@@ -1,4 +1,4 @@
--- Rows `kind a b c`, and tables of them. Assumes nothing.
+-- Rows `kind a b c`, and tables of them.
 use Rattle.std.specs.Prelude.{ℕ, ◌+◌, ◌*◌, Bool, cond, ◌&&◌, List, [], ◌∷◌, ◌++◌, eqb, get_or, drop}
 use Rattle.std.proofs.lemmas.List.Edits.{sets}
 use Rattle.common.specs.Lists.{joined as numbers_of}

@@ -1,4 +1,4 @@
--- The terms of rows. Assumes nothing.
+-- The terms of rows.
 use Rattle.std.specs.Prelude.{ℕ, List, [], ◌∷◌, get_or}
 use Rattle.xpath.specs.Term.{Path, Qualifier, Void, Root, AxisStep, Union, Composition, Filter, True, False, Not, And}
 use Rattle.xpath.specs.Term.{Or}

@@ -9,11 +9,11 @@ ghost use Rattle.terms.specs.code.Kept.{slot_count, slot_of, rows_in, Nestings, 
 
 use crate::{MAX_ROWS, ROW_WIDTH, Row, TABLE_NUMBERS, deeper_operand, find_row, row_count};
 
-// How many slots a filter has.
+/// How many slots a filter has.
 pub const SLOTS: usize = 8192;
 
-// The first `count` rows of the table are put. A slot of the filter that is false says that no row falls in it. Fixed
-// memory: no call can fail for want of it. `nestings` is an array of its own, since rows are lent as their numbers.
+/// The first `count` rows of the table are put. A slot of the filter that is false says that no row falls in it. Fixed
+/// memory: no call can fail for want of it.
 #[derive(Clone, Copy)]
 pub struct KeptRows {
     pub numbers: [u16; TABLE_NUMBERS],
@@ -53,7 +53,7 @@ impl KeptRows {
         }
     }
 
-    // The numbers of the rows.
+    /// The numbers of the rows.
     #[tactic(auto, using(crate::proofs::RowsKept::rows_put))]
     pub fn rows(&self) -> &[u16]
         ensures { (result.now ≡ take (row_width * self.now.count) self.now.numbers)
@@ -62,14 +62,14 @@ impl KeptRows {
         &self.numbers[..ROW_WIDTH * self.count]
     }
 
-    // The nesting of a row whose operands are among the rows.
+    /// The nesting of a row whose operands are among the rows.
     pub fn nesting_of(&self, row: Row) -> u16
         ensures { result ≡ nesting (rows_in self.now.numbers self.now.count) (row_of row) }
     {
         nesting_kept(self.rows(), &self.nestings, row)
     }
 
-    // The same as find_row; it searches only where the filter has a row in that slot.
+    /// The same as find_row; it searches only where the filter has a row in that slot.
     pub fn find(&self, row: Row) -> Option<usize>
         ensures { FoundIs result (find (rows_in self.now.numbers self.now.count) (row_of row))
             (length (rows_in self.now.numbers self.now.count)) }
@@ -80,7 +80,7 @@ impl KeptRows {
         find_row(self.rows(), row)
     }
 
-    // Puts a row after the rows. There is room: who puts a row has judged it, refusal 11 included.
+    /// Puts a row after the rows. There is room: who puts a row has judged it, refusal 11 included.
     pub fn put(&mut self, row: Row)
         requires { self.old.count < max_rows }
         ensures { (self.new.numbers ≡ sets self.old.numbers (row_width * self.old.count) (row_numbers (row_of row)))

@@ -22,17 +22,17 @@ use common::row_kind::RowKind;
 use kept::nesting_kept;
 pub use kept::{KeptRows, SLOTS};
 
-// The most rows of a table. Arrays of what is kept or noted of each row are this long: fixed memory without a heap. A
-// count beside one, or the table, says how much of it is in use.
+/// The most rows of a table. Arrays of what is kept or noted of each row are this long: fixed memory without a heap. A
+/// count beside one, or the table, says how much of it is in use.
 pub const MAX_ROWS: usize = 1024;
 
-// The deepest nesting of a row.
+/// The deepest nesting of a row.
 pub const MAX_NESTING: u16 = 32;
 
-// How many numbers a row has.
+/// How many numbers a row has.
 pub const ROW_WIDTH: usize = 4;
 
-// How many numbers a table with room for all rows has.
+/// How many numbers a table with room for all rows has.
 pub const TABLE_NUMBERS: usize = ROW_WIDTH * MAX_ROWS;
 
 #[derive(Clone, Copy, PartialEq, Eq, Debug)]
@@ -43,8 +43,7 @@ pub struct Row {
     pub c: u16,
 }
 
-// What the definitions have past the end of a table: the void path, whose fields are unused. No derived Default: its
-// zeros wouldn't name the kind.
+// What the definitions have past the end of a table: the void path, whose fields are unused.
 const NO_ROW: Row = Row {
     kind: RowKind::Void as u16,
     a: 0,
@@ -52,7 +51,7 @@ const NO_ROW: Row = Row {
     c: 0,
 };
 
-// What a field of a row must be.
+/// What a field of a row must be.
 #[derive(Clone, Copy)]
 pub enum Field {
     Unused,
@@ -64,7 +63,7 @@ pub enum Field {
 }
 
 impl Row {
-    // Its kind; none of a number that no kind has, which a row that a caller lends may have.
+    /// Its kind; none of a number that no kind has, which a row that a caller lends may have.
     pub fn read_kind(self) -> Option<RowKind>
         ensures { KindIs result (row_of self).kind }
     {
@@ -102,7 +101,7 @@ impl From<Row> for [u16; ROW_WIDTH] {
     }
 }
 
-// The rows, each as its numbers. `as_chunks` is what rows, steps and points share; each says what its numbers are.
+/// The rows, each as its numbers. `as_chunks` is what rows, steps and points share; each says what its numbers are.
 #[tactic(auto, using(crate::proofs::LentRows::rows_by_four))]
 pub fn whole_rows(rows: &[u16]) -> &[[u16; ROW_WIDTH]]
     ensures { map row_of_numbers result.now ≡ table_of rows.now }
@@ -116,22 +115,22 @@ pub fn row_count(rows: &[u16]) -> usize
     whole_rows(rows).len()
 }
 
-// Row i.
+/// Row i.
 pub fn get_row(rows: &[u16], i: usize) -> Option<Row>
     ensures { RowIs result (table_of rows.now) i }
 {
     whole_rows(rows).get(i).map(|&numbers| Row::from(numbers))
 }
 
-// The same; `0 0 0 0` past the last row, with which the definitions of terms and steps go on.
+/// The same; `0 0 0 0` past the last row, with which the definitions of terms and steps go on.
 pub fn row_at(rows: &[u16], i: usize) -> Row
     ensures { row_of result ≡ row_at (table_of rows.now) i }
 {
     get_row(rows, i).unwrap_or(NO_ROW)
 }
 
-// Whether x is the number of a row that is a path. A function for each sort: each has a definition of its own, and what
-// they share is `get_row`.
+/// Whether x is the number of a row that is a path. A function for each sort: each has a definition of its own, and
+/// what they share is `get_row`.
 #[tactic(auto, unfolding(crate::specs::Fields::held_path))]
 pub fn is_held_path(rows: &[u16], x: u16) -> bool
     ensures { result ≡ held_path (table_of rows.now) x }
@@ -139,7 +138,7 @@ pub fn is_held_path(rows: &[u16], x: u16) -> bool
     get_row(rows, usize::from(x)).is_some_and(|row| row.is_path())
 }
 
-// Whether x is the number of a row that is a qualifier.
+/// Whether x is the number of a row that is a qualifier.
 #[tactic(auto, unfolding(crate::specs::Fields::held_qualifier))]
 pub fn is_held_qualifier(rows: &[u16], x: u16) -> bool
     ensures { result ≡ held_qualifier (table_of rows.now) x }
@@ -147,8 +146,8 @@ pub fn is_held_qualifier(rows: &[u16], x: u16) -> bool
     get_row(rows, usize::from(x)).is_some_and(|row| row.is_qualifier())
 }
 
-// What the fields a, b and c of a row of that kind must be. Of any number, as a row that is lent may have it: of one
-// that no kind has, no field is used.
+/// What the fields a, b and c of a row of that kind must be. Of any number, as a row that is lent may have it: of one
+/// that no kind has, no field is used.
 #[tactic(auto, unfolding(crate::specs::Fields::fields_of))]
 pub fn fields_of(kind: u16) -> (Field, Field, Field)
     ensures { fields_in result.0 result.1 result.2 ≡ fields_of kind }
@@ -185,7 +184,7 @@ fn field_ok(rows: &[u16], field: Field, x: u16, t: u16) -> bool
     }
 }
 
-// Refusal 2, with the first place, 1 to 3, whose field is bad.
+/// Refusal 2, with the first place, 1 to 3, whose field is bad.
 #[tactic(auto, unfolding(crate::specs::Fields::bad_place))]
 pub fn check_fields(rows: &[u16], row: Row) -> Result<(), Refusal>
     ensures { RefusedAt BadField (bad_place (table_of rows.now) (row_of row)) result }
@@ -202,7 +201,7 @@ pub fn check_fields(rows: &[u16], row: Row) -> Result<(), Refusal>
     }
 }
 
-// The number of the first row that is `row`.
+/// The number of the first row that is `row`.
 pub fn find_row(rows: &[u16], row: Row) -> Option<usize>
     ensures { FoundIs result (find (table_of rows.now) (row_of row)) (length (table_of rows.now)) }
 {
@@ -241,16 +240,15 @@ pub(crate) fn deeper_operand(nestings: &[u16], row: Row) -> u16
     x.max(y)
 }
 
-// Whether it is noted that a search found row j for row i: at i stands j. Notes are lent beside the rows, and that they
-// are true of these stands in the contracts (`Noted` of matching): `Held` has the rows with their steps, and a struct
-// of rows and notes would have them twice.
+/// Whether it is noted that a search found row j for row i: at i stands j. That notes are true of the rows stands in
+/// the contracts (`Noted` of matching).
 pub fn is_noted(noted: &[Option<u16>], i: u16, j: u16) -> bool
     ensures { IsTrue result ↔ (get_or noted.now i None ≡ Some j) }
 {
     noted.get(usize::from(i)) == Some(&Some(j))
 }
 
-// Notes it, where the table of notes reaches to i.
+/// Notes it, where the table of notes reaches to i.
 pub fn note(noted: &mut [Option<u16>], i: u16, j: u16)
     ensures { noted.new ≡ set noted.old i (Some j) }
 {

@@ -1,4 +1,4 @@
--- One law for each way through read_and and read_or. Assumes nothing.
+-- One law for each way through read_and and read_or.
 use Prim.Native.Nat.{ℕ, suc, ◌+◌, ◌≤◌, max}
 use mathlib.Core.Path.{◌≡◌, refl, sym, ap, ◌∙◌, subst}
 use mathlib.Core.Bool.{Bool, true, false, cond}

@@ -1,4 +1,4 @@
--- A table by the rows that it holds and what stands past them. Assumes nothing.
+-- A table by the rows that it holds and what stands past them.
 use Prim.Native.Nat.{ℕ, zero, suc, ◌+◌, ◌*◌, ◌≤◌}
 use mathlib.Core.Path.{◌≡◌, refl, sym, ap, ap₂, ◌∙◌}
 use mathlib.Core.List.{List, [], ◌∷◌, ◌++◌}

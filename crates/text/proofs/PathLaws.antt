@@ -1,4 +1,4 @@
--- One law for each way through read_path and read_union. Assumes nothing.
+-- One law for each way through read_path and read_union.
 use Prim.Native.Nat.{ℕ, suc, ◌+◌, ◌<◌, ◌≤◌, max}
 use mathlib.Core.Path.{◌≡◌, refl, sym, ap, ◌∙◌, subst}
 use mathlib.Core.Bool.{Bool, true, false, ◌||◌}

@@ -1,4 +1,4 @@
--- One law for each way through read_predicate and read_step. Assumes nothing.
+-- One law for each way through read_predicate and read_step.
 use Prim.Native.Nat.{ℕ, suc, ◌+◌, ◌-◌, ◌<◌, max}
 use mathlib.Core.Path.{◌≡◌, refl, sym, ap, ◌∙◌, subst}
 use mathlib.Core.Bool.{Bool, true, false, cond, ◌||◌}

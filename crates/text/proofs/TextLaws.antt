@@ -1,4 +1,4 @@
--- One law for each answer of read_text. Assumes nothing.
+-- One law for each answer of read_text.
 use Prim.Native.Nat.{ℕ, suc, ◌-◌, ◌<◌, ◌≤◌, min}
 use mathlib.Core.Path.{◌≡◌, refl, sym, ap, subst, ◌∙◌}
 use mathlib.Core.Bool.{true, false}

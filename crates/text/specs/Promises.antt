@@ -1,4 +1,4 @@
--- What `read_text` promises. Assumes nothing.
+-- What `read_text` promises.
 use Rattle.std.specs.Prelude.{ℕ, ◌*◌, ◌≡◌, List, length, take, Result, Ok, Err, OnErr}
 use Rattle.terms.specs.Row.{Row, table_of, row_width, table_with}
 use Rattle.grammar.specs.Bytes.{Bytes}
@@ -25,8 +25,8 @@ abbrev pub left_count : ℕ → Result TextHeld Refusal → ℕ
 left_count n (Ok h) = h.count
 left_count n (Err e) = n
 
--- `read_text` on the first n rows of the numbers xs, which become ys: number, value and the rows afterwards are those of
--- the definition, and all else of the table is as it was
+-- `read_text` on the first n rows of the numbers xs, which become ys: number, value and the rows afterwards are those
+-- of the definition, and all else of the table is as it was
 pub record TextRead (list t : Bytes) (xs : List ℕ) (n : ℕ) (ys : List ℕ) (r : Result TextHeld Refusal) : Type 0 where
   pub after : List Row
   pub answers : Answers list t (held_rows xs n) (text_number r) (text_value r) after

@@ -32,18 +32,12 @@ const MIN_TEXT: usize = 32;
 
 const MAX_LIST: usize = 4294967295;
 
-// The row of a text's term, and how many rows are held with those that it needs.
+/// The row of a text's term, and how many rows are held with those that it needs.
 #[derive(Clone, Copy)]
 pub struct TextHeld {
     pub row: u16,
     pub count: usize,
 }
-
-// What the readers ask of a reading, `Ready`, is no ghost field of it: it is of the reading, the text and the table
-// together, and each reader changes the table. Selector and rows are no struct with the readers as its methods: these
-// would have it by `&mut`, and each contract would have to say that the selector stays. The reading is another at each
-// call, and the depth in each predicate and group. That the table's length is a clause has the reason that stands at
-// `Reading`.
 
 // A predicate whose `[` is where `from`, the step so far, ends.
 #[cycle(expression)]
@@ -123,8 +117,7 @@ fn read_path(
     Ok(got)
 }
 
-// Paths joined by `|`. `read_and` and `read_or` are no one function with this: it would take the byte, the word, the
-// kind and the reader of a part, for a loop of five lines, and the trees that each promises are of three types.
+// Paths joined by `|`.
 #[cycle(expression)]
 fn read_union(
     selector: Selector<'_>,
@@ -259,8 +252,7 @@ fn is_indexed(s: &[u8], names: &[u8]) -> bool
     MIN_TEXT <= s.len() && MIN_LIST <= names.len() && names.len() <= MAX_LIST
 }
 
-// The same reading, by an index of the list. Text and list are no `Selector` up to here: that has the index, which is
-// made here. Rows and count are two, since the rows are lent and the count goes into the reading.
+// The same reading, by an index of the list.
 fn read_indexed<'a>(
     s: &'a [u8],
     names: &'a [u8],
@@ -302,9 +294,9 @@ fn read_listed<'a>(
     read_in(Selector { s, names }, rows, count)
 }
 
-// The reading of the text `s` with the lent list of names, where the first rows of the table are held, as many as
-// `count` says; a count above the limit is read as the limit. Nothing is kept of the rows. A refused reading leaves rows
-// of no use in the table, whose numbers are put back.
+/// The reading of the text `s` with the lent list of names, where the first rows of the table are held, as many as
+/// `count` says; a count above the limit is read as the limit. Nothing is kept of the rows. A refused reading leaves
+/// rows of no use in the table, whose numbers are put back.
 pub fn read_text(
     s: &[u8],
     names: &[u8],

@@ -1,4 +1,4 @@
--- Clauses of the list that no crate below writes out: without one of them this fails. Assumes nothing.
+-- Clauses of the list that no crate below writes out: without one of them this fails.
 use Prim.Native.Nat.{ℕ, ◌≤◌, ◌<◌}
 use mathlib.Core.Path.{◌≡◌}
 use mathlib.Core.List.{List, map}

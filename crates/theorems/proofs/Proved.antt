@@ -1,4 +1,4 @@
--- The proofs of the list. Assumes nothing.
+-- The proofs of the list.
 use Rattle.calls.proofs.Returns.{return_restores}
 use Rattle.calls.proofs.SelectLaws.{limit_suffices, marks_same_elsewhere}
 use Rattle.calls.proofs.TextLaws.{answers_as_defined, as_term_calls, gives_its_term, gives_its_nesting}
@@ -54,18 +54,18 @@ session_theorems =
       steps_held_lem = λ κs a r x m. m;
       rule_uses = λ κs a r x m. m;
       last_step = λ κs a r x m. m;
-      accept_demand = session.accept_demand;
-      demand3 = session.demand3;
+      accept_guarantee = session.accept_guarantee;
+      book_guarantee = session.book_guarantee;
       whole_session = session.whole_session;
       no_point_left = session.no_point_left;
       session_restored = session.session_restored;
       return_restores = return_restores;
-      read_demand = session.read_demand;
-      replace_demand = session.replace_demand;
+      read_guarantee = session.read_guarantee;
+      replace_guarantee = session.replace_guarantee;
       terms_ordered = total_order terms_ordered;
       steps_ordered = total_order steps_ordered;
       sorted_match = sorted_match terms_ordered;
-      order_demand = session.order_demand;
+      order_guarantee = session.order_guarantee;
       new_exists = session.new_exists;
       calls_exist = session.calls_exist;
       selects_exist = session.selects_exist;
@@ -102,10 +102,10 @@ register_theorems =
       bundle_order_lem = register.bundle_order_tied;
       write = register.write_tied;
       read = register.read_tied;
-      register_demand = register.register_demand;
-      replace_demand = register.replace_demand;
-      order_demand = register.order_demand;
-      record_demand = register.record_demand;
+      register_guarantee = register.register_guarantee;
+      replace_guarantee = register.replace_guarantee;
+      order_guarantee = register.order_guarantee;
+      record_guarantee = register.record_guarantee;
       shows_released = shows_released;
       shows_in_order = shows_in_order;
       releases_kept = register.releases_kept;
@@ -132,11 +132,11 @@ host_theorems =
       read = exports.read_tied;
       read_line = exports.read_line_tied;
       claim = exports.claim_tied;
-      claim_demand = exports.claim_demand;
+      claim_guarantee = exports.claim_guarantee;
       select = exports.select_tied;
-      select_demand = exports.select_demand;
+      select_guarantee = exports.select_guarantee;
       file = exports.file_tied;
-      file_demand = exports.file_demand;
+      file_guarantee = exports.file_guarantee;
       reads_exist = exports.reads_exist;
       read_lines_exist = exports.read_lines_exist;
       claims_exist = exports.claims_exist;

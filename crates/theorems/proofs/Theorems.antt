@@ -1,6 +1,5 @@
 -- All that is promised, as one list. `session.Called`, `register.Selected`, `exports.Claims`, `tallies.Added` and so on
 -- (proofs/Source.antt of these crates) say of a call what its contract in the source does; Proved.antt has the proofs.
--- Assumes nothing.
 use Prim.Native.Nat.{ℕ, ◌*◌, ◌≤◌, ◌<◌}
 use mathlib.Core.Bool.{Bool}
 use mathlib.Core.List.{List, map}
@@ -30,19 +29,19 @@ use Rattle.records.specs.Records.{current}
 use Rattle.records.specs.Releases.{crew_listing, crew_current, OfficeCall, OfficeSeen, ShowsReleased, ShowsInOrder}
 use Rattle.records.specs.declared.Record.{Record}
 use Rattle.records.specs.declared.Records.{Records}
-use Rattle.register.specs.Demand.{DemandOfRegister, ReleasesKept, ReleasedAgain, CrewIsolated}
-use Rattle.register.specs.RecordDemand.{RecordDemand, RegisterReplaceDemand, RegisterOrderDemand}
+use Rattle.register.specs.FollowsRegister.{RegisterGuarantee, ReleasesKept, ReleasedAgain, CrewIsolated}
+use Rattle.register.specs.RecordGuarantee.{RecordGuarantee, RegisterReplaceGuarantee, RegisterOrderGuarantee}
 use Rattle.register.specs.Promises.{fresh_register, RegisterMet, RegisterReadMet, holdings, released_in}
 use Rattle.register.specs.declared.Register.{Register}
 use Rattle.rules.specs.Claim.{Claim, IsTrue}
 use Rattle.rules.specs.Yields.{Yields}
-use Rattle.session.specs.AcceptDemand.{AcceptDemand}
-use Rattle.session.specs.Demand3.{DemandThree}
-use Rattle.session.specs.OrderDemand.{OrderMet, BundleOrderMet, OrderDemand}
+use Rattle.session.specs.AcceptGuarantee.{AcceptGuarantee}
+use Rattle.session.specs.FollowsBook.{BookGuarantee}
+use Rattle.session.specs.OrderGuarantee.{OrderMet, BundleOrderMet, OrderGuarantee}
 use Rattle.session.specs.Promises.{Met, SelectMet, AnswersByTerms}
 use Rattle.session.specs.ReadCall.{ReadMet}
-use Rattle.session.specs.ReadDemand.{ReadDemand}
-use Rattle.session.specs.ReplaceDemand.{ReplaceMet, ReplaceDemand}
+use Rattle.session.specs.ReadGuarantee.{ReadGuarantee}
+use Rattle.session.specs.ReplaceGuarantee.{ReplaceMet, ReplaceGuarantee}
 use Rattle.session.specs.SessionLaws.{WholeSession, NoPointLeft, SessionRestored}
 use Rattle.session.specs.View.{view, fresh_session}
 use Rattle.session.specs.WriteCall.{WriteMet}
@@ -87,10 +86,10 @@ use Rattle.exports.proofs.Source as exports
 use Rattle.grammar.specs.Bytes.{Bytes}
 use Rattle.session.specs.Reading.{reading}
 use Rattle.exports.specs.ClaimCall.{Claimed, claim_answer}
-use Rattle.exports.specs.ClaimDemand.{ClaimDemand}
+use Rattle.exports.specs.ClaimGuarantee.{ClaimGuarantee}
 use Rattle.exports.specs.TextSelect.{TextSelectMade}
-use Rattle.exports.specs.SelectDemand.{SelectDemand}
-use Rattle.exports.specs.FileDemand.{FileDemand}
+use Rattle.exports.specs.SelectGuarantee.{SelectGuarantee}
+use Rattle.exports.specs.FileGuarantee.{FileGuarantee}
 use Rattle.filing.specs.Filing.{FileMet}
 use Rattle.session.proofs.session.Session.step_saying.Reads as step-saying-reads
 use Rattle.session.proofs.session.Session.steps_held.Reads as steps-held-reads
@@ -151,23 +150,23 @@ pub record SessionTheorems : Type 0 where
   -- and new while there is space, step exactly what the rule table yields, as terms, of held rows and from held
   -- premises while there is space, select exactly a held path on a well-formed document of 1 to 512 nodes, from one of
   -- them, with room for the marks and visits within the limit
-  pub accept_demand : AcceptDemand session.Selected session.Called session.New
-  -- demand 3: after every list of calls from a fresh session all is as in the plain book, what is held is true on every
+  pub accept_guarantee : AcceptGuarantee session.Selected session.Called session.New
+  -- after every list of calls from a fresh session all is as in the plain book, what is held is true on every
   -- document, and select marks by it
-  pub demand3 : DemandThree session.Selected session.New session.Called
+  pub book_guarantee : BookGuarantee session.Selected session.New session.Called
   -- after every such list the session is, as a whole value, the one that the book determines, without points where none
   -- was set; and returning to a point restores the whole session that setting it left, and the book
   pub whole_session : WholeSession session.New session.Called
   pub no_point_left : NoPointLeft session.New session.Called
   pub session_restored : SessionRestored session.New session.Called
   pub return_restores : ReturnRestores
-  -- what is demanded of read and write: read accepts just the bundles whose calls are all accepted, and demand 3 holds
-  -- of the calls; what is written of a session that calls lead to reads back as that session but for its points, and
-  -- what is read is written again as the same bytes
-  pub read_demand : ReadDemand session.Selected session.Called session.Read session.Write
+  -- what is guaranteed of read and write: read accepts just the bundles whose calls are all accepted, and the calls
+  -- follow the book; what is written of a session that calls lead to reads back as that session but for its points,
+  -- and what is read is written again as the same bytes
+  pub read_guarantee : ReadGuarantee session.Selected session.Called session.Read session.Write
   -- a whole set replaced: after every list of calls from a fresh session, each node that any path of a covered list
   -- selects is selected by some new one, from the same node of every document; an accepted replace is a case of it
-  pub replace_demand : ReplaceDemand session.Replaced session.New session.Called
+  pub replace_guarantee : ReplaceGuarantee session.Replaced session.New session.Called
   -- the order of terms, and that of lists of steps as terms, is total, and equal holds just when both are the same;
   -- sorted lists that hold the same terms are the same list
   pub terms_ordered : TotalOrder term_order
@@ -175,7 +174,7 @@ pub record SessionTheorems : Type 0 where
   pub sorted_match : SortedMatch term_order
   -- after every two lists of calls, each from a fresh session, order answers the order of the terms, also for lists of
   -- rows that were sorted by it, each in its session
-  pub order_demand : OrderDemand session.Ordered session.BundleOrdered session.New session.Called
+  pub order_guarantee : OrderGuarantee session.Ordered session.BundleOrdered session.New session.Called
   -- a fresh session can be made as the contracts have it, and on every session every list of calls; so can every
   -- select, every read, every replace, every order, every bundle order and every write
   pub new_exists : session.New fresh_session
@@ -240,17 +239,17 @@ pub record RegisterTheorems : Type 0 where
       → WriteMet r.session buffer w left
   -- read gives what the session's does, without records and releases
   pub read : (bytes : List ℕ) (t : register-read.ReadResult) → register.Read bytes t → RegisterReadMet bytes t
-  -- after every list of calls from a fresh register: all that demand 3 asks, the older path's nodes among the
-  -- newer's where two editions of one series are held, or seen by a crew, and the current edition of both
-  pub register_demand :
-      DemandOfRegister register.Selected register.Current register.CrewCurrent register.New register.Called
+  -- after every list of calls from a fresh register: all that is guaranteed of a session, the older path's nodes among
+  -- the newer's where two editions of one series are held, or seen by a crew, and the current edition of both
+  pub register_guarantee :
+      RegisterGuarantee register.Selected register.Current register.CrewCurrent register.New register.Called
   -- after every list of calls from a fresh register, record, release and refused returns among them: replace and the
   -- orders keep what they promise on a session
-  pub replace_demand : RegisterReplaceDemand register.New register.Called register.Replaced
-  pub order_demand : RegisterOrderDemand register.New register.Called register.Ordered register.BundleOrdered
+  pub replace_guarantee : RegisterReplaceGuarantee register.New register.Called register.Replaced
+  pub order_guarantee : RegisterOrderGuarantee register.New register.Called register.Ordered register.BundleOrdered
   -- record accepts exactly the next edition of a series, of a held path, while there is space: the first with step 0, a
   -- later one with a held step that says, as terms, that the previous edition's path is contained in its own
-  pub record_demand : RecordDemand register.New register.Called
+  pub record_guarantee : RecordGuarantee register.New register.Called
   -- a crew gets each released record and no other
   pub shows_released : (rs : List Record) (fs : List ℕ) → ShowsReleased rs fs
   -- in the register's order, each place once
@@ -291,17 +290,17 @@ pub record HostTheorems : Type 0 where
   -- every document, no where no step says so
   pub claim : (bundle names old new : Bytes) (c : Claimed) → exports.Claims bundle names old new c
       → c ≡ claim_answer bundle names old new
-  pub claim_demand : ClaimDemand exports.Claims
+  pub claim_guarantee : ClaimGuarantee exports.Claims
   -- a select by text is the text call on a fresh session and the select of its row; it marks what the text's path
   -- selects
   pub select : (names t : Bytes) (xs : List ℕ) (x limit : ℕ) (buffer left : List ℕ) (a : Answer)
       → exports.Selects names t xs x limit buffer a left → TextSelectMade names t xs x limit buffer a left
-  pub select_demand : SelectDemand exports.Selects
+  pub select_guarantee : SelectGuarantee exports.Selects
   -- a script is filed as it is defined: the calls of its lines from a fresh session, and the bundle of what they leave;
   -- the first refused line is answered, and leaves the buffer
   pub file : (script buffer left : Bytes) (a : Answer) → exports.Files script buffer a left
       → FileMet script buffer a left
-  pub file_demand : FileDemand exports.Files
+  pub file_guarantee : FileGuarantee exports.Files
   -- every input has an answer as the contracts have it
   pub reads_exist : (bytes : Bytes) → (n : ℕ) × exports.Reads bytes n
   pub read_lines_exist : (bytes : Bytes) → (a : Answer) × exports.ReadLines bytes a

@@ -1,4 +1,4 @@
--- What a line that is read tells of the line that ends the run. Assumes nothing.
+-- What a line that is read tells of the line that ends the run.
 use Prim.Native.Nat.{ℕ, ◌+◌}
 use mathlib.Core.Path.{◌≡◌, refl, sym, ap, ◌∙◌}
 use mathlib.Core.Bool.{Bool, true, false, cond}

@@ -1,4 +1,4 @@
--- The line that ends the run of a script. Assumes nothing.
+-- The line that ends the run of a script.
 use Rattle.std.specs.Prelude.{ℕ, ◌+◌, Bool, true, false, cond, List, [], ◌∷◌}
 use Rattle.std.proofs.Math.Option.{Option, none, some}
 use Rattle.lines.specs.Line.{Line, parts_read}

@@ -28,12 +28,12 @@ const LINE: usize = 8192;
 // Longer than the longest answer: a word and two numbers of at most 5 and 20 digits.
 const ANSWER: usize = 64;
 
-// What is printed. `Answers`: `NUMBER VALUE` for each call but document, old and new, after an accepted select the
-// marked nodes, after a listing the records' numbers, and after an accepted write the bundle's lines; `other` sets
-// the register aside and starts a new one, `order` and `bundle-order` compare the one set aside with it, and `fresh`
-// is no call. Other and what is lent print nothing. `Nodes`: the marked nodes of each accepted select, and `refused
-// NUMBER VALUE` for what is refused; `fresh` starts a new register, and `write`, `other`, `order`, `bundle-order` and
-// the listings are no calls. An enum and no closure: `word_taken` of specs/Transcript, which is believed, names it.
+/// What is printed. `Answers`: `NUMBER VALUE` for each call but document, old and new, after an accepted select the
+/// marked nodes, after a listing the records' numbers, and after an accepted write the bundle's lines; `other` sets the
+/// register aside and starts a new one, `order` and `bundle-order` compare the one set aside with it, and `fresh` is no
+/// call. Other and what is lent print nothing. `Nodes`: the marked nodes of each accepted select, and `refused NUMBER
+/// VALUE` for what is refused; `fresh` starts a new register, and `write`, `other`, `order`, `bundle-order` and the
+/// listings are no calls.
 #[derive(Clone, Copy, Debug, PartialEq, Eq)]
 pub enum Style {
     Answers,
@@ -53,7 +53,7 @@ fn put_node(line: &mut Line, node: usize) {
 }
 
 // An answer in a style: nothing where it is an accepted one that `Nodes` leaves out. It is accepted where its number is
-// 0, as `accepted` of calls' specs/Book, which is believed, has it.
+// 0.
 fn answer_line<A: Answer + Copy>(style: Style, answer: A) -> ArrayString<ANSWER> {
     let mut line = ArrayString::new();
     let told = AnswerLine::from(answer);
@@ -101,7 +101,6 @@ fn print_listing(listing: &Records) {
     let answer = answer_line::<Result<usize, Refusal>>(Style::Answers, Ok(size));
     let mut line = begin_line(&answer);
     for record in listing.list() {
-        // By its fields: a record is printed here alone, and a Display of it would name the same four.
         let _ = write!(
             line,
             " {} {} {} {}",
@@ -248,9 +247,9 @@ fn is_taken(command: &Command, style: Style) -> bool
     }
 }
 
-// Makes the calls of a script, a call a line, from a fresh register, and prints their answers. The error is the number
-// of the line that ends it, the first that is not taken. What is printed is beyond contracts, since the C library's
-// write is.
+/// Makes the calls of a script, a call a line, from a fresh register, and prints their answers. The error is the number
+/// of the line that ends it, the first that is not taken. What is printed is beyond contracts, since the C library's
+/// write is.
 pub fn run(input: &[u8], style: Style) -> Result<(), usize>
     ensures { PlaceIs (result_err result) (ending_line style 1 (lines input.now)) }
 {

@@ -1,4 +1,4 @@
--- The index of the lent list: how it is made, and the search in it. Assumes nothing.
+-- The index of the lent list: how it is made, and the search in it.
 use Prim.Native.Nat.{ℕ, suc, ◌+◌, ◌<◌, ◌≤◌, min}
 use Rattle.std.specs.List.{fold}
 use Rattle.std.specs.Borrow.{Bor}

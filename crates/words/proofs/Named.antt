@@ -1,4 +1,4 @@
--- Words, and the lines of the lent list. Assumes nothing.
+-- Words, and the lines of the lent list.
 use Prim.Native.Nat.{ℕ, zero, suc, ◌+◌, ◌<◌, ◌≤◌}
 use mathlib.Core.Path.{◌≡◌, refl, sym, ap, ◌∙◌}
 use mathlib.Core.Bool.{Bool, true, false, cond, ◌&&◌}

@@ -3,7 +3,7 @@ ghost use Rattle.std.specs.Prelude.{◌≡◌, ◌≤◌, ℕ, Bool, length};
 ghost use Rattle.grammar.specs.Bytes.{is_space, is_start, is_name};
 ghost use Rattle.words.specs.code.Scan.{byte_at, PassedOver, Passed};
 
-// The byte at a place, 0 past the end: no reader takes a 0, so none has to ask for the end.
+/// The byte at a place, 0 past the end: no reader takes a 0, so none has to ask for the end.
 pub fn byte_at(s: &[u8], at: usize) -> u8
     ensures { result ≡ byte_at s.now at }
 {
@@ -17,7 +17,7 @@ pub fn is_space(b: u8) -> bool
     matches!(b, b' ' | b'\t' | b'\n' | b'\r')
 }
 
-// A letter or `_`: what a name begins with.
+/// A letter or `_`: what a name begins with.
 #[tactic(auto, unfolding(grammar::specs::Bytes::is_start))]
 pub fn is_start(b: u8) -> bool
     ensures { result ≡ is_start b }
@@ -25,7 +25,7 @@ pub fn is_start(b: u8) -> bool
     matches!(b, b'a'..=b'z' | b'A'..=b'Z' | b'_')
 }
 
-// A byte of a name.
+/// A byte of a name.
 #[tactic(auto, unfolding(grammar::specs::Bytes::is_name))]
 pub fn is_name(b: u8) -> bool
     ensures { result ≡ is_name b }
@@ -33,9 +33,7 @@ pub fn is_name(b: u8) -> bool
     is_start(b) || matches!(b, b'0'..=b'9' | b'-' | b'.')
 }
 
-// The first place from `at` whose byte fails the test, or the text's end. A place within a text is no type of its own,
-// here and in crates heads and readings: every reader goes on to new places, and owes the bound of each as it does of
-// an argument.
+// The first place from `at` whose byte fails the test, or the text's end.
 pub(crate) fn pass<F: Fn(u8) -> bool>(s: &[u8], at: usize, test: F) -> usize
     requires at_in_bounds { at ≤ length s.now }
     requires can { F.IsAlwaysCallable test }
@@ -45,7 +43,7 @@ pub(crate) fn pass<F: Fn(u8) -> bool>(s: &[u8], at: usize, test: F) -> usize
     at + rest.iter().position(|b| !test(*b)).unwrap_or(rest.len())
 }
 
-// The first place from `at` that has no whitespace.
+/// The first place from `at` that has no whitespace.
 #[tactic(auto, unfolding(grammar::specs::Bytes::is_space), using(crate::proofs::Scanned::passed))]
 pub fn skip(s: &[u8], at: usize) -> usize
     requires { at ≤ length s.now }
@@ -54,7 +52,7 @@ pub fn skip(s: &[u8], at: usize) -> usize
     pass(s, at, is_space)
 }
 
-// The first place from `at` that has no byte of a name.
+/// The first place from `at` that has no byte of a name.
 pub fn name_end(s: &[u8], at: usize) -> usize
     requires { at ≤ length s.now }
     ensures { Passed is_name s.now at result }

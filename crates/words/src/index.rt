@@ -2,7 +2,7 @@
 ghost use Rattle.std.specs.Prelude.{◌≡◌, ◌<◌, ◌≤◌, length, take, drop};
 ghost use Rattle.words.specs.code.Index.{max_length, signed_by, signature_of, ended, LineMet, Indexed};
 
-// How many lines an index has at most.
+/// How many lines an index has at most.
 pub const MAX_LINES: usize = 10240;
 
 // The largest prime below 2^32.
@@ -52,8 +52,7 @@ fn pass_line(list: &[u8], at: usize) -> (usize, u32)
     (list.len().min(i + 1), signed)
 }
 
-// Fixed memory without a heap: no call can fail for want of it. No derived Default: as a default the zeros would look
-// like a line, and a list's first line starts at 0.
+/// Fixed memory without a heap: no call can fail for want of it.
 pub fn blank_index() -> [IndexedLine; MAX_LINES] {
     [IndexedLine {
         start: 0,
@@ -61,8 +60,8 @@ pub fn blank_index() -> [IndexedLine; MAX_LINES] {
     }; MAX_LINES]
 }
 
-// Makes the index of the first lines of the list, as many as there is room for: how many these are, and where the
-// other lines begin. An index has places of 32 bits, so the list's length is asked.
+/// Makes the index of the first lines of the list, as many as there is room for: how many these are, and where the
+/// other lines begin. An index has places of 32 bits, so the list's length is asked.
 pub fn index_lines(list: &[u8], index: &mut [IndexedLine]) -> (usize, usize)
     requires { length list.now ≤ max_length }
     ensures { (result.0 ≤ length index.new) × Indexed list.now (take result.0 index.new) result.1 }

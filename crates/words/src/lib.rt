@@ -40,7 +40,7 @@ const TYPES: [(&[u8], NodeTest); 4] = [
     (b"processing-instruction", NodeTest::Instruction),
 ];
 
-// What a table has for the word.
+/// What a table has for the word.
 pub fn find<T: Copy>(table: &[(&[u8], T)], word: &[u8]) -> Option<T>
     ensures { result ≡ found word.now table.now }
 {
@@ -50,14 +50,14 @@ pub fn find<T: Copy>(table: &[(&[u8], T)], word: &[u8]) -> Option<T>
         .map(|(_, value)| *value)
 }
 
-// The axis of a name.
+/// The axis of a name.
 pub fn axis_of(word: &[u8]) -> Option<Axis>
     ensures { option_map axis_number result ≡ pick_from 0 axes word.now }
 {
     find(&AXES, word)
 }
 
-// The test of a node type.
+/// The test of a node type.
 pub fn type_of(word: &[u8]) -> Option<NodeTest>
     ensures { option_map test_number result ≡ pick_from node_test types word.now }
 {

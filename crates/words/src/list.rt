@@ -172,7 +172,7 @@ fn search_index(names: Names<'_>, word: Word<'_>) -> Option<usize>
     None
 }
 
-// The number that the list gives to the word: that of the first line that is the word.
+/// The number that the list gives to the word: that of the first line that is the word.
 pub fn number_of(names: Names<'_>, word: Word<'_>) -> Option<u16>
     ensures { result ≡ given (number_of names.entry.list.now word.entry.bytes.now) }
 {

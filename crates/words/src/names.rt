@@ -5,7 +5,7 @@ ghost use Rattle.words.specs.code.Index.{Indexed};
 
 use crate::index::IndexedLine;
 
-// The list's bytes, a name in each line; the index of its first lines; and where the other lines begin.
+/// The list's bytes, a name in each line; the index of its first lines; and where the other lines begin.
 #[derive(Clone, Copy)]
 pub struct Names<'a> {
     pub list: &'a [u8],
@@ -14,7 +14,7 @@ pub struct Names<'a> {
     ghost indexed: { Indexed list.now index.now others },
 }
 
-// A name.
+/// A name.
 #[derive(Clone, Copy)]
 pub struct Word<'a> {
     pub bytes: &'a [u8],

@@ -1,4 +1,4 @@
--- The climb from a row toward a parent, on one document. Assumes nothing.
+-- The climb from a row toward a parent, on one document.
 use Rattle.std.proofs.Common.{ℕ, zero, suc, ◌≡◌, ◌≤◌, ◌<◌, Bool, true, false, not, ◌&&◌, ◌||◌, ◌⊎◌, inl, inr, refl}
 use Rattle.std.proofs.Common.{sym, ap, arith, eqb, eq-eqb}
 use borrow.Author.Tests.{eqb-true, ne_eqb}

@@ -1,4 +1,4 @@
--- The fields of a row are those of the columns. Assumes nothing.
+-- The fields of a row are those of the columns.
 use Rattle.std.proofs.Common.{ℕ, zero, suc, ◌≡◌, List, [], ◌∷◌, length, get_or, refl, arith}
 use Rattle.xpath.specs.Document.{kind_at, parent_at, name_at, root_node, node}
 use Rattle.xml_document.specs.Columns.{rows_of}

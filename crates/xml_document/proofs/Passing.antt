@@ -1,4 +1,4 @@
--- What the check of columns finds, as tests of their document, whatever numbers the names get. Assumes nothing.
+-- What the check of columns finds, as tests of their document, whatever numbers the names get.
 use Rattle.std.proofs.Common.{ℕ, zero, suc, ◌≡◌, ◌≤◌, ◌<◌, ◌+◌, ◌-◌, Bool, true, false, not, cond, ◌&&◌, ◌||◌, ◌⊎◌}
 use Rattle.std.proofs.Common.{inl, inr, refl, sym, ap, ◌∙◌, arith, eqb, eq-eqb, List, length, leb, get_or, subst}
 use borrow.Author.Tests.{eqb-true, ne_eqb}

@@ -1,4 +1,4 @@
--- Documents of any size, as columns. Assumes nothing.
+-- Documents of any size, as columns.
 use Rattle.std.specs.Prelude.{ℕ, ◌≡◌, ◌≤◌, List, [], ◌∷◌, length, get_or}
 use Rattle.common.specs.Limits.{max_number}
 use Rattle.xpath.specs.Document.{Document, node}

@@ -1,4 +1,4 @@
--- Tables of names. Assumes nothing.
+-- Tables of names.
 use Rattle.std.specs.Prelude.{ℕ, vec_len}
 use Rattle.xml_document.specs.declared.names.Names.{Names}
 

@@ -1,4 +1,4 @@
--- The documents that XML can have. Assumes nothing.
+-- The documents that XML can have.
 use Rattle.std.specs.Prelude.{ℕ, suc, ◌≡◌, ◌≤◌, ◌-◌, Bool, true, not, cond, ◌&&◌, ◌||◌, List, eqb, length, All}
 use Rattle.common.specs.Bounded.{all_below, sum_below}
 use Rattle.common.specs.NodeKinds.{element_kind, text_kind}

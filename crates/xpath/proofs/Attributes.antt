@@ -1,4 +1,4 @@
--- What is on the axes to and from an attribute of a well-formed document, of any length. Assumes nothing.
+-- What is on the axes to and from an attribute of a well-formed document, of any length.
 use Prim.Native.Nat.{ℕ, zero, suc, ◌<◌}
 use mathlib.Core.Path.{◌≡◌, refl, sym}
 use mathlib.Core.Logic.{◌↔◌, ◌⊎◌, inl, inr, ⊎_elim}

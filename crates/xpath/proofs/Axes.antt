@@ -1,4 +1,4 @@
--- Past the last axis. Assumes nothing.
+-- Past the last axis.
 use Prim.Native.Nat.{ℕ, ◌≤◌}
 use mathlib.Core.Path.{◌≡◌}
 use mathlib.Core.Bool.{false}

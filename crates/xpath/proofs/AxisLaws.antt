@@ -1,4 +1,4 @@
--- The laws of the axes, from the axes as facts. Assumes nothing.
+-- The laws of the axes, from the axes as facts.
 use Prim.Native.Nat.{ℕ, ◌<◌}
 use mathlib.Core.Path.{◌≡◌, refl}
 use mathlib.Core.Bool.{Bool, true, false, not}

@@ -1,4 +1,4 @@
--- A bound on the visits of paths of steps alone, by induction on the steps. Assumes nothing.
+-- A bound on the visits of paths of steps alone, by induction on the steps.
 use Prim.Native.Nat.{ℕ, zero, suc, ◌+◌, ◌-◌, ◌≤◌}
 use mathlib.Core.Path.{◌≡◌}
 use mathlib.Core.Bool.{Bool, cond}

@@ -1,4 +1,4 @@
--- The laws of the ancestor test: its count, and its answer beside that of the climb to the root. Assumes nothing.
+-- The laws of the ancestor test: its count, and its answer beside that of the climb to the root.
 use Prim.Native.Nat.{ℕ, zero, suc, ◌+◌, ◌*◌, ◌≤◌, ◌<◌}
 use mathlib.Core.Path.{◌≡◌, refl, sym, ap, ◌∙◌}
 use mathlib.Core.Bool.{Bool, true, false, cond, not, ◌&&◌, ◌||◌}

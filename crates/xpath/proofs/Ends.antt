@@ -1,4 +1,4 @@
--- The pass that closes the subtrees of a well-formed document where they end. Assumes nothing.
+-- The pass that closes the subtrees of a well-formed document where they end.
 use Prim.Native.Nat.{ℕ, zero, suc, ◌-◌, ◌≤◌, ◌<◌}
 use mathlib.Core.Path.{◌≡◌, refl, sym, subst, ◌∙◌}
 use mathlib.Core.Bool.{◌&&◌}

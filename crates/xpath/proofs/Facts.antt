@@ -1,5 +1,4 @@
--- The axes and the meaning of terms as facts instead of tests; the two agree on every well-formed document. Assumes
--- nothing.
+-- The axes and the meaning of terms as facts instead of tests; the two agree on every well-formed document.
 use Prim.Native.Nat.{ℕ, zero, suc, ◌<◌}
 use mathlib.Core.Path.{◌≡◌, sym}
 use mathlib.Core.Bool.{Bool, not, ◌&&◌, ◌||◌}

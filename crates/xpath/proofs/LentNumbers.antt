@@ -1,4 +1,4 @@
--- The document of lent numbers, row by row. Assumes nothing.
+-- The document of lent numbers, row by row.
 use Prim.Native.Nat.{ℕ, zero, suc, ◌+◌, ◌*◌, ◌/◌, ◌<◌}
 use mathlib.Core.Path.{◌≡◌, refl, ◌∙◌, ap}
 use mathlib.Core.Bool.{Bool, true, false, cond}

@@ -1,4 +1,4 @@
--- What a node's name decides: no axis, and no test of another node. Assumes nothing.
+-- What a node's name decides: no axis, and no test of another node.
 use Prim.Native.Nat.{ℕ, zero, suc, ◌+◌, ◌*◌, ◌/◌, ◌≤◌}
 use mathlib.Core.Path.{◌≡◌, refl, sym, ap, ◌∙◌}
 use mathlib.Core.Bool.{cond}

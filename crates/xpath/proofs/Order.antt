@@ -1,4 +1,4 @@
--- Laws of document order and of the axes on every well-formed document, of any length. Assumes nothing.
+-- Laws of document order and of the axes on every well-formed document, of any length.
 use Prim.Native.Nat.{ℕ, zero, suc, ◌≤◌, ◌<◌}
 use mathlib.Core.Path.{◌≡◌, refl, sym, ◌∙◌}
 use mathlib.Core.Bool.{Bool, true, false, not, ◌&&◌}

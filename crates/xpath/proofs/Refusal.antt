@@ -1,4 +1,4 @@
--- Refusal 8 on the lent numbers, by the document that they are. Assumes nothing.
+-- Refusal 8 on the lent numbers, by the document that they are.
 use Prim.Native.Nat.{ℕ, ◌+◌, ◌-◌, ◌*◌, ◌/◌, ◌≤◌}
 use mathlib.Core.Path.{◌≡◌, refl, ◌∙◌}
 use mathlib.Core.Bool.{Bool, true, false, cond}

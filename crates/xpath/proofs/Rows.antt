@@ -1,4 +1,4 @@
--- The check of lent numbers, row by row, up to its answer. Assumes nothing.
+-- The check of lent numbers, row by row, up to its answer.
 use Prim.Native.Nat.{ℕ, suc, ◌+◌, ◌*◌, ◌%◌, ◌≤◌, ◌<◌}
 use mathlib.Core.Path.{◌≡◌, refl, sym, ap, subst, ◌∙◌}
 use mathlib.Core.Bool.{Bool, true, false}

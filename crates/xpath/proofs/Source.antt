@@ -1,4 +1,4 @@
--- What the contracts in the source say of the ancestor test and of the check that runs it. Assumes nothing.
+-- What the contracts in the source say of the ancestor test and of the check that runs it.
 use Prim.Native.Nat.{ℕ}
 use mathlib.Core.Path.{refl, sym, subst, ◌∙◌}
 use mathlib.Core.List.{List, []}

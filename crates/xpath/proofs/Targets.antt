@@ -1,4 +1,4 @@
--- What passes test 6, an instruction's target, on every list of nodes. Assumes nothing.
+-- What passes test 6, an instruction's target, on every list of nodes.
 use Prim.Native.Nat.{ℕ, ◌≤◌}
 use mathlib.Core.Path.{◌≡◌}
 use native.Mathlib.Omega.{arith}

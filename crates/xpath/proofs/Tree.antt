@@ -1,4 +1,4 @@
--- Laws of the tree that a well-formed document is, of any length. Assumes nothing.
+-- Laws of the tree that a well-formed document is, of any length.
 use Prim.Native.Nat.{ℕ, zero, suc, ◌≤◌, ◌<◌}
 use mathlib.Core.Path.{◌≡◌, refl, sym, ◌∙◌}
 use mathlib.Core.Bool.{false, not, ◌&&◌}

@@ -1,4 +1,4 @@
--- What is on each axis, and what passes each node test. Assumes nothing.
+-- What is on each axis, and what passes each node test.
 use Rattle.std.specs.Prelude.{ℕ, Bool, true, false, not, cond, ◌&&◌, ◌||◌, [], ◌∷◌, leb, ltb, eqb, get_or}
 use Rattle.common.specs.NodeKinds.{element_kind, text_kind, comment_kind, instruction_kind, attribute_kind}
 use Rattle.common.specs.Axes.{attribute}

@@ -1,4 +1,4 @@
--- Laws of the axes, on every well-formed document, of any length; proved in proofs/AxisLaws.antt. Assumes nothing.
+-- Laws of the axes, on every well-formed document, of any length; proved in proofs/AxisLaws.antt.
 use Rattle.std.specs.Prelude.{ℕ, ◌+◌, ◌<◌, ◌≡◌, Bool, not, cond, List, [], ◌∷◌, ◌↔◌, ◌⊎◌, T, length}
 use Rattle.common.specs.Axes.{self, child, descendant, ancestor, following_sibling, preceding_sibling, following}
 use Rattle.common.specs.Axes.{preceding, attribute}

@@ -1,4 +1,4 @@
--- A bound on the visits of paths of steps alone. Assumes nothing.
+-- A bound on the visits of paths of steps alone.
 use Rattle.std.specs.Prelude.{ℕ, suc, ◌+◌, ◌-◌, ◌*◌, ◌≤◌, length}
 use Rattle.xpath.specs.Document.{Document}
 use Rattle.xpath.specs.Term.{Path, AxisStep, Composition}

@@ -1,5 +1,4 @@
--- The ancestor test: a climb from y that ends once it is at or below x, while 01's goes on to the root. Assumes
--- nothing.
+-- The ancestor test: a climb from y that ends once it is at or below x, and need not go on to the root.
 use Rattle.std.specs.Prelude.{ℕ, zero, suc, ◌≤◌, ◌<◌, ◌≡◌, Bool, cond, ◌&&◌, List, ◌⊎◌, T, ltb, eqb, length}
 use Rattle.xpath.specs.Document.{Document, parent_at, is_ancestor, well_formed, document_refusal, document_refusal_by}
 
@@ -42,7 +41,7 @@ CountEnds = (d : Document) (x y : ℕ) → ClimbEnds d x y (parents_taken d x y)
 abbrev pub CountLeast : Type 0
 CountLeast = (d : Document) → T (well_formed d) → (x y : ℕ) → y < length d → Least d x y (parents_taken d x y)
 
--- and the answer is that of 01's climb to the root
+-- and the answer is that of the climb to the root
 abbrev pub AnswersAlike : Type 0
 AnswersAlike = (d : Document) → T (well_formed d) → (x y : ℕ) → y < length d → climb_met d x y ≡ is_ancestor d x y
 

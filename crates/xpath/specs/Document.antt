@@ -1,4 +1,4 @@
--- Documents: rows `kind parent name` in document order. Assumes nothing.
+-- Documents: rows `kind parent name` in document order.
 use Rattle.std.specs.Prelude.{ℕ, zero, suc, ◌+◌, ◌-◌, ◌*◌, ◌/◌, Bool, false, not, cond, ◌&&◌, ◌||◌, List, [], ◌∷◌}
 use Rattle.std.specs.Prelude.{leb, ltb, eqb, length, get_or}
 use Rattle.std.proofs.Math.Option.{Option, some}

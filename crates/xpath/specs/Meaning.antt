@@ -1,4 +1,4 @@
--- What a path selects from a context node, and where a qualifier holds. Assumes nothing.
+-- What a path selects from a context node, and where a qualifier holds.
 use Rattle.std.specs.Prelude.{ℕ, Bool, true, false, not, ◌&&◌, ◌||◌, List, ltb, eqb, length}
 use Rattle.common.specs.Bounded.{any_below, all_below, list_below}
 use Rattle.xpath.specs.Document.{Document}

@@ -1,4 +1,4 @@
--- Documents that differ in the name of one node. Assumes nothing.
+-- Documents that differ in the name of one node.
 use Rattle.std.specs.Prelude.{ℕ, ◌+◌, ◌*◌, ◌≡◌, List, length, get_or, set}
 use Rattle.xpath.specs.Document.{Document, node, kind_at, parent_at, name_at, document_of, node_width}
 use Rattle.xpath.specs.Term.{AxisStep}

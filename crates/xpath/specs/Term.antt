@@ -1,4 +1,4 @@
--- Terms: paths and qualifiers. Assumes nothing.
+-- Terms: paths and qualifiers.
 use Rattle.std.specs.Prelude.{ℕ}
 
 mutual
@@ -18,6 +18,6 @@ mutual
     In : Path → Path → Qualifier
     deriving Discrete as Qualifier-discrete
 
--- "some p" of document 01
+-- "some p"
 abbrev pub some_of : Path → Qualifier
 some_of p = Not (In p Void)

@@ -1,4 +1,4 @@
--- The visits that an evaluation makes. Assumes nothing.
+-- The visits that an evaluation makes.
 use Rattle.std.specs.Prelude.{ℕ, ◌+◌, cond, length}
 use Rattle.common.specs.Bounded.{sum_below}
 use Rattle.xpath.specs.Document.{Document}

@@ -2,7 +2,7 @@
 ghost use Rattle.xpath.specs.Document.{document_of};
 ghost use Rattle.xpath.specs.code.Ends.{Prepared};
 
-// Its lent numbers, and where the subtree of each of its rows ends.
+/// Its lent numbers, and where the subtree of each of its rows ends.
 #[derive(Clone, Copy)]
 pub struct Checked<'a> {
     pub numbers: &'a [u16],

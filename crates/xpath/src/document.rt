@@ -11,7 +11,7 @@ ghost use Rattle.xpath.specs.code.Check.{DocumentChecked, ClimbMade, Placed, Fir
 use crate::{MAX_NODES, NODE_WIDTH};
 use common::node_kind;
 
-// A node, as its row has it.
+/// A node, as its row has it.
 #[derive(Clone, Copy, Debug, PartialEq, Eq)]
 pub struct Node {
     pub kind: u16,
@@ -19,8 +19,7 @@ pub struct Node {
     pub name: u16,
 }
 
-// What stands past the last row: a node and no Option, since the definitions go on with it. No derived Default: its
-// zeros wouldn't name the kind.
+// What stands past the last row: the definitions go on with it.
 const NO_NODE: Node = Node {
     kind: node_kind::ROOT,
     parent: 0,
@@ -36,7 +35,6 @@ impl From<[u16; NODE_WIDTH]> for Node {
 }
 
 impl Node {
-    // By its number, here and below: a conversion to NodeKind before the one comparison would be no plainer.
     pub fn is_attribute(self) -> bool
         ensures { result ≡ eqb self.kind attribute_kind }
     {
@@ -53,14 +51,14 @@ fn nodes(d: &[u16]) -> &[[u16; NODE_WIDTH]]
     d.as_chunks().0
 }
 
-// The number of whole rows.
+/// The number of whole rows.
 pub fn node_count(d: &[u16]) -> usize
     ensures { result ≡ length (document_of d.now) }
 {
     nodes(d).len()
 }
 
-// The node in row y; `0 0 0` past the last row.
+/// The node in row y; `0 0 0` past the last row.
 pub fn node_at(d: &[u16], y: usize) -> Node
     ensures { node_of result ≡ get_or (document_of d.now) y root_node }
 {
@@ -70,9 +68,7 @@ pub fn node_at(d: &[u16], y: usize) -> Node
     }
 }
 
-// The node in a whole row, without the test of `node_at`: with it steps take up to 1.7 times as long. That y is a row
-// is a clause, here and below: an index with that fact would name the document that it is of, and each caller would
-// prove it there just as here.
+/// The node in a whole row, without the test of `node_at`: with it steps take up to 1.7 times as long.
 pub fn whole_node(d: &[u16], y: usize) -> Node
     requires { y < length (document_of d.now) }
     ensures { node_of result ≡ get_or (document_of d.now) y root_node }
@@ -94,7 +90,7 @@ pub fn is_attribute(d: &[u16], y: usize) -> bool
     node_at(d, y).is_attribute()
 }
 
-// The parent of a whole row, without the test of `node_at`, as `whole_node`.
+/// The parent of a whole row, without the test of `node_at`, as `whole_node`.
 #[tactic(auto, unfolding(crate::specs::Document::parent_at))]
 pub fn parent_of(d: &[u16], y: usize) -> usize
     requires { y < length (document_of d.now) }
@@ -103,19 +99,17 @@ pub fn parent_of(d: &[u16], y: usize) -> usize
     usize::from(whole_node(d, y).parent)
 }
 
-// What the climb toward a row gives: whether it met that row, and how many parents it took, which is counted whether it
-// met the row or not. The check takes `met` alone.
+/// What the climb toward a row gives: whether it met that row, and how many parents it took, which is counted whether
+/// it met the row or not. The check takes `met` alone.
 #[derive(Clone, Copy, Debug, PartialEq, Eq)]
 pub struct Climb {
     pub met: bool,
     pub parents: usize,
 }
 
-// The ancestor test: the climb from row y toward x. It ends once it is at or below x, and where a parent is not the
-// smaller row, which no document has. It closes at `end` the subtree of each row that it leaves. It asks that y is a
-// row as `whole_node` does: the check climbs from each of its rows. `d` and `ends` are no struct, here and below: each
-// of its methods would owe that `d` stays as it was. Nor is there a type of documents of at most `max_nodes` rows: it
-// would be made for this check alone, and each contract would read the rows through it.
+/// The ancestor test: the climb from row y toward x. It ends once it is at or below x, and where a parent is not the
+/// smaller row, which no document has. It closes at `end` the subtree of each row that it leaves. It asks that y is a
+/// row as `whole_node` does: the check climbs from each of its rows.
 pub fn climb_toward(d: &[u16], x: usize, y: usize, end: u16, ends: &mut [u16; MAX_NODES]) -> Climb
     requires y_in_bounds { y < length (document_of d.now) }
     requires y_lt_max_nodes { y < max_nodes }
@@ -142,8 +136,8 @@ pub fn climb_toward(d: &[u16], x: usize, y: usize, end: u16, ends: &mut [u16; MA
     }
 }
 
-// The kinds that may have no name, and those that may have one, by their numbers: with a conversion to NodeKind the
-// check of a document takes 1.2 to 1.3 times as long.
+/// The kinds that may have no name, and those that may have one, by their numbers: with a conversion to NodeKind the
+/// check of a document takes 1.2 to 1.3 times as long.
 #[tactic(auto, unfolding(crate::specs::Document::kind_and_name_ok))]
 pub fn kind_and_name_ok(kind: u16, name: u16) -> bool
     ensures { result ≡ kind_and_name_ok kind name }
@@ -221,7 +215,6 @@ fn first_bad_row(d: &[u16], ends: &mut [u16; MAX_NODES]) -> Option<usize>
         return Some(0);
     }
     let n = node_count(d);
-    // By `for`: `find` is no plainer, since its closure would write `ends` and owe what each call leaves there.
     for i in 1..n {
         if !later_row_ok(d, i - 1, ends) {
             return Some(i);
@@ -234,8 +227,8 @@ fn first_bad_row(d: &[u16], ends: &mut [u16; MAX_NODES]) -> Option<usize>
     }
 }
 
-// The check, and where the subtree of each row ends, in one pass over the rows; the error is the value of refusal 8.
-// What the ends are past the last row is left open.
+/// The check, and where the subtree of each row ends, in one pass over the rows; the error is the value of refusal 8.
+/// What the ends are past the last row is left open.
 pub fn check_document(d: &[u16]) -> Result<[u16; MAX_NODES], u16>
     ensures { DocumentChecked d.now result }
 {

@@ -15,9 +15,9 @@ pub use document::{
 };
 pub use node_tests::{AnyNode, Named, NodeSet, OfKind, StepTest, passes_test};
 
-// The largest document that a call takes. Arrays of a mark or an end for each row are this long: fixed memory without
-// a heap. The document's size says how much of one is in use.
+/// The largest document that a call takes. Arrays of a mark or an end for each row are this long: fixed memory without
+/// a heap. The document's size says how much of one is in use.
 pub const MAX_NODES: usize = 512;
 
-// How many numbers a node has.
+/// How many numbers a node has.
 pub const NODE_WIDTH: usize = 3;

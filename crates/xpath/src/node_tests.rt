@@ -10,8 +10,8 @@ use common::axis;
 use common::node_kind::NodeKind;
 use common::node_test::NodeTest;
 
-// Nodes told by their kinds and names. A loop over nodes takes them as a type parameter, so that it has no branch for
-// each of a test's forms.
+/// Nodes told by their kinds and names. A loop over nodes takes them as a type parameter, so that it has no branch for
+/// each of a test's forms.
 pub trait NodeSet {
     ghost has: { Self → ℕ → ℕ → Bool };
 
@@ -52,7 +52,7 @@ impl NodeSet for Named {
     }
 }
 
-// The nodes that a step's test selects: the test is read once, and asked of one node after the other.
+/// The nodes that a step's test selects: the test is read once, and asked of one node after the other.
 #[derive(Clone, Copy, Debug, PartialEq, Eq)]
 pub enum StepTest {
     Everything(AnyNode),
@@ -60,8 +60,7 @@ pub enum StepTest {
     Name(Named),
 }
 
-// The kind of node that a name or `*` selects on an axis. The axis is compared once, as its number: to read it first
-// is no plainer.
+// The kind of node that a name or `*` selects on an axis.
 fn principal_kind(axis: u16) -> NodeKind
     ensures { kind_number result ≡ principal axis }
 {
@@ -73,8 +72,7 @@ fn principal_kind(axis: u16) -> NodeKind
 }
 
 impl StepTest {
-    // None where the test selects nothing. By three numbers, here and below, as a row of any table has them: a struct
-    // of them would promise nothing, and be made for this call.
+    /// None where the test selects nothing.
     #[tactic(auto, unfolding(crate::specs::Axis::passes))]
     pub fn new(axis: u16, test: u16, name: usize) -> Option<StepTest>
         ensures { Asks axis test name result }

@@ -1,4 +1,4 @@
--- `audit` meets its contract. Assumes nothing.
+-- `audit` meets its contract.
 use Rattle.std.proofs.Common.{◌∙◌}
 use Rattle.auditing.proofs.Audited.{too_long, reported}
 use Rattle.auditing.proofs.audit.Goals as goal

@@ -1,5 +1,4 @@
 -- What audit reports at its limit: by computation at 65,536 and 65,537 bytes, and of every longer text.
--- Assumes nothing.
 use Rattle.std.specs.Prelude.{ℕ, ◌≤◌, ◌<◌, ◌≡◌, refl, List, length, replicate}
 use Rattle.std.proofs.Common.{lt-ltb, le-ltb}
 use Rattle.terms.specs.Row.{table_of}

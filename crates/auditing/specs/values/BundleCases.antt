@@ -1,4 +1,4 @@
--- What audit prints of bundles and what read makes of them, by computation. Assumes nothing.
+-- What audit prints of bundles and what read makes of them, by computation.
 use Prim.Native.String.{String, ◌++◌}
 use Rattle.std.specs.Prelude.{refl, [], ◌∷◌}
 use Rattle.std.proofs.Math.Bool.{decide}
@@ -51,7 +51,7 @@ through_comments = row_lines ++ "2 1 0 2\n2 7 2 0\n2 7 0 3\n4 0 1 0\n4 3 2 0\n4 
 
 reports :
     AllRight
-    -- the example of document 01, and the same without its step, without its rows
+    -- the example of Specification, Bundles, and the same without its step, without its rows
     (audited example is report_by 0 0 1 0 1
     ∷ audited (rows ++ step_lines) is report_by 0 0 0 0 0
     ∷ audited (row_lines ++ step_lines) is report_by 0 0 0 0 0

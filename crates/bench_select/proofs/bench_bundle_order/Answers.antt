@@ -1,4 +1,4 @@
--- `bench_bundle_order` meets its contract. Assumes nothing.
+-- `bench_bundle_order` meets its contract.
 use Rattle.std.proofs.Common.{arith}
 use mathlib.Core.Path.{ap, ◌∙◌}
 use Rattle.bench_select.proofs.Orders.{bundle_order_least}

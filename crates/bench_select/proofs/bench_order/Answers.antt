@@ -1,4 +1,4 @@
--- `bench_order` meets its contract. Assumes nothing.
+-- `bench_order` meets its contract.
 use Rattle.std.proofs.Common.{arith}
 use mathlib.Core.Path.{ap, ◌∙◌}
 use Rattle.bench_select.proofs.Orders.{order_least}

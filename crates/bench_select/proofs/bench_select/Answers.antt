@@ -1,4 +1,4 @@
--- `bench_select` meets its contract. Assumes nothing.
+-- `bench_select` meets its contract.
 use mathlib.Core.Path.{ap, ◌∙◌}
 use Rattle.bench_select.proofs.bench_select.Goals as goal
 

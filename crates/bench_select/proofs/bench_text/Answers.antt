@@ -1,4 +1,4 @@
--- `bench_text` meets its contract: no row of the table is held. Assumes nothing.
+-- `bench_text` meets its contract: no row of the table is held.
 use mathlib.Core.Path.{◌≡◌, ap, ◌∙◌}
 use Rattle.std.specs.Prelude.{Result, Ok, Err, is_ok, MatchResult}
 use Rattle.common.specs.declared.refusal.Refusal.{Refusal}

@@ -1,4 +1,4 @@
--- `bench_write` meets its contract. Assumes nothing.
+-- `bench_write` meets its contract.
 use native.Mathlib.Omega.{arith}
 use Rattle.bundles.proofs.Tables.{few_row_numbers, few_step_numbers}
 use Rattle.bench_select.proofs.bench_write.Goals as goal

@@ -1,4 +1,4 @@
--- `bundle_length` meets its contract. Assumes nothing.
+-- `bundle_length` meets its contract.
 use native.Mathlib.Omega.{arith}
 use Rattle.terms.specs.Row.{table_of}
 use Rattle.calls.specs.code.Tables.{steps_of}

@@ -1,4 +1,4 @@
--- `digits` meets its contract. Assumes nothing.
+-- `digits` meets its contract.
 use mathlib.Core.Path.{refl, sym}
 use native.Mathlib.Omega.{arith}
 use Rattle.lines.specs.Written.{digits_of, decimal}

@@ -1,4 +1,4 @@
--- `step_length` meets its contract. Assumes nothing.
+-- `step_length` meets its contract.
 use mathlib.Core.List.{[], ◌∷◌}
 use native.Mathlib.Omega.{arith}
 use Rattle.bundles.proofs.Lengths.{numbers_length, line_length}

@@ -1,5 +1,4 @@
--- `steps_length` meets its contract: the length of the lines that are left makes the whole with what is counted. Assumes
--- nothing.
+-- `steps_length` meets its contract: the length of the lines that are left makes the whole with what is counted.
 use Prim.Native.Nat.{◌+◌, ◌*◌, ◌≤◌}
 use mathlib.Core.Path.{◌≡◌}
 use lib.ListN.{length, drop}

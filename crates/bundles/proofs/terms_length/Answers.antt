@@ -1,5 +1,4 @@
--- `terms_length` meets its contract: the length of the lines that are left makes the whole with what is counted. Assumes
--- nothing.
+-- `terms_length` meets its contract: the length of the lines that are left makes the whole with what is counted.
 use mathlib.Core.Path.{refl, ap}
 use mathlib.Core.List.{[]}
 use native.Mathlib.Omega.{arith}

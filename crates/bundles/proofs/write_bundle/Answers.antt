@@ -1,4 +1,4 @@
--- `write_bundle` meets its contract: the buffer is left as the writer has it. Assumes nothing.
+-- `write_bundle` meets its contract: the buffer is left as the writer has it.
 use mathlib.Core.Path.{ap, ◌∙◌}
 use native.Mathlib.Omega.{arith}
 use lib.ListN.{length}

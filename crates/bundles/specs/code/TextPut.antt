@@ -1,4 +1,4 @@
--- What the functions that write a bundle's text promise. Assumes nothing.
+-- What the functions that write a bundle's text promise.
 use Rattle.std.specs.Prelude.{ℕ, ◌+◌, ◌≡◌, List, [], ◌∷◌, ◌++◌, length}
 use Rattle.std.proofs.lemmas.List.Edits.{sets}
 use Rattle.lines.specs.Line.{newline}

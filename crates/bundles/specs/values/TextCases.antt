@@ -1,4 +1,4 @@
--- The text of rows and steps, by computation. Assumes nothing.
+-- The text of rows and steps, by computation.
 use Rattle.std.specs.Prelude.{refl, [], ◌∷◌}
 use Rattle.common.specs.values.Expected.{◌is◌, AllRight}
 use Rattle.terms.specs.Row.{row}
@@ -7,8 +7,8 @@ use Rattle.lines.specs.Written.{digits_of, decimal, line_text}
 use Rattle.calls.specs.Book.{step}
 use Rattle.bundles.specs.Bundle.{row_names, step_names, rows_text, steps_text, bundle_text}
 
--- the example of document 01; no row and no step; rows of numbers of one to five digits, without steps; and such steps,
--- without rows
+-- the example of Specification, Bundles; no row and no step; rows of numbers of one to five digits, without steps; and
+-- such steps, without rows
 texts :
     AllRight
     (bundle_text (row 2 1 0 2 ∷ row 2 3 1 0 ∷ []) (step 8 0 1 0 0 ∷ []) is

@@ -1,4 +1,4 @@
--- The code's types as the definitions have them; number and value of the answers. Assumes nothing.
+-- The code's types as the definitions have them; number and value of the answers.
 use Rattle.std.specs.Prelude.{ℕ, Result, Ok, Err}
 use Rattle.std.specs.declared.cmp.Ordering.{Ordering}
 use Rattle.std.specs.declared.cmp.Ordering.TheVariants.{Less, Equal, Greater}

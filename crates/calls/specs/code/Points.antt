@@ -1,4 +1,4 @@
--- A session's points: of each its name, and how many rows and steps were held. Assumes nothing.
+-- A session's points: of each its name, and how many rows and steps were held.
 use Rattle.std.specs.Prelude.{ℕ, ◌-◌, ◌*◌, ◌<◌, ◌≡◌, min, List, [], ◌∷◌, ◌++◌, map, length, get_or, take, replicate}
 use Rattle.std.specs.Prelude.{Option, Some, None, Result, Ok, Err}
 use Rattle.common.specs.declared.refusal.Refusal.{Refusal}

@@ -1,4 +1,4 @@
--- Tables of numbers as rows and as steps. Assumes nothing.
+-- Tables of numbers as rows and as steps.
 use Rattle.std.specs.Prelude.{ℕ, ◌*◌, ◌≡◌, Bool, true, false, ◌&&◌, min, List, [], ◌∷◌, leb, length, take}
 use Rattle.std.specs.Prelude.{Option, Some, None}
 use Rattle.terms.specs.Row.{Row, table_of, max_rows}

@@ -1,4 +1,4 @@
--- Calls, by computation: each refusal, which of two comes first, and the book after each call. Assumes nothing.
+-- Calls, by computation: each refusal, which of two comes first, and the book after each call.
 use Rattle.std.specs.Prelude.{ℕ, zero, suc, ◌≡◌, refl, List, [], ◌∷◌, ◌++◌, map, length, replicate}
 use Rattle.std.proofs.Math.Bool.{decide}
 use Rattle.std.proofs.Math.Option.{Option-elim}

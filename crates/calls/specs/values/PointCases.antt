@@ -1,4 +1,4 @@
--- Points and returns, by computation: what is left, which names are free, and each refusal. Assumes nothing.
+-- Points and returns, by computation: what is left, which names are free, and each refusal.
 use Rattle.std.specs.Prelude.{ℕ, refl, List, [], ◌∷◌, ◌++◌}
 use Rattle.std.proofs.Common.{arith}
 use Rattle.common.specs.Lists.{Every}

@@ -1,4 +1,4 @@
--- Select calls at the bound on the visits, and on lent numbers that differ in one name. Assumes nothing.
+-- Select calls at the bound on the visits, and on lent numbers that differ in one name.
 use Rattle.std.specs.Prelude.{ℕ, ◌<◌, ◌≡◌, refl, List, [], ◌∷◌, get_or, replicate, set}
 use Rattle.std.proofs.Math.Option.{Option-elim}
 use Rattle.std.proofs.Common.{arith}

@@ -1,4 +1,4 @@
--- The rows and steps of tables, by computation. Assumes nothing.
+-- The rows and steps of tables, by computation.
 use Rattle.std.specs.Prelude.{ℕ, ◌≡◌, refl, List, [], ◌∷◌, length, replicate}
 use Rattle.common.specs.values.Expected.{◌is◌, AllRight}
 use Rattle.terms.specs.Row.{row, table_of}

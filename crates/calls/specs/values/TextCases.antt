@@ -1,4 +1,4 @@
--- Text calls among others on the plain book, by computation. Assumes nothing.
+-- Text calls among others on the plain book, by computation.
 use Rattle.std.specs.Prelude.{ℕ, ◌≡◌, refl, List, [], ◌∷◌, map, length}
 use Prim.Native.String.{String}
 use Rattle.lines.specs.Ascii.{ascii}

@@ -1,4 +1,4 @@
--- The numbers of the code's axes, kinds of nodes, node tests and kinds of rows. Assumes nothing.
+-- The numbers of the code's axes, kinds of nodes, node tests and kinds of rows.
 use Rattle.std.specs.Prelude.{ℕ, ◌<◌, ◌≡◌, Result, MatchResult}
 use Rattle.common.specs.Axes as Axes
 use Rattle.common.specs.Axes.{max_axis}

@@ -1,4 +1,4 @@
--- The code's refusals: the number of each, by the papers' names, and its value, 0 where it has none. Assumes nothing.
+-- The code's refusals: the number of each, by its name, and its value, 0 where it has none.
 use Rattle.std.specs.Prelude.{ℕ, ◌<◌, ◌≡◌, Result, MatchResult}
 use Rattle.common.specs.declared.refusal.Refusal.{Refusal}
 use Rattle.common.specs.declared.refusal.Refusal.TheVariants as Cases

@@ -1,4 +1,4 @@
--- Lists of values beside what they must be. Assumes nothing.
+-- Lists of values beside what they must be.
 use Rattle.std.specs.Prelude.{◌≡◌, List, map}
 
 infix 70 ◌is◌

@@ -1,4 +1,4 @@
--- The papers' numbers beside their names, in order, by computation. Assumes nothing.
+-- The numbers of kinds, axes, tests and refusals beside their names, in order, by computation.
 use Rattle.std.specs.Prelude.{refl, [], ◌∷◌}
 use Rattle.common.specs.values.Expected.{◌is◌, AllRight}
 use Rattle.common.specs.NodeKinds.{root_kind, element_kind, text_kind, comment_kind, instruction_kind}

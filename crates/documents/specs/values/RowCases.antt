@@ -1,4 +1,4 @@
--- Rows that are a document, and rows that are refused. Assumes nothing.
+-- Rows that are a document, and rows that are refused.
 use Rattle.std.specs.Prelude.{refl, List, [], ◌∷◌, length}
 use Rattle.std.proofs.Math.Option.{none, some, Option-elim}
 use Rattle.common.specs.Bounded.{first_below}

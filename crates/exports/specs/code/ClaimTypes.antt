@@ -1,4 +1,4 @@
--- The code's answer to a claim. Assumes nothing.
+-- The code's answer to a claim.
 use Rattle.std.specs.Prelude.{ℕ, Result, Ok, Err}
 use Rattle.calls.specs.Book.{Answer, answer}
 use Rattle.calls.specs.code.Answers.{refusal_answer, line_answer}

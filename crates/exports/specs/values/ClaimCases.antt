@@ -1,4 +1,4 @@
--- Claims, by computation. Assumes nothing.
+-- Claims, by computation.
 use Rattle.std.specs.Prelude.{ℕ, refl, List, [], ◌∷◌}
 use Prim.Native.String.{String, ◌++◌}
 use Rattle.std.proofs.Math.Bool.{decide}

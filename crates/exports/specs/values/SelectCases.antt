@@ -1,4 +1,4 @@
--- Selects by a selector as text, by computation. Assumes nothing.
+-- Selects by a selector as text, by computation.
 use Rattle.std.specs.Prelude.{ℕ, refl, List, [], ◌∷◌, length}
 use Prim.Native.String.{String}
 use Rattle.std.proofs.Math.Option.{Option-elim}

@@ -1,4 +1,4 @@
--- `file` meets its contract. Assumes nothing.
+-- `file` meets its contract.
 use Rattle.common.proofs.Errors.{err_is}
 use Rattle.filing.proofs.CallLaws.{file_refused, file_written}
 use Rattle.filing.proofs.file.Goals as goal

@@ -1,4 +1,4 @@
--- `make_lines` meets its contract: what is filed is what the lines that are left file. Assumes nothing.
+-- `make_lines` meets its contract: what is filed is what the lines that are left file.
 use Prim.Native.Nat.{◌+◌}
 use mathlib.Core.Path.{◌≡◌}
 use lib.ListN.{length, drop}

@@ -1,4 +1,4 @@
--- What the functions that file a script promise. Assumes nothing.
+-- What the functions that file a script promise.
 use Rattle.std.specs.Prelude.{◌≡◌, List, [], ◌∷◌}
 use Rattle.std.specs.Prelude.{Result, Ok, Err}
 use Rattle.std.proofs.Math.Option.{Option, none}

@@ -1,4 +1,4 @@
--- Scripts filed, by computation. Assumes nothing.
+-- Scripts filed, by computation.
 use Rattle.std.specs.Prelude.{ℕ, true, List, [], ◌∷◌, ◌++◌, refl, replicate}
 use Prim.Native.String.{String}
 use Rattle.std.proofs.Math.Option.{some, Option-elim}

@@ -1,4 +1,4 @@
--- A reader of the whole grammar, one byte at a time; what it has read is in its state, as trees. Assumes nothing.
+-- A reader of the whole grammar, one byte at a time; what it has read is in its state, as trees.
 use Rattle.std.specs.Prelude.{ℕ, suc, ◌-◌, Bool, true, false, cond, ◌&&◌, [], ◌∷◌, ◌++◌, eqb, ltb, length}
 use Rattle.std.proofs.Math.Option.{Option, none, some}
 use Rattle.lines.specs.Line.{same_bytes}

@@ -1,4 +1,4 @@
--- Answers to texts, by computation: number, value and the rows held afterwards. Assumes nothing.
+-- Answers to texts, by computation: number, value and the rows held afterwards.
 use Rattle.std.specs.Prelude.{ℕ, zero, suc, refl, List, [], ◌∷◌, ◌++◌, length, replicate}
 use Prim.Native.String.{String}
 use Rattle.std.proofs.Math.Option.{none, some}

@@ -1,5 +1,5 @@
 -- Texts of the grammar, and texts outside it with their places, by computation: the reader decides the grammar
--- (`given` and `only` in grammar/proofs/Answered.antt). Assumes nothing.
+-- (`given` and `only` in grammar/proofs/Answered.antt).
 use Rattle.std.specs.Prelude.{ℕ, zero, suc, ◌-◌, refl, List, [], ◌∷◌, ◌++◌, map, length}
 use Prim.Native.String.{String}
 use Rattle.std.proofs.Math.Option.{Option, none, some}
@@ -103,7 +103,7 @@ are_outside : AllRight outside
 unfolding refused_at ascii
 are_outside = refl
 
--- what T-06 leaves out of XPath 1.0, and where a token can't stand
+-- what the grammar leaves out of XPath 1.0, and where a token can't stand
 abbrev more_outside : List (Case (Option ℕ))
 more_outside =
     "`" at 0 ∷ "{" at 0 ∷ "a{" at 1 ∷ "a`" at 1 ∷ "a[band c]" at 7 ∷ "a[bor c]" at 6

@@ -1,4 +1,4 @@
--- `dot_head` meets its contract. Assumes nothing.
+-- `dot_head` meets its contract.
 use mathlib.Core.Path.{sym, ◌∙◌}
 use Rattle.heads.proofs.Headed.{dot_two, dot_one}
 use Rattle.heads.proofs.dot_head.Goals as goal

@@ -1,4 +1,4 @@
--- `name_from` meets its contract. Assumes nothing.
+-- `name_from` meets its contract.
 use mathlib.Core.Path.{refl}
 use Rattle.heads.proofs.name_from.Goals as goal
 

@@ -1,4 +1,4 @@
--- `opened_by` meets its contract. Assumes nothing.
+-- `opened_by` meets its contract.
 use mathlib.Core.Path.{ap, ◌∙◌}
 use Rattle.std.specs.Prelude.{unwrap_or}
 use Rattle.lines.specs.Ascii.{ascii}

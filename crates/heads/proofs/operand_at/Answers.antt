@@ -1,4 +1,4 @@
--- `operand_at` meets its contract. Assumes nothing.
+-- `operand_at` meets its contract.
 use mathlib.Core.Path.{sym, ◌∙◌}
 use borrow.Author.Tests.{tests}
 use Rattle.std.proofs.Common.{rules}

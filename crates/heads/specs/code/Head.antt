@@ -1,4 +1,4 @@
--- What the functions that read the head of a step promise, as a run of the grammar's reader. Assumes nothing.
+-- What the functions that read the head of a step promise, as a run of the grammar's reader.
 use Rattle.std.specs.Prelude.{ℕ, suc, ◌+◌, ◌-◌, ◌≤◌, ◌≡◌, Bool, true, false, cond, ◌||◌, [], ◌∷◌, ◌++◌}
 use Rattle.std.specs.Prelude.{eqb, length, drop, take}
 use Rattle.std.specs.Prelude.{Option as Maybe, Some, None, Result, Ok, Err, IfOk, IfErr}

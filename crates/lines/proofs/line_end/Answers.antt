@@ -1,4 +1,4 @@
--- `line_end` meets its contract. Assumes nothing.
+-- `line_end` meets its contract.
 use mathlib.Core.Path.{ap, ◌∙◌}
 use lib.Dec.{eqb}
 use lib.ListN.{length}

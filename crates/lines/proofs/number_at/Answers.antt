@@ -1,5 +1,5 @@
 -- `number_at` meets its contract. The loop's invariant: the number at `at` is the value so far with the digits from i
--- on, counted behind the first. Assumes nothing.
+-- on, counted behind the first.
 use mathlib.Core.Path.{sym, ap, ◌∙◌}
 use native.Mathlib.Omega.{arith}
 use lib.ListN.{length, get_or}

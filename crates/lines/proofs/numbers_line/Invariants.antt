@@ -1,5 +1,5 @@
 -- `numbers_line` meets its contract. The loop's invariant: the line starts with the numbers so far and goes on at
--- `from`. Assumes nothing.
+-- `from`.
 use Prim.Native.Nat.{◌+◌, ◌-◌}
 use mathlib.Core.Path.{◌≡◌}
 use lib.ListN.{length, take}

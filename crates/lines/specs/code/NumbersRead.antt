@@ -1,4 +1,4 @@
--- What the functions that read a text promise. Assumes nothing.
+-- What the functions that read a text promise.
 use Rattle.std.specs.Prelude.{ℕ, ◌-◌, ◌≤◌, ◌<◌, ◌≡◌, Bool, true, false, cond, not, ◌&&◌, List, [], ◌∷◌, leb, ltb, eqb}
 use Rattle.std.specs.Prelude.{length, drop}
 use Rattle.std.specs.Prelude.{Option as Optional, Some, None}

@@ -1,4 +1,4 @@
--- Values of the definitions, by computation. Assumes nothing.
+-- Values of the definitions, by computation.
 use Rattle.std.specs.Prelude.{ℕ, refl, true, false, List, [], ◌∷◌}
 use Prim.Native.String.{String}
 use Rattle.std.proofs.Math.Option.{Option, none, some, Option-elim}

@@ -1,4 +1,4 @@
--- `mark_step` meets its contract. Assumes nothing.
+-- `mark_step` meets its contract.
 use Rattle.std.proofs.Common.{◌≡◌, ℕ, List, ◌&&◌, length, Some}
 use mathlib.Core.Bool.{and-false}
 use Rattle.common.specs.code.Numbers.{axis_number}

@@ -1,4 +1,4 @@
--- Marks that are added to marks. Assumes nothing.
+-- Marks that are added to marks.
 use Rattle.std.specs.Prelude.{ℕ, ◌≤◌, ◌<◌, ◌≡◌, Bool, true, not, cond, ◌&&◌, List, eqb, length, get_or}
 use Rattle.xpath.specs.Document.{Document, is_attribute, is_child}
 use Rattle.common.specs.Axes.{attribute}

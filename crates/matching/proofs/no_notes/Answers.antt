@@ -1,4 +1,4 @@
--- Nothing is noted. Assumes nothing.
+-- Nothing is noted.
 use Rattle.terms.specs.Row.{max_rows}
 use Rattle.matching.proofs.RowWayBack.{none_noted}
 use Rattle.matching.proofs.no_notes.Goals as goal

@@ -1,4 +1,4 @@
--- The first form says it. Assumes nothing.
+-- The first form says it.
 use borrow.Author.Rules.{rules}
 use Rattle.rules.specs.Yields.{forms_of, premise_count}
 use Rattle.matching.proofs.Forms.{count_read}

@@ -1,4 +1,4 @@
--- The way back, or one of the rule's forms. Assumes nothing.
+-- The way back, or one of the rule's forms.
 use mathlib.Core.Path.{◌∙◌, ap}
 use mathlib.Core.List.{map}
 use borrow.Author.Rules.{rules}

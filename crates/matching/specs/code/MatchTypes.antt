@@ -1,4 +1,4 @@
--- The code's types as the definitions have them. Assumes nothing.
+-- The code's types as the definitions have them.
 use Rattle.std.specs.Prelude.{ℕ, ◌≡◌, Bool, true, false, ◌&&◌, List, map, Option, None, Some}
 use Rattle.common.specs.Lists.{all_of}
 use Rattle.rules.specs.Order.{is_pair}

@@ -1,4 +1,4 @@
--- Patterns of rows, and the forms of the rules as such patterns. Assumes nothing.
+-- Patterns of rows, and the forms of the rules as such patterns.
 use Rattle.std.specs.Prelude.{ℕ, List, map}
 use Rattle.common.specs.RowKinds.{void_row, root_row, step_row, union_row, composition_row, filter_row}
 use Rattle.common.specs.RowKinds.{true_row, false_row, not_row, and_row, or_row, inclusion_row}

@@ -1,4 +1,4 @@
--- The code's patterns and forms as the definitions have them. Assumes nothing.
+-- The code's patterns and forms as the definitions have them.
 use Rattle.std.specs.Prelude.{ℕ, List, [], ◌∷◌, map}
 use Rattle.std.specs.Borrow.{Bor}
 use Rattle.common.specs.code.Numbers.{row_number}

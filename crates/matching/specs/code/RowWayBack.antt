@@ -1,4 +1,4 @@
--- The way back, judged on row numbers: no term is expanded. Assumes nothing.
+-- The way back, judged on row numbers: no term is expanded.
 use Rattle.std.specs.Prelude.{ℕ, ◌<◌, ◌≡◌, Bool, true, false, ◌&&◌, List, [], ◌∷◌, eqb, length, get_or}
 use Rattle.std.specs.Prelude.{Option, Some, None}
 use Rattle.common.specs.Axes.{self}

@@ -1,4 +1,4 @@
--- When a rule yields a step, judged on row numbers: no term is expanded. Assumes nothing.
+-- When a rule yields a step, judged on row numbers: no term is expanded.
 use Rattle.std.specs.Prelude.{ℕ, Bool, true, false, not, cond, ◌&&◌, ◌||◌, List, [], ◌∷◌, map, ltb, eqb, length}
 use Rattle.std.specs.Prelude.{get_or, set, take, replicate}
 use Rattle.xpath.specs.Term.{Path, Qualifier}

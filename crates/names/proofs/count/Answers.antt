@@ -1,4 +1,4 @@
--- `count` meets its contract: the list has as many lines as pieces that end at a newline. Assumes nothing.
+-- `count` meets its contract: the list has as many lines as pieces that end at a newline.
 use mathlib.Core.Path.{ap, ◌∙◌}
 use borrow.Author.Tests.{tests}
 use lib.ListN.{length}

@@ -1,4 +1,4 @@
--- `line_start` meets its contract: it adds up the sizes of the first k pieces. Assumes nothing.
+-- `line_start` meets its contract: it adds up the sizes of the first k pieces.
 use mathlib.Core.Path.{ap, ◌∙◌}
 use borrow.Author.Tests.{tests}
 use native.Mathlib.Omega.{arith}

@@ -1,4 +1,4 @@
--- `name_at` meets its contract. Assumes nothing.
+-- `name_at` meets its contract.
 use Rattle.names.proofs.Walk.{name_met}
 use Rattle.names.proofs.name_at.Goals as goal
 

@@ -1,4 +1,4 @@
--- `next_line` meets its contract. Assumes nothing.
+-- `next_line` meets its contract.
 use Rattle.names.proofs.Walk.{next_after, no_next}
 use Rattle.names.proofs.next_line.Goals as goal
 

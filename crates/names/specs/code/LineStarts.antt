@@ -1,4 +1,4 @@
--- Where the lines of a list start and end. Assumes nothing.
+-- Where the lines of a list start and end.
 use Rattle.std.specs.Prelude.{ℕ, ◌≤◌, ◌<◌, ◌≡◌, List, length, drop}
 use Rattle.lines.specs.Line.{lines}
 

@@ -1,4 +1,4 @@
--- Names of lists, by computation. Assumes nothing.
+-- Names of lists, by computation.
 use Rattle.std.specs.Prelude.{refl, [], ◌∷◌}
 use Rattle.common.specs.values.Expected.{◌is◌, AllRight}
 use Rattle.lines.specs.Ascii.{ascii}

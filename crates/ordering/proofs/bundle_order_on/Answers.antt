@@ -1,5 +1,5 @@
 -- `bundle_order_on` meets its contract. The loop's invariant: the order is that of the steps that are left, and what is
--- noted is so. Assumes nothing.
+-- noted is so.
 use Prim.Native.Nat.{◌<◌}
 use mathlib.Core.Path.{◌≡◌, refl, sym, ap, ap₂, ◌∙◌}
 use mathlib.Core.List.{[]}

@@ -1,5 +1,4 @@
 -- `order_on` meets its contract: refusal 5 by the counts of rows, then the comparison, with nothing noted.
--- Assumes nothing.
 use mathlib.Core.Path.{ap, ◌∙◌}
 use native.Mathlib.Omega.{arith}
 use borrow.Author.Tests.{le-leb, lt-leb}

@@ -1,4 +1,4 @@
--- `term_kind` meets its contract. Assumes nothing.
+-- `term_kind` meets its contract.
 use mathlib.Core.Path.{ap, ◌∙◌}
 use Rattle.common.specs.code.Numbers.{row_number}
 use Rattle.ordering.proofs.Rows.{kind_read}

@@ -1,4 +1,4 @@
--- How the fields of a row are compared, by its kind, and what a row stands for. Assumes nothing.
+-- How the fields of a row are compared, by its kind, and what a row stands for.
 use Rattle.std.specs.Prelude.{ℕ, ◌≡◌, Bool, false, cond, ◌&&◌, List, leb, ltb, get_or, Option, Some, None}
 use Rattle.std.specs.declared.cmp.Ordering.{Ordering}
 use Rattle.std.specs.declared.cmp.Ordering.TheVariants.{Less, Equal, Greater}

@@ -1,4 +1,4 @@
--- Values of the order of terms and of bundles, by computation. Assumes nothing.
+-- Values of the order of terms and of bundles, by computation.
 use Rattle.std.specs.Prelude.{ℕ, refl, List, [], ◌∷◌, map}
 use Rattle.common.specs.values.Expected.{◌is◌, AllRight}
 use Rattle.xpath.specs.Term.{Path, Qualifier, Void, Root, AxisStep, Union, Composition, Filter, True, False, Not, And}

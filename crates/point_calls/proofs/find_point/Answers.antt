@@ -1,5 +1,4 @@
 -- `find_point` meets its contract: of the points, each with its place, the first that passes the test has the name.
--- Assumes nothing.
 use mathlib.Core.Path.{◌∙◌, sym, ap}
 use borrow.Author.Rules.{rules}
 use borrow.Author.Tests.{tests}

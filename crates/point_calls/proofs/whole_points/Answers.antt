@@ -1,4 +1,4 @@
--- `whole_points` meets its contract. Assumes nothing.
+-- `whole_points` meets its contract.
 use Prim.Native.Nat.{◌/◌}
 use mathlib.Core.Path.{refl}
 use lib.ListN.{length}

@@ -1,4 +1,4 @@
--- `begin_path` meets its contract. Assumes nothing.
+-- `begin_path` meets its contract.
 use mathlib.Core.Path.{sym, ◌∙◌}
 use Rattle.readings.specs.code.Build.{stands}
 use Rattle.readings.proofs.Worded.{begin_bare, begin_root, begin_any}

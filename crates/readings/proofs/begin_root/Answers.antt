@@ -1,4 +1,4 @@
--- `begin_root` meets its contract. Assumes nothing.
+-- `begin_root` meets its contract.
 use mathlib.Core.Path.{sym, ◌∙◌}
 use Rattle.readings.specs.code.Build.{stands}
 use Rattle.readings.proofs.Worded.{root_step, root_slash, root_alone}

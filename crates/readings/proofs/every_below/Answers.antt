@@ -1,4 +1,4 @@
--- `every_below` meets its contract. Assumes nothing.
+-- `every_below` meets its contract.
 use Rattle.readings.proofs.Built.{below_grown}
 use Rattle.readings.proofs.every_below.Goals as goal
 

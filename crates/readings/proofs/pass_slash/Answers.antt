@@ -1,4 +1,4 @@
--- `pass_slash` meets its contract. Assumes nothing.
+-- `pass_slash` meets its contract.
 use mathlib.Core.Path.{sym, ◌∙◌}
 use Rattle.readings.specs.code.Build.{stands}
 use Rattle.readings.proofs.Worded.{slash_two, slash_one}

@@ -1,4 +1,4 @@
--- `pass_word` meets its contract. The loop's invariant: the bytes so far are those of the name. Assumes nothing.
+-- `pass_word` meets its contract. The loop's invariant: the bytes so far are those of the name.
 use Prim.Native.Nat.{ℕ, ◌+◌, ◌<◌, ◌≤◌}
 use mathlib.Core.Path.{◌≡◌}
 use lib.ListN.{length, get_or}

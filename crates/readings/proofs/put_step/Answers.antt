@@ -1,4 +1,4 @@
--- `put_step` meets its contract. Assumes nothing.
+-- `put_step` meets its contract.
 use Rattle.readings.proofs.Built.{step_put}
 use Rattle.readings.specs.code.Build.{stands}
 use Rattle.readings.proofs.put_step.Goals as goal

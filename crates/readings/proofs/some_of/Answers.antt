@@ -1,4 +1,4 @@
--- `some_of` meets its contract. Assumes nothing.
+-- `some_of` meets its contract.
 use Rattle.readings.proofs.Built.{some_grown}
 use Rattle.readings.proofs.some_of.Goals as goal
 

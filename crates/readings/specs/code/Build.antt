@@ -1,4 +1,4 @@
--- What the functions that put rows promise. Assumes nothing.
+-- What the functions that put rows promise.
 use Rattle.std.specs.Prelude.{ℕ, suc, ◌*◌, ◌<◌, ◌≤◌, min, ◌≡◌, Bool, true, false, ◌||◌, List}
 use Rattle.std.specs.Prelude.{eqb, length, take, drop, Result, Ok, Err}
 use Rattle.std.proofs.Math.Option.{Option, none, some}

@@ -1,4 +1,4 @@
--- What the functions promise that pass over bytes and put rows. Assumes nothing.
+-- What the functions promise that pass over bytes and put rows.
 use Rattle.std.specs.Prelude.{ℕ, suc, ◌+◌, ◌-◌, ◌<◌, ◌≤◌, max, ◌≡◌}
 use Rattle.std.specs.Prelude.{Bool, true, false, cond, List, [], eqb, length, drop}
 use Rattle.std.specs.Prelude.{get_or, Result, Ok, Err}

@@ -1,4 +1,4 @@
--- The code's records. Assumes nothing.
+-- The code's records.
 use Rattle.std.specs.Prelude.{ℕ, ◌+◌, min, List, take, set, replicate}
 use Rattle.records.specs.declared.Record.{Record}
 use Rattle.records.specs.declared.Records.{Records}

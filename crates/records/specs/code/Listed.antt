@@ -1,4 +1,4 @@
--- The code's releases and listings. Assumes nothing.
+-- The code's releases and listings.
 use Rattle.std.specs.Prelude.{ℕ, ◌-◌, List, ◌++◌, length, replicate}
 use Rattle.records.specs.declared.Record.{Record}
 use Rattle.records.specs.declared.Records.{Records}

@@ -1,4 +1,4 @@
--- What the functions promise that record and release. Assumes nothing.
+-- What the functions promise that record and release.
 use Rattle.std.specs.Prelude.{ℕ, ◌≡◌, cond, List, replicate}
 use Rattle.terms.specs.Row.{Row}
 use Rattle.calls.specs.Book.{Step, accepted}

@@ -1,4 +1,4 @@
--- Answers of the call record, current editions, and returns that are barred, by computation. Assumes nothing.
+-- Answers of the call record, current editions, and returns that are barred, by computation.
 use Rattle.std.specs.Prelude.{ℕ, zero, suc, refl, List, [], ◌∷◌, ◌++◌, take}
 use Rattle.common.specs.Lists.{all_of}
 use Rattle.common.specs.values.Expected.{◌is◌, AllRight}

@@ -1,4 +1,4 @@
--- Releases, and what the office and a crew see, by computation. Assumes nothing.
+-- Releases, and what the office and a crew see, by computation.
 use Rattle.std.specs.Prelude.{ℕ, refl, List, [], ◌∷◌, ◌++◌, length, take, replicate}
 use Rattle.common.specs.Lists.{all_of}
 use Rattle.common.specs.values.Expected.{◌is◌, AllRight}

@@ -1,4 +1,4 @@
--- What a read call gives. Assumes nothing.
+-- What a read call gives.
 use Rattle.std.specs.Prelude.{ℕ, Result}
 use Rattle.calls.specs.declared.answer.LineRefusal.{LineRefusal}
 use Rattle.register.specs.declared.Register.{Register}

@@ -1,4 +1,4 @@
--- `first_uncovered` meets its contract: the first pair that passes the test is at the first place. Assumes nothing.
+-- `first_uncovered` meets its contract: the first pair that passes the test is at the first place.
 use Rattle.std.proofs.Common.{◌≡◌, rules, position, tests}
 use Rattle.std.specs.List.{zip}
 use Rattle.std.proofs.lemmas.Iterator.{YieldsList-from_slice, YieldsList-from_zip}

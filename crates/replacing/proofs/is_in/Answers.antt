@@ -1,4 +1,4 @@
--- `is_in` meets its contract. Assumes nothing.
+-- `is_in` meets its contract.
 use mathlib.Core.Path.{◌∙◌}
 use Rattle.replacing.proofs.In.{is_in_lem}
 use Rattle.replacing.proofs.is_in.Goals as goal

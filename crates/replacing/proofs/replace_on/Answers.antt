@@ -1,4 +1,4 @@
--- `replace_on` meets its contract, test by test. Assumes nothing.
+-- `replace_on` meets its contract, test by test.
 use mathlib.Core.Path.{sym, ◌∙◌}
 use native.Mathlib.Omega.{arith}
 use Rattle.replacing.proofs.Judged.{lists_refused, as_many, place_few, place_refused, all_passed}

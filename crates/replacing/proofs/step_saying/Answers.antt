@@ -1,4 +1,4 @@
--- `step_saying` meets its contract: the first step that passes the test says so. Assumes nothing.
+-- `step_saying` meets its contract: the first step that passes the test says so.
 use mathlib.Core.Path.{sym, ◌∙◌}
 use native.Mathlib.Omega.{arith}
 use lib.ListN.{length}

@@ -1,4 +1,4 @@
--- What a search of the code gives. Assumes nothing.
+-- What a search of the code gives.
 use Rattle.std.specs.Prelude.{ℕ, ◌≡◌, Option, Some, None}
 use Rattle.std.proofs.Math.Option as first
 use Rattle.std.proofs.Math.Option.{none, some}

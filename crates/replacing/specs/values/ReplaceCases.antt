@@ -1,5 +1,5 @@
 -- Answers of replace, by computation: each refusal, which of two comes first; lists that are covered, of any length;
--- the paths of rows; and lists of paths by which a node is lost. Assumes nothing.
+-- the paths of rows; and lists of paths by which a node is lost.
 use Rattle.std.specs.Prelude.{ℕ, refl, true, false, List, [], ◌∷◌, ◌++◌, replicate}
 use Rattle.std.proofs.Common.{⊎_elim, arith}
 use Rattle.std.proofs.Math.Option.{Option-elim}

@@ -1,4 +1,4 @@
--- The letters of a form, read off what a step and its premises say. Assumes nothing.
+-- The letters of a form, read off what a step and its premises say.
 use Rattle.std.specs.Prelude.{ℕ, List, [], ◌∷◌}
 use Rattle.std.proofs.Math.Logic.{ite}
 use Rattle.xpath.specs.Term.{Path, Qualifier, AxisStep, Union, Composition, Filter}

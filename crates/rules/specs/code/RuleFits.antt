@@ -1,4 +1,4 @@
--- A test of whether a rule yields a step, and that it decides it. Assumes nothing.
+-- A test of whether a rule yields a step, and that it decides it.
 use Rattle.std.specs.Prelude.{ℕ, ◌≡◌, refl, Bool, true, false, cond, ◌&&◌, ◌||◌, T, eqb}
 use Rattle.std.proofs.Common.{sym, ◌∙◌, subst, subst₂, ap, ap₂, inl, inr, ⊎_elim}
 use mathlib.Core.List.{List, [], ◌∷◌, map, head-eq_of_cons-eq, tail-eq_of_cons-eq}

@@ -1,4 +1,4 @@
--- Steps that the rules yield: at least one for each form of each rule, in each direction. Assumes nothing.
+-- Steps that the rules yield: at least one for each form of each rule, in each direction.
 use Rattle.std.specs.Prelude.{ℕ, Bool, ◌&&◌, T, eqb}
 use mathlib.Core.List.{List, [], ◌∷◌, ◌++◌, map, Memᴰ}
 use Rattle.common.specs.Axes.{self, child, parent, descendant, ancestor, descendant_or_self, ancestor_or_self}

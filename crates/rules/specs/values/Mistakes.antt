@@ -1,5 +1,5 @@
--- Five mistakes of document 000, what attributes make false, and wider orders of targets, each shown false by a
--- document. Assumes nothing.
+-- The mistakes of Specification, Mistakes that are ruled out, what attributes make false, and wider orders of targets,
+-- each shown false by a document.
 use Rattle.std.specs.Prelude.{ℕ, [], ◌∷◌}
 use Rattle.std.proofs.Common.{arith}
 use Rattle.common.specs.Bounded.{any_below, all_below}
@@ -79,7 +79,7 @@ r_a13_false claim = claim with_text tt 2 (omega arith) 3 tt
 abbrev with_attribute : Document
 with_attribute = root_node ∷ node 1 0 1 ∷ node 5 1 2 ∷ node 2 1 0 ∷ []
 
--- 01's rule 50: an attribute's parent has children, and the attribute has no sibling
+-- what rule 50 would say: an attribute's parent has children, and the attribute has no sibling
 pub rule50_false :
     IsFalse (IsTrue (Containment
     (Composition (Filter (AxisStep parent node_test 0) True) (AxisStep child node_test 0))
@@ -97,7 +97,7 @@ pub rule50_back_false :
 unfolding IsFalse
 rule50_back_false claim = claim with_attribute tt 2 (omega arith) 2 tt
 
--- 01's rule 54 with following::N on the left: what follows an attribute begins with its parent's children
+-- rule 54 with following::N on the left: what follows an attribute begins with its parent's children
 pub rule54_left_false :
     IsFalse (IsTrue (Containment
     (AxisStep following node_test 0)

@@ -1,4 +1,4 @@
--- Steps that differ little from accepted ones and that their rules don't yield. Assumes nothing.
+-- Steps that differ little from accepted ones and that their rules don't yield.
 use Rattle.std.specs.Prelude.{ℕ, ◌+◌, refl, Bool, not, cond, ◌||◌, T, eqb}
 use mathlib.Core.List.{List, [], ◌∷◌, ◌++◌, map, Memᴰ}
 use Rattle.std.proofs.Common.{T_not}

@@ -1,4 +1,4 @@
--- Rule 10, whose second premise ends in `*` or in node(): what it yields with either ending. Assumes nothing.
+-- Rule 10, whose second premise ends in `*` or in node(): what it yields with either ending.
 use Rattle.std.specs.Prelude.{ℕ, Bool, not, ◌&&◌, [], ◌∷◌, T, leb}
 use Rattle.common.specs.Axes.{descendant, preceding}
 use Rattle.common.specs.NodeTests.{star_test, node_test}

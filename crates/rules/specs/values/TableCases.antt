@@ -1,4 +1,4 @@
--- Values of the orders of axes and tests, the rules' numbers, and how many premises each rule has. Assumes nothing.
+-- Values of the orders of axes and tests, the rules' numbers, and how many premises each rule has.
 use Rattle.std.specs.Prelude.{ℕ, refl, List, [], ◌∷◌, map, leb, eqb, get_or}
 use Rattle.common.specs.Bounded.{list_below}
 use Rattle.common.specs.values.Expected.{◌is◌, AllRight}

@@ -1,4 +1,4 @@
--- Ways back and rule 59, with the papers' numbers. Assumes nothing.
+-- Ways back and rule 59, by numbers.
 use Rattle.std.specs.Prelude.{ℕ, ◌≡◌, refl, List, [], ◌∷◌}
 use mathlib.Core.List.Memᴰ
 use Rattle.std.proofs.Common.{inr, ⊎_elim}

@@ -1,4 +1,4 @@
--- The rule table once more, as terms, for every choice of the letters, and the conditions' values. Assumes nothing.
+-- The rule table once more, as terms, for every choice of the letters, and the conditions' values.
 use Rattle.std.specs.Prelude.{ℕ, ◌≡◌, Bool, true, false, not, ◌&&◌, ◌||◌, List, [], ◌∷◌, ◌++◌, map, leb, eqb}
 use Rattle.std.proofs.Math.Path.{refl}
 use Rattle.common.specs.Bounded.{list_below}

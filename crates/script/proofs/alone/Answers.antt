@@ -1,4 +1,4 @@
--- `alone` meets its contract, word by word. Assumes nothing.
+-- `alone` meets its contract, word by word.
 use mathlib.Core.Path.{refl}
 use mathlib.Core.Option.{Option-elim}
 use Rattle.lines.specs.Number.{numbers_up_to}

@@ -1,4 +1,4 @@
--- `behind_word` meets its contract, word by word. Assumes nothing.
+-- `behind_word` meets its contract, word by word.
 use mathlib.Core.Path.{refl}
 use Rattle.std.proofs.Common.{rules}
 use Rattle.script_words.specs.declared.Word.TheVariants.{Term, Step, Document, Old, New, Replace, Point, Return, Order}

@@ -1,4 +1,4 @@
--- `call_at` meets its contract. The loop's invariant: the line's word is none of those before. Assumes nothing.
+-- `call_at` meets its contract. The loop's invariant: the line's word is none of those before.
 use mathlib.Core.Path.{sym, ◌∙◌}
 use native.Mathlib.Omega.{arith}
 use Rattle.script.proofs.Table.{space_inside, numbers_read, newline_inside, word_read, nothing_read}

@@ -1,4 +1,4 @@
--- `call_at` meets its contract. The loop's invariant: the line's word is none of those before. Assumes nothing.
+-- `call_at` meets its contract. The loop's invariant: the line's word is none of those before.
 use Rattle.script.proofs.Table.{Tried}
 use Rattle.script.proofs.call_at.Given as goal
 

@@ -1,5 +1,4 @@
 -- `listed` meets its contract. The loop's invariant: the line has the numbers so far and goes on at `from`.
--- Assumes nothing.
 use mathlib.Core.Path.{◌≡◌}
 use lib.ListN.{length}
 use Rattle.script.specs.code.CommandRead.{items}

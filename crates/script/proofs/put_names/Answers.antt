@@ -1,4 +1,4 @@
--- `put_names` meets its contract: the first bytes are written, and the others copied. Assumes nothing.
+-- `put_names` meets its contract: the first bytes are written, and the others copied.
 use native.Mathlib.Omega.{arith}
 use lib.ListN.{get_or}
 use Rattle.std.proofs.lemmas.List.{get_or_default}

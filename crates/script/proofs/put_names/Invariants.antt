@@ -1,4 +1,4 @@
--- `put_names` meets its contract: the first bytes are written, and the others copied. Assumes nothing.
+-- `put_names` meets its contract: the first bytes are written, and the others copied.
 use mathlib.Core.Path.{◌≡◌}
 use mathlib.Core.List.{◌++◌, map}
 use lib.ListN.{take, drop}

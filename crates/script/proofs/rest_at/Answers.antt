@@ -1,4 +1,4 @@
--- `rest_at` meets its contract. Assumes nothing.
+-- `rest_at` meets its contract.
 use Prim.Native.Nat.{◌+◌}
 use mathlib.Core.Path.{sym, subst, ◌∙◌}
 use native.Mathlib.Omega.{arith}

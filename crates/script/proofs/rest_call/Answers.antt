@@ -1,4 +1,4 @@
--- `rest_call` meets its contract. Assumes nothing.
+-- `rest_call` meets its contract.
 use mathlib.Core.Path.{sym, subst}
 use mathlib.Core.List.{[]}
 use Rattle.lines.specs.Line.{newline}

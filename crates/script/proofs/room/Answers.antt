@@ -1,4 +1,4 @@
--- `room` meets its contract. Assumes nothing.
+-- `room` meets its contract.
 use mathlib.Core.Path.{refl}
 use mathlib.Core.List.{[], ◌∷◌}
 use Rattle.lines.specs.Number.{numbers_up_to}

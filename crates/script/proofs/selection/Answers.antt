@@ -1,4 +1,4 @@
--- `selection` meets its contract. Assumes nothing.
+-- `selection` meets its contract.
 use mathlib.Core.Path.{refl}
 use Rattle.script_words.specs.declared.Word.TheVariants.{Select}
 use Rattle.script_words.specs.Words.{Selection}

@@ -1,4 +1,4 @@
--- What the functions that read a line promise. Assumes nothing.
+-- What the functions that read a line promise.
 use Rattle.std.specs.Prelude.{ℕ, ◌≤◌, ◌<◌, ◌≡◌, List, [], ◌∷◌, length, take, drop}
 use Rattle.std.specs.Prelude.{Option as Optional, Some, None}
 use Rattle.std.proofs.Math.Option.{Option, none, some}

@@ -1,4 +1,4 @@
--- The code's words. Assumes nothing.
+-- The code's words.
 use Rattle.std.specs.Prelude.{ℕ, List, []}
 use Rattle.lines.specs.Ascii.{ascii}
 use Rattle.script_words.specs.declared.Word.{Word}

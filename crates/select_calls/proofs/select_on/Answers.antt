@@ -1,4 +1,4 @@
--- `select_on` meets its contract, test by test in the order of the definition. Assumes nothing.
+-- `select_on` meets its contract, test by test in the order of the definition.
 use borrow.Author.Tests.{tests}
 use Rattle.std.proofs.Common.{rules}
 use mathlib.Core.Path.{refl, ◌∙◌}

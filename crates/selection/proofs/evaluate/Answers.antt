@@ -1,4 +1,4 @@
--- `selection::evaluate` meets its contract, test by test. Assumes nothing.
+-- `selection::evaluate` meets its contract, test by test.
 use native.Mathlib.Omega.{arith}
 use mathlib.Core.Path.{◌≡◌, refl}
 use Rattle.std.specs.Prelude.{Err}

@@ -1,4 +1,4 @@
--- The answer of each result of the code, and the refusal of each error. Assumes nothing.
+-- The answer of each result of the code, and the refusal of each error.
 use Rattle.std.specs.Prelude.{ℕ, Result, Ok, Err}
 use Rattle.common.specs.declared.refusal.Refusal.{Refusal}
 use Rattle.common.specs.declared.refusal.Refusal.TheVariants as refusal

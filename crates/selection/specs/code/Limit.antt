@@ -1,4 +1,4 @@
--- Results of evaluations under a limit of visits. Assumes nothing.
+-- Results of evaluations under a limit of visits.
 use Rattle.std.specs.Prelude.{ℕ, ◌≤◌, ◌<◌, ◌≡◌, Option, MatchOption}
 
 -- the visits made are those that are needed, `cost`, and no more than the limit; and what was found is correct

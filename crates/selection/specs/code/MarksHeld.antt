@@ -1,4 +1,4 @@
--- Marks that the code holds. Assumes nothing.
+-- Marks that the code holds.
 use Rattle.std.specs.Prelude.{ℕ, ◌≤◌, ◌<◌, ◌≡◌, Bool, cond, List, length, get_or}
 use Rattle.xpath.specs.Document.{max_nodes}
 

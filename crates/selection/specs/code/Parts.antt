@@ -1,4 +1,4 @@
--- What the parts of an evaluation find: a path's marks, a qualifier's value. Assumes nothing.
+-- What the parts of an evaluation find: a path's marks, a qualifier's value.
 use Rattle.std.specs.Prelude.{ℕ, ◌≡◌, List, [], ◌∷◌, length, get_or, take, Option}
 use Rattle.xpath.specs.Document.{Document}
 use Rattle.xpath.specs.Term.{Path, Qualifier, Void, Root, AxisStep}

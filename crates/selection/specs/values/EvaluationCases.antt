@@ -1,4 +1,4 @@
--- Values of the evaluation at the edges of its limit and of its buffer. Assumes nothing.
+-- Values of the evaluation at the edges of its limit and of its buffer.
 use Rattle.std.specs.Prelude.{ℕ, refl, List, [], ◌∷◌, replicate}
 use Rattle.common.specs.Bounded.{any_below, sum_below}
 use Rattle.xpath.specs.Document.{root_node, kind_at, parent_at, name_at, is_child, document_of}

@@ -1,4 +1,4 @@
--- Each clause of what is accepted, written out once more: without one of them this fails. Assumes nothing.
+-- Each clause of what is accepted, written out once more: without one of them this fails.
 use Rattle.calls.specs.code.Answers.{NumberOrRefusal, answer_of}
 use Prim.Native.Nat.{ℕ, ◌*◌, ◌≤◌, ◌<◌}
 use mathlib.Core.Path.{◌≡◌}
@@ -18,8 +18,8 @@ use Rattle.calls.specs.Runs.{Run, final}
 use Rattle.calls.specs.Calls.{Call, CallSeen, plain_book}
 use Rattle.session.specs.declared.session.Session.{Session}
 use Rattle.session.specs.View.{view}
-use Rattle.session.specs.AcceptDemand.{AcceptsExactly}
-use Rattle.session.proofs.Source.{New, Called, Selected, accept_demand}
+use Rattle.session.specs.AcceptGuarantee.{AcceptsExactly}
+use Rattle.session.proofs.Source.{New, Called, Selected, accept_guarantee}
 
 module _ (s₀ s : Session) (cs : List Call) (os : List CallSeen) (is-new : New s₀) (run : Run view Called s₀ cs os s)
   where
@@ -27,7 +27,7 @@ module _ (s₀ s : Session) (cs : List Call) (os : List CallSeen) (is-new : New 
     held = final plain_book empty_book cs
 
     abbrev met : AcceptsExactly Selected Called s held
-    met = accept_demand s₀ s cs os is-new run
+    met = accept_guarantee s₀ s cs os is-new run
 
     -- a term call
     module _ (r : Row) (a : Answer) (t : Session) (called : Called s (Call.term r) a t) where

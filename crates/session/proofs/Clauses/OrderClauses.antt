@@ -1,5 +1,4 @@
--- Each clause of what is demanded of order and bundle order, written out once more: without one of them this fails.
--- Assumes nothing.
+-- Each clause of what is guaranteed of order and bundle order, written out once more: without one of them this fails.
 use Rattle.calls.specs.code.Answers.{OrderOrRefusal, order_answer_of}
 use Prim.Native.Nat.{ℕ, ◌≤◌, ◌<◌}
 use mathlib.Core.Path.{◌≡◌}
@@ -16,8 +15,8 @@ use Rattle.ordering.specs.OrderCall.{order_answer, bundle_order_answer}
 use Rattle.ordering.specs.OrderLaws.{occurrences}
 use Rattle.session.specs.declared.session.Session.{Session}
 use Rattle.session.specs.View.{view}
-use Rattle.session.specs.OrderDemand.{SortedRows, ArchivesOrdered}
-use Rattle.session.proofs.Source.{New, Called, Ordered, BundleOrdered, order_demand}
+use Rattle.session.specs.OrderGuarantee.{SortedRows, ArchivesOrdered}
+use Rattle.session.proofs.Source.{New, Called, Ordered, BundleOrdered, order_guarantee}
 
 module _ (s₀ t₀ s t : Session) (cs ds : List Call) (os us : List CallSeen) (new-s : New s₀) (new-t : New t₀)
     (run-s : Run view Called s₀ cs os s) (run-t : Run view Called t₀ ds us t) where
@@ -28,7 +27,7 @@ module _ (s₀ t₀ s t : Session) (cs ds : List Call) (os us : List CallSeen) (
   right = final plain_book empty_book ds
 
   abbrev met : ArchivesOrdered Ordered BundleOrdered s t left right
-  met = order_demand s₀ t₀ s t cs ds os us new-s new-t run-s run-t
+  met = order_guarantee s₀ t₀ s t cs ds os us new-s new-t run-s run-t
 
   abbrev left_terms : List ℕ → List Term
   left_terms is = map (term_at left.rows) is

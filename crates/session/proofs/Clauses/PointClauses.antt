@@ -1,4 +1,4 @@
--- Each clause of what is promised of points, written out once more: without one of them this fails. Assumes nothing.
+-- Each clause of what is promised of points, written out once more: without one of them this fails.
 use Rattle.calls.specs.code.Answers.{NumberOrRefusal, answer_of}
 use Prim.Native.Nat.{ℕ}
 use mathlib.Core.Path.{◌≡◌, ◌∙◌}
@@ -16,8 +16,8 @@ use Rattle.session.specs.code.Results.{ReadResult}
 use Rattle.session.specs.View.{view, fresh_session}
 use Rattle.session.specs.SessionLaws.{session_of, without_points, SetsNoPoint}
 use Rattle.session.specs.ReadCall.{read_answer_of}
-use Rattle.session.specs.ReadDemand.{CallFits}
-use Rattle.session.proofs.Source.{New, Called, Read, Write, new_exists, read_demand}
+use Rattle.session.specs.ReadGuarantee.{CallFits}
+use Rattle.session.proofs.Source.{New, Called, Read, Write, new_exists, read_guarantee}
 use Rattle.session.proofs.Source.{whole_session, no_point_left, session_restored}
 
 -- the book: the return is accepted, and leaves what setting the point left
@@ -60,5 +60,5 @@ pub same_session : (cs : List Call) (os : List CallSeen) (s : Session) → Run v
     → (t : ReadResult) → Read (take (answer_of w).value left) t
     → (read_answer_of t.answer ≡ answer 0 (length (view s).steps)) × (t.session ≡ s)
 same_session cs os s run fits none_set buffer left w m e t r =
-    let back = read_demand.written_reads_back cs os s run fits buffer left w m e t r in
+    let back = read_guarantee.written_reads_back cs os s run fits buffer left w m e t r in
     (back.0, back.1 ∙ none_left fresh_session s cs os new_exists run none_set)

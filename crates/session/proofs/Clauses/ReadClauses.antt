@@ -1,5 +1,4 @@
--- Each clause of what is demanded of read and write, written out once more: without one of them this fails. Assumes
--- nothing.
+-- Each clause of what is guaranteed of read and write, written out once more: without one of them this fails.
 use Rattle.calls.specs.code.Answers.{NumberOrRefusal, answer_of}
 use Prim.Native.Nat.{ℕ, ◌≤◌, ◌<◌}
 use mathlib.Core.Path.{◌≡◌, refl, sym, ap, subst, ◌∙◌}
@@ -25,10 +24,10 @@ use Rattle.calls.specs.Book.{step_numbers}
 use Rattle.session.specs.Promises.{CallRelation, SelectRelation}
 use Rattle.bundles.specs.Bundle.{row_names, step_names, row_of_line, step_of_line, bundle_text}
 use Rattle.session.specs.ReadCall.{read_answer_of}
-use Rattle.session.specs.Demand3.{Demand3}
+use Rattle.session.specs.FollowsBook.{FollowsBook}
 use Rattle.session.specs.SessionLaws.{without_points}
 use Rattle.session.specs.WriteCall.{session_text, WriteRelation, WriteMet}
-use Rattle.session.specs.ReadDemand.{CallFits, ReadAccepted, ReadDemand}
+use Rattle.session.specs.ReadGuarantee.{CallFits, ReadAccepted, ReadGuarantee}
 
 abbrev bundle_calls : List Row → List Step → List Call
 bundle_calls rs ps = map term rs ++ map step ps
@@ -37,15 +36,15 @@ abbrev AllAccepted : List CallSeen → Type 0
 AllAccepted os = Every (λ o. o.answer.number ≡ 0) os
 
 module _ (Selected : SelectRelation) (Called : CallRelation) (Read : List ℕ → ReadResult → Type 0)
-    (Write : WriteRelation) (demand : ReadDemand Selected Called Read Write)
+    (Write : WriteRelation) (guarantee : ReadGuarantee Selected Called Read Write)
   where
     module _ (bytes : List ℕ) (t : ReadResult) (is_read : Read bytes t) where
       pub leaves_fresh : ¬ ((read_answer_of t.answer).number ≡ 0) → t.session ≡ fresh_session
-      leaves_fresh = demand.refused bytes t is_read
+      leaves_fresh = guarantee.refused bytes t is_read
 
       module _ (accepts : (read_answer_of t.answer).number ≡ 0) where
         abbrev read : ReadAccepted Selected Called bytes t
-        read = demand.accepted bytes t is_read accepts
+        read = guarantee.accepted bytes t is_read accepts
 
         abbrev calls : List Call
         calls = bundle_calls read.rows read.steps
@@ -64,15 +63,15 @@ module _ (Selected : SelectRelation) (Called : CallRelation) (Read : List ℕ �
         pub answers_seen : AllAccepted read.seen × (read_answer_of t.answer ≡ answer 0 (length read.steps))
         answers_seen = (read.all_accepted, read.count)
 
-        pub demand_met : Demand3 Selected calls read.seen t.session
-        demand_met = read.demand
+        pub book_followed : FollowsBook Selected calls read.seen t.session
+        book_followed = read.follows
 
     pub text_read : (rs : List Row) (ps : List Step) (os : List CallSeen) (s : Session)
         → Every (λ r. AllFit (row_numbers r)) rs → Every (λ p. AllFit (step_numbers p)) ps
         → Run view Called fresh_session (bundle_calls rs ps) os s → AllAccepted os
         → (t : ReadResult) → Read (bundle_text rs ps) t
         → (read_answer_of t.answer ≡ answer 0 (length ps)) × (t.session ≡ s)
-    text_read = demand.reads_back
+    text_read = guarantee.reads_back
 
     -- a write call that is accepted, and the text that it leaves
     abbrev Filed : Session → (text : List ℕ) → Type 0
@@ -87,18 +86,18 @@ module _ (Selected : SelectRelation) (Called : CallRelation) (Read : List ℕ �
         → (text : List ℕ) → Filed s text → (t : ReadResult) → Read text t
         → (read_answer_of t.answer ≡ answer 0 (length (view s).steps)) × (t.session ≡ without_points s)
     filed_read cs os s run fits text (buffer, left, w, m, e, is) t r =
-        demand.written_reads_back cs os s run fits buffer left w m e t (subst (λ bytes. Read bytes t) is r)
+        guarantee.written_reads_back cs os s run fits buffer left w m e t (subst (λ bytes. Read bytes t) is r)
 
     pub read_filed : (bytes : List ℕ) (t : ReadResult) → Read bytes t → (read_answer_of t.answer).number ≡ 0
         → (text : List ℕ) → Filed t.session text → text ≡ bytes
     read_filed bytes t r e text (buffer, left, w, m, taken, is) = is
-        ∙ demand.same_bytes bytes t r e buffer left w m taken
+        ∙ guarantee.same_bytes bytes t r e buffer left w m taken
 
     pub room_for_all : (cs : List Call) (os : List CallSeen) (s : Session) → Run view Called fresh_session cs os s
         → AllFit16 cs
         → (buffer left : List ℕ) (w : NumberOrRefusal) → Write s buffer w left → 65536 ≤ length buffer
         → (answer_of w).number ≡ 0
-    room_for_all = demand.always_room
+    room_for_all = guarantee.always_room
 
 -- what a write call promises of the session's bundle and every byte of the buffer
 module _ (s : Session) (buffer : List ℕ) (w : NumberOrRefusal) (left : List ℕ) (met : WriteMet s buffer w left) where

@@ -1,4 +1,4 @@
--- Each clause of what is demanded of replace, written out once more: without one of them this fails. Assumes nothing.
+-- Each clause of what is guaranteed of replace, written out once more: without one of them this fails.
 use Rattle.calls.specs.code.Answers.{DoneOrRefusal, done_answer_of}
 use Prim.Native.Nat.{ℕ, ◌≤◌, ◌<◌}
 use mathlib.Core.Path.{◌≡◌}
@@ -23,8 +23,8 @@ use Rattle.replacing.specs.ReplaceCall.{are_bad_lists, replace_answer}
 use Rattle.replacing.specs.NoneLost.{Some, paths_of}
 use Rattle.session.specs.declared.session.Session.{Session}
 use Rattle.session.specs.View.{view}
-use Rattle.session.specs.ReplaceDemand.{SetsReplaced}
-use Rattle.session.proofs.Source.{New, Called, Replaced, replace_demand}
+use Rattle.session.specs.ReplaceGuarantee.{SetsReplaced}
+use Rattle.session.proofs.Source.{New, Called, Replaced, replace_guarantee}
 
 module _ (s₀ s : Session) (cs : List Call) (os : List CallSeen) (is-new : New s₀) (run : Run view Called s₀ cs os s)
   where
@@ -32,7 +32,7 @@ module _ (s₀ s : Session) (cs : List Call) (os : List CallSeen) (is-new : New 
     held = final plain_book empty_book cs
 
     abbrev met : SetsReplaced Replaced s held
-    met = replace_demand s₀ s cs os is-new run
+    met = replace_guarantee s₀ s cs os is-new run
 
     -- the step numbered i, counted from 1, is held and says that p is contained in q
     abbrev Says : (i : ℕ) → (p q : Path) → Type 0

@@ -1,5 +1,4 @@
 -- From the judgement of a name, and the tables that are left, to the calls point and return on the session.
--- Assumes nothing.
 use Rattle.std.specs.Prelude.{Ok, Err}
 use Rattle.common.specs.declared.refusal.Refusal.{Refusal}
 use Rattle.common.proofs.Refusals.{refusal_some}

@@ -1,4 +1,4 @@
--- From the judgement of a step to the step call on the session. Assumes nothing.
+-- From the judgement of a step to the step call on the session.
 use Rattle.calls.specs.code.Answers.{NumberOrRefusal, answer_of}
 use Prim.Native.Nat.{ℕ, ◌+◌, ◌*◌}
 use mathlib.Core.Path.{◌≡◌, ◌∙◌}

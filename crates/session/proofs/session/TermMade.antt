@@ -1,4 +1,4 @@
--- From a term call on a session's table to one on the session. Assumes nothing.
+-- From a term call on a session's table to one on the session.
 use Rattle.calls.specs.code.Answers.{NumberOrRefusal, answer_of}
 use Prim.Native.Nat.{ℕ, ◌+◌, ◌*◌, min}
 use mathlib.Core.Path.{◌≡◌, sym, subst, ◌∙◌}

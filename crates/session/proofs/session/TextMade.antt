@@ -1,4 +1,4 @@
--- From the reading of a text on a session's table to a text call on the session. Assumes nothing.
+-- From the reading of a text on a session's table to a text call on the session.
 use Prim.Native.Nat.{ℕ}
 use mathlib.Core.List.{List}
 use mathlib.Core.Path.{◌≡◌, refl, ap, ◌∙◌}

@@ -1,4 +1,4 @@
--- What the functions that read is made of promise each other. Assumes nothing.
+-- What the functions that read is made of promise each other.
 use Rattle.std.specs.Prelude.{ℕ, ◌≤◌, ◌≡◌, List, length, drop, Result, Ok, Err, IfOk, OnOk}
 use Rattle.common.specs.declared.refusal.Refusal.TheVariants.{WrongForm}
 use Rattle.common.specs.code.Refusal.{refusal_number}

@@ -1,4 +1,4 @@
--- The session in code as specifications see it: without what is kept of its rows. Assumes nothing.
+-- The session in code as specifications see it: without what is kept of its rows.
 use Rattle.session.specs.declared.session.Session.TheInside.{Inside}
 use Rattle.session.specs.SessionTables.{SessionTables}
 

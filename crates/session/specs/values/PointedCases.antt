@@ -1,4 +1,4 @@
--- Points of sessions that no calls lead to, and the calls that set none, by computation. Assumes nothing.
+-- Points of sessions that no calls lead to, and the calls that set none, by computation.
 use Rattle.std.specs.Prelude.{ℕ, refl, List, [], ◌∷◌, take, replicate}
 use Rattle.common.specs.Lists.{Every}
 use Rattle.common.specs.values.Expected.{◌is◌, AllRight}

@@ -1,4 +1,4 @@
--- What write answers and leaves, by computation; and the calls whose sessions it is demanded of. Assumes nothing.
+-- What write answers and leaves, by computation; and the calls whose sessions it is guaranteed of.
 use Rattle.std.specs.Prelude.{◌≡◌, refl, [], ◌∷◌, length, replicate}
 use Rattle.std.proofs.Common.{arith}
 use Rattle.common.specs.Lists.{Every}
@@ -13,7 +13,7 @@ use Rattle.calls.specs.code.Tables.{steps_of}
 use Rattle.bundles.specs.Bundle.{row_names, step_names, rows_text, steps_text, bundle_text}
 use Rattle.session.specs.View.{view, no_points, fresh_session}
 use Rattle.session.specs.WriteCall.{session_text, write_answer, write_buffer}
-use Rattle.session.specs.ReadDemand.{CallFits}
+use Rattle.session.specs.ReadGuarantee.{CallFits}
 
 -- a text of three bytes, and buffers that are longer, as long, a byte shorter, and empty
 answers :

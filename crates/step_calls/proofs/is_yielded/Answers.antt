@@ -1,4 +1,4 @@
--- The premises are the rows of both steps named. Assumes nothing.
+-- The premises are the rows of both steps named.
 use mathlib.Core.Path.{◌≡◌, ◌∙◌}
 use borrow.Author.Rules.{rules}
 use borrow.Author.Tests.{tests}

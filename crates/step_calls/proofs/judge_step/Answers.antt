@@ -1,4 +1,4 @@
--- `judge_step` meets its contract: nothing is noted at first. Assumes nothing.
+-- `judge_step` meets its contract: nothing is noted at first.
 use Rattle.matching.proofs.RowWayBack.{none_noted}
 use Rattle.step_calls.proofs.judge_step.Goals as goal
 

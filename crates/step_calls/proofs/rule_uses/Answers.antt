@@ -1,4 +1,4 @@
--- `rule_uses` meets its contract: the steps that pass the test are the uses. Assumes nothing.
+-- `rule_uses` meets its contract: the steps that pass the test are the uses.
 use Rattle.std.proofs.Common.{◌≡◌, rules, count_by, eqb, get_or, sym, ◌∙◌, ap}
 use Rattle.calls.specs.Uses.{uses_of}
 use Rattle.step_calls.proofs.RuleUses.{uses_counted}

@@ -1,4 +1,4 @@
--- `judge_list` meets its contract: the first line that passes the test is the first refused one. Assumes nothing.
+-- `judge_list` meets its contract: the first line that passes the test is the first refused one.
 use Rattle.std.proofs.Common.{◌≡◌, ◌≤◌, ◌<◌, ℕ, true, false, rules, tests, arith}
 use Rattle.std.specs.Prelude.{MatchOption}
 use Rattle.std.proofs.lemmas.Iterator.{first_from_Range}

@@ -1,4 +1,4 @@
--- `plus_uses` meets its contract. The loop's invariant: the uses of the first i rules are added. Assumes nothing.
+-- `plus_uses` meets its contract. The loop's invariant: the uses of the first i rules are added.
 use mathlib.Core.Path.{◌≡◌, ap, ◌∙◌}
 use lib.ListN.{length, get_or}
 use Rattle.rules.specs.Yields.{max_rule}

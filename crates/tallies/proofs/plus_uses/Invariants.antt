@@ -1,4 +1,4 @@
--- `plus_uses` meets its contract. The loop's invariant: the uses of the first i rules are added. Assumes nothing.
+-- `plus_uses` meets its contract. The loop's invariant: the uses of the first i rules are added.
 use Rattle.session.specs.View.{view}
 use Rattle.tallies.proofs.Lined.{AddedTo}
 use Rattle.tallies.proofs.plus_uses.Given as goal

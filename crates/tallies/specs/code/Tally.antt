@@ -1,4 +1,4 @@
--- A tally in code, file by file. Assumes nothing.
+-- A tally in code, file by file.
 use Rattle.std.specs.Prelude.{ℕ, ◌+◌, ◌<◌, min, ◌≡◌, true, false, cond, List, [], ◌∷◌, length, get_or, replicate}
 use Rattle.std.specs.Prelude.{Option, Some, None}
 use denote.Ref.{Bor}

@@ -1,4 +1,4 @@
--- Values of the definitions, by computation. Assumes nothing.
+-- Values of the definitions, by computation.
 use Rattle.std.specs.Prelude.{ℕ, zero, suc, ◌≤◌, ◌<◌, ◌≡◌, refl, Bool, true, false, cond, List, [], ◌∷◌, map, length}
 use Rattle.std.specs.Prelude.{get_or, replicate, set}
 use Prim.Native.String.{String, ◌++◌}
@@ -78,7 +78,7 @@ lists :
 unfolding names opened but ascii lines in_first_line list_answer is_bad_name first_below Option-elim
 lists = refl
 
--- the bundle of document 01's example, with one step by rule 8, and further steps
+-- the bundle of Specification, Bundles, with one step by rule 8, and further steps
 bundle : String → File
 bundle more = file false (ascii ("kind a b c\n2 1 0 2\n2 3 1 0\nrule left right first second\n8 0 1 0 0\n" ++ more))
 

@@ -1,4 +1,4 @@
--- `clear_from` meets its contract: of no rows, anything is kept. Assumes nothing.
+-- `clear_from` meets its contract: of no rows, anything is kept.
 use native.Mathlib.Omega.{arith}
 use Rattle.terms.specs.Row.{table_of}
 use Rattle.terms.proofs.RowsKept.{none_kept}

@@ -1,4 +1,4 @@
--- `keep_first` meets its contract: a row that stands in the table is put where it stands. Assumes nothing.
+-- `keep_first` meets its contract: a row that stands in the table is put where it stands.
 use Prim.Native.Nat.{◌*◌}
 use mathlib.Core.Path.{◌≡◌, ap, ◌∙◌}
 use native.Mathlib.Omega.{arith}

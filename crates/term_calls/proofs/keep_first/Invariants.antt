@@ -1,4 +1,4 @@
--- `keep_first` meets its contract: the table stays, and no more rows are kept than asked. Assumes nothing.
+-- `keep_first` meets its contract: the table stays, and no more rows are kept than asked.
 use Prim.Native.Nat.{◌-◌, ◌≤◌}
 use mathlib.Core.Path.{◌≡◌}
 use Rattle.term_calls.proofs.keep_first.Given as goal

@@ -1,4 +1,4 @@
--- `term_kept` meets its contract: the rows that are kept are the first of the table. Assumes nothing.
+-- `term_kept` meets its contract: the rows that are kept are the first of the table.
 use mathlib.Core.Path.{sym, ap}
 use native.Mathlib.Omega.{arith}
 use Rattle.calls.proofs.TermJudged.{term_accepted}

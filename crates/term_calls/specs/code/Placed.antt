@@ -1,4 +1,4 @@
--- What term calls on lent rows promise. Assumes nothing.
+-- What term calls on lent rows promise.
 use Rattle.std.specs.Prelude.{ℕ, ◌+◌, ◌*◌, ◌≡◌, cond, List}
 use Rattle.std.proofs.lemmas.List.Edits.{sets}
 use Rattle.terms.specs.Row.{Row, row_width, row_numbers}

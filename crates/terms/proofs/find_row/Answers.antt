@@ -1,4 +1,4 @@
--- `find_row` meets its contract: the first row that passes the test is the first that is the row. Assumes nothing.
+-- `find_row` meets its contract: the first row that passes the test is the first that is the row.
 use Rattle.std.proofs.Common.{◌≡◌, rules, position}
 use Rattle.std.proofs.Common.{tests, ℕ, List}
 use Rattle.std.proofs.lemmas.Iterator.{YieldsList-from_slice}

@@ -1,4 +1,4 @@
--- What is kept of the rows of a table while more are put. Assumes nothing.
+-- What is kept of the rows of a table while more are put.
 use Rattle.std.specs.Prelude.{ℕ, ◌+◌, ◌*◌, ◌%◌, ◌≡◌, Bool, false, List, length, get_or, take}
 use Rattle.terms.specs.Row.{Row, row_width, table_of, max_rows, find}
 use Rattle.terms.specs.Nesting.{nestings}

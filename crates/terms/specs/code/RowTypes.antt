@@ -1,4 +1,4 @@
--- The code's rows, fields and results of searches as the definitions have them. Assumes nothing.
+-- The code's rows, fields and results of searches as the definitions have them.
 use Rattle.std.specs.Prelude.{ℕ, ◌<◌, ◌≤◌, ◌≡◌, List, length, Option, Some, None}
 use Rattle.common.specs.declared.row_kind.RowKind.{RowKind}
 use Rattle.common.specs.code.Numbers.{row_number}

@@ -1,4 +1,4 @@
--- Values of the definitions, by computation. Assumes nothing.
+-- Values of the definitions, by computation.
 use Rattle.std.specs.Prelude.{ℕ, zero, suc, refl, true, false, List, [], ◌∷◌, ◌++◌, map}
 use Rattle.common.specs.values.Expected.{◌is◌, AllRight}
 use Rattle.xpath.specs.Term.{Void, Root, AxisStep, Union, Composition, Filter, True, False, Not, And, Or, In}

@@ -1,5 +1,5 @@
 -- The functions that read an expression meet their contracts: what each reads is what the laws of StepLaws, PathLaws,
--- OperandLaws and ExpressionLaws say. Assumes nothing.
+-- OperandLaws and ExpressionLaws say.
 use mathlib.Core.Path.{refl, sym, ◌∙◌}
 use mathlib.Core.Bool.{true, false}
 use borrow.Author.Clash.{clash}

@@ -1,4 +1,4 @@
--- What falls from call to call of the functions that read an expression, and what their loops keep. Assumes nothing.
+-- What falls from call to call of the functions that read an expression, and what their loops keep.
 use mathlib.Core.Bool.{true}
 use Prim.Native.Nat.{◌+◌, ◌-◌, ◌*◌}
 use lib.ListN.{length}

@@ -1,4 +1,4 @@
--- `read_in` meets its contract: one law for each answer. Assumes nothing.
+-- `read_in` meets its contract: one law for each answer.
 use native.Mathlib.Omega.{arith}
 use borrow.Author.Tests.{not-true, not-false}
 use Rattle.common.proofs.Errors.{err_is}

@@ -1,4 +1,4 @@
--- `read_text` meets its contract: a refused text leaves the table that was given. Assumes nothing.
+-- `read_text` meets its contract: a refused text leaves the table that was given.
 use native.Mathlib.Omega.{arith}
 use borrow.Author.Rules.{rules}
 use Rattle.terms.specs.Row.{table_of}

@@ -1,5 +1,5 @@
 -- What the readers promise: a run of the grammar's reader from one place is one from another, and the rows, the
--- nesting and the first unlisted name are those of the tree that was read. Assumes nothing.
+-- nesting and the first unlisted name are those of the tree that was read.
 use Rattle.std.specs.Prelude.{ℕ, suc, ◌+◌, ◌-◌, ◌<◌, ◌≤◌, max, ◌≡◌, true, false, List, [], ◌∷◌, ◌++◌, eqb}
 use Rattle.std.specs.Prelude.{length, drop, Result, Ok, Err}
 use Rattle.std.proofs.Math.Option.{Option, none, some}

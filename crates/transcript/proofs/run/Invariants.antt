@@ -1,4 +1,4 @@
--- `run` meets its contract: the line that ends it is the first not taken of those that are left. Assumes nothing.
+-- `run` meets its contract: the line that ends it is the first not taken of those that are left.
 use Prim.Native.Nat.{◌+◌}
 use mathlib.Core.Path.{◌≡◌}
 use lib.ListN.{length, drop}

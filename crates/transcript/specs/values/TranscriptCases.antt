@@ -1,4 +1,4 @@
--- The lines that end scripts, by computation. Assumes nothing.
+-- The lines that end scripts, by computation.
 use Rattle.std.specs.Prelude.{ℕ, refl, [], ◌∷◌}
 use Prim.Native.String.{String}
 use Rattle.std.proofs.Math.Option.{Option-elim}

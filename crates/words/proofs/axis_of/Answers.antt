@@ -1,4 +1,4 @@
--- `axis_of` meets its contract. Assumes nothing.
+-- `axis_of` meets its contract.
 use mathlib.Core.Path.{refl, ap, ◌∙◌}
 use Rattle.std.specs.Prelude.{option_map}
 use Rattle.common.specs.code.Numbers.{axis_number}

@@ -1,4 +1,4 @@
--- `find` meets its contract. Assumes nothing.
+-- `find` meets its contract.
 use borrow.Author.Tests.{tests}
 use Rattle.std.proofs.Common.{rules}
 use Rattle.std.proofs.lemmas.Iterator.{YieldsList-from_slice, first_from_find}

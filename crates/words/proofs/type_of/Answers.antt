@@ -1,4 +1,4 @@
--- `type_of` meets its contract. Assumes nothing.
+-- `type_of` meets its contract.
 use mathlib.Core.Path.{refl, ap, ◌∙◌}
 use Rattle.std.specs.Prelude.{option_map}
 use Rattle.common.specs.code.Numbers.{test_number}

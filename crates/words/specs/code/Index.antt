@@ -1,4 +1,4 @@
--- What the functions on the index of the lent list promise. Assumes nothing.
+-- What the functions on the index of the lent list promise.
 use Rattle.std.specs.Prelude.{ℕ, ◌+◌, ◌*◌, ◌%◌, ◌<◌, ◌≤◌, ◌≡◌, Bool, true, cond, List, [], ◌∷◌, eqb}
 use Rattle.std.specs.Prelude.{length, get_or, drop}
 use Rattle.lines.specs.Line.{newline, lines}

@@ -1,4 +1,4 @@
--- What the functions on words and on the lent list of names promise. Assumes nothing.
+-- What the functions on words and on the lent list of names promise.
 use Rattle.std.specs.Prelude.{ℕ, zero, suc, ◌+◌, ◌≤◌, ◌≡◌, Bool, true, false, cond, List, [], ◌∷◌, leb, length, drop}
 use Rattle.std.specs.Borrow.{Bor}
 use Rattle.std.specs.Prelude.{Option as Maybe, Some, None}

@@ -1,4 +1,4 @@
--- What the parts of the check of columns promise each other. Assumes nothing.
+-- What the parts of the check of columns promise each other.
 use Rattle.std.specs.Prelude.{ℕ, suc, ◌≡◌, ◌-◌, ◌≤◌, Bool, true, ◌||◌, ◌&&◌, List, eqb, length}
 use Rattle.common.specs.Bounded.{all_below}
 use Rattle.common.specs.NodeKinds.{element_kind, attribute_kind}

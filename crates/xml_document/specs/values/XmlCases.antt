@@ -1,4 +1,4 @@
--- Documents that XML can have, and some that it can't. Assumes nothing.
+-- Documents that XML can have, and some that it can't.
 use Rattle.std.specs.Prelude.{◌≡◌, ◌-◌, refl, true, false, [], ◌∷◌, length}
 use Rattle.common.specs.Bounded.{all_below, sum_below}
 use Rattle.xpath.specs.Document.{Document, node, root_node, kind_at, parent_at, name_at, is_child, climb_meets}

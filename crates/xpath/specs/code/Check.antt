@@ -1,4 +1,4 @@
--- What the document check and the ancestor test give. Assumes nothing.
+-- What the document check and the ancestor test give.
 use Rattle.std.specs.Prelude.{ℕ, zero, suc, ◌≡◌, Bool, ◌||◌, List, eqb, length, set}
 use Rattle.std.specs.Prelude.{Result, Ok, Err, IfOk, IfNone}
 use Rattle.std.specs.Prelude as code

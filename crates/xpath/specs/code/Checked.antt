@@ -1,4 +1,4 @@
--- Documents that were checked. Assumes nothing.
+-- Documents that were checked.
 use Rattle.xpath.specs.Document.{Document, document_of}
 use Rattle.xpath.specs.declared.checked.Checked.{Checked}
 

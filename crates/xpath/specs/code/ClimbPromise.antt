@@ -1,4 +1,4 @@
--- What the ancestor test that the check of a document runs counts and answers, by its contract. Assumes nothing.
+-- What the ancestor test that the check of a document runs counts and answers, by its contract.
 use Rattle.std.specs.Prelude.{ℕ, ◌<◌, ◌≡◌, List, T, length}
 use Rattle.xpath.specs.Document.{document_of, is_ancestor, well_formed}
 use Rattle.xpath.specs.Climb.{ClimbEnds, Least}

@@ -1,4 +1,4 @@
--- Where the subtrees of a document end. Assumes nothing.
+-- Where the subtrees of a document end.
 use Rattle.std.specs.Prelude.{ℕ, ◌≤◌, ◌<◌, ◌≡◌, ◌&&◌, List, T, ltb, length, get_or}
 use Rattle.xpath.specs.Document.{Document, is_ancestor, well_formed, max_nodes}
 

@@ -1,4 +1,4 @@
--- The code's nodes as the definitions have them. Assumes nothing.
+-- The code's nodes as the definitions have them.
 use Rattle.std.specs.Prelude.{ℕ, List, get_or}
 use Rattle.xpath.specs.Document.{Node, node}
 use Rattle.xpath.specs.declared.document.Node.{Node as CodeNode}

@@ -1,4 +1,4 @@
--- What the code's tests of steps select. Assumes nothing.
+-- What the code's tests of steps select.
 use Rattle.std.specs.Prelude.{ℕ, ◌≡◌, Bool, true, false, ◌&&◌, eqb, Option, Some, None}
 use Rattle.common.specs.code.Numbers.{kind_number}
 use Rattle.xpath.specs.Document.{Document, kind_at, name_at}

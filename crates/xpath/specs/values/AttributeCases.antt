@@ -1,4 +1,4 @@
--- What the axes and the tests select on a document with attributes. Assumes nothing.
+-- What the axes and the tests select on a document with attributes.
 use Rattle.std.specs.Prelude.{◌≡◌, refl, true, [], ◌∷◌}
 use Rattle.common.specs.Bounded.{any_below, all_below, list_below}
 use Rattle.xpath.specs.Document.{Document, node, root_node, kind_at, parent_at, name_at, is_child, climb_meets}

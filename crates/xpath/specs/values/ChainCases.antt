@@ -1,4 +1,4 @@
--- Which paths are chains; visits that meet the bound, and visits of other paths that pass it. Assumes nothing.
+-- Which paths are chains; visits that meet the bound, and visits of other paths that pass it.
 use Rattle.std.specs.Prelude.{ℕ, suc, ◌+◌, ◌≤◌, ◌≡◌, refl, Bool, true, false, ◌&&◌, [], ◌∷◌, T, length}
 use Rattle.std.proofs.Common.{subst, arith}
 use Rattle.std.proofs.Math.Facts.{yes_and, and_yes}

@@ -1,4 +1,4 @@
--- The ancestor test on a document, and beside 01's climb on lent numbers that are no document. Assumes nothing.
+-- The ancestor test on a document, and beside the climb to the root on lent numbers that are no document.
 use Rattle.std.specs.Prelude.{ℕ, ◌<◌, ◌≡◌, refl, true, false, List, [], ◌∷◌, T, length}
 use Rattle.std.proofs.Math.Option.{none, some, Option-elim}
 use Rattle.common.specs.Bounded.{all_below, first_below}

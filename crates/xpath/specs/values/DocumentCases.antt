@@ -1,4 +1,4 @@
--- Documents that calls take, and documents that they refuse with the value of the refusal. Assumes nothing.
+-- Documents that calls take, and documents that they refuse with the value of the refusal.
 use Rattle.std.specs.Prelude.{ℕ, zero, suc, refl, List, [], ◌∷◌, ◌++◌}
 use Rattle.std.proofs.Math.Option.{none, some, Option-elim}
 use Rattle.common.specs.Bounded.{first_below}

@@ -1,4 +1,4 @@
--- Documents have no limit but that of the calls: there is a well-formed one of each size from 1. Assumes nothing.
+-- Documents have no limit but that of the calls: there is a well-formed one of each size from 1.
 use Rattle.std.specs.Prelude.{ℕ, zero, suc, ◌+◌, ◌≤◌, ◌<◌, ◌≡◌, refl, true, ◌||◌, ◌∷◌, T, leb, eqb, length, get_or}
 use Rattle.std.proofs.Common.{ap, arith, ne_eqb}
 use Rattle.std.proofs.Math.Facts.{yes_and, yes_leb}

@@ -1,4 +1,4 @@
--- The log cases of document 01, together as one list. Assumes nothing.
+-- The log cases (Specification, Log cases), together as one list.
 use Rattle.std.specs.Prelude.{ℕ, ◌≡◌, refl, List, [], ◌∷◌}
 use Rattle.std.proofs.Math.Option.{none, Option-elim}
 use Rattle.common.specs.Bounded.{any_below, all_below, sum_below, list_below, first_below}
@@ -47,7 +47,7 @@ unfolding document_refusal lent_rows bad_row first_below Option-elim document_of
     is_child climb_meets is_ancestor
 log_accepted = refl
 
--- the cases in document 01's order; the visits stand as a list of one number
+-- the cases in that section's order; the visits stand as a list of one number
 pub log_cases :
     AllRight
     (nodes log_document (descendant :: mark) 0 is (2 ∷ 6 ∷ [])

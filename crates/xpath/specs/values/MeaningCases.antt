@@ -1,4 +1,4 @@
--- What paths select and where qualifiers hold on one document that tells the axes and the tests apart. Assumes nothing.
+-- What paths select and where qualifiers hold on one document that tells the axes and the tests apart.
 use Rattle.std.specs.Prelude.{◌≡◌, refl, true, false, [], ◌∷◌}
 use Rattle.common.specs.Bounded.{any_below, all_below, list_below}
 use Rattle.xpath.specs.Document.{Document, node, root_node, kind_at, parent_at, name_at, is_child, climb_meets}

@@ -1,4 +1,4 @@
--- A node's name: what a step selects of the node and of others, by computation. Assumes nothing.
+-- A node's name: what a step selects of the node and of others, by computation.
 use Rattle.std.specs.Prelude.{ℕ, ◌≡◌, refl, [], ◌∷◌, set}
 use Rattle.common.specs.Bounded.{any_below, list_below}
 use Rattle.xpath.specs.Document.{Document, node, kind_at, parent_at, name_at, is_child, climb_meets, is_ancestor}

@@ -1,4 +1,4 @@
--- A short notation for steps of paths. Assumes nothing.
+-- A short notation for steps of paths.
 use Rattle.std.specs.Prelude.{ℕ}
 use Rattle.common.specs.NodeTests.{name_test, node_test}
 use Rattle.xpath.specs.Term.{Path, AxisStep}

@@ -1,4 +1,4 @@
--- What the tests select on a document whose instructions have targets. Assumes nothing.
+-- What the tests select on a document whose instructions have targets.
 use Rattle.std.specs.Prelude.{ℕ, ◌≡◌, refl, true, [], ◌∷◌, set}
 use Rattle.common.specs.Bounded.{any_below, all_below, list_below}
 use Rattle.xpath.specs.Document.{Document, node, root_node, kind_at, parent_at, name_at, is_child, climb_meets}

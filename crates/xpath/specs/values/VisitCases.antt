@@ -1,4 +1,4 @@
--- The visits of each kind of term, with operands that tell a wrong cost from the right one. Assumes nothing.
+-- The visits of each kind of term, with operands that tell a wrong cost from the right one.
 use Rattle.std.specs.Prelude.{refl, [], ◌∷◌}
 use Rattle.common.specs.Bounded.{any_below, all_below, sum_below}
 use Rattle.xpath.specs.Document.{kind_at, parent_at, name_at, is_child, climb_meets, is_ancestor, are_siblings}

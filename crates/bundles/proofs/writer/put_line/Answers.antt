@@ -1,4 +1,4 @@
--- `put_line` meets its contract: the line of a term or a step is that of its numbers. Assumes nothing.
+-- `put_line` meets its contract: the line of a term or a step is that of its numbers.
 use mathlib.Core.List.{[], ◌∷◌}
 use native.Mathlib.Omega.{arith}
 use lib.ListN.{length-append}

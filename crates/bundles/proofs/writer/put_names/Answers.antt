@@ -1,4 +1,4 @@
--- `put_names` meets its contract: the names, and a byte behind them. Assumes nothing.
+-- `put_names` meets its contract: the names, and a byte behind them.
 use Rattle.bundles.proofs.Putting.{put_both}
 use Rattle.bundles.proofs.writer.put_names.Goals as goal
 

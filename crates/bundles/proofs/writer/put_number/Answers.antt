@@ -1,4 +1,4 @@
--- `put_number` meets its contract: the library's text of a number is the definition's. Assumes nothing.
+-- `put_number` meets its contract: the library's text of a number is the definition's.
 use mathlib.Core.Path.{sym, ap, ◌∙◌}
 use native.Mathlib.Omega.{arith}
 use lib.ListN.{length}

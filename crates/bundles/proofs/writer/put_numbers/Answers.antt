@@ -1,4 +1,4 @@
--- `put_numbers` meets its contract: what is left of the line makes the whole with what is put. Assumes nothing.
+-- `put_numbers` meets its contract: what is left of the line makes the whole with what is put.
 use native.Mathlib.Omega.{arith}
 use Rattle.bundles.proofs.Putting.{whole_line, all_rest, number_room, number_put, numbers_done, put_keeps}
 use Rattle.bundles.proofs.writer.put_numbers.Goals as goal

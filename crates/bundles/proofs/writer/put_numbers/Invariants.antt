@@ -1,4 +1,4 @@
--- `put_numbers` meets its contract: what is left of the line makes the whole with what is put. Assumes nothing.
+-- `put_numbers` meets its contract: what is left of the line makes the whole with what is put.
 use lib.ListN.{drop}
 use Rattle.lines.specs.Written.{line_text}
 use Rattle.bundles.proofs.Putting.{Rest, rest_of_line}

@@ -1,4 +1,4 @@
--- `put_text` meets its contract. Assumes nothing.
+-- `put_text` meets its contract.
 use mathlib.Core.Path.{◌≡◌}
 use Prim.Native.Nat.{◌+◌, ◌-◌}
 use native.Mathlib.Omega.{arith}

@@ -1,4 +1,4 @@
--- `claim_in` meets its contract: the bundle or either selector may be refused, and then the claim. Assumes nothing.
+-- `claim_in` meets its contract: the bundle or either selector may be refused, and then the claim.
 use Rattle.common.proofs.Errors.{err_is}
 use Rattle.exports.proofs.Judged.{bundle_refused, old_refused, new_refused, claim_told}
 use Rattle.exports.proofs.claim.claim_in.Goals as goal

@@ -1,4 +1,4 @@
--- `select_text` meets its contract. Assumes nothing.
+-- `select_text` meets its contract.
 use Rattle.common.proofs.Errors.{err_is}
 use Rattle.exports.proofs.Judged.{select_refused, select_accepted}
 use Rattle.exports.proofs.select.select_text.Goals as goal

@@ -1,4 +1,4 @@
--- `Filed::command` meets its contract, word by word. Assumes nothing.
+-- `Filed::command` meets its contract, word by word.
 use mathlib.Core.Path.{sym, ap}
 use Rattle.filing.specs.Filing.{line_number}
 use Rattle.filing.proofs.CallLaws.{call_done, done_by}

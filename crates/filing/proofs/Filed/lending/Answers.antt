@@ -1,4 +1,4 @@
--- `Filed::lending` meets its contract. Assumes nothing.
+-- `Filed::lending` meets its contract.
 use Rattle.filing.proofs.CallLaws.{lent, not_lent}
 use Rattle.filing.proofs.Filed.lending.Goals as goal
 

@@ -1,4 +1,4 @@
--- `Filed::line` meets its contract. Assumes nothing.
+-- `Filed::line` meets its contract.
 use mathlib.Core.Path.{subst}
 use Rattle.common.proofs.Results.{none_by_ok_or}
 use Rattle.common.specs.declared.refusal.Refusal.TheVariants as refusals

@@ -1,4 +1,4 @@
--- `Filed::text` meets its contract. Assumes nothing.
+-- `Filed::text` meets its contract.
 use mathlib.Core.Path.{sym}
 use Prim.Native.Nat.{ℕ}
 use native.Mathlib.Omega.{arith}

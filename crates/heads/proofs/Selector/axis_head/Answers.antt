@@ -1,4 +1,4 @@
--- `axis_head` meets its contract. Assumes nothing.
+-- `axis_head` meets its contract.
 use mathlib.Core.Path.{sym, ◌∙◌}
 use Rattle.common.proofs.Errors.{err_is}
 use Rattle.common.proofs.Results.{none_by_ok_or, some_by_ok_or}

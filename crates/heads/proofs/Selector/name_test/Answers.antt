@@ -1,4 +1,4 @@
--- `name_test` meets its contract. Assumes nothing.
+-- `name_test` meets its contract.
 use mathlib.Core.Path.{sym, ◌∙◌}
 use Rattle.std.proofs.Common.{rules, tests}
 use Rattle.heads.proofs.Headed.{name_plain, name_call, name_type, type_none, type_some}

@@ -1,4 +1,4 @@
--- `named_head` meets its contract. Assumes nothing.
+-- `named_head` meets its contract.
 use Rattle.heads.proofs.Headed.{named_some, named_none}
 use Rattle.heads.proofs.Selector.named_head.Goals as goal
 

@@ -1,4 +1,4 @@
--- `read_head` meets its contract. Assumes nothing.
+-- `read_head` meets its contract.
 use mathlib.Core.Path.{sym, ◌∙◌}
 use borrow.Author.Tests.{tests}
 use Rattle.std.proofs.Common.{rules}

@@ -1,4 +1,4 @@
--- `target_head` meets its contract. Assumes nothing.
+-- `target_head` meets its contract.
 use mathlib.Core.Path.{sym, ◌∙◌}
 use Prim.Native.Nat.{◌+◌}
 use borrow.Author.Tests.{tests}

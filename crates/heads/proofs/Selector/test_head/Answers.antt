@@ -1,4 +1,4 @@
--- `test_head` meets its contract. Assumes nothing.
+-- `test_head` meets its contract.
 use mathlib.Core.Path.{sym, ◌∙◌}
 use native.Mathlib.Omega.{arith}
 use borrow.Author.Tests.{tests}

@@ -1,4 +1,4 @@
--- `type_head` meets its contract. Assumes nothing.
+-- `type_head` meets its contract.
 use mathlib.Core.Path.{◌≡◌, sym, subst, ◌∙◌}
 use mathlib.Core.Bool.{true, not, false≢true}
 use denote.Enum.Bare.{sameb, same_true}

@@ -1,4 +1,4 @@
--- `is_candidate` meets its contract. Assumes nothing.
+-- `is_candidate` meets its contract.
 use Rattle.std.proofs.Common.{◌≡◌, ◌∙◌, ℕ, Bool, true, false, not, cond, refl, sym, ◌&&◌, eqb, get_or}
 use mathlib.Core.Bool.{beq}
 use denote.Enum.Bare.{sameb}

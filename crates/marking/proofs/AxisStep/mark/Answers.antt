@@ -1,4 +1,4 @@
--- `mark` meets its contract, axis by axis. Assumes nothing.
+-- `mark` meets its contract, axis by axis.
 use Rattle.std.proofs.Common.{true, refl, arith}
 use mathlib.Core.Logic.{inl, inr}
 use Rattle.xpath.proofs.Tree.{parent_smaller}

@@ -1,4 +1,4 @@
--- `mark_ancestors` meets its contract: the climb goes from each ancestor to the next. Assumes nothing.
+-- `mark_ancestors` meets its contract: the climb goes from each ancestor to the next.
 use Rattle.std.proofs.Common.{arith}
 use Rattle.marking.proofs.Walks.{ancestors_start, ancestors_at, ancestors_less, ancestors_within, ancestors_on}
 use Rattle.marking.proofs.Walks.{ancestors_end}

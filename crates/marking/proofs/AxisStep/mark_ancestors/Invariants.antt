@@ -1,4 +1,4 @@
--- `mark_ancestors` meets its contract: the climb goes from each ancestor to the next. Assumes nothing.
+-- `mark_ancestors` meets its contract: the climb goes from each ancestor to the next.
 use Rattle.xpath.specs.code.Checked.{doc}
 use Rattle.xpath.specs.code.Tests.{picks}
 use Rattle.marking.proofs.Walks.{AncestorsFrom}

@@ -1,4 +1,4 @@
--- `mark_children` meets its contract: the end of a child's subtree is the next child. Assumes nothing.
+-- `mark_children` meets its contract: the end of a child's subtree is the next child.
 use Rattle.std.proofs.Common.{sym, ◌∙◌, arith}
 use Rattle.marking.proofs.Walks.{at_child, children_start}
 use Rattle.marking.proofs.AxisStep.mark_children.Goals as goal

@@ -1,4 +1,4 @@
--- `mark_children` meets its contract: the end of a child's subtree is the next child. Assumes nothing.
+-- `mark_children` meets its contract: the end of a child's subtree is the next child.
 use Rattle.std.proofs.Common.{◌-◌, get_or}
 use Rattle.common.specs.code.Numbers.{axis_number}
 use Rattle.xpath.specs.code.Checked.{doc}

@@ -1,4 +1,4 @@
--- `mark_parent` meets its contract. Assumes nothing.
+-- `mark_parent` meets its contract.
 use Rattle.std.proofs.Common.{arith}
 use native.Mathlib.Nat.{pos_of_ne-zero}
 use Rattle.xpath.proofs.Tree.{parent_smaller}

@@ -1,4 +1,4 @@
--- `mark_preceding` meets its contract. Assumes nothing.
+-- `mark_preceding` meets its contract.
 use Rattle.std.proofs.Common.{◌&&◌, leb, length, get_or}
 use Rattle.common.specs.code.Numbers.{axis_number}
 use Rattle.xpath.specs.code.Checked.{doc}

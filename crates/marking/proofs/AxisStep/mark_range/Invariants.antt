@@ -1,4 +1,4 @@
--- `mark_range` meets its contract. Assumes nothing.
+-- `mark_range` meets its contract.
 use Rattle.std.proofs.Common.{length}
 use Rattle.common.specs.code.Numbers.{axis_number}
 use Rattle.xpath.specs.code.Checked.{doc}

@@ -1,4 +1,4 @@
--- The rule's place in its part of the table. Assumes nothing.
+-- The rule's place in its part of the table.
 use Prim.Native.Nat.{◌-◌}
 use mathlib.Core.Path.{◌∙◌, ap}
 use mathlib.Core.List.{[]}

@@ -1,4 +1,4 @@
--- The constants are this part of the rule table: antt computes it. Assumes nothing.
+-- The constants are this part of the rule table: antt computes it.
 use mathlib.Core.Path.{refl}
 use Rattle.rules.specs.RuleTable.{rules}
 use Rattle.matching.specs.code.Pattern.{path_letter_number, qualifier_letter_number, axis_letter_number}

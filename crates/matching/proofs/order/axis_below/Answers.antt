@@ -1,4 +1,4 @@
--- What the test over the whole table says of the pair that is sought. Assumes nothing.
+-- What the test over the whole table says of the pair that is sought.
 use mathlib.Core.Path.{◌∙◌}
 use Rattle.rules.specs.Order.{axis_pairs, axis_below}
 use Rattle.matching.proofs.AxisOrder.{found_alike}

@@ -1,4 +1,4 @@
--- The test over the whole table: antt computes it. Assumes nothing.
+-- The test over the whole table: antt computes it.
 use mathlib.Core.Path.{refl}
 use Rattle.common.specs.Lists.{all_of}
 use Rattle.rules.specs.Order.{axis_pairs, is_pair}

@@ -1,4 +1,4 @@
--- Two numbers are a pair of the table just where both of them are. Assumes nothing.
+-- Two numbers are a pair of the table just where both of them are.
 use mathlib.Core.Path.{◌∙◌}
 use Rattle.matching.proofs.AxisOrder.{pair_found}
 use Rattle.matching.proofs.order.is_pair.Goals as goal

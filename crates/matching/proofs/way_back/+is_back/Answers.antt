@@ -1,4 +1,4 @@
--- `is_back` meets its contract: a measure, the row that is reversed, and the ways of RowWayBack.antt. Assumes nothing.
+-- `is_back` meets its contract: a measure, the row that is reversed, and the ways of RowWayBack.antt.
 use Prim.Native.Nat.{ℕ}
 use native.Mathlib.Omega.{arith}
 use mathlib.Core.Path.{◌≡◌}

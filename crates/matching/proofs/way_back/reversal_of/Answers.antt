@@ -1,4 +1,4 @@
--- By the kind of the row that is reversed. Assumes nothing.
+-- By the kind of the row that is reversed.
 use native.Mathlib.Omega.{arith}
 use Rattle.std.proofs.lemmas.Grind.{common_steps}
 use Rattle.matching.specs.code.RowWayBack.{is_back_by}

@@ -1,5 +1,5 @@
 -- `order_fields` and `order_rows` meet their contracts: a measure, the row of the left, and the ways of Rows.antt and
--- of Compared.antt. Assumes nothing.
+-- of Compared.antt.
 use Prim.Native.Nat.{◌+◌, ◌*◌}
 use Rattle.ordering.proofs.Tables.+order_fields_order_rows.Given as goal
 

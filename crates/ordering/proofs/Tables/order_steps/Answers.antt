@@ -1,4 +1,4 @@
--- `order_steps` meets its contract: three comparisons, one after the other. Assumes nothing.
+-- `order_steps` meets its contract: three comparisons, one after the other.
 use mathlib.Core.Path.{refl, sym, ◌∙◌}
 use Rattle.terms.specs.Row.{table_of}
 use Rattle.calls.specs.code.Answers.{step_of}

@@ -1,4 +1,4 @@
--- `Records::all_kept` meets its contract. Assumes nothing.
+-- `Records::all_kept` meets its contract.
 use mathlib.Core.Path.{◌∙◌}
 use mathlib.Core.Bool.{◌&&◌}
 use lib.Dec.{ltb, leb}

@@ -1,4 +1,4 @@
--- `Records::current` meets its contract. Assumes nothing.
+-- `Records::current` meets its contract.
 use mathlib.Core.Path.{sym, ap, ◌∙◌}
 use borrow.Author.Rules.{rules}
 use borrow.Author.Tests.{tests}

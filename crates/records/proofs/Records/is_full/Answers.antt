@@ -1,4 +1,4 @@
--- `Records::is_full` meets its contract. Assumes nothing.
+-- `Records::is_full` meets its contract.
 use mathlib.Core.Path.{◌≡◌, sym, ap, ◌∙◌}
 use native.Mathlib.Omega.{arith}
 use lib.Dec.{leb}

@@ -1,4 +1,4 @@
--- `Records::judge` meets its contract. Assumes nothing.
+-- `Records::judge` meets its contract.
 use mathlib.Core.Path.{sym, ◌∙◌}
 use native.Mathlib.Omega.{arith}
 use borrow.Author.Tests.{not-true, not-false}

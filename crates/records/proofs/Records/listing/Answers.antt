@@ -1,4 +1,4 @@
--- `Records::listing` meets its contract: all are released. Assumes nothing.
+-- `Records::listing` meets its contract: all are released.
 use Prim.Native.Nat.{◌≤◌}
 use mathlib.Core.Path.{ap, ◌∙◌}
 use native.Mathlib.Omega.{arith}

@@ -1,4 +1,4 @@
--- `Records::record` meets its contract: the record is put just where it is accepted. Assumes nothing.
+-- `Records::record` meets its contract: the record is put just where it is accepted.
 use mathlib.Core.Path.{◌≡◌, refl, sym, ap, ◌∙◌}
 use native.Mathlib.Omega.{arith}
 use lib.ListN.{length}

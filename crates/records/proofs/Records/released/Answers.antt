@@ -1,5 +1,4 @@
 -- `Records::released` meets its contract. The loop's invariant: what is released before this place is shown.
--- Assumes nothing.
 use Prim.Native.Nat.{ℕ, ◌<◌}
 use mathlib.Core.Path.{◌≡◌, sym, ap, ◌∙◌}
 use native.Mathlib.Omega.{arith}

@@ -1,5 +1,4 @@
 -- `Records::released` meets its contract. The loop's invariant: what is released before this place is shown.
--- Assumes nothing.
 use lib.ListN.{length}
 use Rattle.records.specs.code.Held.{records_in}
 use Rattle.records.proofs.Released.{Shown}

@@ -1,4 +1,4 @@
--- `Records::row_of` meets its contract. Assumes nothing.
+-- `Records::row_of` meets its contract.
 use mathlib.Core.Bool.{◌&&◌}
 use lib.Dec.{eqb}
 use borrow.Author.Rules.{rules}

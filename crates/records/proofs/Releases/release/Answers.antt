@@ -1,4 +1,4 @@
--- `Releases::release` meets its contract. Assumes nothing.
+-- `Releases::release` meets its contract.
 use Prim.Native.Nat.{◌-◌}
 use mathlib.Core.Path.{◌≡◌, sym, ap, ◌∙◌}
 use native.Mathlib.Omega.{arith}

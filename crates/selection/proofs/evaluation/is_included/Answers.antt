@@ -1,4 +1,4 @@
--- `selection::is_included` meets its contract: the pair of a turn is that of the next node. Assumes nothing.
+-- `selection::is_included` meets its contract: the pair of a turn is that of the next node.
 use Prim.Native.Nat.{◌<◌}
 use mathlib.Core.Path.{◌≡◌, refl, sym, ◌∙◌}
 use native.Mathlib.Omega.{arith}

@@ -1,4 +1,4 @@
--- `selection::is_included` meets its contract. Assumes nothing.
+-- `selection::is_included` meets its contract.
 use Prim.Native.Nat.{ℕ}
 use mathlib.Core.Path.{◌≡◌}
 use mathlib.Core.Bool.{Bool, not, ◌||◌}

@@ -1,5 +1,5 @@
 -- `read_rows` meets its contract. The loop's invariant: the reading is what is left to read from `at` on, on the rows
--- held now. Assumes nothing.
+-- held now.
 use mathlib.Core.Path.{◌≡◌, refl, sym, ap, ◌∙◌}
 use native.Mathlib.Omega.{arith}
 use Prim.Native.Nat.{◌+◌, ◌≤◌}

@@ -1,5 +1,5 @@
 -- `read_rows` meets its contract. The loop's invariant: the reading is what is left to read from `at` on, on the rows
--- held now. Assumes nothing.
+-- held now.
 use Prim.Native.Nat.{◌-◌, ◌≤◌}
 use mathlib.Core.Path.{◌≡◌}
 use lib.ListN.{length, drop}

@@ -1,5 +1,5 @@
 -- `read_steps` meets its contract. The loop's invariant:
--- the reading is what is left to read from `at` on, on the steps held now, and what is noted is so. Assumes nothing.
+-- the reading is what is left to read from `at` on, on the steps held now, and what is noted is so.
 use Prim.Native.Nat.{◌*◌, ◌-◌, ◌≤◌}
 use mathlib.Core.Path.{◌≡◌}
 use lib.ListN.{length, drop}

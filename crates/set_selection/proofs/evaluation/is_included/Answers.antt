@@ -1,4 +1,4 @@
--- `is_included` meets its contract. Assumes nothing.
+-- `is_included` meets its contract.
 use Rattle.std.proofs.Common.{◌≡◌, ◌||◌, ◌&&◌, ◌+◌, ℕ, Bool, not, suc, refl, sym, ap, ◌∙◌, arith, length}
 use Rattle.common.specs.Bounded.{all_below}
 use Rattle.set_selection.specs.Sets.{marked}

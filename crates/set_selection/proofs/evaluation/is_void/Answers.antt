@@ -1,4 +1,4 @@
--- `is_void` meets its contract. Assumes nothing.
+-- `is_void` meets its contract.
 use Rattle.std.proofs.Common.{ℕ, ◌≡◌, ◌<◌, refl, sym, ap, ◌∙◌, arith}
 use mathlib.Core.Logic.{⊎_elim}
 use Rattle.common.proofs.Reflect.{le_or_lt}

@@ -1,4 +1,4 @@
--- `select_all` meets its contract. Assumes nothing.
+-- `select_all` meets its contract.
 use Rattle.std.proofs.Common.{ℕ, ◌≡◌, List, length, refl, sym, ap, ◌∙◌, arith}
 use lib.ListN.{take}
 use Rattle.std.proofs.Math.Seq.{take-length}

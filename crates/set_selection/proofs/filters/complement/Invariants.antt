@@ -1,4 +1,4 @@
--- `complement` meets its contract. Assumes nothing.
+-- `complement` meets its contract.
 use Rattle.std.proofs.Common.{ℕ, Bool, ◌≡◌, ◌&&◌, ◌||◌, not, eqb, get_or}
 use Rattle.common.specs.code.Numbers.{kind_number}
 use Rattle.set_selection.specs.Sets.{marked}

@@ -1,4 +1,4 @@
--- `keep_kind` meets its contract. Assumes nothing.
+-- `keep_kind` meets its contract.
 use Rattle.std.proofs.Common.{ℕ, Bool, ◌≡◌, ◌&&◌, ◌||◌, not, eqb, get_or}
 use Rattle.common.specs.code.Numbers.{kind_number}
 use Rattle.set_selection.specs.Sets.{marked}

@@ -1,4 +1,4 @@
--- `leave_attributes` meets its contract. Assumes nothing.
+-- `leave_attributes` meets its contract.
 use Rattle.std.proofs.Common.{ℕ, ◌≡◌, ◌<◌, ◌&&◌, not, eqb, length, arith, refl, ap, sym, ◌∙◌}
 use Rattle.set_selection.specs.Sets.{marked}
 use Rattle.set_selection.proofs.Written.{point_none, point_on, point_all}

@@ -1,4 +1,4 @@
--- `any` meets its contract. Assumes nothing.
+-- `any` meets its contract.
 use Rattle.std.proofs.Common.{◌≡◌}
 use Rattle.common.specs.Bounded.{any_below}
 use Rattle.set_selection.specs.Sets.{marked}

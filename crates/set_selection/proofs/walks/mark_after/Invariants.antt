@@ -1,4 +1,4 @@
--- `mark_after` meets its contract. Assumes nothing.
+-- `mark_after` meets its contract.
 use Rattle.std.proofs.Common.{ℕ, ◌≡◌, ◌<◌, not, eqb, ltb, leb, false, length, get_or}
 use Rattle.set_selection.specs.Sets.{marked, image, NoMarks}
 use Rattle.set_selection.specs.Walks.{is_under, is_over, is_below, is_above, is_after, is_before, is_later, is_earlier}

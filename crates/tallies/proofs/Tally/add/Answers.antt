@@ -1,4 +1,4 @@
--- `Tally::add` meets its contract. Assumes nothing.
+-- `Tally::add` meets its contract.
 use mathlib.Core.Path.{ap, ◌∙◌}
 use Rattle.tallies.specs.code.Tally.{plus}
 use Rattle.tallies.proofs.Counted.{failed_left, long_left, refused_left, file_counted}

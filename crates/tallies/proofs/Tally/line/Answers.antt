@@ -1,4 +1,4 @@
--- `Tally::line` meets its contract. Assumes nothing.
+-- `Tally::line` meets its contract.
 use Prim.Native.Nat.{◌+◌, ◌≤◌, ◌<◌}
 use mathlib.Core.Path.{◌≡◌, ap, ◌∙◌}
 use native.Mathlib.Omega.{arith}

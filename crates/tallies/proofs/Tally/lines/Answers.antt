@@ -1,4 +1,4 @@
--- `Tally::lines` meets its contract. Assumes nothing.
+-- `Tally::lines` meets its contract.
 use mathlib.Core.Path.{◌≡◌}
 use lib.ListN.{length}
 use borrow.Author.Rules.{rules}

@@ -1,4 +1,4 @@
--- `nesting_kept` meets its contract. Assumes nothing.
+-- `nesting_kept` meets its contract.
 use mathlib.Core.Path.{refl, sym}
 use native.Mathlib.Omega.{arith}
 use lib.Seq.{length-take-le}

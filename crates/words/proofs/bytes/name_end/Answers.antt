@@ -1,4 +1,4 @@
--- `name_end` meets its contract. Assumes nothing.
+-- `name_end` meets its contract.
 use mathlib.Core.Path.{refl}
 use Rattle.std.proofs.Common.{rules}
 use Rattle.grammar.specs.Bytes.{is_name, is_start}

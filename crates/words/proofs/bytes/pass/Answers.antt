@@ -1,4 +1,4 @@
--- `pass` meets its contract: the first byte that fails the test is at the first such place. Assumes nothing.
+-- `pass` meets its contract: the first byte that fails the test is at the first such place.
 use mathlib.Core.Bool.{not}
 use mathlib.Core.Path.{ap, ◌∙◌}
 use lib.ListN.{length}

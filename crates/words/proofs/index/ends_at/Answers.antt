@@ -1,4 +1,4 @@
--- `ends_at` meets its contract. Assumes nothing.
+-- `ends_at` meets its contract.
 use Rattle.std.proofs.Common.{rules}
 use Rattle.words.proofs.Indexed.{ended_get}
 use Rattle.words.proofs.index.ends_at.Goals as goal

@@ -1,4 +1,4 @@
--- `index_lines` meets its contract. Assumes nothing.
+-- `index_lines` meets its contract.
 use mathlib.Core.Path.{◌∙◌}
 use native.Mathlib.Omega.{arith}
 use lib.ListN.{length-set}

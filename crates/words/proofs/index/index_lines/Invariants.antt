@@ -1,4 +1,4 @@
--- `index_lines` meets its contract: the lines so far are indexed, and the next one begins at `at`. Assumes nothing.
+-- `index_lines` meets its contract: the lines so far are indexed, and the next one begins at `at`.
 use Prim.Native.Nat.{◌≤◌}
 use mathlib.Core.Path.{◌≡◌}
 use lib.ListN.{length}

@@ -1,4 +1,4 @@
--- `pass_line` meets its contract. Assumes nothing.
+-- `pass_line` meets its contract.
 use mathlib.Core.Bool.{true}
 use native.Mathlib.Omega.{arith}
 use Rattle.std.proofs.Common.{◌≡◌, rules, tests, drop}

@@ -1,4 +1,4 @@
--- `pass_line` meets its contract. Assumes nothing.
+-- `pass_line` meets its contract.
 use Prim.Native.Nat.{◌-◌, ◌≤◌}
 use lib.ListN.{length}
 use Rattle.words.proofs.Indexed.{LineLeft}

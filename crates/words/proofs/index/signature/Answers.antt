@@ -1,4 +1,4 @@
--- `signature` meets its contract. Assumes nothing.
+-- `signature` meets its contract.
 use mathlib.Core.Path.{◌≡◌, ◌∙◌}
 use Prim.Native.Nat.{ℕ}
 use Rattle.std.proofs.Common.{rules}

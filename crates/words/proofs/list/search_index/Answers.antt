@@ -1,4 +1,4 @@
--- `search_index` meets its contract. Assumes nothing.
+-- `search_index` meets its contract.
 use Rattle.words.proofs.Indexed.{before_none}
 use Rattle.words.proofs.list.search_index.Goals as goal
 

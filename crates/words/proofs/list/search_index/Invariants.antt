@@ -1,4 +1,4 @@
--- `search_index` meets its contract. Assumes nothing.
+-- `search_index` meets its contract.
 use Rattle.words.proofs.Indexed.{Before}
 use Rattle.words.proofs.list.search_index.Given as goal
 

@@ -1,4 +1,4 @@
--- `check_document` meets its contract, test by test in the order of the definition. Assumes nothing.
+-- `check_document` meets its contract, test by test in the order of the definition.
 use Rattle.std.proofs.Common.{◌≡◌, ◌≤◌, ◌∙◌, arith}
 use Rattle.xpath.specs.Document.{lent_rows, max_nodes}
 use Rattle.xpath.proofs.LentNumbers.{nodes_lent, rows_counted}

@@ -1,4 +1,4 @@
--- `climb_toward` meets its contract: what is left of the climb has the rest of its parents to take. Assumes nothing.
+-- `climb_toward` meets its contract: what is left of the climb has the rest of its parents to take.
 use mathlib.Core.Path.{refl}
 use mathlib.Core.Logic.{inl}
 use native.Mathlib.Omega.{arith}

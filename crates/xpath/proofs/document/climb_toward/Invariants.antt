@@ -1,4 +1,4 @@
--- `climb_toward` meets its contract: what is left of the climb has the rest of its parents to take. Assumes nothing.
+-- `climb_toward` meets its contract: what is left of the climb has the rest of its parents to take.
 use Rattle.xpath.specs.Document.{document_of}
 use Rattle.xpath.proofs.Climbing.{OnWay}
 use Rattle.xpath.proofs.document.climb_toward.Given as goal

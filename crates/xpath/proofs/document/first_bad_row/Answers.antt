@@ -1,4 +1,4 @@
--- `first_bad_row` meets its contract: the rows passed are as they must be. Assumes nothing.
+-- `first_bad_row` meets its contract: the rows passed are as they must be.
 use Rattle.std.proofs.Common.{◌≡◌, ◌∙◌, ℕ, suc, ◌-◌, ◌+◌, ◌<◌, min, List, length, sym, subst, arith}
 use Rattle.xpath.specs.Document.{document_of, row_ok_by}
 use Rattle.xpath.specs.Climb.{climb_met}

@@ -1,4 +1,4 @@
--- `first_bad_row` meets its contract: the rows passed are as they must be. Assumes nothing.
+-- `first_bad_row` meets its contract: the rows passed are as they must be.
 use Rattle.std.proofs.Common.{min, length}
 use Rattle.xpath.specs.Document.{document_of}
 use Rattle.xpath.proofs.Rows.{Passed}

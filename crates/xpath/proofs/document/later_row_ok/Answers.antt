@@ -1,4 +1,4 @@
--- `later_row_ok` meets its contract: it closes what `is_placed` closes. Assumes nothing.
+-- `later_row_ok` meets its contract: it closes what `is_placed` closes.
 use Rattle.std.proofs.Common.{add-one, arith}
 use Rattle.xpath.proofs.Rows.{placed_below, row_closed}
 use Rattle.xpath.proofs.document.later_row_ok.Goals as goal

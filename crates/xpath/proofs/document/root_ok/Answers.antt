@@ -1,4 +1,4 @@
--- `root_ok` meets its contract. Assumes nothing.
+-- `root_ok` meets its contract.
 use borrow.Author.Rules.{rules}
 use Rattle.xpath.specs.Document.{kind_at, parent_at, name_at}
 use Rattle.xpath.proofs.document.root_ok.Goals as goal

@@ -1,4 +1,4 @@
--- `Writer::append_bundle` meets its contract: four texts, one behind the other. Assumes nothing.
+-- `Writer::append_bundle` meets its contract: four texts, one behind the other.
 use mathlib.Core.Path.{◌∙◌}
 use native.Mathlib.Omega.{arith}
 use Rattle.lines.specs.Ascii.{ascii}

@@ -1,4 +1,4 @@
--- `Writer::append_steps` meets its contract: the lines left make all of them with those that are put. Assumes nothing.
+-- `Writer::append_steps` meets its contract: the lines left make all of them with those that are put.
 use mathlib.Core.Path.{◌≡◌}
 use lib.ListN.{drop}
 use Rattle.calls.specs.code.Tables.{steps_of}

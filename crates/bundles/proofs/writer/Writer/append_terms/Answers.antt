@@ -1,4 +1,4 @@
--- `Writer::append_terms` meets its contract: the lines left make all of them with those that are put. Assumes nothing.
+-- `Writer::append_terms` meets its contract: the lines left make all of them with those that are put.
 use mathlib.Core.Path.{refl, ap, ◌∙◌}
 use mathlib.Core.List.{[]}
 use native.Mathlib.Omega.{arith}

@@ -1,4 +1,4 @@
--- `check` meets its contract, in the order of the definition. Assumes nothing.
+-- `check` meets its contract, in the order of the definition.
 use Rattle.std.proofs.Common.{◌≡◌, ◌≤◌, ◌<◌, length, refl, arith}
 use mathlib.Core.Option.{none, some}
 use Rattle.documents.specs.Documents.{rows_in, most_rows}

@@ -1,4 +1,4 @@
--- `node_count` meets its contract. Assumes nothing.
+-- `node_count` meets its contract.
 use Rattle.std.proofs.Common.{arith}
 use Rattle.documents.proofs.Fields.{rows_length}
 use Rattle.documents.proofs.document.Document.node_count.Goals as goal

@@ -1,4 +1,4 @@
--- `new` meets its contract. Assumes nothing.
+-- `new` meets its contract.
 use Rattle.std.proofs.Common.{refl}
 use Rattle.documents.specs.Columns.{rows_of}
 use Rattle.documents.proofs.rows.Rows.new.Goals as goal

@@ -1,4 +1,4 @@
--- `push` meets its contract: each column has a number more. Assumes nothing.
+-- `push` meets its contract: each column has a number more.
 use Rattle.std.proofs.Common.{rules, ◌≡◌, ◌++◌, ◌∷◌, []}
 use Rattle.documents.proofs.Fields.{rows_pushed}
 use Rattle.documents.proofs.rows.Rows.push.Goals as goal

@@ -1,4 +1,4 @@
--- `climb_toward` meets its contract: it has come some parents up. Assumes nothing.
+-- `climb_toward` meets its contract: it has come some parents up.
 use Prim.Native.Nat.{ℕ}
 use Rattle.documents.specs.Checks.{listed}
 use Rattle.xpath.proofs.Climbing.{OnWay}

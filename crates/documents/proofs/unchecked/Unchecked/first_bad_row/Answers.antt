@@ -1,4 +1,4 @@
--- `first_bad_row` meets its contract: no row before is bad. Assumes nothing.
+-- `first_bad_row` meets its contract: no row before is bad.
 use Rattle.std.proofs.Common.{ℕ, ◌≡◌, ◌+◌, ◌-◌, Bool, true, false, suc, length, refl, sym, ap, subst}
 use Rattle.std.proofs.Common.{◌∙◌, arith}
 use Rattle.std.proofs.lemmas.List.{length-replicate}

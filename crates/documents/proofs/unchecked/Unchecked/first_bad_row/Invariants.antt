@@ -1,4 +1,4 @@
--- `first_bad_row` meets its contract: no row before is bad. Assumes nothing.
+-- `first_bad_row` meets its contract: no row before is bad.
 use Rattle.std.proofs.Common.{◌≡◌, length}
 use Rattle.xpath.proofs.Rows.{PassedBy}
 use Rattle.documents.specs.Checks.{listed}

@@ -1,4 +1,4 @@
--- `kind_at` meets its contract. Assumes nothing.
+-- `kind_at` meets its contract.
 use Rattle.std.proofs.Common.{◌≡◌, ◌≤◌, length, refl, sym, ◌∙◌, arith}
 use lib.ListN.{get_or-eq_default}
 use Rattle.documents.proofs.Fields.{rows_kind}

@@ -1,4 +1,4 @@
--- `later_row_ok` meets its contract: it closes what `is_placed` closes. Assumes nothing.
+-- `later_row_ok` meets its contract: it closes what `is_placed` closes.
 use Rattle.std.proofs.Common.{add-one, arith}
 use Rattle.xpath.proofs.Rows.{row_closed}
 use Rattle.documents.proofs.unchecked.Unchecked.later_row_ok.Goals as goal

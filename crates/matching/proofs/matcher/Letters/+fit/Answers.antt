@@ -1,4 +1,4 @@
--- `fit` meets its contract, by the ways of Matching.antt. Assumes nothing.
+-- `fit` meets its contract, by the ways of Matching.antt.
 use Rattle.terms.specs.Row.{table_of}
 use Rattle.common.specs.code.Numbers.{row_number}
 use Rattle.matching.specs.code.PatternTypes.{letter_number, pattern_of}

@@ -1,4 +1,4 @@
--- The letter gets its value. Assumes nothing.
+-- The letter gets its value.
 use Rattle.matching.specs.code.PatternTypes.{letter_number}
 use Rattle.matching.proofs.Matching.{bind_way}
 use Rattle.matching.proofs.matcher.Letters.bind.Goals as goal

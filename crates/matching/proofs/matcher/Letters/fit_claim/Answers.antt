@@ -1,4 +1,4 @@
--- The left row and then the right one. Assumes nothing.
+-- The left row and then the right one.
 use Rattle.terms.specs.Row.{table_of}
 use Rattle.matching.specs.code.PatternTypes.{pattern_of}
 use Rattle.matching.specs.code.RowYields.{match_claim}

@@ -1,4 +1,4 @@
--- No premise, one, two, or more. Assumes nothing.
+-- No premise, one, two, or more.
 use borrow.Author.Rules.{rules}
 use Rattle.terms.specs.Row.{table_of}
 use Rattle.matching.proofs.Matching.{no_premise, one_premise, two_premises, first_fails, more_premises}

@@ -1,4 +1,4 @@
--- Each condition is that of the definition. Assumes nothing.
+-- Each condition is that of the definition.
 use native.Mathlib.Omega.{arith}
 use Rattle.std.proofs.lemmas.Grind.{common_steps}
 use Rattle.rules.specs.Instance.{meets}

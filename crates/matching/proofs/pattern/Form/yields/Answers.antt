@@ -1,4 +1,4 @@
--- The conclusion, the premises and the conditions, one after the other. Assumes nothing.
+-- The conclusion, the premises and the conditions, one after the other.
 use mathlib.Core.Path.{◌∙◌}
 use mathlib.Core.List.{map}
 use lib.ListN.{take, length}

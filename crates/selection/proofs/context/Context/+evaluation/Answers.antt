@@ -1,4 +1,4 @@
--- The functions that evaluate a row meet their contracts. Assumes nothing.
+-- The functions that evaluate a row meet their contracts.
 use Prim.Native.Nat.{◌+◌}
 use mathlib.Core.Path.{◌≡◌, ◌∙◌, sym, refl, ap}
 use mathlib.Core.Bool.{◌&&◌, not}

@@ -1,4 +1,4 @@
--- What falls from call to call of the functions that evaluate a row, and what their loops keep. Assumes nothing.
+-- What falls from call to call of the functions that evaluate a row, and what their loops keep.
 use Prim.Native.Nat.{◌+◌, ◌*◌}
 use mathlib.Core.Bool.{◌&&◌}
 use lib.ListN.{length}

@@ -1,4 +1,4 @@
--- `selection::mark_leaf` meets its contract, kind by kind. Assumes nothing.
+-- `selection::mark_leaf` meets its contract, kind by kind.
 use native.Mathlib.Omega.{arith}
 use Rattle.terms.specs.code.RowTypes.{row_of}
 use Rattle.selection.specs.code.Parts.{leaf_path}

@@ -1,4 +1,4 @@
--- `Session::bundle_order` meets its contract: the rows and steps held are those of the views. Assumes nothing.
+-- `Session::bundle_order` meets its contract: the rows and steps held are those of the views.
 use Rattle.ordering.specs.BundleOrder.{term_steps, bundle_order}
 use Rattle.ordering.specs.OrderCall.{bundle_order_answer}
 use Rattle.session.specs.View.{view}

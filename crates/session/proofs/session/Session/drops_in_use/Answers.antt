@@ -1,4 +1,4 @@
--- `Session::drops_in_use` meets its contract: the counts of a point are those of its rows and steps. Assumes nothing.
+-- `Session::drops_in_use` meets its contract: the counts of a point are those of its rows and steps.
 use mathlib.Core.Path.{ap, ap₂, ◌∙◌}
 use mathlib.Core.Bool.{not}
 use lib.ListN.{length}

@@ -1,4 +1,4 @@
--- `Session::judge_return` meets its contract: the points held are those of the view. Assumes nothing.
+-- `Session::judge_return` meets its contract: the points held are those of the view.
 use Rattle.common.proofs.Errors.{err_is}
 use Rattle.calls.specs.Book.{answer}
 use Rattle.calls.specs.code.Answers.{refusal_answer}

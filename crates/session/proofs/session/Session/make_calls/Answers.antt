@@ -1,4 +1,4 @@
--- `Session::make_calls` meets its contract: what the lines of either table leave to be read. Assumes nothing.
+-- `Session::make_calls` meets its contract: what the lines of either table leave to be read.
 use mathlib.Core.Path.{sym, ap, ◌∙◌}
 use native.Mathlib.Omega.{arith}
 use Rattle.common.proofs.Errors.{err_is}

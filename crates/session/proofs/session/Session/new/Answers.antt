@@ -1,4 +1,4 @@
--- `Session::new` meets its contract: the rows that nothing is kept of are zeros. Assumes nothing.
+-- `Session::new` meets its contract: the rows that nothing is kept of are zeros.
 use mathlib.Core.Path.{refl}
 use Rattle.session.specs.View.{fresh_session}
 use Rattle.session.proofs.session.Session.new.Goals as goal

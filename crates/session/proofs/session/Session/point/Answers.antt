@@ -1,5 +1,4 @@
 -- `Session::point` meets its contract: the point is written, and the count grows, just where it is accepted.
--- Assumes nothing.
 use Prim.Native.Nat.{◌*◌}
 use mathlib.Core.Path.{◌≡◌, refl, ◌∙◌}
 use native.Mathlib.Omega.{arith}

@@ -1,4 +1,4 @@
--- `Session::read` meets its contract. Assumes nothing.
+-- `Session::read` meets its contract.
 use mathlib.Core.Path.{ap, ◌∙◌}
 use Rattle.session.specs.code.Parts.{refused_by}
 use Rattle.session.proofs.ReadMade.{read_met}

@@ -1,5 +1,4 @@
 -- `Session::return_to` meets its contract: the tables are cleared, and the counts set, just where the point is found.
--- Assumes nothing.
 use native.Mathlib.Omega.{arith}
 use Rattle.common.proofs.Errors.{err_is}
 use Rattle.session.specs.code.Tables.{tables_in}

@@ -1,5 +1,4 @@
 -- `Session::step` meets its contract: the step is written, and the count grows, just where the step is held.
--- Assumes nothing.
 use Prim.Native.Nat.{◌*◌, min}
 use mathlib.Core.Path.{◌≡◌, refl, sym, ap, ◌∙◌}
 use native.Mathlib.Omega.{arith}

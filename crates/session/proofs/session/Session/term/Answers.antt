@@ -1,4 +1,4 @@
--- `Session::term` meets its contract: the count grows just where the row is held. Assumes nothing.
+-- `Session::term` meets its contract: the count grows just where the row is held.
 use mathlib.Core.Path.{refl}
 use Rattle.std.specs.Prelude.{Err}
 use Rattle.common.proofs.Errors.{err_is}

@@ -1,4 +1,4 @@
--- `Session::text` meets its contract: the rows and their count are those of an accepted text. Assumes nothing.
+-- `Session::text` meets its contract: the rows and their count are those of an accepted text.
 use Rattle.std.specs.Prelude.{Err}
 use Rattle.common.proofs.Errors.{err_is}
 use Rattle.session.specs.Promises.{session}

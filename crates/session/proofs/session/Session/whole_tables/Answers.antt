@@ -1,4 +1,4 @@
--- `Session::whole_tables` meets its contract: the view has the fields' tables. Assumes nothing.
+-- `Session::whole_tables` meets its contract: the view has the fields' tables.
 use Rattle.session.proofs.session.Session.whole_tables.Goals as goal
 
 pub returns : goal.returns

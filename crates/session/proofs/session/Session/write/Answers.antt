@@ -1,4 +1,4 @@
--- `Session::write` meets its contract: the length told is held against the buffer's. Assumes nothing.
+-- `Session::write` meets its contract: the length told is held against the buffer's.
 use native.Mathlib.Omega.{arith}
 use Rattle.bundles.proofs.Tables.{few_row_numbers, few_step_numbers}
 use Rattle.session.proofs.Written.{session_tables, write_refused, write_held}

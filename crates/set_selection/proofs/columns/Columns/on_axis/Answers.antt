@@ -1,4 +1,4 @@
--- `on_axis` meets its contract. Assumes nothing.
+-- `on_axis` meets its contract.
 use Rattle.std.proofs.Common.{ℕ, Bool, ◌≡◌, ◌<◌, ◌&&◌, ◌||◌, not, eqb, List, length, get_or, refl, sym, ap, ◌∙◌, arith}
 use Rattle.xpath.specs.Axis.{on_axis}
 use Rattle.set_selection.specs.Sets.{Image, marked}

@@ -1,4 +1,4 @@
--- `root` meets its contract. Assumes nothing.
+-- `root` meets its contract.
 use Rattle.std.proofs.Common.{ℕ, ◌≡◌, ◌<◌, length, refl, sym, ◌∙◌, arith}
 use Rattle.set_selection.proofs.Images.{made}
 use Rattle.set_selection.proofs.Relations.{size}

@@ -1,4 +1,4 @@
--- `root_back` meets its contract. Assumes nothing.
+-- `root_back` meets its contract.
 use Rattle.std.proofs.Common.{ℕ, ◌≡◌, ◌<◌, length, refl, sym, ◌∙◌, arith}
 use Rattle.set_selection.proofs.Relations.{size}
 use Rattle.set_selection.proofs.Images.{ok_to}

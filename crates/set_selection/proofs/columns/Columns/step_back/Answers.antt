@@ -1,4 +1,4 @@
--- `step_back` meets its contract. Assumes nothing.
+-- `step_back` meets its contract.
 use Rattle.std.proofs.Common.{ℕ, Bool, ◌≡◌, ◌<◌, ◌≤◌, List, length, get_or, refl, sym, ap, ◌∙◌, arith}
 use Rattle.xpath.specs.code.Tests.{fits, Asks}
 use Rattle.xpath.proofs.Axes.{past_last_axis}

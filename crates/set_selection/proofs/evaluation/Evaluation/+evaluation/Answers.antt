@@ -1,4 +1,4 @@
--- The functions that evaluate a row meet their contracts. Assumes nothing.
+-- The functions that evaluate a row meet their contracts.
 use Rattle.std.proofs.Common.{ℕ, Bool, ◌≡◌, ◌<◌, ◌≤◌, List, length, refl, sym, ap, subst, ◌∙◌, arith, rules}
 use Rattle.common.specs.code.Numbers.{row_number}
 use Rattle.xpath.specs.Term.{Path, Qualifier}

@@ -1,4 +1,4 @@
--- What falls from call to call of the functions that evaluate a row. Assumes nothing.
+-- What falls from call to call of the functions that evaluate a row.
 use Prim.Native.Nat.{◌+◌, ◌*◌}
 use lib.ListN.{length}
 use mathlib.Core.Path.{◌≡◌}

@@ -1,4 +1,4 @@
--- `new` meets its contract: nothing is found so far. Assumes nothing.
+-- `new` meets its contract: nothing is found so far.
 use Rattle.std.proofs.Common.{rules}
 use Rattle.set_selection.proofs.Noting.{right_pushed}
 use Rattle.set_selection.proofs.memory.Memory.new.Goals as goal

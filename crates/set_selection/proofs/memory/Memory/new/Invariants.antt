@@ -1,4 +1,4 @@
--- `new` meets its contract: nothing is found so far. Assumes nothing.
+-- `new` meets its contract: nothing is found so far.
 use Prim.Native.Nat.{ℕ}
 use lib.ListN.{get_or}
 use Rattle.set_selection.specs.declared.memory.Slot.TheVariants.{Single}

@@ -1,4 +1,4 @@
--- `recall` meets its contract. Assumes nothing.
+-- `recall` meets its contract.
 use Rattle.std.proofs.Common.{rules, ◌≡◌, ◌∙◌, sym}
 use Rattle.std.proofs.lemmas.List.{get_or_default}
 use Rattle.set_selection.specs.declared.memory.Slot.TheVariants.{Last}

@@ -1,4 +1,4 @@
--- `KeptRows::new` meets its contract: of no rows, anything is kept. Assumes nothing.
+-- `KeptRows::new` meets its contract: of no rows, anything is kept.
 use Prim.Native.Nat.{ℕ}
 use mathlib.Core.Bool.{false}
 use native.Mathlib.Omega.{arith}

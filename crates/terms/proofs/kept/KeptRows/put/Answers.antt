@@ -1,4 +1,4 @@
--- `KeptRows::put` meets its contract: one more row, nesting and slot. Assumes nothing.
+-- `KeptRows::put` meets its contract: one more row, nesting and slot.
 use Prim.Native.Nat.{◌*◌}
 use mathlib.Core.Path.{◌≡◌}
 use native.Mathlib.Omega.{arith}

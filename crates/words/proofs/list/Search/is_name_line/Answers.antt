@@ -1,4 +1,4 @@
--- `is_name_line` meets its contract. Assumes nothing.
+-- `is_name_line` meets its contract.
 use mathlib.Core.Path.{sym, ◌∙◌}
 use native.Mathlib.Omega.{arith}
 use Rattle.words.proofs.Named.{word_fits}

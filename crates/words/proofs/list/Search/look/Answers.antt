@@ -1,4 +1,4 @@
--- `look` meets its contract. Assumes nothing.
+-- `look` meets its contract.
 use mathlib.Core.Path.{refl}
 use native.Mathlib.Omega.{arith}
 use Rattle.std.proofs.Common.{rules}

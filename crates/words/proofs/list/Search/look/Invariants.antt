@@ -1,4 +1,4 @@
--- `look` meets its contract. Assumes nothing.
+-- `look` meets its contract.
 use Rattle.words.proofs.Listed.{LookMet}
 use Rattle.words.proofs.list.Search.look.Given as goal
 

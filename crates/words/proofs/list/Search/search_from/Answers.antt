@@ -1,4 +1,4 @@
--- `search_from` meets its contract. Assumes nothing.
+-- `search_from` meets its contract.
 use mathlib.Core.Path.{◌≡◌, refl, ap}
 use native.Mathlib.Omega.{arith}
 use Rattle.std.specs.Prelude.{None}

@@ -1,4 +1,4 @@
--- `search_from` meets its contract. Assumes nothing.
+-- `search_from` meets its contract.
 use Prim.Native.Nat.{◌-◌, ◌≤◌}
 use lib.ListN.{length}
 use Rattle.words.specs.code.Names.{Sought}

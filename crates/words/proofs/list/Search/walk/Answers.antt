@@ -1,4 +1,4 @@
--- `walk` meets its contract. Assumes nothing.
+-- `walk` meets its contract.
 use mathlib.Core.Path.{sym, ◌∙◌}
 use native.Mathlib.Omega.{arith}
 use Rattle.words.proofs.Listed.{walk_hit, walk_miss, walk_byte}

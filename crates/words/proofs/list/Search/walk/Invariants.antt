@@ -1,4 +1,4 @@
--- `walk` meets its contract. Assumes nothing.
+-- `walk` meets its contract.
 use mathlib.Core.Bool.{false}
 use Rattle.words.specs.code.Names.{Searched}
 use Rattle.words.proofs.list.Search.walk.Given as goal

@@ -1,4 +1,4 @@
--- What a select by a selector as text means. Assumes nothing.
+-- What a select by a selector as text means.
 use Rattle.std.specs.Prelude.{ℕ, ◌≤◌, ◌<◌, ◌≡◌, cond, List, T, length, get_or}
 use Rattle.xpath.specs.Document.{document_of, well_formed}
 use Rattle.xpath.specs.Meaning.{selects}
@@ -25,7 +25,7 @@ pub record TextSelected (names t : Bytes) (xs : List ℕ) (x : ℕ) (buffer left
       → get_or left y 0 ≡ cond (selects (document_of xs) (union_of (number_of names) tree) x y) 1 0
   pub later : (y : ℕ) → length (document_of xs) ≤ y → get_or left y 0 ≡ get_or buffer y 0
 
-pub record SelectDemand (Selects : TextSelectRelation) : Type 0 where
+pub record SelectGuarantee (Selects : TextSelectRelation) : Type 0 where
   pub accepted : (names t : Bytes) (xs : List ℕ) (x limit : ℕ) (buffer left : List ℕ) (a : Answer)
       → Selects names t xs x limit buffer a left → IsAccepted a → TextSelected names t xs x buffer left
   -- a refused one leaves the buffer

@@ -1,5 +1,5 @@
--- Demand 3 for lists of calls on a register, record and release among them, from a fresh start, refused ones
--- included; and what a crew sees. Assumes nothing.
+-- Every list of calls on a register, record and release among them, from a fresh start, refused ones included, is
+-- answered as the plain register answers it; and what a crew sees.
 use Rattle.std.specs.Prelude.{ℕ, ◌+◌, ◌<◌, ◌≡◌, List, length}
 use Rattle.register.specs.declared.Register.{Register}
 use Rattle.calls.specs.Book.{Answer, answer}
@@ -12,18 +12,18 @@ use Rattle.records.specs.Register.{EditionsContained}
 use Rattle.records.specs.Releases.{released, crew_current, IsReleased, StillReleased}
 use Rattle.records.specs.Releases.{OfficeCall, OfficeSeen, office_seen, office_after}
 use Rattle.session.specs.Promises.{SelectRelation}
-use Rattle.session.specs.Demand3.{Upheld}
+use Rattle.session.specs.FollowsBook.{Upheld}
 use Rattle.register.specs.Promises.{RegisterRelation, holdings, released_in}
 
--- `Selected` as in demand 3; `Current r series e`: current on the register r answers the edition e; `CrewCurrent`
--- likewise for a crew
+-- `Selected` as in session's FollowsBook; `Current r series e`: current on the register r answers the edition e;
+-- `CrewCurrent` likewise for a crew
 module _ (Selected : SelectRelation) (Current CrewCurrent : Register → (series e : ℕ) → Type 0) where
   -- what is asked of the calls cs, of which os was seen and which left r
-  pub record RegisterDemand (cs : List OfficeCall) (os : List OfficeSeen) (r : Register) : Type 0 where
+  pub record FollowsRegister (cs : List OfficeCall) (os : List OfficeSeen) (r : Register) : Type 0 where
     -- each call's number and value, and after it all that is held, in order, are the plain register's
     pub seen : os ≡ office_seen cs
     pub held : holdings r ≡ office_after cs
-    -- what demand 3 asks of a session: what is held is true on every document, and select marks by it
+    -- as of a session, what is held is true on every document, and select marks by it
     pub upheld : Upheld Selected r.session (office_after cs).below.below
     -- if two editions of one series are held, the older path's nodes are among the newer's on every document
     pub contained : EditionsContained (office_after cs).below.below.rows (office_after cs).below.beside
@@ -35,11 +35,11 @@ module _ (Selected : SelectRelation) (Current CrewCurrent : Register → (series
     pub crew_currents : (series e : ℕ) → CrewCurrent r series e
         → e ≡ crew_current (released (office_after cs).below.beside (office_after cs).beside) series
 
-  -- the demand: every list of calls, run from what `Register::new` gives; `New r` says that it gives r, and
+  -- the guarantee: every list of calls, run from what `Register::new` gives; `New r` says that it gives r, and
   -- `Called r c a t` that the call c on the register r answers a and leaves the register t
-  abbrev pub DemandOfRegister : (New : Register → Type 0) (Called : RegisterRelation) → Type 0
-  DemandOfRegister New Called = (r₀ r : Register) (cs : List OfficeCall) (os : List OfficeSeen)
-      → New r₀ → Run holdings Called r₀ cs os r → RegisterDemand cs os r
+  abbrev pub RegisterGuarantee : (New : Register → Type 0) (Called : RegisterRelation) → Type 0
+  RegisterGuarantee New Called = (r₀ r : Register) (cs : List OfficeCall) (os : List OfficeSeen)
+      → New r₀ → Run holdings Called r₀ cs os r → FollowsRegister cs os r
 
 -- releasing can't be taken back: record i, once released, is released after every list of further calls
 abbrev pub ReleasesKept : (New : Register → Type 0) (Called : RegisterRelation) → Type 0

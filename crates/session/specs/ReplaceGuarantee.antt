@@ -1,4 +1,4 @@
--- The call replace on a session, and what its acceptance means on every session that calls lead to. Assumes nothing.
+-- The call replace on a session, and what its acceptance means on every session that calls lead to.
 use Rattle.calls.specs.code.Answers.{DoneOrRefusal, done_answer_of}
 use Rattle.std.specs.Prelude.{ℕ, ◌≡◌, false, List, ◌↔◌, T}
 use Rattle.common.specs.Lists.{Every}
@@ -42,7 +42,7 @@ module _ {S : Type 0} (Replaced : ReplaceRelation S) where
         → IsAccepted (done_answer_of t)
         → Every (λ n. T (held_path b.rows n)) old × NoneLost (paths_of b.rows old) (paths_of b.rows new)
 
--- the demand: every list of calls, run from what `Session::new` gives, refused ones included
-abbrev pub ReplaceDemand : ReplaceRelation Session → (New : Session → Type 0) (Called : CallRelation) → Type 0
-ReplaceDemand Replaced New Called = (s₀ s : Session) (cs : List Call) (os : List CallSeen)
+-- the guarantee: every list of calls, run from what `Session::new` gives, refused ones included
+abbrev pub ReplaceGuarantee : ReplaceRelation Session → (New : Session → Type 0) (Called : CallRelation) → Type 0
+ReplaceGuarantee Replaced New Called = (s₀ s : Session) (cs : List Call) (os : List CallSeen)
     → New s₀ → Run view Called s₀ cs os s → SetsReplaced Replaced s (book_after cs)

@@ -1,4 +1,4 @@
--- What filing a script means. Assumes nothing.
+-- What filing a script means.
 use Rattle.std.specs.Prelude.{◌≡◌, List, length, take}
 use Rattle.grammar.specs.Bytes.{Bytes}
 use Rattle.calls.specs.Book.{Answer, answer, IsAccepted}
@@ -28,7 +28,7 @@ pub record Filed (script bundle : Bytes) : Type 0 where
     session = without_points session;
   }
 
-pub record FileDemand (Files : FileRelation) : Type 0 where
+pub record FileGuarantee (Files : FileRelation) : Type 0 where
   pub accepted : (script buffer left : Bytes) (a : Answer) → Files script buffer a left → IsAccepted a
       → Filed script (take a.value left)
   -- a refused one leaves the buffer

@@ -1,5 +1,5 @@
 -- What the calls term, step and select accept: just what is well formed, what the rule table yields and what can be
--- selected on, on every session that calls lead to. Assumes nothing.
+-- selected on, on every session that calls lead to.
 use Rattle.calls.specs.code.Answers.{NumberOrRefusal, answer_of}
 use Rattle.std.specs.Prelude.{ℕ, ◌*◌, ◌≤◌, ◌<◌, ◌≡◌, List, map, ◌↔◌, T, leb, length}
 use Rattle.xpath.specs.Document.{document_of, well_formed, node_width, max_nodes}
@@ -64,7 +64,7 @@ module _ (Selected : SelectRelation) (Called : CallRelation) where
         → Selected s row xs x limit buffer t left
         → IsAccepted (answer_of t) ↔ AcceptableSelect b.rows row xs x limit (length buffer)
 
-  -- the demand: every list of calls, run from what `Session::new` gives, refused ones included
-  abbrev pub AcceptDemand : (New : Session → Type 0) → Type 0
-  AcceptDemand New = (s₀ s : Session) (cs : List Call) (os : List CallSeen)
+  -- the guarantee: every list of calls, run from what `Session::new` gives, refused ones included
+  abbrev pub AcceptGuarantee : (New : Session → Type 0) → Type 0
+  AcceptGuarantee New = (s₀ s : Session) (cs : List Call) (os : List CallSeen)
       → New s₀ → Run view Called s₀ cs os s → AcceptsExactly s (book_after cs)

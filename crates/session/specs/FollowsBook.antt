@@ -1,5 +1,5 @@
--- Demand 3, for lists of term, step, text, point and return calls from a fresh session, refused ones included. Assumes
--- nothing.
+-- Every list of term, step, text, point and return calls from a fresh session, refused ones included, is answered as
+-- the plain book answers it, and what is then held is true (Specification, Guarantees, 3).
 use Rattle.calls.specs.code.Answers.{NumberOrRefusal, answer_of}
 use Rattle.std.specs.Prelude.{ℕ, ◌≤◌, ◌<◌, ◌≡◌, cond, List, T, length, get_or}
 use Rattle.xpath.specs.Document.{Document, document_of, well_formed}
@@ -18,7 +18,7 @@ use Rattle.session.specs.Promises.{CallRelation, SelectRelation}
 
 -- `Selected s row xs x limit buffer t left`: select on the session s answers t and leaves the bytes `left`
 module _ (Selected : SelectRelation) where
-  -- what demand 3 asks of the session s that calls left; b is the plain book fed the same calls
+  -- what holds of the session s that calls left; b is the plain book fed the same calls
   pub record Upheld (s : Session) (b : Book) : Type 0 where
     -- a held step that says that p is contained in q: on every document of any size, from every node, each node that p
     -- selects, q selects
@@ -54,16 +54,16 @@ module _ (Selected : SelectRelation) where
         → Selected s (get_or b.steps i no_step).right xs x limit' buffer' t' left' → IsAccepted (answer_of t')
         → (y : ℕ) → y < length (document_of xs) → get_or left y 0 ≡ 1 → get_or left' y 0 ≡ 1
 
-  -- what demand 3 asks of the calls cs, of which os was seen and which left s
-  pub record Demand3 (cs : List Call) (os : List CallSeen) (s : Session) : Type 0 where
+  -- what holds of the calls cs, of which os was seen and which left s
+  pub record FollowsBook (cs : List Call) (os : List CallSeen) (s : Session) : Type 0 where
     -- each call's number and value, and after it the rows, steps and points held, in order, are the book's
     pub seen : os ≡ book_seen cs
     pub held : view s ≡ book_after cs
     -- what is then held is true, and select marks by it
     pub upheld : Upheld s (book_after cs)
 
-  -- the demand: every list of calls, run from what `Session::new` gives; `New s` says that it gives s, and
+  -- the guarantee: every list of calls, run from what `Session::new` gives; `New s` says that it gives s, and
   -- `Called s c a t` that the call c on the session s answers a and leaves the session t
-  abbrev pub DemandThree : (New : Session → Type 0) (Called : CallRelation) → Type 0
-  DemandThree New Called = (s₀ s : Session) (cs : List Call) (os : List CallSeen)
-      → New s₀ → Run view Called s₀ cs os s → Demand3 cs os s
+  abbrev pub BookGuarantee : (New : Session → Type 0) (Called : CallRelation) → Type 0
+  BookGuarantee New Called = (s₀ s : Session) (cs : List Call) (os : List CallSeen)
+      → New s₀ → Run view Called s₀ cs os s → FollowsBook cs os s

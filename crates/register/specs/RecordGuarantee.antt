@@ -1,5 +1,5 @@
 -- What the call record accepts on every register that calls lead to, its step judged as terms; and replace and the
--- orders there. Assumes nothing.
+-- orders there.
 use Rattle.std.specs.Prelude.{ℕ, ◌+◌, ◌<◌, ◌≡◌, List, ◌↔◌, T, length}
 use Rattle.terms.specs.Fields.{held_path}
 use Rattle.terms.specs.Terms.{path_at}
@@ -10,8 +10,8 @@ use Rattle.replacing.specs.NoneLost.{StepSays}
 use Rattle.records.specs.declared.Record.{Record}
 use Rattle.records.specs.Records.{max_records, current, row_of, is_fit_step}
 use Rattle.records.specs.Releases.{OfficeCall, OfficeSeen, office_after}
-use Rattle.session.specs.ReplaceDemand.{ReplaceRelation, SetsReplaced}
-use Rattle.session.specs.OrderDemand.{OrderRelation, BundleOrderRelation, ArchivesOrdered}
+use Rattle.session.specs.ReplaceGuarantee.{ReplaceRelation, SetsReplaced}
+use Rattle.session.specs.OrderGuarantee.{OrderRelation, BundleOrderRelation, ArchivesOrdered}
 use Rattle.register.specs.declared.Register.{Register}
 use Rattle.register.specs.Promises.{RegisterRelation, holdings}
 
@@ -35,19 +35,19 @@ pub record RecordsJudged (Called : RegisterRelation) (r : Register) (b : Book) (
   pub accepts : (g : Record) (a : Answer) (t : Register) → Called r (passed (own g)) a t
       → IsAccepted a ↔ AcceptableRecord b rs g
 
--- the demands: every list of calls, run from what `Register::new` gives, refused ones included
+-- the guarantees: every list of calls, run from what `Register::new` gives, refused ones included
 module _ (New : Register → Type 0) (Called : RegisterRelation) where
-  abbrev pub RecordDemand : Type 0
-  RecordDemand = (r₀ r : Register) (cs : List OfficeCall) (os : List OfficeSeen)
+  abbrev pub RecordGuarantee : Type 0
+  RecordGuarantee = (r₀ r : Register) (cs : List OfficeCall) (os : List OfficeSeen)
       → New r₀ → Run holdings Called r₀ cs os r
       → RecordsJudged Called r (office_after cs).below.below (office_after cs).below.beside
 
   -- what is asked of replace and of the orders is what is asked of a session's
-  abbrev pub RegisterReplaceDemand : ReplaceRelation Register → Type 0
-  RegisterReplaceDemand Replaced = (r₀ r : Register) (cs : List OfficeCall) (os : List OfficeSeen)
+  abbrev pub RegisterReplaceGuarantee : ReplaceRelation Register → Type 0
+  RegisterReplaceGuarantee Replaced = (r₀ r : Register) (cs : List OfficeCall) (os : List OfficeSeen)
       → New r₀ → Run holdings Called r₀ cs os r → SetsReplaced Replaced r (office_after cs).below.below
 
-  abbrev pub RegisterOrderDemand : OrderRelation Register → BundleOrderRelation Register → Type 0
-  RegisterOrderDemand Ordered BundleOrdered = (q₀ r₀ q r : Register) (cs ds : List OfficeCall) (os us : List OfficeSeen)
+  abbrev pub RegisterOrderGuarantee : OrderRelation Register → BundleOrderRelation Register → Type 0
+  RegisterOrderGuarantee Ordered BundleOrdered = (q₀ r₀ q r : Register) (cs ds : List OfficeCall) (os us : List OfficeSeen)
       → New q₀ → New r₀ → Run holdings Called q₀ cs os q → Run holdings Called r₀ ds us r
       → ArchivesOrdered Ordered BundleOrdered q r (office_after cs).below.below (office_after ds).below.below

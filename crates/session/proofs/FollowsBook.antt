@@ -1,4 +1,4 @@
--- Demand 3: every list of calls from a fresh session, where the calls meet their promises. Assumes nothing.
+-- Every list of calls from a fresh session follows the plain book, where the calls meet their promises.
 use Rattle.calls.specs.code.Answers.{NumberOrRefusal}
 use Prim.Native.Nat.{ℕ, ◌<◌}
 use mathlib.Core.Path.{◌≡◌, refl, sym, ap, subst, ◌∙◌}
@@ -19,7 +19,7 @@ use Rattle.calls.specs.Runs.{Run}
 use Rattle.calls.specs.Calls.{Call, CallSeen}
 use Rattle.session.specs.View.{view, fresh_session}
 use Rattle.session.specs.Promises.{CallRelation, SelectRelation, Met, CallsMade, SelectMet}
-use Rattle.session.specs.Demand3.{Upheld, Demand3, DemandThree}
+use Rattle.session.specs.FollowsBook.{Upheld, FollowsBook, BookGuarantee}
 use Rattle.calls.proofs.Reached.{BookLaws, reachable_laws}
 use Rattle.calls.proofs.ByTerms.{containment_sides}
 use Rattle.calls.proofs.Runs.{run_map}
@@ -92,9 +92,9 @@ module _ (Selected : SelectRelation) (select_tied : SelectsKept Selected SelectM
             (subst (λ q. T (selects d q x y)) (sym sides.2) by_q);
       }
 
-  pub demanded : (cs : List Call) (os : List CallSeen) (s : Session) → CallsMade fresh_session cs os s
-      → Demand3 Selected cs os s
-  demanded cs os s run =
+  pub calls_follow_book : (cs : List Call) (os : List CallSeen) (s : Session) → CallsMade fresh_session cs os s
+      → FollowsBook Selected cs os s
+  calls_follow_book cs os s run =
       let f = calls_follow run in
       record {
         seen = f.seen;
@@ -103,7 +103,7 @@ module _ (Selected : SelectRelation) (select_tied : SelectsKept Selected SelectM
       }
 
   -- so for every `new` and every calls that meet theirs
-  pub demand3_by : (New : Session → Type 0) (Called : CallRelation)
-      → ((s : Session) → New s → s ≡ fresh_session) → CallsKept Called Met → DemandThree Selected New Called
-  demand3_by New Called new_tied call_tied s₀ s cs os new run =
-      demanded cs os s (made_from_fresh new_tied call_tied new run)
+  pub book_guarantee_by : (New : Session → Type 0) (Called : CallRelation)
+      → ((s : Session) → New s → s ≡ fresh_session) → CallsKept Called Met → BookGuarantee Selected New Called
+  book_guarantee_by New Called new_tied call_tied s₀ s cs os new run =
+      calls_follow_book cs os s (made_from_fresh new_tied call_tied new run)

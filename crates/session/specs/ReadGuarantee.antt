@@ -1,4 +1,4 @@
--- What is demanded of the calls read and write, with demand 3 of the calls that read makes. Assumes nothing.
+-- What is guaranteed of the calls read and write; the calls that read makes follow the book.
 use Rattle.calls.specs.code.Answers.{NumberOrRefusal, answer_of}
 use Rattle.std.specs.Prelude.{ℕ, ◌≤◌, ◌≡◌, true, List, ◌∷◌, ◌++◌, map, length, take}
 use Rattle.std.proofs.Math.Option.{some}
@@ -19,7 +19,7 @@ use Rattle.session.specs.Promises.{CallRelation, SelectRelation}
 use Rattle.bundles.specs.Bundle.{row_names, step_names, row_of_line, step_of_line, bundle_text}
 use Rattle.session.specs.ReadCall.{read_answer_of}
 use Rattle.session.specs.WriteCall.{WriteRelation}
-use Rattle.session.specs.Demand3.{Demand3}
+use Rattle.session.specs.FollowsBook.{FollowsBook}
 use Rattle.session.specs.SessionLaws.{without_points}
 
 -- a term call for each row, and then a step call for each step
@@ -49,10 +49,10 @@ CallFits (text names t) = Unit {0}
 CallFits (point n) = Unit {0}
 CallFits (return n) = Unit {0}
 
--- `Selected` and `Called` as in demand 3
+-- `Selected` and `Called` as in FollowsBook
 module _ (Selected : SelectRelation) (Called : CallRelation) where
   -- an accepted reading of the bytes with the result t: the calls of the lines were made from a fresh session, all were
-  -- accepted, they left the session of the result, the value is the number of steps, and demand 3 holds of the calls
+  -- accepted, they left the session of the result, the value is the number of steps, and the calls follow the book
   pub record ReadAccepted (bytes : List ℕ) (t : ReadResult) : Type 0 where
     pub rows : List Row
     pub steps : List Step
@@ -61,12 +61,12 @@ module _ (Selected : SelectRelation) (Called : CallRelation) where
     pub made : Run view Called fresh_session (calls_of rows steps) seen t.session
     pub all_accepted : AllAccepted seen
     pub count : read_answer_of t.answer ≡ answer 0 (length steps)
-    pub demand : Demand3 Selected (calls_of rows steps) seen t.session
+    pub follows : FollowsBook Selected (calls_of rows steps) seen t.session
 
   -- `Read bytes t`: `Session::read` on the bytes has the result t; `Write s buffer w left`: `Session::write` on the
   -- session s answers w and leaves the bytes `left` of the buffer
-  pub record ReadDemand (Read : List ℕ → ReadResult → Type 0) (Write : WriteRelation) : Type 0 where
-    -- read accepts only bundles, makes their calls, and demand 3 holds of them
+  pub record ReadGuarantee (Read : List ℕ → ReadResult → Type 0) (Write : WriteRelation) : Type 0 where
+    -- read accepts only bundles, makes their calls, and they follow the book
     pub accepted : (bytes : List ℕ) (t : ReadResult) → Read bytes t
         → IsAccepted (read_answer_of t.answer) → ReadAccepted bytes t
     -- a refused reading leaves a fresh session

@@ -1,4 +1,4 @@
--- What the answer to a claim means. Assumes nothing.
+-- What the answer to a claim means.
 use Rattle.std.specs.Prelude.{ℕ, ◌<◌, ◌≡◌, ◌⊎◌, T, length}
 use Rattle.xpath.specs.Document.{Document, well_formed}
 use Rattle.xpath.specs.Term.{Path}
@@ -30,7 +30,7 @@ abbrev pub IsContained : (p q : Path) → Type 0
 IsContained p q = (d : Document) → T (well_formed d) → (x : ℕ) → x < length d
     → (y : ℕ) → T (selects d p x y) → T (selects d q x y)
 
-pub record ClaimDemand (Claims : ClaimRelation) : Type 0 where
+pub record ClaimGuarantee (Claims : ClaimRelation) : Type 0 where
   -- the number 0 is answered of the claim itself alone, and of that nothing but 0 and 26
   pub whose : (bundle names old new : Bytes) (c : Claimed) → Claims bundle names old new c → IsAccepted c.answer
       → c.part ≡ the_claim

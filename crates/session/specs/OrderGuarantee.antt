@@ -1,5 +1,4 @@
 -- The calls order and bundle order on two sessions, and what they mean on every two sessions that calls lead to.
--- Assumes nothing.
 use Rattle.calls.specs.code.Answers.{OrderOrRefusal, order_answer_of}
 use Rattle.std.specs.Prelude.{ℕ, ◌≤◌, ◌<◌, ◌≡◌, List, [], ◌∷◌, map, ◌↔◌, length}
 use Rattle.terms.specs.Terms.{term_at}
@@ -59,9 +58,9 @@ module _ {S : Type 0} (Ordered : OrderRelation S) (BundleOrdered : BundleOrderRe
     pub bundle_equal : (r : OrderOrRefusal) → BundleOrdered s t r
         → (order_answer_of r ≡ answer 0 1) ↔ (term_steps b ≡ term_steps c)
 
--- the demand: every two lists of calls, run from what `Session::new` gives, refused ones included
-abbrev pub OrderDemand : (Ordered : OrderRelation Session) (BundleOrdered : BundleOrderRelation Session)
+-- the guarantee: every two lists of calls, run from what `Session::new` gives, refused ones included
+abbrev pub OrderGuarantee : (Ordered : OrderRelation Session) (BundleOrdered : BundleOrderRelation Session)
     (New : Session → Type 0) (Called : CallRelation) → Type 0
-OrderDemand Ordered BundleOrdered New Called = (s₀ t₀ s t : Session) (cs ds : List Call) (os us : List CallSeen)
+OrderGuarantee Ordered BundleOrdered New Called = (s₀ t₀ s t : Session) (cs ds : List Call) (os us : List CallSeen)
     → New s₀ → New t₀ → Run view Called s₀ cs os s → Run view Called t₀ ds us t
     → ArchivesOrdered Ordered BundleOrdered s t (book_after cs) (book_after ds)
