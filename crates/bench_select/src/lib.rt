@@ -6,7 +6,7 @@ ghost use Rattle.std.specs.Prelude.{◌≡◌, cond, [], ◌++◌, leb, length, 
 ghost use Rattle.terms.specs.Row.{table_of};
 ghost use Rattle.calls.specs.SelectCall.{select_answer, select_buffer};
 ghost use Rattle.calls.specs.Book.{book};
-ghost use Rattle.calls.specs.code.Tables.{first_rows, first_steps, steps_of};
+ghost use Rattle.calls.specs.represent.Tables.{first_rows, first_steps, steps_of};
 ghost use Rattle.ordering.specs.OrderCall.{order_answer, bundle_order_answer};
 ghost use Rattle.calls.specs.TextCall.{text_reply};
 ghost use Rattle.bundles.specs.Bundle.{bundle_text};

@@ -16,7 +16,7 @@ use Rattle.std.proofs.lemmas.List.Edits.{sets-eq}
 use Rattle.common.proofs.Reflect.{le_or_lt}
 use Rattle.lines.specs.Line.{newline, space}
 use Rattle.lines.specs.Written.{decimal, line_text}
-use Rattle.bundles.specs.code.TextPut.{Put}
+use Rattle.bundles.specs.private.TextPut.{Put}
 
 sets_append : (us vs xs : List ℕ) (at : ℕ) → sets xs at (us ++ vs) ≡ sets (sets xs at us) (at + length us) vs
 sets_append [] vs xs at = let e : at ≡ at + 0 = omega arith in ap (λ k. sets xs k vs) e

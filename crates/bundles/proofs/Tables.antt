@@ -10,7 +10,7 @@ use Rattle.terms.specs.Row.{Row, max_rows}
 use Rattle.lines.specs.Ascii.{ascii}
 use Rattle.lines.specs.Line.{newline}
 use Rattle.calls.specs.Book.{Step, max_steps}
-use Rattle.calls.specs.code.Tables.{row_width, step_width, first_row_numbers, first_step_numbers}
+use Rattle.calls.specs.represent.Tables.{row_width, step_width, first_row_numbers, first_step_numbers}
 use Rattle.bundles.specs.Bundle.{row_names, step_names, rows_text, steps_text, bundle_text}
 
 -- what is read from lent numbers is at the place of the numbers

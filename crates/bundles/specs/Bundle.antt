@@ -7,7 +7,7 @@ use Rattle.lines.specs.Line.{newline, Line}
 use Rattle.lines.specs.Number.{numbers_of}
 use Rattle.lines.specs.Written.{line_text}
 use Rattle.calls.specs.Book.{Step, step_numbers, step_of_numbers}
-use Rattle.calls.specs.code.Tables.{row_width, step_width}
+use Rattle.calls.specs.represent.Tables.{row_width, step_width}
 
 -- the names lines: the first stands before the term lines, the second before the step lines
 unfoldable pub row_names : List ℕ

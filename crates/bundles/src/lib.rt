@@ -6,12 +6,12 @@ mod writer;
 ghost use Rattle.std.specs.Prelude.{◌≡◌, ◌++◌, ◌*◌, ◌≤◌, length, drop};
 ghost use Rattle.lines.specs.Written.{decimal};
 ghost use Rattle.terms.specs.Row.{max_rows, table_of};
-ghost use Rattle.terms.specs.code.RowTypes.{row_of};
+ghost use Rattle.terms.specs.represent.RowTypes.{row_of};
 ghost use Rattle.calls.specs.Book.{max_steps};
-ghost use Rattle.calls.specs.code.Answers.{step_of};
-ghost use Rattle.calls.specs.code.Tables.{row_width, step_width, steps_of};
+ghost use Rattle.calls.specs.represent.Answers.{step_of};
+ghost use Rattle.calls.specs.represent.Tables.{row_width, step_width, steps_of};
 ghost use Rattle.bundles.specs.Bundle.{row_text, step_text, rows_text, steps_text};
-ghost use Rattle.bundles.specs.code.TextPut.{held_text};
+ghost use Rattle.bundles.specs.private.TextPut.{held_text};
 
 use calls::{Held, Step};
 use terms::Row;

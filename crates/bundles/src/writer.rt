@@ -3,9 +3,9 @@ ghost use Rattle.std.specs.Prelude.{◌≡◌, cond, [], ◌∷◌, ◌++◌, �
 ghost use Rattle.terms.specs.Row.{table_of};
 ghost use Rattle.lines.specs.Line.{newline, space};
 ghost use Rattle.lines.specs.Written.{decimal, line_text};
-ghost use Rattle.calls.specs.code.Tables.{steps_of};
+ghost use Rattle.calls.specs.represent.Tables.{steps_of};
 ghost use Rattle.bundles.specs.Bundle.{rows_text, steps_text};
-ghost use Rattle.bundles.specs.code.TextPut.{Put, text_of_line, held_text};
+ghost use Rattle.bundles.specs.private.TextPut.{Put, text_of_line, held_text};
 
 use crate::{ROW_NAMES, STEP_NAMES, digits};
 use calls::{Held, STEP_WIDTH, Step};

@@ -7,7 +7,7 @@ use borrow.Author.Tests.{eq-eqb, ne_eqb, eqb-true}
 use Rattle.std.specs.Prelude.{ℕ, Result, Ok, Err, is_ok}
 use Rattle.common.specs.declared.refusal.Refusal.{Refusal}
 use Rattle.common.proofs.Refusals.{refusal_some}
-use Rattle.calls.specs.code.Answers.{answer_with, refusal_answer}
+use Rattle.calls.specs.represent.Answers.{answer_with, refusal_answer}
 use Rattle.calls.specs.Book.{Answer, accepted}
 
 -- an answer t that is the one asked for, u

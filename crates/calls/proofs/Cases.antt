@@ -24,7 +24,7 @@ use Rattle.calls.specs.StepCall.{bad_side_of, bad_premise_of, step_answer_by}
 use Rattle.calls.specs.SelectCall.{select_answer}
 use Rattle.calls.specs.TextCall.{text_answer}
 use Rattle.calls.specs.PointCall.{place_of, point_answer, return_answer}
-use Rattle.calls.specs.code.Answers.{answer_of, done_answer_of}
+use Rattle.calls.specs.represent.Answers.{answer_of, done_answer_of}
 use Rattle.calls.proofs.TextLaws.{answers_as_defined}
 
 -- some case of an enum has the answer t

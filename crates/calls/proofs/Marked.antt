@@ -21,7 +21,7 @@ use Rattle.selection.specs.Marks.{written}
 use Rattle.calls.specs.Book.{Answer, answer}
 use Rattle.common.specs.Refusals as refusals
 use Rattle.calls.specs.SelectCall.{select_answer, select_buffer}
-use Rattle.calls.specs.code.Answers.{NumberOrRefusal, answer_of}
+use Rattle.calls.specs.represent.Answers.{NumberOrRefusal, answer_of}
 use Rattle.calls.specs.Promises.{SelectMade}
 use Rattle.calls.proofs.Accepted.{test_failed, if_accepted, if_refused}
 

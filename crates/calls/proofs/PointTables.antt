@@ -15,8 +15,9 @@ use Rattle.common.proofs.Chunks.{by_width, count_by_width}
 use Rattle.calls.specs.Book.{max_points}
 use Rattle.calls.specs.declared.points.PointCounts.{PointCounts}
 use Rattle.calls.specs.PointCall.{place_of}
-use Rattle.calls.specs.code.Points.{counts_in, counts_of, counts_names, no_counts, point_width, first_point_numbers}
-use Rattle.calls.specs.code.Points.{first_points, PointFound}
+use Rattle.calls.specs.represent.Points.{counts_in, counts_of, counts_names, no_counts, point_width}
+use Rattle.calls.specs.represent.Points.{first_point_numbers}
+use Rattle.calls.specs.represent.Points.{first_points, PointFound}
 
 -- a list has a first point where it has three numbers
 one_point : (xs : List ℕ)

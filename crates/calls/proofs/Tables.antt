@@ -14,7 +14,7 @@ use Rattle.common.proofs.Chunks.{by_width, count_by_width}
 use Rattle.terms.specs.Row.{table_of, max_rows}
 use Rattle.terms.proofs.LentRows.{rows_lent}
 use Rattle.calls.specs.Book.{step_of_numbers, max_steps}
-use Rattle.calls.specs.code.Tables.{row_width, step_width, steps_of, first_row_numbers, first_step_numbers}
+use Rattle.calls.specs.represent.Tables.{row_width, step_width, steps_of, first_row_numbers, first_step_numbers}
 
 -- the first of the rows that a session has room for
 module _ (xs : List ℕ) (n : ℕ) (few : n ≤ max_rows) (size : length xs ≡ row_width * max_rows) where

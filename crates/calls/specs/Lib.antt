@@ -12,5 +12,5 @@ pub mod Calls
 pub mod Above
 pub mod PointLaws
 pub mod TextLaws
-pub mod code
+pub mod represent
 pub mod values

@@ -1,11 +1,11 @@
 -- What is promised of calls on lent rows and steps.
 use Rattle.std.specs.Prelude.{ℕ, ◌≡◌, Bool, List, map, length}
 use Rattle.terms.specs.Row.{Row}
-use Rattle.matching.specs.code.RowYields.{Sides, row_yields}
+use Rattle.matching.specs.private.RowYields.{Sides, row_yields}
 use Rattle.calls.specs.Book.{Step, Book, Answer}
 use Rattle.calls.specs.StepCall.{premises_of, step_answer_by}
 use Rattle.calls.specs.SelectCall.{select_answer, select_buffer}
-use Rattle.calls.specs.code.Answers.{NumberOrRefusal, answer_of}
+use Rattle.calls.specs.represent.Answers.{NumberOrRefusal, answer_of}
 
 -- the rows of a step
 unfoldable pub sides_of : Step → Sides

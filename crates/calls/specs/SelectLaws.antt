@@ -8,7 +8,7 @@ use Rattle.terms.specs.Row.{Row, row_at}
 use Rattle.terms.specs.Terms.{path_at}
 use Rattle.common.specs.Refusals.{limit_passed}
 use Rattle.calls.specs.Book.{IsAccepted}
-use Rattle.calls.specs.code.Answers.{NumberOrRefusal, answer_of}
+use Rattle.calls.specs.represent.Answers.{NumberOrRefusal, answer_of}
 use Rattle.calls.specs.Promises.{SelectMade}
 
 -- a path of k steps on n nodes, with a limit of at least the bound for k and n: the answer is never 15

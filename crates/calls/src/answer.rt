@@ -1,7 +1,7 @@
 // What a call answers: 0 and a value where it is accepted, else the number of a refusal and its value.
 ghost use Rattle.std.specs.Prelude.{◌≡◌, ℕ};
 ghost use Rattle.calls.specs.Book.{Answer as BookAnswer};
-ghost use Rattle.calls.specs.code.Answers.{answer_with, refusal_answer, line_answer, order_number};
+ghost use Rattle.calls.specs.represent.Answers.{answer_with, refusal_answer, line_answer, order_number};
 
 use common::Refusal;
 use std::cmp::Ordering;

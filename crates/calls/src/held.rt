@@ -1,6 +1,6 @@
 // The rows and steps that calls are made on.
 ghost use Rattle.std.specs.Prelude.{◌≡◌};
-ghost use Rattle.calls.specs.code.Tables.{first_row_numbers, first_step_numbers};
+ghost use Rattle.calls.specs.represent.Tables.{first_row_numbers, first_step_numbers};
 
 use crate::{first_rows, first_steps};
 

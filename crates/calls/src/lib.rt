@@ -10,8 +10,8 @@ mod points;
 mod step;
 
 ghost use Rattle.std.specs.Prelude.{◌≡◌, take};
-ghost use Rattle.calls.specs.code.Points.{first_point_numbers};
-ghost use Rattle.calls.specs.code.Tables.{first_row_numbers, first_step_numbers};
+ghost use Rattle.calls.specs.represent.Points.{first_point_numbers};
+ghost use Rattle.calls.specs.represent.Tables.{first_row_numbers, first_step_numbers};
 
 pub use answer::{Answer, LineRefusal, Value};
 pub use held::Held;

@@ -1,6 +1,6 @@
 // Named points.
 ghost use Rattle.std.specs.Prelude.{◌≡◌};
-ghost use Rattle.calls.specs.code.Points.{counts_in, counts_numbers};
+ghost use Rattle.calls.specs.represent.Points.{counts_in, counts_numbers};
 
 /// A point has three numbers.
 pub const POINT_WIDTH: usize = 3;

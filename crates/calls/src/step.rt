@@ -1,10 +1,10 @@
 // Steps on lent numbers, five a step.
 ghost use Rattle.std.specs.Prelude.{◌≡◌, ◌-◌, map, length};
-ghost use Rattle.matching.specs.code.MatchTypes.{sides_in};
+ghost use Rattle.matching.specs.private.MatchTypes.{sides_in};
 ghost use Rattle.calls.specs.Book.{step_numbers, step_of_numbers};
 ghost use Rattle.calls.specs.StepCall.{step_numbered};
-ghost use Rattle.calls.specs.code.Answers.{step_of};
-ghost use Rattle.calls.specs.code.Tables.{steps_of, StepIs};
+ghost use Rattle.calls.specs.represent.Answers.{step_of};
+ghost use Rattle.calls.specs.represent.Tables.{steps_of, StepIs};
 ghost use Rattle.calls.specs.Promises.{sides_of};
 
 use matching::Sides;

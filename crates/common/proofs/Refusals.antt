@@ -3,7 +3,7 @@ use mathlib.Core.Path.{◌≡◌}
 use native.Mathlib.Omega.{arith}
 use Rattle.common.specs.declared.refusal.Refusal.{Refusal}
 use Rattle.common.specs.declared.refusal.Refusal.TheVariants as Cases
-use Rattle.common.specs.code.Refusal.{refusal_number}
+use Rattle.common.specs.represent.Refusal.{refusal_number}
 
 -- a refusal has a number
 pub refusal_some : (r : Refusal) → ¬ (refusal_number r ≡ 0)

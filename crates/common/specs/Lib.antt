@@ -6,5 +6,5 @@ pub mod NodeTests
 pub mod RowKinds
 pub mod Refusals
 pub mod Limits
-pub mod code
+pub mod represent
 pub mod values

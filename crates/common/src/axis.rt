@@ -1,6 +1,6 @@
 // The axes, and their numbers, as field a of a step's row has them.
 ghost use Rattle.std.specs.Prelude.{◌≡◌};
-ghost use Rattle.common.specs.code.Numbers.{axis_number, ReadsAxis};
+ghost use Rattle.common.specs.represent.Numbers.{axis_number, ReadsAxis};
 
 #[derive(Clone, Copy, Debug, PartialEq, Eq)]
 pub enum Axis {

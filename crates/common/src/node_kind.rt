@@ -1,6 +1,6 @@
 // The kinds of nodes, and their numbers, as a document's rows have them.
 ghost use Rattle.std.specs.Prelude.{◌≡◌};
-ghost use Rattle.common.specs.code.Numbers.{kind_number, ReadsKind};
+ghost use Rattle.common.specs.represent.Numbers.{kind_number, ReadsKind};
 
 #[derive(Clone, Copy, Debug, PartialEq, Eq)]
 pub enum NodeKind {

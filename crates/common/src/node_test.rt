@@ -1,7 +1,7 @@
 // The node tests: a name, `*`, node(), text(), comment(), processing-instruction(),
 // processing-instruction('target'). Their numbers, as field b of a step's row has them.
 ghost use Rattle.std.specs.Prelude.{◌≡◌};
-ghost use Rattle.common.specs.code.Numbers.{test_number, ReadsTest};
+ghost use Rattle.common.specs.represent.Numbers.{test_number, ReadsTest};
 
 #[derive(Clone, Copy, Debug, PartialEq, Eq)]
 pub enum NodeTest {

@@ -1,6 +1,6 @@
 // The refusals, each with what its value is.
 ghost use Rattle.std.specs.Prelude.{◌≡◌};
-ghost use Rattle.common.specs.code.Refusal.{refusal_number, refusal_value};
+ghost use Rattle.common.specs.represent.Refusal.{refusal_number, refusal_value};
 
 use std::error::Error;
 use std::fmt;

@@ -1,7 +1,7 @@
 // The kinds of rows of terms, and their numbers: six of paths, then six of qualifiers.
 ghost use Rattle.std.specs.Prelude.{◌≡◌, leb};
 ghost use Rattle.common.specs.RowKinds.{filter_row};
-ghost use Rattle.common.specs.code.Numbers.{row_number, ReadsRow};
+ghost use Rattle.common.specs.represent.Numbers.{row_number, ReadsRow};
 
 #[derive(Clone, Copy, Debug, PartialEq, Eq)]
 pub enum RowKind {

@@ -16,8 +16,8 @@ use Rattle.common.proofs.Reflect.{yes_all, all_yes, true_iff, eq_or_ne, le_or_lt
 use Rattle.common.proofs.Search.{first_not_yet, first_found, first_alike, none_iff, found_below}
 use Rattle.xpath.specs.Document.{Document, kind_at, parent_at, name_at, row_ok, row_ok_by, is_ancestor, well_formed}
 use Rattle.xpath.specs.Climb.{climb_met}
-use Rattle.xpath.specs.code.Ends.{Filled, Ends}
-use Rattle.xpath.specs.code.Check.{closed_before, closed_in_turn}
+use Rattle.xpath.specs.represent.Ends.{Filled, Ends}
+use Rattle.xpath.specs.represent.Check.{closed_before, closed_in_turn}
 use Rattle.xpath.proofs.Tree.{parent_smaller}
 use Rattle.xpath.proofs.Climbing.{row_alike}
 use Rattle.xpath.proofs.Ends.{ends_found}

@@ -3,7 +3,7 @@ use Rattle.std.specs.Prelude.{ℕ, ◌≡◌, not, List, length, IfNone}
 use Rattle.std.specs.Prelude as code
 use Rattle.common.specs.Bounded.{first_below}
 use Rattle.xpath.specs.Document.{Document, row_ok}
-use Rattle.xpath.specs.code.Check.{found}
+use Rattle.xpath.specs.represent.Check.{found}
 use Rattle.documents.specs.Columns.{rows_of, Sound}
 use Rattle.documents.specs.declared.unchecked.Unchecked.{Unchecked}
 

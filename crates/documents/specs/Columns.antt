@@ -1,7 +1,7 @@
 -- Documents of any size, as columns.
 use Rattle.std.specs.Prelude.{ℕ, ◌≡◌, ◌<◌, ◌≤◌, List, [], ◌∷◌, T, length, get_or}
 use Rattle.xpath.specs.Document.{Document, node, well_formed}
-use Rattle.xpath.specs.code.Ends.{Ends}
+use Rattle.xpath.specs.represent.Ends.{Ends}
 
 -- the document of the columns of kinds, parents and names
 unfoldable pub rows_of : (kinds parents names : List ℕ) → Document

@@ -2,7 +2,7 @@
 ghost use Rattle.std.specs.Prelude.{◌≡◌, suc, ◌^◌, ◌<◌, length, replicate};
 ghost use Rattle.xpath.specs.Document.{kind_at, parent_at, name_at, attribute_placed, row_ok_by};
 ghost use Rattle.xpath.specs.Climb.{climb_met, parents_taken};
-ghost use Rattle.xpath.specs.code.Check.{ClimbMade, Placed, closed_before};
+ghost use Rattle.xpath.specs.represent.Check.{ClimbMade, Placed, closed_before};
 ghost use Rattle.documents.specs.Checks.{listed, FirstBad};
 ghost use Rattle.documents.specs.Documents.{rows_in, doc, ChecksTo};
 

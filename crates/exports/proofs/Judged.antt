@@ -11,24 +11,24 @@ use Rattle.common.proofs.Refusals.{refusal_some}
 use Rattle.common.proofs.Results.{Mapped, mapped_ok, mapped_err}
 use Rattle.common.specs.declared.refusal.Refusal.{Refusal}
 use Rattle.common.specs.declared.refusal.Refusal.TheVariants.{NotCovered}
-use Rattle.terms.specs.code.RowTypes.{PlaceIs}
+use Rattle.terms.specs.represent.RowTypes.{PlaceIs}
 use Rattle.grammar.specs.Bytes.{Bytes}
 use Rattle.calls.specs.Book.{Book, Answer, accepted}
 use Rattle.calls.specs.Calls.{Call, text}
 use Rattle.calls.specs.Promises.{SelectMade}
 use Rattle.calls.specs.SelectCall.{select_answer, select_buffer}
-use Rattle.calls.specs.code.Answers.{NumberOrRefusal, answer_of, refusal_answer, line_answer}
+use Rattle.calls.specs.represent.Answers.{NumberOrRefusal, answer_of, refusal_answer, line_answer}
 use Rattle.calls.proofs.Accepted.{if_accepted, if_refused}
 use Rattle.replacing.specs.Covered.{step_saying}
 use Rattle.session.specs.declared.session.Session.{Session}
-use Rattle.session.specs.code.Results.{ReadResult}
+use Rattle.session.specs.represent.Results.{ReadResult}
 use Rattle.session.specs.View.{view, fresh_session}
 use Rattle.session.specs.Promises.{session_answer, session_with, Met}
 use Rattle.session.specs.Reading.{reading}
 use Rattle.session.specs.ReadCall.{read_answer_of, ReadMet}
 use Rattle.exports.specs.ClaimCall.{claimed, the_claim, the_bundle, old_selector, new_selector}
 use Rattle.exports.specs.ClaimCall.{said_answer, new_claimed, old_claimed, claim_answer}
-use Rattle.exports.specs.code.ClaimTypes.{claimed_of}
+use Rattle.exports.specs.represent.ClaimTypes.{claimed_of}
 use Rattle.exports.specs.declared.claim.ClaimRefusal.{ClaimRefusal}
 use Rattle.exports.specs.declared.claim.ClaimRefusal.TheVariants.{Bundle, OldSelector, NewSelector, Claim}
 use Rattle.exports.specs.TextSelect.{read_answer, read_rows, text_select_answer, text_select_buffer, TextSelectMade}

@@ -16,7 +16,7 @@ use Rattle.grammar.specs.Denotes.{union_of}
 use Rattle.calls.specs.Book.{Answer, accepted}
 use Rattle.calls.specs.SelectCall.{select_answer, select_buffer}
 use Rattle.calls.specs.Promises.{SelectMade}
-use Rattle.calls.specs.code.Answers.{NumberOrRefusal, answer_of}
+use Rattle.calls.specs.represent.Answers.{NumberOrRefusal, answer_of}
 use Rattle.calls.proofs.Cases.{select_case}
 use Rattle.calls.proofs.Marked.{select_leaves, select_takes, select_well_formed, select_marks}
 use Rattle.calls.proofs.Marked.{select_stays}

@@ -1,6 +1,6 @@
 // The nodes that a selector as text selects on a lent document.
 ghost use Rattle.calls.specs.Book.{answer};
-ghost use Rattle.calls.specs.code.Answers.{answer_of};
+ghost use Rattle.calls.specs.represent.Answers.{answer_of};
 ghost use Rattle.exports.specs.TextSelect.{TextSelectMade};
 
 use crate::tell::tell;

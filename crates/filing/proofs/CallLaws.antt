@@ -12,13 +12,14 @@ use borrow.Author.Tests.{le-leb, lt-leb, ne_eqb}
 use Rattle.common.specs.Limits.{max_bytes}
 use Rattle.common.specs.declared.refusal.Refusal.{Refusal}
 use Rattle.common.specs.declared.refusal.Refusal.TheVariants as refusals
-use Rattle.common.specs.code.Refusal.{refusal_number}
+use Rattle.common.specs.represent.Refusal.{refusal_number}
 use Rattle.common.proofs.Refusals.{refusal_some}
 use Rattle.lines.specs.Line.{lines}
 use Rattle.grammar.specs.Bytes.{Bytes}
 use Rattle.calls.specs.Calls.{Call, text}
-use Rattle.calls.specs.code.Answers.{NumberOrRefusal, DoneOrRefusal, answer_with, answer_of, done_answer_of, refusal_answer}
-use Rattle.calls.specs.code.Answers.{line_answer}
+use Rattle.calls.specs.represent.Answers.{NumberOrRefusal, DoneOrRefusal, answer_with, answer_of, done_answer_of}
+use Rattle.calls.specs.represent.Answers.{refusal_answer}
+use Rattle.calls.specs.represent.Answers.{line_answer}
 use Rattle.calls.specs.declared.answer.LineRefusal.{LineRefusal}
 use Rattle.session.specs.declared.session.Session.{Session}
 use Rattle.session.specs.View.{fresh_session}
@@ -27,7 +28,7 @@ use Rattle.session.specs.WriteCall.{WriteMet}
 use Rattle.script.specs.Rest.{newline_for_space, names_of}
 use Rattle.filing.specs.declared.Filed.{Filed}
 use Rattle.filing.specs.Filing.{makes, lending, lines_filed, filed, file_answer, file_buffer, FileMet}
-use Rattle.filing.specs.code.FilingMade.{lent_by, done, ActionDone, LinesMet}
+use Rattle.filing.specs.private.FilingMade.{lent_by, done, ActionDone, LinesMet}
 
 -- a call that met its promise
 pub call_done : (f : Filed) (c : Call) {A : Type 0} (value : A → ℕ) (r : Result A Refusal) (u : Session)

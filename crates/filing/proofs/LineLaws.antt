@@ -8,16 +8,16 @@ use Rattle.common.specs.declared.refusal.Refusal.TheVariants as refusals
 use Rattle.terms.specs.declared.Row.{Row}
 use Rattle.calls.specs.declared.step.Step.{Step}
 use Rattle.lines.specs.Line.{lines}
-use Rattle.lines.specs.code.NumbersRead.{first_parts}
+use Rattle.lines.specs.private.NumbersRead.{first_parts}
 use Rattle.grammar.specs.Bytes.{Bytes}
 use Rattle.script.specs.declared.Command.{Command}
 use Rattle.script.specs.declared.Command.TheVariants as given
 use Rattle.script.specs.Command.{command_of}
 use Rattle.script.specs.Rest.{rest_of, first_bytes}
-use Rattle.script.specs.code.CommandRead.{written_command}
+use Rattle.script.specs.private.CommandRead.{written_command}
 use Rattle.filing.specs.Filing.{line_number}
 use Rattle.filing.specs.declared.Filed.{Filed}
-use Rattle.filing.specs.code.FilingMade.{lent_by, command_action, first_action, ActionDone}
+use Rattle.filing.specs.private.FilingMade.{lent_by, command_action, first_action, ActionDone}
 use Rattle.filing.proofs.LinesLaws.{no_action, read_action}
 
 module _ (f : Filed) (piece : Bytes) where

@@ -8,23 +8,23 @@ use mathlib.Core.Option.{Option, none, some, Option-elim, none-ne-some, some-ne-
 use lib.Dec.{eqb}
 use borrow.Author.Tests.{ne_eqb}
 use Rattle.common.specs.declared.refusal.Refusal.{Refusal}
-use Rattle.common.specs.code.Refusal.{refusal_number}
+use Rattle.common.specs.represent.Refusal.{refusal_number}
 use Rattle.common.proofs.Refusals.{refusal_some}
 use Rattle.lines.specs.Line.{Line, lines, parts_read}
-use Rattle.lines.specs.code.NumbersRead.{first_parts}
+use Rattle.lines.specs.private.NumbersRead.{first_parts}
 use Rattle.grammar.specs.Bytes.{Bytes}
 use Rattle.calls.specs.Book.{answer}
 use Rattle.calls.specs.declared.answer.LineRefusal.{LineRefusal}
 use Rattle.session.specs.declared.session.Session.{Session}
 use Rattle.session.specs.Reading.{refused_at}
-use Rattle.session.specs.code.Parts.{refused_by}
+use Rattle.session.specs.private.Parts.{refused_by}
 use Rattle.script.specs.declared.Command.{Command as Given}
 use Rattle.script.specs.Command.{Command, command_of}
 use Rattle.script.specs.Rest.{rest_of, first_bytes}
-use Rattle.script.specs.code.CommandRead.{written_command}
+use Rattle.script.specs.private.CommandRead.{written_command}
 use Rattle.filing.specs.Filing.{Action, action_of, line_action, line_number, line_session, line_names, lines_filed}
 use Rattle.filing.specs.declared.Filed.{Filed}
-use Rattle.filing.specs.code.FilingMade.{lent_by, command_action, first_action, ActionTaken, ActionDone}
+use Rattle.filing.specs.private.FilingMade.{lent_by, command_action, first_action, ActionTaken, ActionDone}
 
 -- a line that is no call does nothing
 pub no_action : (ls : List Line) (names : Bytes) → none ≡ first_parts command_of ls → first_action names ls ≡ none

@@ -7,12 +7,12 @@ ghost use Rattle.std.specs.Prelude.{◌≡◌, []};
 ghost use Rattle.std.proofs.Math.Option.{some};
 ghost use Rattle.lines.specs.Line.{lines};
 ghost use Rattle.calls.specs.Calls.{Call};
-ghost use Rattle.calls.specs.code.Answers.{answer_with};
+ghost use Rattle.calls.specs.represent.Answers.{answer_with};
 ghost use Rattle.session.specs.View.{fresh_session};
 ghost use Rattle.script.specs.Rest.{names_of};
 ghost use Rattle.filing.specs.Filing.{lending, makes, FileMet};
-ghost use Rattle.filing.specs.code.FilingMade.{lent_by, done, command_action, first_action};
-ghost use Rattle.filing.specs.code.FilingMade.{ActionDone, LinesMet, file_refusal_answer};
+ghost use Rattle.filing.specs.private.FilingMade.{lent_by, done, command_action, first_action};
+ghost use Rattle.filing.specs.private.FilingMade.{ActionDone, LinesMet, file_refusal_answer};
 ghost use Rattle.filing.specs.declared.FileRefusal.TheVariants as FILE;
 
 use crate::lent_names::LentNames;

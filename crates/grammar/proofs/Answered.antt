@@ -14,8 +14,8 @@ use Rattle.grammar.specs.Words.{number_of}
 use Rattle.grammar.specs.Grammar.{Union, Spells}
 use Rattle.grammar.specs.Denotes.{unlisted, union_names, union_of, put_path, nest_path}
 use Rattle.grammar.specs.Answer.{Reply, reply, Answers, outside, unnumbered, deep, full, held}
-use Rattle.grammar.specs.code.Reader.{Outcome, good, bad, run, initial}
-use Rattle.grammar.specs.code.ReaderAnswer.{answer, read_answer, names_answer, term_answer}
+use Rattle.grammar.specs.private.Reader.{Outcome, good, bad, run, initial}
+use Rattle.grammar.specs.private.ReaderAnswer.{answer, read_answer, names_answer, term_answer}
 use Rattle.grammar.proofs.Basics.{so}
 use Rattle.grammar.proofs.Place.{sound_run, complete_run, bad_outside, one_place}
 

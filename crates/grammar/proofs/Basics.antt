@@ -10,7 +10,7 @@ use Rattle.std.proofs.lemmas.Bool.{and_parts, eqb-true, or_cases}
 use lib.Dec.{T, eqb}
 use Rattle.common.specs.Lists.{all_of}
 use Rattle.grammar.specs.Bytes.{Bytes, is_space, is_start, is_name}
-use Rattle.grammar.specs.code.Reader.{State, Next, step, walk, follow}
+use Rattle.grammar.specs.private.Reader.{State, Next, step, walk, follow}
 
 pub so : (b : Bool) → b ≡ true → T b
 so b e = rw e tt

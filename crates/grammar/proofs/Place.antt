@@ -15,16 +15,16 @@ use Rattle.grammar.specs.Grammar.{constant, Or, spell_axis, spell_test}
 use Rattle.grammar.specs.Grammar.{spell_step, spell_path, spell_union}
 use Rattle.grammar.specs.Grammar.{Spaces, FineStep, FinePath}
 use Rattle.grammar.specs.Grammar.{Spells, Viable, Outside}
-use Rattle.grammar.specs.code.Reader.{State, Next, need, root1, slash1, dot1, name, colon, testing, type_open}
-use Rattle.grammar.specs.code.Reader.{quote, quoted, unquoted, after, const_open, closed, keyword, k_a}
-use Rattle.grammar.specs.code.Reader.{k_an, k_and, k_o, k_or, Ctx, top, inside, Open, bracket, negate, grouped}
-use Rattle.grammar.specs.code.Reader.{Prefix, bare, at_root, at_any, Lead, start, after1, after2, Alt, first}
-use Rattle.grammar.specs.code.Reader.{more, either, Pend, plain, both, prefix_of, join}
-use Rattle.grammar.specs.code.Reader.{with_prefix, path_to, join_alt, left_of, and_to, or_to, room}
-use Rattle.grammar.specs.code.Reader.{begin, step, walk, follow, need_byte, shut, unary_byte, union_byte}
-use Rattle.grammar.specs.code.Reader.{path_byte, after_byte}
-use Rattle.grammar.specs.code.Reader.{keyword_byte, finish, at_top, lead_end, Text, run, outcome, Outcome, good}
-use Rattle.grammar.specs.code.Reader.{bad, initial}
+use Rattle.grammar.specs.private.Reader.{State, Next, need, root1, slash1, dot1, name, colon, testing, type_open}
+use Rattle.grammar.specs.private.Reader.{quote, quoted, unquoted, after, const_open, closed, keyword, k_a}
+use Rattle.grammar.specs.private.Reader.{k_an, k_and, k_o, k_or, Ctx, top, inside, Open, bracket, negate, grouped}
+use Rattle.grammar.specs.private.Reader.{Prefix, bare, at_root, at_any, Lead, start, after1, after2, Alt, first}
+use Rattle.grammar.specs.private.Reader.{more, either, Pend, plain, both, prefix_of, join}
+use Rattle.grammar.specs.private.Reader.{with_prefix, path_to, join_alt, left_of, and_to, or_to, room}
+use Rattle.grammar.specs.private.Reader.{begin, step, walk, follow, need_byte, shut, unary_byte, union_byte}
+use Rattle.grammar.specs.private.Reader.{path_byte, after_byte}
+use Rattle.grammar.specs.private.Reader.{keyword_byte, finish, at_top, lead_end, Text, run, outcome, Outcome, good}
+use Rattle.grammar.specs.private.Reader.{bad, initial}
 use lib.ListN.{length, take, drop, take-append-drop, length-append}
 use lib.Seq.{take_at, take-take}
 use Rattle.grammar.proofs.Basics.{space_name, space_start, walk_byte, walk_join}

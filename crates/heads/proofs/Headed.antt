@@ -11,7 +11,7 @@ use lib.ListN.{length, get_or, drop, length-drop, length-append}
 use lib.Seq.{drop-cons}
 use Rattle.std.specs.Prelude.{Option as Maybe, Some, None, unwrap_or, Result, Ok, Err}
 use Rattle.common.specs.NodeTests.{node_test}
-use Rattle.common.specs.code.Numbers.{axis_number, test_number}
+use Rattle.common.specs.represent.Numbers.{axis_number, test_number}
 use Rattle.common.specs.declared.axis.Axis.{Axis as CodeAxis}
 use Rattle.common.specs.declared.axis.Axis.TheVariants as Axes
 use Rattle.common.specs.declared.node_test.NodeTest.{NodeTest}
@@ -27,10 +27,10 @@ use Rattle.grammar.specs.Words.{instruction_word, number_of}
 use Rattle.grammar.specs.Grammar.{Axis, implied, attribute, axis, Test, any, called, kind, target, dot}
 use Rattle.grammar.specs.Grammar.{dots, test, Spaces, spell_axis, spell_test, spell_step, takes_predicate}
 use Rattle.grammar.specs.Denotes.{step_of, test_of, axis_of, step_names, test_names, unlisted}
-use Rattle.grammar.specs.code.Reader.{State, need, name, testing, colon, type_open, quote, quoted, unquoted}
-use Rattle.grammar.specs.code.Reader.{after, dot1, Ctx, top, inside, Alt, first, more, Lead, start, bare, at_root}
-use Rattle.grammar.specs.code.Reader.{at_any, after1, after2, step, follow, finish, run, bad}
-use Rattle.grammar.specs.code.Reader.{need_byte, after_byte, paren_byte_next, colon_byte_next, call_byte}
+use Rattle.grammar.specs.private.Reader.{State, need, name, testing, colon, type_open, quote, quoted, unquoted}
+use Rattle.grammar.specs.private.Reader.{after, dot1, Ctx, top, inside, Alt, first, more, Lead, start, bare, at_root}
+use Rattle.grammar.specs.private.Reader.{at_any, after1, after2, step, follow, finish, run, bad}
+use Rattle.grammar.specs.private.Reader.{need_byte, after_byte, paren_byte_next, colon_byte_next, call_byte}
 use Rattle.lines.proofs.SameBytes.{same_bytes_lem}
 use Rattle.grammar.proofs.Basics.{is_true, space_name}
 use Rattle.grammar.proofs.Forward.{quote_cases}
@@ -39,13 +39,13 @@ use Rattle.heads.specs.declared.StepName.{StepName}
 use Rattle.heads.specs.declared.StepName.TheVariants as Naming
 use Rattle.heads.specs.declared.Opens.{Opens}
 use Rattle.heads.specs.declared.Opens.TheVariants as Opening
-use Rattle.words.specs.code.Names.{pick_from, given}
-use Rattle.words.specs.code.Scan.{byte_at, Passed, begins_step}
-use Rattle.heads.specs.code.Head.{name_number, name_place, name_by, place_of, Between, NameAt, callable}
-use Rattle.heads.specs.code.Head.{part, plain_head, named_head, is_implied}
-use Rattle.heads.specs.code.Head.{opens_call, NoCall, Begins, Stuck, TestMet}
-use Rattle.heads.specs.code.Head.{TypeMet, TargetMet, HeadMet, DotMet, CallAt}
-use Rattle.heads.specs.code.Head.{OperandMet, opened_by, proceed}
+use Rattle.words.specs.private.Names.{pick_from, given}
+use Rattle.words.specs.private.Scan.{byte_at, Passed, begins_step}
+use Rattle.heads.specs.private.Head.{name_number, name_place, name_by, place_of, Between, NameAt, callable}
+use Rattle.heads.specs.private.Head.{part, plain_head, named_head, is_implied}
+use Rattle.heads.specs.private.Head.{opens_call, NoCall, Begins, Stuck, TestMet}
+use Rattle.heads.specs.private.Head.{TypeMet, TargetMet, HeadMet, DotMet, CallAt}
+use Rattle.heads.specs.private.Head.{OperandMet, opened_by, proceed}
 use Rattle.words.proofs.Named.{word_names}
 use Rattle.words.proofs.Scanned.{there, head_drop}
 use Rattle.heads.proofs.Ran.{on_here, on_pass, on_stop, after_over, testing_over, type_over}

@@ -13,12 +13,12 @@ use lib.Seq.{drop-cons, take_at}
 use Rattle.common.specs.Lists.{all_of}
 use Rattle.grammar.specs.Bytes.{Bytes, is_space, is_start, is_name, is_word}
 use Rattle.grammar.specs.Grammar.{Axis, called, LocationStep, test}
-use Rattle.grammar.specs.code.Reader.{State, need, name, testing, type_open, quoted, unquoted, after}
-use Rattle.grammar.specs.code.Reader.{closed, Ctx, Open, Pend, Alt, Lead, step, follow}
-use Rattle.grammar.specs.code.Reader.{finish, run, outcome, bad, need_byte, after_byte}
+use Rattle.grammar.specs.private.Reader.{State, need, name, testing, type_open, quoted, unquoted, after}
+use Rattle.grammar.specs.private.Reader.{closed, Ctx, Open, Pend, Alt, Lead, step, follow}
+use Rattle.grammar.specs.private.Reader.{finish, run, outcome, bad, need_byte, after_byte}
 use Rattle.grammar.proofs.Basics.{space_start}
-use Rattle.words.specs.code.Scan.{byte_at, Passed}
-use Rattle.heads.specs.code.Head.{part, proceed}
+use Rattle.words.specs.private.Scan.{byte_at, Passed}
+use Rattle.heads.specs.private.Head.{part, proceed}
 use Rattle.words.proofs.Scanned.{there, head_drop}
 
 pub on_here : (s : Bytes) (at : ℕ) (st : State) → at < length s → run (drop at s) st

@@ -4,9 +4,9 @@
 ghost use Rattle.std.specs.Prelude.{◌≡◌, true, false, ◌≤◌, length};
 ghost use Rattle.grammar.specs.Bytes.{is_space, is_start, is_quote, is_word, dot_byte, colon_byte};
 ghost use Rattle.grammar.specs.Words.{number_of};
-ghost use Rattle.words.specs.code.Scan.{byte_at, begins_step};
-ghost use Rattle.heads.specs.code.Head.{part, plain_head, named_head, opened_by, NameAt, DotMet};
-ghost use Rattle.heads.specs.code.Head.{TargetMet, TypeMet, TestMet, HeadMet, OperandMet, name_number, name_place};
+ghost use Rattle.words.specs.private.Scan.{byte_at, begins_step};
+ghost use Rattle.heads.specs.private.Head.{part, plain_head, named_head, opened_by, NameAt, DotMet};
+ghost use Rattle.heads.specs.private.Head.{TargetMet, TypeMet, TestMet, HeadMet, OperandMet, name_number, name_place};
 
 use common::axis::Axis;
 use common::node_test::NodeTest;
@@ -269,7 +269,7 @@ impl Selector<'_> {
 }
 
 /// The byte begins a step.
-#[tactic(auto, unfolding(words::specs::code::Scan::begins_step))]
+#[tactic(auto, unfolding(words::specs::private::Scan::begins_step))]
 pub fn begins_step(b: u8) -> bool
     ensures { result ≡ begins_step b }
 {

@@ -10,7 +10,7 @@ use lib.ListN.{length, get_or, drop, drop_of_length-le}
 use lib.Seq.{drop-cons}
 use borrow.Author.Tests.{eqb-true, eq-eqb}
 use Rattle.lines.specs.Line.{newline, space, Line, line, in_first_line, lines, in_first_part, parts}
-use Rattle.lines.specs.code.NumbersRead.{bytes_before, cut, first_parts}
+use Rattle.lines.specs.private.NumbersRead.{bytes_before, cut, first_parts}
 
 -- the byte e stands nowhere in the bytes
 abbrev pub Free : ℕ → List ℕ → Type 0

@@ -7,7 +7,7 @@ use native.Mathlib.Omega.{arith}
 use lib.Dec.{eqb}
 use Rattle.std.specs.List.{position_or_len}
 use Rattle.lines.specs.Line.{newline, Line, line, in_first_line, lines}
-use Rattle.lines.specs.code.NumbersRead.{first_length}
+use Rattle.lines.specs.private.NumbersRead.{first_length}
 
 -- one byte more makes the first line one longer
 pub first_longer : (x : ℕ) (ls : List Line) → first_length (in_first_line x ls) ≡ suc (first_length ls)

@@ -8,7 +8,7 @@ use native.Mathlib.Omega.{arith}
 use lib.ListN.{length, drop, replicate}
 use Rattle.lines.specs.Line.{newline, space, Line, lines}
 use Rattle.lines.specs.Number.{max_number, number_up_to, numbers_up_to, line_numbers}
-use Rattle.lines.specs.code.NumbersRead.{number_cut, NumberMet, first_parts, first_numbers}
+use Rattle.lines.specs.private.NumbersRead.{number_cut, NumberMet, first_parts, first_numbers}
 use Rattle.lines.proofs.Cutting.{lines_at}
 use Rattle.lines.proofs.Parts.{prepended, Reads, first_none, no_newline_in, next_behind, number_before_space}
 use Rattle.lines.proofs.Parts.{number_before_newline, PartsMet, GoesOn, starts_there, number_more, last_number}

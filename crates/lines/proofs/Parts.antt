@@ -14,8 +14,8 @@ use borrow.Author.Tests.{ne_eqb}
 use Rattle.common.specs.Lists.{all_of}
 use Rattle.lines.specs.Line.{newline, space, Line, lines, parts}
 use Rattle.lines.specs.Number.{digit0, is_digit, are_digits, is_decimal, append_digits, number_up_to}
-use Rattle.lines.specs.code.NumbersRead.{number_before, number_cut, NumberMet, first_parts}
-pub use Rattle.lines.specs.code.NumbersRead.{PartsMet}
+use Rattle.lines.specs.private.NumbersRead.{number_before, number_cut, NumberMet, first_parts}
+pub use Rattle.lines.specs.private.NumbersRead.{PartsMet}
 use Rattle.lines.proofs.Cutting.{Free, free_append, free_left, cut_at, Cutting, whole, in_two, cutting}
 use Rattle.lines.proofs.Cutting.{parts_whole, parts_at, lines_at, no_whole_line, no_next_line}
 

@@ -15,8 +15,8 @@ use borrow.Author.Tests.{ltb-true}
 use Rattle.common.specs.Lists.{all_of}
 use Rattle.lines.specs.Number.{digit0, digit9, is_digit, are_digits, is_decimal, append_digit, append_digits}
 use Rattle.lines.specs.Number.{number_up_to}
-use Rattle.lines.specs.code.NumbersRead.{first_digit, one_more, Cut, bytes_before, cut, NumberCut}
-use Rattle.lines.specs.code.NumbersRead.{number_before, number_cut}
+use Rattle.lines.specs.private.NumbersRead.{first_digit, one_more, Cut, bytes_before, cut, NumberCut}
+use Rattle.lines.specs.private.NumbersRead.{number_before, number_cut}
 
 -- the number that the byte `end` ends, where n is read already
 unfoldable pub scan : (most end n : ℕ) → List ℕ → Option NumberCut

@@ -14,7 +14,7 @@ use Rattle.std.specs.Cmp.Lexicographic.{pointwise}
 use borrow.Author.Tests.{eqb-true, ne_eqb}
 use Rattle.common.proofs.Tests.{eqb_turned}
 use Rattle.lines.specs.Line.{newline, Line, line, in_first_line, lines, same_bytes, is_line, first_is}
-use Rattle.lines.specs.code.NumbersRead.{starts_with}
+use Rattle.lines.specs.private.NumbersRead.{starts_with}
 use Rattle.lines.proofs.Cutting.{Free, lines_at}
 
 -- the first line after one byte more

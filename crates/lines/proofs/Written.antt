@@ -13,7 +13,7 @@ use Rattle.lines.specs.Line.{newline, space, lines}
 use Rattle.lines.specs.Number.{digit0, digit9, max_number, is_digit, are_digits, is_decimal, append_digit}
 use Rattle.lines.specs.Number.{append_digits, number_up_to}
 use Rattle.lines.specs.Written.{digits_of, decimal, AllFit, line_text}
-use Rattle.lines.specs.code.NumbersRead.{first_numbers}
+use Rattle.lines.specs.private.NumbersRead.{first_numbers}
 use Rattle.lines.proofs.LineRead.{number_and_space, number_and_newline}
 
 digit_is : (x : ℕ) → digit0 ≤ x → x ≤ digit9 → is_digit x ≡ true

@@ -2,5 +2,5 @@ pub mod Ascii
 pub mod Line
 pub mod Number
 pub mod Written
-pub mod code
+pub mod private
 pub mod values

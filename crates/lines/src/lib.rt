@@ -9,8 +9,8 @@ ghost use Rattle.std.specs.Prelude.{◌≡◌, true, [], ◌∷◌, ◌++◌, �
 ghost use Rattle.std.proofs.Math.Option.{none};
 ghost use Rattle.lines.specs.Line.{newline, lines};
 ghost use Rattle.lines.specs.Number.{digit0, is_digit};
-ghost use Rattle.lines.specs.code.NumbersRead.{up_to, first_digit, one_more, written_number, number_cut, NumberMet};
-ghost use Rattle.lines.specs.code.NumbersRead.{first_numbers, LineMet, starts_with, first_length};
+ghost use Rattle.lines.specs.private.NumbersRead.{up_to, first_digit, one_more, written_number, number_cut, NumberMet};
+ghost use Rattle.lines.specs.private.NumbersRead.{first_numbers, LineMet, starts_with, first_length};
 
 pub const NEWLINE: u8 = b'\n';
 
@@ -52,7 +52,7 @@ fn digit(b: u8) -> u64
 }
 
 // With `try_from` and `filter` 3,325 lines of five numbers take 172 us to read, and take 149 so.
-#[tactic(auto, unfolding(crate::specs::code::NumbersRead::up_to))]
+#[tactic(auto, unfolding(crate::specs::private::NumbersRead::up_to))]
 fn up_to(most: u32, value: u64) -> Option<u32>
     ensures { written_number result ≡ up_to most value }
 {
@@ -63,7 +63,7 @@ fn up_to(most: u32, value: u64) -> Option<u32>
 }
 
 // The number that b writes where a number starts.
-#[tactic(auto, unfolding(crate::specs::code::NumbersRead::first_digit, crate::specs::code::NumbersRead::up_to))]
+#[tactic(auto, unfolding(crate::specs::private::NumbersRead::first_digit, crate::specs::private::NumbersRead::up_to))]
 fn first_digit(most: u32, end: u8, b: u8) -> Option<u32>
     ensures { written_number result ≡ first_digit most end b }
 {
@@ -74,7 +74,7 @@ fn first_digit(most: u32, end: u8, b: u8) -> Option<u32>
 }
 
 // The digits that write `value`, and b behind them. No digit may stand behind a 0.
-#[tactic(auto, unfolding(crate::specs::code::NumbersRead::one_more, crate::specs::code::NumbersRead::up_to))]
+#[tactic(auto, unfolding(crate::specs::private::NumbersRead::one_more, crate::specs::private::NumbersRead::up_to))]
 fn one_more(most: u32, value: u32, b: u8) -> Option<u32>
     ensures { written_number result ≡ one_more most value b }
 {

@@ -10,7 +10,7 @@ use lib.ListN.{length, get_or, set, length-set}
 use lib.Seq.{get_or-set_same, get_or-set_other}
 use borrow.Author.Tests.{lt-ltb, le-ltb, le-leb, lt-leb}
 use Rattle.common.proofs.Reflect.{eq_or_ne, le_or_lt}
-use Rattle.marking.specs.code.Added.{Added}
+use Rattle.marking.specs.private.Added.{Added}
 
 module _ {n : ℕ} {old new : List ℕ} {s : ℕ → Bool} where
   pub added_cong : (t : ℕ → Bool) → Added n old new s → ((y : ℕ) → y < n → t y ≡ s y) → Added n old new t

@@ -7,7 +7,7 @@ use Rattle.common.specs.declared.axis.Axis.TheVariants.{Itself, Child, Parent, D
 use Rattle.common.specs.declared.axis.Axis.TheVariants.{AncestorOrSelf, FollowingSibling, PrecedingSibling, Following}
 use Rattle.common.specs.declared.axis.Axis.TheVariants.{Preceding, Attribute}
 use Rattle.common.specs.Axes.{attribute}
-use Rattle.common.specs.code.Numbers.{axis_number}
+use Rattle.common.specs.represent.Numbers.{axis_number}
 
 -- axis by axis
 pub is_attribute_axis : (a : Axis) → sameb the_type a Attribute ≡ eqb (axis_number a) attribute

@@ -15,14 +15,14 @@ use Rattle.common.specs.Axes.{following_sibling, preceding_sibling, following, p
 use Rattle.common.specs.NodeKinds.{attribute_kind}
 use Rattle.xpath.specs.Document.{Document, kind_at, parent_at, is_attribute, is_child, is_ancestor, are_siblings}
 use Rattle.xpath.specs.Axis.{on_axis}
-use Rattle.xpath.specs.code.Ends.{Prepared}
+use Rattle.xpath.specs.represent.Ends.{Prepared}
 use Rattle.common.proofs.Reflect.{facts, tests_equal, true_iff, and_iff, or_iff, and_via, not_via, eq_iff, le_iff}
 use Rattle.common.proofs.Reflect.{le_or_lt}
 use Rattle.xpath.proofs.Tree.{Child, Ancestor, parent_is, ancestor_cases, child_yes, yes_child, ancestor_smaller}
 use Rattle.xpath.proofs.Tree.{parent_smaller}
 use Rattle.xpath.proofs.Facts.{NoAttribute, OnAxis, on_axis_iff}
 use Rattle.xpath.proofs.Axes.{past_last_axis}
-use Rattle.marking.specs.code.Added.{Added, may_hold, ChildrenFrom}
+use Rattle.marking.specs.private.Added.{Added, may_hold, ChildrenFrom}
 use Rattle.marking.proofs.Added.{between, added_cong, added_twice, nothing_added}
 use Rattle.marking.proofs.Walks.{at_end, below_end, past_end, next_within, next_is_child}
 

@@ -9,8 +9,8 @@ use lib.Dec.{T, eqb}
 use lib.ListN.{length, get_or, set}
 use borrow.Author.Tests.{eq-eqb, ne_eqb, lt-ltb, le-ltb}
 use Rattle.xpath.specs.Document.{Document, parent_at, is_child, is_ancestor, well_formed}
-use Rattle.xpath.specs.code.Ends.{EndsAt, Prepared}
-use Rattle.marking.specs.code.Added.{Added, ChildrenFrom}
+use Rattle.xpath.specs.represent.Ends.{EndsAt, Prepared}
+use Rattle.marking.specs.private.Added.{Added, ChildrenFrom}
 use Rattle.marking.proofs.Added.{between, from_on, up_start, up_marked, up_left, down_start, down_on, down_end}
 use Rattle.common.proofs.Reflect.{tests_equal, true_iff, le_or_lt, eq_or_ne}
 use Rattle.xpath.proofs.Tree.{Ancestor, parent_is, ancestor_trans, ancestor_cases, child_yes, yes_child, ancestor_yes}

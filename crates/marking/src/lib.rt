@@ -5,12 +5,12 @@
 
 ghost use Rattle.std.specs.Prelude.{◌≡◌, true, false, ◌&&◌, ◌||◌, ◌≤◌, ◌<◌, ltb, leb, eqb, length, get_or, MatchOption};
 ghost use Rattle.common.specs.Axes.{parent};
-ghost use Rattle.common.specs.code.Numbers.{axis_number};
+ghost use Rattle.common.specs.represent.Numbers.{axis_number};
 ghost use Rattle.xpath.specs.Document.{parent_at, is_attribute, is_child, is_ancestor};
-ghost use Rattle.xpath.specs.code.Checked.{doc};
-ghost use Rattle.xpath.specs.code.Tests.{picks};
+ghost use Rattle.xpath.specs.private.Checked.{doc};
+ghost use Rattle.xpath.specs.private.Tests.{picks};
 ghost use Rattle.xpath.specs.Axis.{on_axis, passes};
-ghost use Rattle.marking.specs.code.Added.{Added, candidate, ChildrenFrom};
+ghost use Rattle.marking.specs.private.Added.{Added, candidate, ChildrenFrom};
 
 use common::axis::Axis;
 use xpath::{Checked, MAX_NODES, NodeSet, StepTest};

@@ -10,7 +10,7 @@ use Rattle.common.specs.Lists.{all_of}
 use Rattle.common.proofs.Reflect.{tests_equal, true_iff}
 use Rattle.rules.specs.Order.{is_pair}
 use Rattle.rules.proofs.Orders.{tested_at}
-use Rattle.matching.specs.code.MatchTypes.{same_pairs}
+use Rattle.matching.specs.private.MatchTypes.{same_pairs}
 
 -- a and b are one of the pairs
 pub pair_found : (a b : ℕ) (ps : List (ℕ × ℕ)) → list_any (λ p. eqb p.0 a && eqb p.1 b) ps ≡ is_pair ps a b

@@ -23,11 +23,11 @@ use Rattle.rules.specs.Yields.{table_rules, forms_in, forms_of, first_count, pre
 use Rattle.rules.specs.Yields.{same_counts_lem}
 use Rattle.rules.specs.Yields.{way_back_rule}
 use Rattle.rules.proofs.RuleNumbers.{no_forms}
-use Rattle.matching.specs.code.Pattern.{FormPattern, form_pattern, claim_pattern}
+use Rattle.matching.specs.private.Pattern.{FormPattern, form_pattern, claim_pattern}
 use Rattle.matching.specs.declared.pattern.Form.{Form as CodeForm}
-use Rattle.matching.specs.code.PatternTypes.{claim_of, form_of, rule_table}
-use Rattle.matching.specs.code.RowWayBack.{is_with_back}
-use Rattle.matching.specs.code.RowYields.{Sides, form_yields, yields_by, forms_yield, way_back_yields, row_yields}
+use Rattle.matching.specs.private.PatternTypes.{claim_of, form_of, rule_table}
+use Rattle.matching.specs.private.RowWayBack.{is_with_back}
+use Rattle.matching.specs.private.RowYields.{Sides, form_yields, yields_by, forms_yield, way_back_yields, row_yields}
 
 -- the values of f below k
 values_below : {A : Type 0} → (ℕ → A) → ℕ → List A

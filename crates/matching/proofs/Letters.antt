@@ -16,10 +16,11 @@ use Rattle.terms.proofs.Terms.{path_term, qualifier_term}
 use Rattle.terms.proofs.Built.{built_terms_differ}
 use Rattle.rules.specs.Form.{PathLetter, QualifierLetter, AxisLetter, TestLetter}
 use Rattle.rules.specs.Instance.{Letters}
-use Rattle.matching.specs.code.Pattern.{letter_count, path_letter_number, qualifier_letter_number, axis_letter_number}
-use Rattle.matching.specs.code.Pattern.{test_letter_number}
-use Rattle.matching.specs.code.Pattern.{name_letter}
-use Rattle.matching.specs.code.RowYields.{suits}
+use Rattle.matching.specs.private.Pattern.{letter_count, path_letter_number, qualifier_letter_number}
+use Rattle.matching.specs.private.Pattern.{axis_letter_number}
+use Rattle.matching.specs.private.Pattern.{test_letter_number}
+use Rattle.matching.specs.private.Pattern.{name_letter}
+use Rattle.matching.specs.private.RowYields.{suits}
 
 -- what a letter stands for
 pub data Meant : Type 0 where

@@ -25,11 +25,11 @@ use Rattle.rules.specs.Form.{PathLetter, QualifierLetter, AxisLetter, TestLetter
 use Rattle.rules.specs.Form.{test_letter, PathForm, path_letter, ◌::◌, ◌¦◌, ◌∕◌, ◌⟦◌⟧, QualifierForm, qualifier_letter}
 use Rattle.rules.specs.Form.{Not◌, ◌And◌, ◌Or◌, ◌In◌}
 use Rattle.rules.specs.Instance.{Letters, axis_for, test_for, path_for, qualifier_for}
-use Rattle.matching.specs.code.Pattern.{Pattern, number, letter, row_pattern, path_letter_number}
-use Rattle.matching.specs.code.Pattern.{qualifier_letter_number, axis_letter_number}
-use Rattle.matching.specs.code.Pattern.{test_letter_number, name_letter, axis_pattern, test_pattern, name_pattern}
-use Rattle.matching.specs.code.Pattern.{path_pattern, qualifier_pattern}
-use Rattle.matching.specs.code.RowYields.{suits, is_row}
+use Rattle.matching.specs.private.Pattern.{Pattern, number, letter, row_pattern, path_letter_number}
+use Rattle.matching.specs.private.Pattern.{qualifier_letter_number, axis_letter_number}
+use Rattle.matching.specs.private.Pattern.{test_letter_number, name_letter, axis_pattern, test_pattern, name_pattern}
+use Rattle.matching.specs.private.Pattern.{path_pattern, qualifier_pattern}
+use Rattle.matching.specs.private.RowYields.{suits, is_row}
 use Rattle.matching.proofs.Agreement.{IsInstance}
 use Rattle.matching.proofs.Letters.{meant, Means, held_path_lem, held_qualifier_lem}
 

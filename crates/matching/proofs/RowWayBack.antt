@@ -17,14 +17,14 @@ use Rattle.terms.proofs.Entries.{entries_take, entry_at_lem, entry_past}
 use Rattle.terms.proofs.Noted.{note_there, nothing_noted, noted_more}
 use Rattle.common.specs.declared.row_kind.RowKind.{RowKind}
 use Rattle.common.specs.declared.row_kind.RowKind.TheVariants as Kinds
-use Rattle.common.specs.code.Numbers.{row_number}
+use Rattle.common.specs.represent.Numbers.{row_number}
 use Rattle.matching.specs.declared.matcher.Sides.{Sides}
 use Rattle.matching.specs.declared.way_back.Reversal.{Reversal}
 use Rattle.matching.specs.declared.way_back.Reversal.TheVariants.{Never, Always, Operands}
-use Rattle.matching.specs.code.MatchTypes.{reversed_by, Reverses}
-use Rattle.matching.specs.code.RowWayBack.{back_in, is_step_back, is_filter_back, is_back_by}
-use Rattle.matching.specs.code.RowWayBack.{back_after, backs}
-use Rattle.matching.specs.code.RowWayBack.{is_back, Noted, BackFound}
+use Rattle.matching.specs.private.MatchTypes.{reversed_by, Reverses}
+use Rattle.matching.specs.private.RowWayBack.{back_in, is_step_back, is_filter_back, is_back_by}
+use Rattle.matching.specs.private.RowWayBack.{back_after, backs}
+use Rattle.matching.specs.private.RowWayBack.{is_back, Noted, BackFound}
 
 -- the entries before i are those of smaller rows
 back_before : (bs : List (ℕ → Bool)) (i p q : ℕ) → back_in (take i bs) p q ≡ (ltb p i && back_in bs p q)

@@ -24,12 +24,13 @@ use Rattle.rules.specs.Claim.{Containment, Implication, says}
 use Rattle.rules.specs.Instance.{Letters, claim_for, meets}
 use Rattle.rules.specs.WayBack.{way_back}
 use Rattle.rules.specs.Yields.{forms_of, FormYields, way_back_rule, WayBackYields, Yields}
-use Rattle.rules.specs.code.LettersRead.{claim_forms}
-use Rattle.rules.specs.code.RuleFits.{settled}
-use Rattle.matching.specs.code.Pattern.{letter_count, claim_pattern, form_pattern}
-use Rattle.matching.specs.code.RowYields.{Sides, one_sort, says_of, Match, suits, match_claims, empty_match}
-use Rattle.matching.specs.code.RowYields.{numbers_in, match_form, form_yields, forms_yield, way_back_yields, row_yields}
-use Rattle.matching.specs.code.RowWayBack.{is_with_back}
+use Rattle.rules.specs.private.LettersRead.{claim_forms}
+use Rattle.rules.specs.private.RuleFits.{settled}
+use Rattle.matching.specs.private.Pattern.{letter_count, claim_pattern, form_pattern}
+use Rattle.matching.specs.private.RowYields.{Sides, one_sort, says_of, Match, suits, match_claims, empty_match}
+use Rattle.matching.specs.private.RowYields.{numbers_in, match_form, form_yields, forms_yield, way_back_yields}
+use Rattle.matching.specs.private.RowYields.{row_yields}
+use Rattle.matching.specs.private.RowWayBack.{is_with_back}
 use Rattle.matching.proofs.Agreement.{IsClaim, AreClaims, claims_map, Sized, claims_sized, Agrees}
 use Rattle.matching.proofs.Agreement.{match_claims_iff}
 use Rattle.matching.proofs.Letters.{Means, means_small, means_one, letters_of, value_means, held_path_lem}

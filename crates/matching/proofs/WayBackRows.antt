@@ -25,8 +25,8 @@ use Rattle.terms.proofs.Terms.{path_term, qualifier_term, step_path}
 use Rattle.terms.proofs.Built.{FieldLaw, built_row, built_term, built_kind}
 use Rattle.rules.specs.Order.{is_pair}
 use Rattle.rules.specs.WayBack.{opposites, lookup, opposite, step_back, filter_back, joined, way_back}
-use Rattle.matching.specs.code.RowWayBack.{is_step, is_step_back, is_filter_back, back_by_kind, is_back_by, is_back}
-use Rattle.matching.specs.code.RowWayBack.{is_with_back}
+use Rattle.matching.specs.private.RowWayBack.{is_step, is_step_back, is_filter_back, back_by_kind, is_back_by, is_back}
+use Rattle.matching.specs.private.RowWayBack.{is_with_back}
 use Rattle.rules.proofs.Orders.{pair_at}
 use Rattle.matching.proofs.Letters.{same_path, same_qualifier}
 use Rattle.rules.proofs.WayBackSound.{lookup_pair, joined_some}

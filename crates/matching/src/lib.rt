@@ -10,9 +10,9 @@ mod way_back;
 ghost use Rattle.std.specs.Prelude.{◌≡◌, List, map, take};
 ghost use Rattle.terms.specs.Row.{Row, table_of};
 ghost use Rattle.rules.specs.Yields.{premise_count};
-ghost use Rattle.matching.specs.code.RowWayBack.{Noted};
-ghost use Rattle.matching.specs.code.RowYields.{row_yields};
-ghost use Rattle.matching.specs.code.MatchTypes.{sides_in};
+ghost use Rattle.matching.specs.private.RowWayBack.{Noted};
+ghost use Rattle.matching.specs.private.RowYields.{row_yields};
+ghost use Rattle.matching.specs.private.MatchTypes.{sides_in};
 
 pub use matcher::Sides;
 use matcher::forms_of;

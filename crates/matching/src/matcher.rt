@@ -1,15 +1,15 @@
 // A form of a rule against the rows of a step and of its premises.
 ghost use Rattle.std.specs.Prelude.{◌≡◌, [], map, length, take, drop, get_or};
 ghost use Rattle.terms.specs.Row.{table_of};
-ghost use Rattle.common.specs.code.Numbers.{row_number};
+ghost use Rattle.common.specs.represent.Numbers.{row_number};
 ghost use Rattle.rules.specs.Instance.{meets};
 ghost use Rattle.rules.specs.Yields.{forms_of};
-ghost use Rattle.matching.specs.code.Pattern.{form_pattern};
-ghost use Rattle.matching.specs.code.PatternTypes.{letter_number, condition_of, pattern_of, claim_of, form_of};
-ghost use Rattle.matching.specs.code.PatternTypes.{forms_in, rule_table};
-ghost use Rattle.matching.specs.code.RowYields.{bind, suits, match, match_claim, match_claims};
-ghost use Rattle.matching.specs.code.RowYields.{empty_match, numbers_in, yields_by};
-ghost use Rattle.matching.specs.code.MatchTypes.{sides_in, values_in, matched, Matches, KindRowIs};
+ghost use Rattle.matching.specs.private.Pattern.{form_pattern};
+ghost use Rattle.matching.specs.private.PatternTypes.{letter_number, condition_of, pattern_of, claim_of, form_of};
+ghost use Rattle.matching.specs.private.PatternTypes.{forms_in, rule_table};
+ghost use Rattle.matching.specs.private.RowYields.{bind, suits, match, match_claim, match_claims};
+ghost use Rattle.matching.specs.private.RowYields.{empty_match, numbers_in, yields_by};
+ghost use Rattle.matching.specs.private.MatchTypes.{sides_in, values_in, matched, Matches, KindRowIs};
 
 use crate::order::{axis_below, test_below};
 use crate::pattern::{Claim, Condition, Form, LETTER_COUNT, Letter, Pattern, RowPattern};
@@ -74,7 +74,7 @@ pub fn forms_of(rule: u16) -> &'static [Form]
 }
 
 // Whether a letter can stand for v: p, q, r, s for held paths, f, g, h for held qualifiers.
-#[tactic(auto, unfolding(crate::specs::code::RowYields::suits))]
+#[tactic(auto, unfolding(crate::specs::private::RowYields::suits))]
 fn suits_letter(rows: &[u16], letter: Letter, v: u16) -> bool
     ensures { result ≡ suits (table_of rows.now) (letter_number letter) v }
 {
@@ -86,7 +86,7 @@ fn suits_letter(rows: &[u16], letter: Letter, v: u16) -> bool
 }
 
 // The held row of number v, where it is of this kind.
-#[tactic(auto, unfolding(crate::specs::code::RowYields::is_row))]
+#[tactic(auto, unfolding(crate::specs::private::RowYields::is_row))]
 fn row_of_kind(rows: &[u16], kind: RowKind, v: u16) -> Option<Row>
     ensures { KindRowIs result (table_of rows.now) (row_number kind) v }
 {
@@ -94,7 +94,7 @@ fn row_of_kind(rows: &[u16], kind: RowKind, v: u16) -> Option<Row>
 }
 
 impl Letters {
-    #[tactic(auto, unfolding(crate::specs::code::RowYields::empty_match))]
+    #[tactic(auto, unfolding(crate::specs::private::RowYields::empty_match))]
     fn new() -> Letters
         ensures { matched result ≡ empty_match }
     {

@@ -1,7 +1,7 @@
 // The order of the axes and the order of the tests.
 ghost use Rattle.std.specs.Prelude.{◌≡◌, true};
 ghost use Rattle.rules.specs.Order.{axis_pairs, is_pair, axis_below, test_below};
-ghost use Rattle.matching.specs.code.MatchTypes.{same_pairs};
+ghost use Rattle.matching.specs.private.MatchTypes.{same_pairs};
 
 use crate::tables::AXIS_PAIRS;
 use common::node_test::NodeTest;

@@ -1,7 +1,7 @@
 // The forms of the rules as patterns of rows.
 ghost use Rattle.std.specs.Prelude.{◌≡◌, ◌<◌};
-ghost use Rattle.matching.specs.code.Pattern.{letter_count};
-ghost use Rattle.matching.specs.code.PatternTypes.{letter_number};
+ghost use Rattle.matching.specs.private.Pattern.{letter_count};
+ghost use Rattle.matching.specs.private.PatternTypes.{letter_number};
 
 use common::row_kind::RowKind;
 

@@ -1,11 +1,12 @@
 // The way back of a path, judged on the rows' numbers.
 ghost use Rattle.std.specs.Prelude.{◌≡◌};
 ghost use Rattle.terms.specs.Row.{table_of};
-ghost use Rattle.terms.specs.code.RowTypes.{row_of};
+ghost use Rattle.terms.specs.represent.RowTypes.{row_of};
 ghost use Rattle.rules.specs.Order.{is_pair};
 ghost use Rattle.rules.specs.WayBack.{opposites};
-ghost use Rattle.matching.specs.code.RowWayBack.{is_step, is_step_back, is_filter_back, is_with_back, Noted, BackFound};
-ghost use Rattle.matching.specs.code.MatchTypes.{Reverses};
+ghost use Rattle.matching.specs.private.RowWayBack.{is_step, is_step_back, is_filter_back, is_with_back, Noted};
+ghost use Rattle.matching.specs.private.RowWayBack.{BackFound};
+ghost use Rattle.matching.specs.private.MatchTypes.{Reverses};
 
 use crate::matcher::Sides;
 use crate::order::is_pair;
@@ -43,7 +44,7 @@ fn is_opposite(a: u16, b: u16) -> bool
 }
 
 // Whether row i is a step on that axis with that test and name.
-#[tactic(auto, unfolding(crate::specs::code::RowWayBack::is_step, terms::specs::Row::same_row))]
+#[tactic(auto, unfolding(crate::specs::private::RowWayBack::is_step, terms::specs::Row::same_row))]
 fn is_step(rows: &[u16], i: u16, a: u16, t: u16, c: u16) -> bool
     ensures { result ≡ is_step (table_of rows.now) i a t c }
 {
@@ -57,7 +58,7 @@ fn is_step(rows: &[u16], i: u16, a: u16, t: u16, c: u16) -> bool
 }
 
 // Whether y is self::N, then the opposite axis with node(), for the step x.
-#[tactic(auto, unfolding(crate::specs::code::RowWayBack::is_step_back))]
+#[tactic(auto, unfolding(crate::specs::private::RowWayBack::is_step_back))]
 fn is_step_back(rows: &[u16], x: Row, y: Row) -> bool
     ensures { result ≡ is_step_back (table_of rows.now) (row_of x) (row_of y) }
 {
@@ -69,7 +70,7 @@ fn is_step_back(rows: &[u16], x: Row, y: Row) -> bool
 }
 
 // Whether y is .[f], then a path, for x, whose qualifier is f.
-#[tactic(auto, unfolding(crate::specs::code::RowWayBack::is_filter_back))]
+#[tactic(auto, unfolding(crate::specs::private::RowWayBack::is_filter_back))]
 fn is_filter_back(rows: &[u16], x: Row, y: Row) -> bool
     ensures { result ≡ is_filter_back (table_of rows.now) (row_of x) (row_of y) }
 {
@@ -136,7 +137,7 @@ fn is_back(rows: &[u16], i: u16, j: u16, noted: &mut [Option<u16>]) -> bool
 
 /// Whether the right row is left[some w], and w is the way back of the left one; what is found on the way is noted.
 /// That the notes are true is asked, as by `yields`.
-#[tactic(auto, unfolding(crate::specs::code::RowWayBack::is_with_back))]
+#[tactic(auto, unfolding(crate::specs::private::RowWayBack::is_with_back))]
 pub fn is_with_back(rows: &[u16], step: Sides, noted: &mut [Option<u16>]) -> bool
     requires { Noted (table_of rows.now) noted.old }
     ensures { (result ≡ is_with_back (table_of rows.now) step.left step.right)

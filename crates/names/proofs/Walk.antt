@@ -10,10 +10,10 @@ use lib.ListN.{length, get_or, take, drop, length-drop, get_or-map}
 use lib.Seq.{drop-drop, get_or-drop}
 use Rattle.lines.specs.Line.{newline, Line, line, in_first_line, lines}
 use Rattle.names.specs.Names.{NameMet}
-use Rattle.lines.specs.code.NumbersRead.{first_length}
+use Rattle.lines.specs.private.NumbersRead.{first_length}
 use Rattle.lines.proofs.Cutting.{no_lines}
 use Rattle.lines.proofs.FirstLine.{one_more}
-use Rattle.names.specs.code.LineStarts.{NextMet, StartMet}
+use Rattle.names.specs.private.LineStarts.{NextMet, StartMet}
 
 -- the first line's bytes are the first of the text, as many as it has
 more_bytes : (x : ℕ) (xs : List ℕ) (b : Bool) (ls : List Line)

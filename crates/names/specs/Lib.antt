@@ -1,3 +1,3 @@
 pub mod Names
-pub mod code
+pub mod private
 pub mod values

@@ -4,7 +4,7 @@
 ghost use Rattle.std.specs.Prelude.{◌≡◌, length};
 ghost use Rattle.lines.specs.Line.{lines};
 ghost use Rattle.names.specs.Names.{NameMet};
-ghost use Rattle.names.specs.code.LineStarts.{NextMet, StartMet};
+ghost use Rattle.names.specs.private.LineStarts.{NextMet, StartMet};
 
 /// A name stands in a list from `start` on, and before `end`.
 #[derive(Clone, Copy)]

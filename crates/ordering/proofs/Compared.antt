@@ -16,9 +16,9 @@ use Rattle.terms.specs.Terms.{terms, term_at}
 use Rattle.terms.proofs.Noted.{nothing_noted, noted_more}
 use Rattle.ordering.specs.Order.{Order, less, equal, greater, ◌and_then◌, number_order}
 use Rattle.ordering.specs.TermOrder.{row_order, field_order, term_order}
-use Rattle.calls.specs.code.Answers.{order_number}
+use Rattle.calls.specs.represent.Answers.{order_number}
 use Rattle.ordering.specs.OrderCall.{order_value}
-use Rattle.ordering.specs.code.FieldsCompared.{order_of, term_kind, field_as, Noted, Compared}
+use Rattle.ordering.specs.private.FieldsCompared.{order_of, term_kind, field_as, Noted, Compared}
 use Rattle.ordering.proofs.Orders.{numbers_ordered}
 use Rattle.ordering.proofs.TermOrder.{terms_ordered}
 use Rattle.ordering.proofs.Rows.{row_by, row_at_lem}

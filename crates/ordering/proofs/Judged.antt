@@ -16,7 +16,7 @@ use Rattle.std.specs.Prelude.{Ok, Err}
 use Rattle.std.specs.declared.cmp.Ordering.{Ordering}
 use Rattle.std.specs.declared.cmp.Ordering.TheVariants.{Less, Equal, Greater}
 use Rattle.common.specs.declared.refusal.Refusal.TheVariants.{BadSide}
-use Rattle.calls.specs.code.Answers.{OrderOrRefusal, order_number, order_answer_of}
+use Rattle.calls.specs.represent.Answers.{OrderOrRefusal, order_number, order_answer_of}
 use Rattle.ordering.specs.Order.{Order, less, equal, greater}
 use Rattle.ordering.specs.TermOrder.{term_order}
 use Rattle.ordering.specs.BundleOrder.{steps_order, term_steps, bundle_order}

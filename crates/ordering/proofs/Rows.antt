@@ -12,8 +12,8 @@ use Rattle.std.specs.Prelude.{Option, None, Some}
 use Rattle.std.specs.Option.{unwrap_or}
 use Rattle.common.specs.declared.row_kind.RowKind.{RowKind}
 use Rattle.common.specs.declared.row_kind.RowKind.TheVariants as Kinds
-use Rattle.common.specs.code.Numbers.{row_number}
-use Rattle.terms.specs.code.RowTypes.{KindIs}
+use Rattle.common.specs.represent.Numbers.{row_number}
+use Rattle.terms.specs.represent.RowTypes.{KindIs}
 use Rattle.common.specs.RowKinds.{void_row, false_row}
 use Rattle.std.proofs.lemmas.Bool.{and_cases}
 use Rattle.common.proofs.Reflect.{facts, le_or_lt, true_iff}
@@ -31,7 +31,7 @@ use Rattle.ordering.specs.Order.{number_order}
 use Rattle.ordering.specs.TermOrder.{TermRow, term_row, TermField, number, operand, path_row, qualifier_row}
 use Rattle.ordering.specs.TermOrder.{row_of_term}
 use Rattle.ordering.specs.TermOrder.{row_order, field_order, term_order}
-use Rattle.ordering.specs.code.FieldsCompared.{term_kind, field_as, is_operand, number_as}
+use Rattle.ordering.specs.private.FieldsCompared.{term_kind, field_as, is_operand, number_as}
 use Rattle.ordering.proofs.Orders.{numbers_ordered}
 use Rattle.ordering.specs.OrderLaws.{reverse}
 use Rattle.ordering.proofs.TermOrder.{row_reversed}

@@ -15,7 +15,7 @@ use Rattle.calls.specs.Book.{Step, step_of_numbers, no_step}
 use Rattle.ordering.specs.Order.{Order, ◌and_then◌, number_order}
 use Rattle.ordering.specs.TermOrder.{term_order}
 use Rattle.ordering.specs.BundleOrder.{term_step, step_order, steps_order}
-use Rattle.ordering.specs.code.FieldsCompared.{order_of}
+use Rattle.ordering.specs.private.FieldsCompared.{order_of}
 use Rattle.ordering.proofs.Orders.{Numbers, below, alike, above, numbers}
 use Rattle.ordering.proofs.Compared.{Three, decided, passed}
 

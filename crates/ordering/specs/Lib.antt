@@ -3,5 +3,5 @@ pub mod TermOrder
 pub mod BundleOrder
 pub mod OrderCall
 pub mod OrderLaws
-pub mod code
+pub mod private
 pub mod values

@@ -4,14 +4,14 @@
 ghost use Rattle.std.specs.Prelude.{◌≡◌, cond, take};
 ghost use Rattle.terms.specs.Row.{row_at, table_of};
 ghost use Rattle.terms.specs.Terms.{terms, term_at};
-ghost use Rattle.terms.specs.code.RowTypes.{row_of, field_of};
-ghost use Rattle.common.specs.code.Numbers.{row_number};
-ghost use Rattle.calls.specs.code.Tables.{book_held};
-ghost use Rattle.calls.specs.code.Answers.{step_of, order_answer_of};
+ghost use Rattle.terms.specs.represent.RowTypes.{row_of, field_of};
+ghost use Rattle.common.specs.represent.Numbers.{row_number};
+ghost use Rattle.calls.specs.represent.Tables.{book_held};
+ghost use Rattle.calls.specs.represent.Answers.{step_of, order_answer_of};
 ghost use Rattle.ordering.specs.TermOrder.{field_order, term_order};
 ghost use Rattle.ordering.specs.BundleOrder.{term_step, step_order};
 ghost use Rattle.ordering.specs.OrderCall.{order_answer, bundle_order_answer};
-ghost use Rattle.ordering.specs.code.FieldsCompared.{term_kind, field_as, is_operand, number_as, Noted, Compared};
+ghost use Rattle.ordering.specs.private.FieldsCompared.{term_kind, field_as, is_operand, number_as, Noted, Compared};
 
 use calls::{Held, Step, whole_steps};
 use common::Refusal;
@@ -37,7 +37,7 @@ struct Entry<'a> {
 
 impl<'a> Entry<'a> {
     // Whether it is the number of an earlier row, as the field asks.
-    #[tactic(auto, unfolding(crate::specs::code::FieldsCompared::is_operand))]
+    #[tactic(auto, unfolding(crate::specs::private::FieldsCompared::is_operand))]
     fn is_operand(self) -> bool
         ensures { result ≡ is_operand (table_of self.entry.rows.now) self.entry.i (field_of self.entry.field)
             self.entry.x }
@@ -63,7 +63,7 @@ impl<'a> Entry<'a> {
     }
 
     // What stands for it where a field is compared as a number.
-    #[tactic(auto, unfolding(crate::specs::code::FieldsCompared::number_as))]
+    #[tactic(auto, unfolding(crate::specs::private::FieldsCompared::number_as))]
     fn number(self) -> u16
         ensures { result ≡ number_as (table_of self.entry.rows.now) self.entry.i (field_of self.entry.field)
             self.entry.x }

@@ -4,9 +4,9 @@
 
 ghost use Rattle.std.specs.Prelude.{◌≡◌, map};
 ghost use Rattle.calls.specs.PointCall.{point_answer};
-ghost use Rattle.calls.specs.code.Points.{counts_in, counts_of, counts_names, PointFound, ReturnFound};
-ghost use Rattle.calls.specs.code.Points.{point_named, cleared};
-ghost use Rattle.calls.specs.code.Answers.{done_answer_of};
+ghost use Rattle.calls.specs.represent.Points.{counts_in, counts_of, counts_names, PointFound, ReturnFound};
+ghost use Rattle.calls.specs.represent.Points.{point_named, cleared};
+ghost use Rattle.calls.specs.represent.Answers.{done_answer_of};
 
 use calls::{MAX_POINTS, POINT_WIDTH, PointCounts};
 use common::Refusal;

@@ -17,11 +17,11 @@ use Rattle.terms.proofs.LentRows.{rows_lent, row_put}
 use Rattle.terms.proofs.Find.{find_le}
 use Rattle.grammar.specs.Bytes.{Bytes}
 use Rattle.grammar.specs.Denotes.{Put, put, Named, unlisted}
-use Rattle.heads.specs.code.Head.{place_of}
+use Rattle.heads.specs.private.Head.{place_of}
 use Rattle.readings.specs.declared.Reading.{Reading}
-use Rattle.readings.specs.code.Build.{Standing, stands, row_width, row_numbers, capped, moved_to, row_taken}
-use Rattle.readings.specs.code.Build.{no_room, Sized, Holds, Beyond, SameText, PutMet, first_of, Made, Grown}
-use Rattle.readings.specs.code.Build.{StepPut, joined, over, leaf}
+use Rattle.readings.specs.private.Build.{Standing, stands, row_width, row_numbers, capped, moved_to, row_taken}
+use Rattle.readings.specs.private.Build.{no_room, Sized, Holds, Beyond, SameText, PutMet, first_of, Made, Grown}
+use Rattle.readings.specs.private.Build.{StepPut, joined, over, leaf}
 
 -- a row put never leaves fewer rows
 pub put_more : (rs : List Row) (r : Row) → length rs ≤ length (put rs r).rows

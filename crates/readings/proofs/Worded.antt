@@ -11,15 +11,15 @@ use Rattle.std.proofs.Common.{add-zero}
 use lib.ListN.{length, get_or, drop}
 use Rattle.grammar.specs.Bytes.{Bytes, is_space, is_start, is_name}
 use Rattle.grammar.specs.Grammar.{Unary}
-use Rattle.grammar.specs.code.Reader.{need, keyword, k_a, k_an, k_and, k_o, k_or, inside, Open, Pend, plain}
-use Rattle.grammar.specs.code.Reader.{both, either, left_of, and_to, or_to, first, begin, step, follow, finish, run}
-use Rattle.grammar.specs.code.Reader.{bad, unary_byte, keyword_byte, lead_end}
-use Rattle.words.specs.code.Scan.{byte_at, Passed, begins_step}
-use Rattle.heads.specs.code.Head.{proceed}
-use Rattle.readings.specs.code.Build.{Standing, capped, moved_to, refused_at, Sized, PutMet, Grown, below_of}
-use Rattle.readings.specs.code.Passing.{WordPassed, WordMet, FirstPut}
-use Rattle.readings.specs.code.Passing.{SlashPut, BeginPut, Starting, start_of, root_start}
-use Rattle.readings.specs.code.Passing.{after_and, after_or}
+use Rattle.grammar.specs.private.Reader.{need, keyword, k_a, k_an, k_and, k_o, k_or, inside, Open, Pend, plain}
+use Rattle.grammar.specs.private.Reader.{both, either, left_of, and_to, or_to, first, begin, step, follow, finish, run}
+use Rattle.grammar.specs.private.Reader.{bad, unary_byte, keyword_byte, lead_end}
+use Rattle.words.specs.private.Scan.{byte_at, Passed, begins_step}
+use Rattle.heads.specs.private.Head.{proceed}
+use Rattle.readings.specs.private.Build.{Standing, capped, moved_to, refused_at, Sized, PutMet, Grown, below_of}
+use Rattle.readings.specs.private.Passing.{WordPassed, WordMet, FirstPut}
+use Rattle.readings.specs.private.Passing.{SlashPut, BeginPut, Starting, start_of, root_start}
+use Rattle.readings.specs.private.Passing.{after_and, after_or}
 use Rattle.words.proofs.Scanned.{head_drop}
 use Rattle.heads.proofs.Ran.{on_pass, on_stop}
 use Rattle.heads.proofs.Headed.{byte_there, no, yes_no}

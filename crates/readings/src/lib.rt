@@ -3,17 +3,17 @@
 
 ghost use Rattle.std.specs.Prelude.{ℕ, ◌≡◌, true, false, cond, suc, ◌+◌, ◌*◌, ◌<◌, ◌≤◌, max, eqb, get_or, length};
 ghost use Rattle.common.specs.RowKinds.{step_row};
-ghost use Rattle.common.specs.code.Numbers.{axis_number, test_number, row_number};
+ghost use Rattle.common.specs.represent.Numbers.{axis_number, test_number, row_number};
 ghost use Rattle.grammar.specs.Bytes.{slash_byte};
 ghost use Rattle.terms.specs.Row.{row, max_rows};
-ghost use Rattle.terms.specs.code.RowTypes.{row_of};
-ghost use Rattle.words.specs.code.Scan.{byte_at};
-ghost use Rattle.readings.specs.code.Build.{stands, ended, capped, refused_at, row_taken, no_room};
-ghost use Rattle.readings.specs.code.Build.{Sized, PutMet, Grown, below_of, some_of_put, only_in_step};
-ghost use Rattle.readings.specs.code.Build.{nothing_read, StepPut, HeadPut};
-ghost use Rattle.heads.specs.code.Head.{place_of};
-ghost use Rattle.readings.specs.code.Passing.{WordPassed, CloseMet, ConstPut, SlashPut, NegatePut};
-ghost use Rattle.readings.specs.code.Passing.{BeginPut, started, root_start};
+ghost use Rattle.terms.specs.represent.RowTypes.{row_of};
+ghost use Rattle.words.specs.private.Scan.{byte_at};
+ghost use Rattle.readings.specs.private.Build.{stands, ended, capped, refused_at, row_taken, no_room};
+ghost use Rattle.readings.specs.private.Build.{Sized, PutMet, Grown, below_of, some_of_put, only_in_step};
+ghost use Rattle.readings.specs.private.Build.{nothing_read, StepPut, HeadPut};
+ghost use Rattle.heads.specs.private.Head.{place_of};
+ghost use Rattle.readings.specs.private.Passing.{WordPassed, CloseMet, ConstPut, SlashPut, NegatePut};
+ghost use Rattle.readings.specs.private.Passing.{BeginPut, started, root_start};
 
 use common::axis::Axis;
 use common::node_test::NodeTest;
@@ -198,7 +198,7 @@ pub fn put_head(rows: &mut [u16], from: Reading, head: Head) -> Reading
 }
 
 /// A step ends where nothing follows that only a step could take.
-#[tactic(auto, unfolding(crate::specs::code::Build::only_in_step))]
+#[tactic(auto, unfolding(crate::specs::private::Build::only_in_step))]
 pub fn step_end(s: &[u8], r: Reading) -> Result<Reading, usize>
     ensures { ended result ≡ cond (only_in_step (byte_at s.now r.at)) (refused_at r.at) (stands r) }
 {

@@ -14,9 +14,9 @@ use Rattle.common.specs.Refusals.{no_record}
 use Rattle.records.specs.declared.Record.{Record}
 use Rattle.records.specs.declared.Records.{Records}
 use Rattle.records.specs.Records.{empty_record, max_records}
-use Rattle.records.specs.code.Held.{no_records, with_record}
+use Rattle.records.specs.represent.Held.{no_records, with_record}
 use Rattle.records.specs.Releases.{release_answer, released}
-use Rattle.records.specs.code.Listed.{listed}
+use Rattle.records.specs.represent.Listed.{listed}
 
 -- a release, test by test
 module _ (rs : List Record) (n : ℕ) (is-n : n ≡ length rs) (place : ℕ) where

@@ -1,5 +1,6 @@
 pub mod Records
 pub mod Register
 pub mod Releases
-pub mod code
+pub mod represent
+pub mod private
 pub mod values

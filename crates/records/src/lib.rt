@@ -4,14 +4,14 @@
 
 ghost use Rattle.std.specs.Prelude.{◌≡◌, ◌<◌, leb, length, OnErr};
 ghost use Rattle.terms.specs.Row.{table_of};
-ghost use Rattle.calls.specs.code.Answers.{done_answer_of};
-ghost use Rattle.calls.specs.code.Tables.{steps_of};
+ghost use Rattle.calls.specs.represent.Answers.{done_answer_of};
+ghost use Rattle.calls.specs.represent.Tables.{steps_of};
 ghost use Rattle.records.specs.Records.{current, row_of, is_fit_step, record_answer, all_kept};
 ghost use Rattle.records.specs.Records.{max_records};
-ghost use Rattle.records.specs.code.Held.{size_of, records_in, no_records, with_record};
+ghost use Rattle.records.specs.represent.Held.{size_of, records_in, no_records, with_record};
 ghost use Rattle.records.specs.Releases.{released};
-ghost use Rattle.records.specs.code.Listed.{no_releases, listed};
-ghost use Rattle.records.specs.code.Promises.{RecordMade, all_releases, ReleaseMade};
+ghost use Rattle.records.specs.represent.Listed.{no_releases, listed};
+ghost use Rattle.records.specs.private.Promises.{RecordMade, all_releases, ReleaseMade};
 
 use calls::Held;
 use common::Refusal;
@@ -62,7 +62,7 @@ fn is_fit_step(steps: &[u16], previous: u16, given: Record) -> bool
 }
 
 impl Records {
-    #[tactic(auto, unfolding(crate::specs::code::Held::no_records))]
+    #[tactic(auto, unfolding(crate::specs::represent::Held::no_records))]
     pub fn new() -> Records
         ensures { result ≡ no_records }
     {
@@ -191,7 +191,7 @@ impl Records {
 }
 
 impl Releases {
-    #[tactic(auto, unfolding(crate::specs::code::Listed::no_releases))]
+    #[tactic(auto, unfolding(crate::specs::represent::Listed::no_releases))]
     pub fn new() -> Releases
         ensures { result ≡ no_releases }
     {
@@ -201,7 +201,7 @@ impl Releases {
     }
 
     // Two functions, as their definitions: with the flag a parameter a caller could give any number.
-    #[tactic(auto, unfolding(crate::specs::code::Promises::all_releases))]
+    #[tactic(auto, unfolding(crate::specs::private::Promises::all_releases))]
     fn all() -> Releases
         ensures { result ≡ all_releases }
     {

@@ -8,8 +8,8 @@ use Rattle.register.specs.declared.Register.{Register}
 use Rattle.calls.specs.Book.{Answer, answer, accepted}
 use Rattle.calls.specs.Above.{own}
 use Rattle.records.specs.Releases.{IsReleased}
-use Rattle.records.specs.code.Held.{records_in}
-use Rattle.records.specs.code.Listed.{flagged}
+use Rattle.records.specs.represent.Held.{records_in}
+use Rattle.records.specs.represent.Listed.{flagged}
 use Rattle.records.proofs.Released.{of_a_record}
 use Rattle.records.proofs.Crew.{release_again}
 use Rattle.register.specs.Promises.{register, RegisterMet}

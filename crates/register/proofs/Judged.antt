@@ -24,7 +24,7 @@ use Rattle.replacing.specs.NoneLost.{Some, paths_of, StepSays}
 use Rattle.replacing.proofs.ByTerms.{replaced_iff}
 use Rattle.records.specs.declared.Record.{Record}
 use Rattle.records.specs.Records.{max_records, current, row_of, is_fit_step, record_answer}
-use Rattle.records.specs.code.Held.{records_in}
+use Rattle.records.specs.represent.Held.{records_in}
 use Rattle.records.specs.Register.{EditionsContained}
 use Rattle.records.specs.Releases.{OfficeCall, OfficeSeen, office_after}
 use Rattle.records.proofs.Judged.{record_accepted, is_recorded}

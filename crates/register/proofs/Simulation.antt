@@ -19,11 +19,11 @@ use Rattle.calls.proofs.Runs.{Simulates, run_map, run_follows}
 use Rattle.calls.proofs.Above.{Agrees, above_simulates, along_simulates, reached_below}
 use Rattle.calls.proofs.Reached.{BookLaws, reachable_laws}
 use Rattle.records.specs.Records.{empty_record, max_records, current, record_answer}
-use Rattle.records.specs.code.Held.{size_of, records_in, no_records, with_record}
+use Rattle.records.specs.represent.Held.{size_of, records_in, no_records, with_record}
 use Rattle.records.specs.Register.{plain_records, plain_register, empty_register, EditionsContained}
 use Rattle.records.specs.Releases.{none_released, released, crew_current, plain_releases, plain_office, empty_office}
 use Rattle.records.specs.Releases.{OfficeCall, OfficeSeen, office_after, IsReleased, StillReleased}
-use Rattle.records.specs.code.Listed.{no_releases}
+use Rattle.records.specs.represent.Listed.{no_releases}
 use Rattle.records.proofs.Crew.{crew_contained, releases_stay}
 use Rattle.records.proofs.Judged.{record_accepted}
 use Rattle.records.proofs.Editions.{editions_contained}

@@ -6,7 +6,7 @@ use mathlib.Core.List.{List, []}
 use lib.Dec.{leb, eqb}
 use lib.ListN.{length}
 use Rattle.terms.specs.Row.{Row}
-use Rattle.terms.specs.code.RowTypes as code
+use Rattle.terms.specs.represent.RowTypes as code
 use Rattle.terms.specs.Fields.{held_path}
 use Rattle.session.specs.declared.session.Session.{Session}
 use Rattle.records.specs.declared.Record.{Record}
@@ -16,7 +16,7 @@ use Rattle.calls.specs.declared.answer.LineRefusal.{LineRefusal}
 use Rattle.records.specs.declared.Records.{Records}
 use Rattle.common.specs.declared.refusal.Refusal.TheVariants as Refused
 use Rattle.register.specs.declared.Register.{Register}
-use Rattle.register.specs.code.Results.{ReadResult, read_result}
+use Rattle.register.specs.represent.Results.{ReadResult, read_result}
 use Rattle.calls.specs.Book.{Step, Answer, answer, accepted}
 use Rattle.common.specs.Refusals.{full_or_in_use, no_record}
 use Rattle.common.proofs.Lent.{lent, lent_to_write}
@@ -25,17 +25,18 @@ use Rattle.calls.specs.Promises.{row_yielded, row_step_answer}
 use Rattle.calls.specs.Runs.{next, Run}
 use Rattle.calls.specs.Calls.{term, step, text, point, return}
 use Rattle.calls.specs.Above.{passed, own}
-use Rattle.calls.specs.code.Answers.{NumberOrRefusal, DoneOrRefusal, OrderOrRefusal, step_of, answer_of, done_answer_of}
-use Rattle.calls.specs.code.Answers.{answer_with, refusal_answer}
+use Rattle.calls.specs.represent.Answers.{NumberOrRefusal, DoneOrRefusal, OrderOrRefusal, step_of, answer_of}
+use Rattle.calls.specs.represent.Answers.{done_answer_of}
+use Rattle.calls.specs.represent.Answers.{answer_with, refusal_answer}
 use Rattle.calls.proofs.Runs.{made, run_exists}
 use Rattle.calls.proofs.Cases.{HasCase, either_case, term_case, step_case, text_case, point_case, return_case}
 use Rattle.records.specs.Records.{max_records, current, row_of, is_fit_step, record_answer}
-use Rattle.records.specs.code.Held.{records_in, no_records}
+use Rattle.records.specs.represent.Held.{records_in, no_records}
 use Rattle.records.specs.Register.{drops_in_use}
 use Rattle.records.specs.Releases.{release_answer, crew_listing, crew_current, OfficeCall, OfficeSeen}
-use Rattle.records.specs.code.Listed.{listed, no_releases}
+use Rattle.records.specs.represent.Listed.{listed, no_releases}
 use Rattle.session.specs.View.{view, fresh_session}
-use Rattle.session.specs.code.Results as session-read
+use Rattle.session.specs.represent.Results as session-read
 use Rattle.session.specs.ReadCall.{ReadMet}
 use Rattle.session.proofs.Refused.{refused_kept}
 use Rattle.session.proofs.ReadCalls.{refused_fresh}

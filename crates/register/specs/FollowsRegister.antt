@@ -6,7 +6,7 @@ use Rattle.calls.specs.Book.{Answer, answer}
 use Rattle.calls.specs.Runs.{Run}
 use Rattle.calls.specs.Above.{own}
 use Rattle.records.specs.Records.{current}
-use Rattle.records.specs.code.Held.{records_in}
+use Rattle.records.specs.represent.Held.{records_in}
 use Rattle.records.specs.declared.Records.{Records}
 use Rattle.records.specs.Register.{EditionsContained}
 use Rattle.records.specs.Releases.{released, crew_current, IsReleased, StillReleased}

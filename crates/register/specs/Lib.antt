@@ -1,4 +1,4 @@
 pub mod Promises
 pub mod FollowsRegister
 pub mod RecordGuarantee
-pub mod code
+pub mod represent

@@ -5,17 +5,17 @@ use Rattle.records.specs.declared.Record.{Record}
 use Rattle.records.specs.declared.Records.{Records}
 use Rattle.records.specs.declared.Releases.{Releases}
 use Rattle.register.specs.declared.Register.{Register}
-use Rattle.register.specs.code.Results.{ReadResult}
+use Rattle.register.specs.represent.Results.{ReadResult}
 use Rattle.calls.specs.Book.{Answer, answer}
 use Rattle.common.specs.Refusals.{full_or_in_use, no_record}
 use Rattle.calls.specs.Runs.{Machine, Made}
 use Rattle.calls.specs.Calls.{Call}
 use Rattle.calls.specs.Above.{Both, both, Layer, above, along}
 use Rattle.records.specs.Records.{record_answer}
-use Rattle.records.specs.code.Held.{records_in, no_records, with_record}
+use Rattle.records.specs.represent.Held.{records_in, no_records, with_record}
 use Rattle.records.specs.Register.{drops_in_use, RegisterCall}
 use Rattle.records.specs.Releases.{release_answer, with_release, released, OfficeCall, OfficeHoldings}
-use Rattle.records.specs.code.Listed.{flagged, no_releases}
+use Rattle.records.specs.represent.Listed.{flagged, no_releases}
 use Rattle.session.specs.View.{view, fresh_session}
 use Rattle.session.specs.Promises.{session}
 use Rattle.session.specs.ReadCall.{ReadMet}

@@ -4,21 +4,21 @@
 #![tactic(auto)]
 
 ghost use Rattle.std.specs.Prelude.{◌≡◌, OnErr};
-ghost use Rattle.terms.specs.code.RowTypes.{row_of};
+ghost use Rattle.terms.specs.represent.RowTypes.{row_of};
 ghost use Rattle.calls.specs.Calls.{Call};
 ghost use Rattle.calls.specs.Above.{Above};
-ghost use Rattle.calls.specs.code.Answers.{answer_of, done_answer_of, step_of};
+ghost use Rattle.calls.specs.represent.Answers.{answer_of, done_answer_of, step_of};
 ghost use Rattle.records.specs.Records.{current};
-ghost use Rattle.records.specs.code.Held.{records_in};
+ghost use Rattle.records.specs.represent.Held.{records_in};
 ghost use Rattle.session.specs.Promises.{SelectMet};
 ghost use Rattle.session.specs.ReplaceGuarantee.{ReplaceMet};
 ghost use Rattle.session.specs.OrderGuarantee.{OrderMet, BundleOrderMet};
 ghost use Rattle.session.specs.WriteCall.{WriteMet};
 ghost use Rattle.records.specs.Releases.{crew_listing, crew_current};
-ghost use Rattle.records.specs.code.Listed.{listed};
+ghost use Rattle.records.specs.represent.Listed.{listed};
 ghost use Rattle.register.specs.Promises.{fresh_register, released_in, RegisterMet};
 ghost use Rattle.register.specs.Promises.{RegisterReadMet};
-ghost use Rattle.register.specs.code.Results.{read_result};
+ghost use Rattle.register.specs.represent.Results.{read_result};
 
 use records::Releases;
 use session::Session;

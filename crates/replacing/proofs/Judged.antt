@@ -19,10 +19,10 @@ use Rattle.common.specs.Refusals.{bad_lists, not_covered}
 use Rattle.std.proofs.lemmas.Bool.{or_parts}
 use Rattle.std.specs.Prelude.{Ok, Err}
 use Rattle.common.specs.declared.refusal.Refusal.TheVariants.{BadLists, NotCovered}
-use Rattle.calls.specs.code.Answers.{DoneOrRefusal, done_answer_of}
+use Rattle.calls.specs.represent.Answers.{DoneOrRefusal, done_answer_of}
 use Rattle.replacing.specs.Covered.{is_replaced, is_replaced_at, is_covered}
 use Rattle.replacing.specs.ReplaceCall.{max_list, are_bad_lists, first_uncovered, replace_answer}
-use Rattle.replacing.specs.code.Places.{IndexIs}
+use Rattle.replacing.specs.private.Places.{IndexIs}
 use Rattle.replacing.proofs.Places.{by_test}
 use Rattle.std.specs.List.{zip, position, position_or_len}
 use Rattle.std.proofs.lemmas.Slice.Zip.{get_or-zip, length-zip}

@@ -4,7 +4,7 @@ use mathlib.Core.Path.{refl}
 use mathlib.Core.Bool.{Bool, true, false, cond}
 use mathlib.Core.Option as first
 use Rattle.std.proofs.Common.{Some, None}
-use Rattle.replacing.specs.code.Places.{IndexIs}
+use Rattle.replacing.specs.private.Places.{IndexIs}
 
 -- a place that passes a test
 pub by_test : (t : Bool) (n : ℕ) → IndexIs (cond t (Some n) None) (cond t (first.some n) first.none)

@@ -19,7 +19,7 @@ use Rattle.common.proofs.Search.{none_iff, first_in}
 use Rattle.terms.specs.Fields.{held_path}
 use Rattle.calls.specs.Book.{Book, step_of_numbers, no_step}
 use Rattle.replacing.specs.Covered.{is_held_step, is_in, is_replaced, step_saying}
-use Rattle.replacing.specs.code.Places.{IndexIs}
+use Rattle.replacing.specs.private.Places.{IndexIs}
 use Rattle.replacing.proofs.Places.{by_test}
 
 -- of a row that is no held path no step says anything

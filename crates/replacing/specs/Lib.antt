@@ -1,5 +1,5 @@
 pub mod Covered
 pub mod ReplaceCall
 pub mod NoneLost
-pub mod code
+pub mod private
 pub mod values

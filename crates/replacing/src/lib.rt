@@ -2,12 +2,12 @@
 #![tactic(auto)]
 
 ghost use Rattle.std.specs.Prelude.{◌≡◌, length};
-ghost use Rattle.terms.specs.code.RowTypes.{PlaceIs};
-ghost use Rattle.calls.specs.code.Answers.{done_answer_of};
-ghost use Rattle.calls.specs.code.Tables.{book_held};
+ghost use Rattle.terms.specs.represent.RowTypes.{PlaceIs};
+ghost use Rattle.calls.specs.represent.Answers.{done_answer_of};
+ghost use Rattle.calls.specs.represent.Tables.{book_held};
 ghost use Rattle.replacing.specs.Covered.{is_in, is_replaced, step_saying};
 ghost use Rattle.replacing.specs.ReplaceCall.{are_bad_lists, first_uncovered, replace_answer};
-ghost use Rattle.replacing.specs.code.Places.{IndexIs};
+ghost use Rattle.replacing.specs.private.Places.{IndexIs};
 
 use calls::{Held, Step};
 use common::Refusal;

@@ -2,7 +2,7 @@
 use Rattle.std.specs.Prelude.{ℕ, List}
 use Rattle.rules.specs.Claim.{Claim}
 use Rattle.rules.specs.Yields.{Yields}
-use Rattle.rules.specs.code.RuleFits.{rule_fits, yielded_yes, yes_yielded, decided}
+use Rattle.rules.specs.private.RuleFits.{rule_fits, yielded_yes, yes_yielded, decided}
 
 -- rule n yields a step that says c, from premises that say cs, or it doesn't
 unfoldable pub yields_dec : (n : ℕ) (c : Claim) (cs : List Claim) → Dec (Yields n c cs)

@@ -6,6 +6,6 @@ pub mod Claim
 pub mod Instance
 pub mod WayBack
 pub mod Yields
-pub mod code
+pub mod private
 pub mod Decision
 pub mod values

@@ -12,9 +12,9 @@ use Rattle.std.specs.List.{range_with_len}
 use Rattle.std.proofs.lemmas.List.{take-append-le, take_all}
 use Rattle.std.proofs.lemmas.List.Edits.{sets-eq}
 use Rattle.std.proofs.lemmas.List.FromFn.{fill_by_all}
-use Rattle.calls.specs.code.Tables.{step_width}
+use Rattle.calls.specs.represent.Tables.{step_width}
 use Rattle.lines.specs.Line.{lines}
-use Rattle.lines.specs.code.NumbersRead.{first_parts}
+use Rattle.lines.specs.private.NumbersRead.{first_parts}
 use Rattle.lines.proofs.Parts.{first_mapped, PartsMet}
 use Rattle.script_words.specs.declared.Word.{Word}
 use Rattle.script_words.specs.Words.{Shape}
@@ -23,7 +23,7 @@ use Rattle.script_words.specs.Words.{shape_of}
 use Rattle.script.specs.declared.Command.{Command as Given}
 use Rattle.script.specs.declared.CallLine.{CallLine}
 use Rattle.script.specs.Command.{Command, command, all_numbers, at_most, numbers_in, named, word_command}
-use Rattle.script.specs.code.CommandRead.{written_command, CallMet, CallRead}
+use Rattle.script.specs.private.CommandRead.{written_command, CallMet, CallRead}
 
 -- what is read at `at` is what is read further on
 pub read_behind : (read other : List (List ℕ) → Option Command) (xs : List ℕ) (at behind : ℕ) → at ≤ behind

@@ -6,7 +6,7 @@ use mathlib.Core.Option.{none, Option-elim}
 use lib.ListN.{length, drop}
 use Rattle.lines.specs.Line.{newline, space, lines}
 use Rattle.lines.specs.Number.{max_number}
-use Rattle.lines.specs.code.NumbersRead.{number_cut, first_parts}
+use Rattle.lines.specs.private.NumbersRead.{number_cut, first_parts}
 use Rattle.script_words.specs.declared.Word.{Word}
 use Rattle.script_words.specs.Words.{Listed}
 use Rattle.script_words.specs.Words.{shape_of}

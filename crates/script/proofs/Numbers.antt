@@ -9,7 +9,7 @@ use lib.ListN.{length, drop, length-append}
 use borrow.Author.Tests.{lt-leb}
 use Rattle.lines.specs.Line.{newline, space, lines}
 use Rattle.lines.specs.Number.{max_number, number_up_to, numbers_up_to}
-use Rattle.lines.specs.code.NumbersRead.{number_cut, NumberMet, first_parts}
+use Rattle.lines.specs.private.NumbersRead.{number_cut, NumberMet, first_parts}
 use Rattle.lines.proofs.Parts.{prepended, appended, Reads, first_none, first_mapped, PartsMet, GoesOn, starts_there}
 use Rattle.lines.proofs.Parts.{number_more, last_number, no_number_more}
 use Rattle.script.specs.Command.{all_numbers, at_most}

@@ -9,7 +9,7 @@ use lib.Dec.{eqb}
 use lib.ListN.{length, take, drop, length-append, length-drop, length-take}
 use lib.Seq.{drop-drop}
 use Rattle.lines.specs.Line.{newline, space, Line, in_first_line, lines}
-use Rattle.lines.specs.code.NumbersRead.{first_parts, first_length}
+use Rattle.lines.specs.private.NumbersRead.{first_parts, first_length}
 use Rattle.lines.proofs.Cutting.{Free, lines_at, no_whole_line}
 use Rattle.lines.proofs.First.{Before, behind_first}
 use Rattle.lines.proofs.FirstLine.{one_more}

@@ -7,7 +7,7 @@ use native.Mathlib.Omega.{arith}
 use lib.ListN.{length, drop}
 use Rattle.lines.specs.Line.{newline, space, lines}
 use Rattle.lines.specs.Number.{max_number, numbers_up_to}
-use Rattle.lines.specs.code.NumbersRead.{number_cut, NumberMet, first_parts}
+use Rattle.lines.specs.private.NumbersRead.{number_cut, NumberMet, first_parts}
 use Rattle.lines.proofs.Parts.{PartsMet, GoesOn, starts_there}
 use Rattle.lines.proofs.LineRead.{number_within, last_within, no_number_within, no_last_within}
 use Rattle.script.specs.Command.{max_limit, max_marks, select_bounds}

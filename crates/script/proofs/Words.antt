@@ -11,7 +11,7 @@ use borrow.Author.Tests.{eq-eqb}
 use Rattle.std.specs.Prelude.{Option as Optional, Some, None}
 use Rattle.lines.specs.Line.{newline, space, Line, lines, same_bytes}
 use Rattle.lines.specs.Number.{numbers_up_to}
-use Rattle.lines.specs.code.NumbersRead.{first_parts, starts_with}
+use Rattle.lines.specs.private.NumbersRead.{first_parts, starts_with}
 use Rattle.lines.proofs.Cutting.{Free, lines_at, no_whole_line}
 use Rattle.lines.proofs.Start.{starts}
 use Rattle.lines.proofs.SameBytes.{same_bytes_lem, same_itself}
@@ -25,7 +25,7 @@ use Rattle.script_words.specs.Words.{shape_of}
 use Rattle.script.specs.declared.Command.{Command as Given}
 use Rattle.script.specs.declared.CallLine.{CallLine}
 use Rattle.script.specs.Command.{named, word_command, word_for, command_by}
-use Rattle.script.specs.code.CommandRead.{AloneRead, CallMet, CallRead}
+use Rattle.script.specs.private.CommandRead.{AloneRead, CallMet, CallRead}
 use Rattle.script.proofs.Calls.{read_behind}
 
 -- any other word wants numbers

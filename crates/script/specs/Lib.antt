@@ -1,4 +1,4 @@
 pub mod Command
 pub mod Rest
-pub mod code
+pub mod private
 pub mod values

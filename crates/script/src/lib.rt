@@ -7,10 +7,10 @@ ghost use Rattle.std.specs.Prelude.{◌≡◌, ◌+◌, ◌≤◌, min, length, 
 ghost use Rattle.script_words.specs.Words.{max_numbers};
 ghost use Rattle.script_words.specs.declared.Word.TheVariants as WORD;
 ghost use Rattle.lines.specs.Line.{lines};
-ghost use Rattle.calls.specs.code.Tables.{step_width};
+ghost use Rattle.calls.specs.represent.Tables.{step_width};
 ghost use Rattle.script.specs.Command.{word_command, command_of};
 ghost use Rattle.script.specs.Rest.{rest_of, newline_for_space, names_of, first_bytes};
-ghost use Rattle.script.specs.code.CommandRead.{CountedRead, ListRead, RestRead, AloneRead, CallRead};
+ghost use Rattle.script.specs.private.CommandRead.{CountedRead, ListRead, RestRead, AloneRead, CallRead};
 
 use calls::{STEP_WIDTH, Step};
 pub use list::NumberList;

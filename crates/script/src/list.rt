@@ -13,7 +13,7 @@ pub struct NumberList {
 }
 
 impl NumberList {
-    ghost use Rattle.script.specs.code.CommandRead.{items};
+    ghost use Rattle.script.specs.private.CommandRead.{items};
 
     pub fn new() -> NumberList
         ensures { items result ≡ [] }

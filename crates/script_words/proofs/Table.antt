@@ -13,7 +13,7 @@ use Rattle.lines.proofs.Cutting.{Free, lacks, lacks_free}
 use Rattle.script_words.specs.declared.Word.{Word}
 use Rattle.script_words.specs.declared.TheConstants.{WORDS, MAX_NUMBERS}
 use Rattle.script_words.specs.Words.{max_numbers, words}
-use Rattle.script_words.specs.code.Entries.{text_of, entry_of, no_entry}
+use Rattle.script_words.specs.private.Entries.{text_of, entry_of, no_entry}
 
 -- what the code asks of an entry
 pub record Sound (e : List ℕ × Word) : Type 0 where

@@ -1,2 +1,2 @@
 pub mod Words
-pub mod code
+pub mod private

@@ -2,7 +2,7 @@
 use Rattle.std.specs.Prelude.{ℕ, ◌+◌, ◌*◌, List, [], ◌∷◌}
 use Rattle.xpath.specs.Document.{max_nodes, node_width}
 use Rattle.lines.specs.Ascii.{ascii}
-use Rattle.calls.specs.code.Tables.{row_width, step_width}
+use Rattle.calls.specs.represent.Tables.{row_width, step_width}
 use Rattle.script_words.specs.declared.Word.{Word}
 use Rattle.script_words.specs.declared.Word.TheVariants.{Term, Step, Select, Document, Fresh, Old, New, Replace}
 use Rattle.script_words.specs.declared.Word.TheVariants.{Write, Point, Return, Other, Order, BundleOrder, Names}

@@ -2,7 +2,7 @@
 #![tactic(auto)]
 
 ghost use Rattle.std.specs.Prelude.{◌≡◌};
-ghost use Rattle.script_words.specs.code.Entries.{text_of};
+ghost use Rattle.script_words.specs.private.Entries.{text_of};
 
 /// The numbers of the longest document, three a node: one node more than a select takes.
 pub const MAX_NUMBERS: usize = xpath::NODE_WIDTH * (xpath::MAX_NODES + 1);
@@ -64,7 +64,7 @@ pub const WORDS: [Word; 22] = [
 
 impl Word {
     /// The bytes of the word.
-    #[tactic(auto, unfolding(crate::specs::code::Entries::text_of, lines::specs::Ascii::ascii))]
+    #[tactic(auto, unfolding(crate::specs::private::Entries::text_of, lines::specs::Ascii::ascii))]
     pub fn text(self) -> &'static [u8]
         ensures { result.now ≡ text_of self }
     {

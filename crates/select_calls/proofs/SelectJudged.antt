@@ -10,8 +10,8 @@ use lib.ListN.{length}
 use borrow.Author.Tests.{lt-ltb, le-ltb, le-leb, lt-leb, leb-true, leb-false}
 use Rattle.xpath.specs.Document.{max_nodes, document_of, document_refusal}
 use Rattle.xpath.specs.Visits.{visits}
-use Rattle.xpath.specs.code.Check.{DocumentChecked}
-use Rattle.xpath.specs.code.Ends.{Prepared}
+use Rattle.xpath.specs.represent.Check.{DocumentChecked}
+use Rattle.xpath.specs.represent.Ends.{Prepared}
 use Rattle.xpath.proofs.Refusal.{accepted_iff}
 use Rattle.terms.specs.Row.{Row}
 use Rattle.terms.specs.Fields.{held_path}
@@ -21,13 +21,13 @@ use Rattle.selection.specs.Evaluation as evaluation
 use Rattle.std.specs.Prelude.{Result, Ok, Err}
 use Rattle.selection.specs.declared.EvaluationError.{EvaluationError}
 use Rattle.selection.specs.declared.EvaluationError.TheVariants.{NoRoom, LimitPassed}
-use Rattle.selection.specs.code.EvaluatedTypes as code
+use Rattle.selection.specs.private.EvaluatedTypes as code
 use Rattle.common.specs.declared.refusal.Refusal.{Refusal}
 use Rattle.common.specs.declared.refusal.Refusal.TheVariants.{BadDocument, BadArgument}
 use Rattle.common.proofs.Results.{Mapped, mapped_ok, mapped_err}
 use Rattle.calls.specs.Book.{answer, accepted}
 use Rattle.calls.specs.SelectCall.{select_answer, select_buffer}
-use Rattle.calls.specs.code.Answers.{NumberOrRefusal, answer_of, evaluation_answer}
+use Rattle.calls.specs.represent.Answers.{NumberOrRefusal, answer_of, evaluation_answer}
 use Rattle.calls.specs.Promises.{SelectMade}
 use Rattle.calls.proofs.Accepted.{if_refused}
 

@@ -5,7 +5,7 @@ use mathlib.Core.Bool.{Bool, true, false, cond}
 use native.Mathlib.Omega.{arith}
 use Rattle.std.specs.Prelude.{Option, Some, None}
 use Rattle.common.specs.Bounded.{sum_below}
-use Rattle.selection.specs.code.Limit.{Finished, UnderLimit}
+use Rattle.selection.specs.private.Limit.{Finished, UnderLimit}
 use Rattle.selection.proofs.Folds.{sum_more, sum_grows}
 
 -- the same visits and result for a term of the same cost

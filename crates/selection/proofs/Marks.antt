@@ -10,8 +10,8 @@ use lib.Seq.{paste-suc}
 use Rattle.common.specs.Bounded.{any_below}
 use Rattle.xpath.specs.Document.{max_nodes}
 use Rattle.selection.specs.Marks.{written}
-use Rattle.selection.specs.code.MarksHeld.{AreMarks, Marks, Clear}
-use Rattle.marking.specs.code.Added.{marked, Added}
+use Rattle.selection.specs.private.MarksHeld.{AreMarks, Marks, Clear}
+use Rattle.marking.specs.private.Added.{marked, Added}
 use Rattle.marking.proofs.Added.{nothing_added, added_cong, added_twice}
 use Rattle.selection.proofs.Folds.{any_more}
 

@@ -11,8 +11,8 @@ use Rattle.xpath.specs.Meaning.{selects}
 use Rattle.xpath.specs.Visits.{visits}
 use Rattle.terms.specs.Row.{Row}
 use Rattle.terms.specs.Terms.{terms, term_at, path_in, path_at}
-use Rattle.marking.specs.code.Added.{Added}
-use Rattle.selection.specs.code.Limit.{Finished}
+use Rattle.marking.specs.private.Added.{Added}
+use Rattle.selection.specs.private.Limit.{Finished}
 use Rattle.selection.specs.Evaluation.{selected, no_room, too_many_visits, outcome, evaluated, path_evaluated}
 use Rattle.selection.proofs.Marks.{fresh_marks, written_copied}
 

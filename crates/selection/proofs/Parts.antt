@@ -15,10 +15,10 @@ use Rattle.xpath.specs.Visits.{visits, qualifier_visits}
 use Rattle.terms.specs.Row.{Row}
 use Rattle.terms.specs.Terms.{Term, term_by, terms, as_path, as_qualifier, path_in, qualifier_in}
 use Rattle.selection.specs.declared.evaluation.Found.{Found}
-use Rattle.marking.specs.code.Added.{marked, Added}
+use Rattle.marking.specs.private.Added.{marked, Added}
 use Rattle.marking.proofs.Added.{nothing_added, added_cong}
-use Rattle.selection.specs.code.Limit.{Finished, UnderLimit}
-use Rattle.selection.specs.code.Parts.{leaf_path}
+use Rattle.selection.specs.private.Limit.{Finished, UnderLimit}
+use Rattle.selection.specs.private.Parts.{leaf_path}
 use Rattle.selection.proofs.Folds.{sum_cong}
 use Rattle.selection.proofs.Limits.{recounted, Visited}
 use Rattle.selection.proofs.Marks.{fresh_marked, joined_below}

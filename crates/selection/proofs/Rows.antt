@@ -20,9 +20,9 @@ use Rattle.terms.specs.Terms.{Term, no_term, term_by, terms, term_at, as_path, a
 use Rattle.terms.proofs.Terms.{term_past, term_at_lem, term_take}
 use Rattle.terms.proofs.ByKind.{Kind, void_kind, root_kind, step_kind, union_kind, composition_kind, filter_kind}
 use Rattle.terms.proofs.ByKind.{true_kind, false_kind, not_kind, and_kind, or_kind, in_kind, kind_of_lem, past_kinds}
-use Rattle.marking.specs.code.Added.{Added}
+use Rattle.marking.specs.private.Added.{Added}
 use Rattle.marking.proofs.Added.{nothing_added, added_cong, added_set}
-use Rattle.selection.specs.code.Parts.{leaf_path}
+use Rattle.selection.specs.private.Parts.{leaf_path}
 
 -- row r of the first `top` rows
 module _ (rs : List Row) (top r : ℕ) where

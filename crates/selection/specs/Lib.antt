@@ -1,4 +1,4 @@
 pub mod Marks
 pub mod Evaluation
-pub mod code
+pub mod private
 pub mod values

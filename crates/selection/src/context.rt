@@ -1,8 +1,8 @@
 // What an evaluation reads.
 ghost use Rattle.std.specs.Prelude.{◌≡◌, ◌<◌, length};
-ghost use Rattle.xpath.specs.code.Checked.{doc};
+ghost use Rattle.xpath.specs.private.Checked.{doc};
 ghost use Rattle.terms.specs.Row.{row_at, table_of};
-ghost use Rattle.terms.specs.code.RowTypes.{row_of};
+ghost use Rattle.terms.specs.represent.RowTypes.{row_of};
 
 use terms::Row;
 use xpath::Checked;

@@ -3,16 +3,16 @@
 ghost use Rattle.std.specs.Prelude.{◌≡◌, ◌&&◌, ◌||◌, not, cond, ◌≤◌, eqb, length, ⊤};
 ghost use Rattle.common.specs.Bounded.{all_below};
 ghost use Rattle.common.specs.RowKinds.{and_row};
-ghost use Rattle.common.specs.code.Numbers.{row_number};
+ghost use Rattle.common.specs.represent.Numbers.{row_number};
 ghost use Rattle.xpath.specs.Document.{max_nodes};
 ghost use Rattle.xpath.specs.Term.{Union, Composition, Filter, In};
 ghost use Rattle.xpath.specs.Meaning.{selects};
-ghost use Rattle.terms.specs.code.RowTypes.{row_of};
+ghost use Rattle.terms.specs.represent.RowTypes.{row_of};
 ghost use Rattle.terms.specs.Terms.{term_by, as_path, as_qualifier, path_in, qualifier_in};
-ghost use Rattle.marking.specs.code.Added.{marked, Added};
-ghost use Rattle.selection.specs.code.Limit.{UnderLimit};
-ghost use Rattle.selection.specs.code.MarksHeld.{AreMarks};
-ghost use Rattle.selection.specs.code.Parts.{document_in, terms_in, PathAdded, QualifierFound, leaf_path};
+ghost use Rattle.marking.specs.private.Added.{marked, Added};
+ghost use Rattle.selection.specs.private.Limit.{UnderLimit};
+ghost use Rattle.selection.specs.private.MarksHeld.{AreMarks};
+ghost use Rattle.selection.specs.private.Parts.{document_in, terms_in, PathAdded, QualifierFound, leaf_path};
 
 use crate::context::Context;
 use common::row_kind::RowKind;

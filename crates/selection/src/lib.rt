@@ -5,10 +5,10 @@ mod context;
 mod evaluation;
 
 ghost use Rattle.std.specs.Prelude.{◌≡◌, ◌<◌, length};
-ghost use Rattle.xpath.specs.code.Checked.{doc};
+ghost use Rattle.xpath.specs.private.Checked.{doc};
 ghost use Rattle.terms.specs.Row.{table_of};
 ghost use Rattle.selection.specs.Evaluation.{outcome, evaluated};
-ghost use Rattle.selection.specs.code.EvaluatedTypes.{answer_of, refusal_of};
+ghost use Rattle.selection.specs.private.EvaluatedTypes.{answer_of, refusal_of};
 
 use common::Refusal;
 use context::{Context, Lent};

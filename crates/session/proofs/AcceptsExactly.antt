@@ -1,5 +1,5 @@
 -- A call is accepted just where it fits: the refusals, test by test, on a session that calls lead to.
-use Rattle.calls.specs.code.Answers.{answer_of}
+use Rattle.calls.specs.represent.Answers.{answer_of}
 use Prim.Native.Nat.{ℕ, ◌≤◌, ◌<◌}
 use mathlib.Core.Path.{◌≡◌, refl, sym, ap, ◌∙◌}
 use mathlib.Core.Bool.{Bool, true, false, not, cond, decide_iff}
@@ -35,7 +35,8 @@ use Rattle.calls.proofs.Premises.{sides_held}
 use Rattle.session.specs.declared.session.Session.{Session}
 use Rattle.session.specs.View.{view, fresh_session}
 use Rattle.session.specs.Promises.{CallRelation, SelectRelation, Met, SelectMet}
-use Rattle.session.specs.AcceptGuarantee.{AcceptableRow, AcceptableStep, AcceptableSelect, AcceptsExactly, AcceptGuarantee}
+use Rattle.session.specs.AcceptGuarantee.{AcceptableRow, AcceptableStep, AcceptableSelect, AcceptsExactly}
+use Rattle.session.specs.AcceptGuarantee.{AcceptGuarantee}
 use Rattle.session.proofs.Simulation.{Kept, answers_by_terms, calls_follow}
 use Rattle.session.proofs.FollowsBook.{CallsKept, SelectsKept, made_from_fresh}
 

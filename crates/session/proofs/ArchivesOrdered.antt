@@ -1,5 +1,5 @@
 -- What order calls mean on two sessions that calls lead to.
-use Rattle.calls.specs.code.Answers.{OrderOrRefusal, order_answer_of}
+use Rattle.calls.specs.represent.Answers.{OrderOrRefusal, order_answer_of}
 use Prim.Native.Nat.{ℕ, ◌≤◌}
 use mathlib.Core.Path.{◌≡◌, sym, ap, ap₂, subst, ◌∙◌}
 use mathlib.Core.List.{List, [], ◌∷◌, map}

@@ -1,5 +1,5 @@
 -- A well-written bundle: its lines read back, and reading it is making its calls.
-use Rattle.calls.specs.code.Answers.{NumberOrRefusal}
+use Rattle.calls.specs.represent.Answers.{NumberOrRefusal}
 use Prim.Native.Nat.{ℕ, ◌+◌, ◌≤◌}
 use mathlib.Core.Path.{◌≡◌, refl, sym, ap, subst, ◌∙◌}
 use mathlib.Core.Bool.{Bool, true, false}
@@ -13,15 +13,15 @@ use Rattle.common.specs.Lists.{Every}
 use Rattle.lines.specs.Ascii.{ascii}
 use Rattle.lines.specs.Line.{newline, Line, line, in_first_part, lines, parts, same_bytes, is_line, first_is}
 use Rattle.lines.specs.Number.{is_digit, is_decimal, append_digits, numbers_up_to, numbers_of}
-use Rattle.lines.specs.code.NumbersRead.{first_parts, first_numbers}
+use Rattle.lines.specs.private.NumbersRead.{first_parts, first_numbers}
 use Rattle.lines.proofs.Cutting.{lines_at}
 use Rattle.lines.proofs.Written.{line_reads_back}
 use Rattle.session.specs.declared.session.Session.{Session}
-use Rattle.session.specs.code.Results.{ReadResult}
+use Rattle.session.specs.represent.Results.{ReadResult}
 use Rattle.calls.specs.Book.{Step, book, answer}
 use Rattle.calls.specs.Runs.{seen, done, then}
 use Rattle.calls.specs.Calls.{Call, step, CallSeen, AllAccepted, book_after}
-use Rattle.calls.specs.code.Tables.{row_width}
+use Rattle.calls.specs.represent.Tables.{row_width}
 use Rattle.session.specs.View.{view, fresh_session}
 use Rattle.terms.specs.Row.{row_numbers}
 use Rattle.calls.specs.Book.{step_numbers}

@@ -1,5 +1,5 @@
 -- Every list of calls from a fresh session follows the plain book, where the calls meet their promises.
-use Rattle.calls.specs.code.Answers.{NumberOrRefusal}
+use Rattle.calls.specs.represent.Answers.{NumberOrRefusal}
 use Prim.Native.Nat.{ℕ, ◌<◌}
 use mathlib.Core.Path.{◌≡◌, refl, sym, ap, subst, ◌∙◌}
 use mathlib.Core.Bool.{Bool, true, false, cond}

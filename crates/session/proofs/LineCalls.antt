@@ -1,5 +1,5 @@
 -- What the code does at a line of a bundle is what the reading does.
-use Rattle.calls.specs.code.Answers.{NumberOrRefusal, answer_of}
+use Rattle.calls.specs.represent.Answers.{NumberOrRefusal, answer_of}
 use Prim.Native.Nat.{ℕ, ◌+◌, ◌*◌, ◌≤◌, ◌<◌, min}
 use mathlib.Core.Path.{◌≡◌, refl, sym, ap, ◌∙◌}
 use mathlib.Core.Bool.{Bool, true, false}
@@ -14,20 +14,20 @@ use lib.Seq.{sets}
 use Rattle.terms.specs.Row.{row_of_numbers, max_rows}
 use Rattle.lines.specs.Ascii.{ascii}
 use Rattle.lines.specs.Line.{newline, lines, first_is}
-use Rattle.lines.specs.code.NumbersRead.{first_numbers, LineMet, starts_with}
+use Rattle.lines.specs.private.NumbersRead.{first_numbers, LineMet, starts_with}
 use Rattle.lines.proofs.Cutting.{Free, lacks, lacks_free, no_lines, some_line}
 use Rattle.lines.proofs.Start.{line_passed, starts_with_line}
 use Rattle.session.specs.declared.session.Session.{Session}
 use Rattle.calls.specs.Book.{max_steps, book, answer}
-use Rattle.calls.specs.code.Tables.{row_width, step_width, first_rows, first_steps}
+use Rattle.calls.specs.represent.Tables.{row_width, step_width, first_rows, first_steps}
 use Rattle.session.specs.View.{view, fresh_session}
 use Rattle.calls.specs.Book.{step_numbers, step_of_numbers}
 use Rattle.calls.specs.Promises.{row_step_answer}
-use Rattle.term_calls.specs.code.Placed.{TermPlaced}
+use Rattle.term_calls.specs.private.Placed.{TermPlaced}
 use Rattle.bundles.specs.Bundle.{row_names, step_names}
 use Rattle.common.specs.Refusals.{wrong_form}
 use Rattle.session.specs.Reading.{refused_at, steps_read, rows_read}
-use Rattle.session.specs.code.Parts.{holding, refused_by}
+use Rattle.session.specs.private.Parts.{holding, refused_by}
 use Rattle.calls.proofs.Tables.{steps_held_lem}
 use Rattle.session.proofs.LinesRead.{names_read, row_wrong, row_held, row_refused, step_wrong, step_held}
 use Rattle.session.proofs.LinesRead.{step_refused}

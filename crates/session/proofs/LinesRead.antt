@@ -8,11 +8,11 @@ use lib.ListN.{drop}
 use Rattle.terms.specs.Row.{row_of_numbers}
 use Rattle.lines.specs.Line.{Line, first_is}
 use Rattle.lines.specs.Number.{numbers_of}
-use Rattle.lines.specs.code.NumbersRead.{first_parts, first_numbers}
+use Rattle.lines.specs.private.NumbersRead.{first_parts, first_numbers}
 use Rattle.session.specs.declared.session.Session.{Session}
 use Rattle.calls.specs.Book.{Answer, accepted, step_of_numbers}
 use Rattle.calls.specs.TermCall.{term_answer}
-use Rattle.calls.specs.code.Tables.{row_width, step_width}
+use Rattle.calls.specs.represent.Tables.{row_width, step_width}
 use Rattle.session.specs.View.{view, with_row, with_step}
 use Rattle.calls.specs.Calls.{term, step}
 use Rattle.calls.specs.Promises.{row_step_answer}

@@ -8,8 +8,8 @@ use Rattle.session.specs.declared.session.Session.{Session}
 use Rattle.calls.specs.declared.points.PointCounts.{PointCounts}
 use Rattle.calls.specs.Book.{Point, no_point}
 use Rattle.calls.specs.PointCall.{point_names, place_of}
-use Rattle.calls.specs.code.Tables.{steps_of, first_rows, first_steps}
-use Rattle.calls.specs.code.Points.{no_counts, counts_names, point_named}
+use Rattle.calls.specs.represent.Tables.{steps_of, first_rows, first_steps}
+use Rattle.calls.specs.represent.Points.{no_counts, counts_names, point_named}
 use Rattle.session.specs.View.{points_in, point_of, view}
 use Rattle.session.proofs.Views.{names_viewed}
 

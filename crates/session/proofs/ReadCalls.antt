@@ -13,7 +13,7 @@ use Rattle.terms.specs.Row.{Row}
 use Rattle.lines.specs.Line.{Line, line, lines, same_bytes, is_line}
 use Rattle.lines.proofs.SameBytes.{same_bytes_lem}
 use Rattle.session.specs.declared.session.Session.{Session}
-use Rattle.session.specs.code.Results.{ReadResult}
+use Rattle.session.specs.represent.Results.{ReadResult}
 use Rattle.calls.specs.declared.answer.LineRefusal.{LineRefusal}
 use Rattle.calls.specs.Book.{Step, Answer, answer, accepted}
 use Rattle.calls.specs.TermCall.{term_answer}

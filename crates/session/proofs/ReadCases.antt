@@ -8,20 +8,20 @@ use lib.ListN.{length}
 use borrow.Author.Tests.{ne_eqb}
 use Rattle.std.specs.Prelude.{Ok, Err}
 use Rattle.common.specs.Refusals.{wrong_form}
-use Rattle.common.specs.code.Refusal.{refusal_number}
+use Rattle.common.specs.represent.Refusal.{refusal_number}
 use Rattle.common.proofs.Refusals.{refusal_some}
 use Rattle.lines.specs.Line.{Line, lines, is_line}
 use Rattle.bundles.specs.Bundle.{row_names, step_names, row_of_line, step_of_line}
 use Rattle.calls.specs.Book.{Answer, accepted}
 use Rattle.calls.specs.TermCall.{term_answer}
 use Rattle.calls.specs.StepCall.{step_answer}
-use Rattle.calls.specs.code.Answers.{answer_of}
+use Rattle.calls.specs.represent.Answers.{answer_of}
 use Rattle.calls.proofs.Cases.{HasCase, term_case, step_case}
 use Rattle.session.specs.declared.session.Session.{Session}
 use Rattle.session.specs.View.{view, fresh_session, with_row, with_step}
 use Rattle.session.specs.Reading.{Reading, refused_at, steps_read, rows_read, lines_read, reading}
 use Rattle.session.specs.ReadCall.{read_answer_of}
-use Rattle.session.specs.code.Parts.{wrong_form_at}
+use Rattle.session.specs.private.Parts.{wrong_form_at}
 
 abbrev HasRead : Reading → Type 0
 HasRead t = HasCase read_answer_of t.answer

@@ -1,7 +1,7 @@
 -- From the reading of a bundle's parts to the call read.
 use Prim.Native.Nat.{ℕ, ◌≤◌}
 use Rattle.std.specs.Prelude.{Result, Ok, Err, is_ok}
-use Rattle.common.specs.code.Refusal.{refusal_number}
+use Rattle.common.specs.represent.Refusal.{refusal_number}
 use Rattle.common.proofs.Refusals.{refusal_some}
 use mathlib.Core.Path.{◌≡◌, refl, sym, ap, ◌∙◌}
 use mathlib.Core.Bool.{true, false, false≢true}
@@ -11,7 +11,7 @@ use borrow.Author.Tests.{ne_eqb}
 use Rattle.lines.specs.Ascii.{ascii}
 use Rattle.lines.specs.Line.{Line, lines, first_is}
 use Rattle.lines.proofs.Start.{line_passed}
-use Rattle.session.specs.code.Results.{ReadResult}
+use Rattle.session.specs.represent.Results.{ReadResult}
 use Rattle.session.specs.declared.read.RowsEnd.{RowsEnd}
 use Rattle.calls.specs.declared.answer.LineRefusal.{LineRefusal}
 use Rattle.session.specs.declared.session.Session.{Session}
@@ -22,8 +22,8 @@ use Rattle.calls.specs.Promises.{row_step_answer}
 use Rattle.common.specs.Refusals.{wrong_form}
 use Rattle.session.specs.Reading.{refused_at, steps_read, rows_read, lines_read, reading}
 use Rattle.session.specs.ReadCall.{read_answer_of, reading_of, ReadMet}
-use Rattle.session.specs.code.Parts.{holding}
-use Rattle.session.specs.code.Parts.{after_rows, RowsReadMet, after_steps, StepsReadMet}
+use Rattle.session.specs.private.Parts.{holding}
+use Rattle.session.specs.private.Parts.{after_rows, RowsReadMet, after_steps, StepsReadMet}
 use Rattle.session.proofs.LineCalls.{row_names_free}
 use Rattle.session.proofs.ReadByRows.{reading_by_rows}
 

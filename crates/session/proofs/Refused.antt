@@ -5,7 +5,7 @@ use Rattle.std.specs.Prelude.{Result, Ok, Err, OnErr}
 use Rattle.common.specs.declared.refusal.Refusal.{Refusal}
 use Rattle.common.proofs.Refusals.{refusal_some}
 use Rattle.calls.specs.Runs.{Machine, Made}
-use Rattle.calls.specs.code.Answers.{answer_with, refusal_answer}
+use Rattle.calls.specs.represent.Answers.{answer_with, refusal_answer}
 use Rattle.calls.proofs.Accepted.{if_refused}
 
 -- whatever value an accepted call gives

@@ -1,5 +1,5 @@
 -- What a replace call means on a session that calls lead to.
-use Rattle.calls.specs.code.Answers.{DoneOrRefusal, done_answer_of}
+use Rattle.calls.specs.represent.Answers.{DoneOrRefusal, done_answer_of}
 use Prim.Native.Nat.{ℕ}
 use mathlib.Core.Path.{◌≡◌, sym, ap, subst, ◌∙◌}
 use mathlib.Core.List.{List}

@@ -1,6 +1,7 @@
 -- What the contracts in the source say of each call, as the toolchain reads them off it, and the guarantees from them.
-use Rattle.calls.specs.code.Answers.{NumberOrRefusal, DoneOrRefusal, OrderOrRefusal, step_of, answer_of, done_answer_of}
-use Rattle.calls.specs.code.Answers.{answer_with, refusal_answer}
+use Rattle.calls.specs.represent.Answers.{NumberOrRefusal, DoneOrRefusal, OrderOrRefusal, step_of, answer_of}
+use Rattle.calls.specs.represent.Answers.{done_answer_of}
+use Rattle.calls.specs.represent.Answers.{answer_with, refusal_answer}
 use Prim.Native.Nat.{ℕ}
 use mathlib.Core.Path.{◌≡◌, refl, sym, subst, ◌∙◌}
 use mathlib.Core.List.{List, []}
@@ -8,9 +9,9 @@ use lib.Dec.{leb}
 use lib.ListN.{length}
 use Rattle.terms.specs.Row.{Row}
 use Rattle.terms.specs.declared.Row.{Row as CodeRow}
-use Rattle.terms.specs.code.RowTypes.{row_of}
+use Rattle.terms.specs.represent.RowTypes.{row_of}
 use Rattle.session.specs.declared.session.Session.{Session}
-use Rattle.session.specs.code.Results.{ReadResult, read_result}
+use Rattle.session.specs.represent.Results.{ReadResult, read_result}
 use Rattle.calls.specs.declared.step.Step.{Step as CodeStep}
 use Rattle.calls.specs.Book.{Step, Answer}
 use Rattle.calls.specs.Calls.{Call, term, step, text, point, return, CallSeen}

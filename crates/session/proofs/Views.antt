@@ -9,8 +9,8 @@ use Rattle.session.specs.declared.session.Session.{Session}
 use Rattle.calls.specs.declared.points.PointCounts.{PointCounts}
 use Rattle.calls.specs.Book.{max_steps, empty_book}
 use Rattle.calls.specs.PointCall.{point_names}
-use Rattle.calls.specs.code.Tables.{step_width, steps_of}
-use Rattle.calls.specs.code.Points.{counts_of, counts_names}
+use Rattle.calls.specs.represent.Tables.{step_width, steps_of}
+use Rattle.calls.specs.represent.Points.{counts_of, counts_names}
 use Rattle.session.specs.View.{steps_held, points_in, point_of, view, fresh_session}
 use Rattle.calls.proofs.Tables.{steps_held_lem}
 

@@ -17,9 +17,10 @@ use Rattle.calls.specs.TextCall.{text_reply}
 use Rattle.calls.specs.PointCall.{point_names, place_of}
 use Rattle.calls.specs.Calls.{Call, term, step, text, point, return, book_with, row_answer}
 use Rattle.calls.specs.Promises.{row_yielded, row_step_answer}
-use Rattle.calls.specs.code.Tables.{row_width, step_width, steps_of, first_rows, first_steps}
-use Rattle.calls.specs.code.Points.{point_width, counts, no_counts, counts_of, counts_names, point_named, first_points}
-use Rattle.calls.specs.code.Points.{cleared}
+use Rattle.calls.specs.represent.Tables.{row_width, step_width, steps_of, first_rows, first_steps}
+use Rattle.calls.specs.represent.Points.{point_width, counts, no_counts, counts_of, counts_names, point_named}
+use Rattle.calls.specs.represent.Points.{first_points}
+use Rattle.calls.specs.represent.Points.{cleared}
 use Rattle.session.specs.View.{points_in, point_of, view, fresh_session}
 use Rattle.terms.specs.Row.{row_numbers}
 use Rattle.calls.specs.Book.{step_numbers}

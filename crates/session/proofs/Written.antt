@@ -1,5 +1,5 @@
 -- What a write call leaves, and what is read from it.
-use Rattle.calls.specs.code.Answers.{NumberOrRefusal, answer_of}
+use Rattle.calls.specs.represent.Answers.{NumberOrRefusal, answer_of}
 use Prim.Native.Nat.{ℕ, ◌+◌, ◌*◌, ◌≤◌, ◌<◌}
 use mathlib.Core.Path.{◌≡◌, refl, sym, ap, ap₂, ◌∙◌}
 use mathlib.Core.Bool.{Bool, true, false, cond}
@@ -19,9 +19,9 @@ use Rattle.calls.specs.Book.{Step, Book, answer}
 use Rattle.common.specs.Refusals.{short_buffer}
 use Rattle.calls.specs.Calls.{CallSeen, AllAccepted}
 use Rattle.calls.specs.declared.held.Held.{Held}
-use Rattle.calls.specs.code.Tables.{first_row_numbers, first_step_numbers, steps_of}
+use Rattle.calls.specs.represent.Tables.{first_row_numbers, first_step_numbers, steps_of}
 use Rattle.bundles.specs.Bundle.{row_names, step_names, bundle_text}
-use Rattle.bundles.specs.code.TextPut.{held_text}
+use Rattle.bundles.specs.private.TextPut.{held_text}
 use Rattle.bundles.proofs.Lengths.{bundle_short}
 use Rattle.bundles.proofs.Spelling.{text_of, lines_joined, text_append, rows_spelled, steps_spelled}
 use Rattle.session.specs.View.{view, fresh_session}

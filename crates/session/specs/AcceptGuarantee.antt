@@ -1,6 +1,6 @@
 -- What the calls term, step and select accept: just what is well formed, what the rule table yields and what can be
 -- selected on, on every session that calls lead to.
-use Rattle.calls.specs.code.Answers.{NumberOrRefusal, answer_of}
+use Rattle.calls.specs.represent.Answers.{NumberOrRefusal, answer_of}
 use Rattle.std.specs.Prelude.{ℕ, ◌*◌, ◌≤◌, ◌<◌, ◌≡◌, List, map, ◌↔◌, T, leb, length}
 use Rattle.xpath.specs.Document.{document_of, well_formed, node_width, max_nodes}
 use Rattle.xpath.specs.Visits.{visits}

@@ -1,6 +1,6 @@
 -- Every list of term, step, text, point and return calls from a fresh session, refused ones included, is answered as
 -- the plain book answers it, and what is then held is true (Specification, Guarantees, 3).
-use Rattle.calls.specs.code.Answers.{NumberOrRefusal, answer_of}
+use Rattle.calls.specs.represent.Answers.{NumberOrRefusal, answer_of}
 use Rattle.std.specs.Prelude.{ℕ, ◌≤◌, ◌<◌, ◌≡◌, cond, List, T, length, get_or}
 use Rattle.xpath.specs.Document.{Document, document_of, well_formed}
 use Rattle.xpath.specs.Term.{Path, Qualifier}

@@ -10,5 +10,6 @@ pub mod ReadGuarantee
 pub mod AcceptGuarantee
 pub mod ReplaceGuarantee
 pub mod OrderGuarantee
-pub mod code
+pub mod represent
+pub mod private
 pub mod values

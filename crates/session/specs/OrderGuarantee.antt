@@ -1,5 +1,5 @@
 -- The calls order and bundle order on two sessions, and what they mean on every two sessions that calls lead to.
-use Rattle.calls.specs.code.Answers.{OrderOrRefusal, order_answer_of}
+use Rattle.calls.specs.represent.Answers.{OrderOrRefusal, order_answer_of}
 use Rattle.std.specs.Prelude.{ℕ, ◌≤◌, ◌<◌, ◌≡◌, List, [], ◌∷◌, map, ◌↔◌, length}
 use Rattle.terms.specs.Terms.{term_at}
 use Rattle.calls.specs.Book.{Book, answer, IsAccepted}

@@ -1,5 +1,5 @@
 -- What the calls promise, for every session, and what calls lead to.
-use Rattle.calls.specs.code.Answers.{NumberOrRefusal}
+use Rattle.calls.specs.represent.Answers.{NumberOrRefusal}
 use Rattle.std.specs.Prelude.{ℕ, ◌≡◌, List}
 use Rattle.session.specs.declared.session.Session.{Session}
 use Rattle.calls.specs.Book.{Answer}

@@ -1,9 +1,9 @@
 -- What the call read promises.
 use Rattle.std.specs.Prelude.{ℕ, ◌≡◌, List, Result, is_ok}
 use Rattle.calls.specs.declared.answer.LineRefusal.{LineRefusal}
-use Rattle.session.specs.code.Results.{ReadResult}
+use Rattle.session.specs.represent.Results.{ReadResult}
 use Rattle.calls.specs.Book.{Answer, accepted}
-use Rattle.calls.specs.code.Answers.{answer_with, line_answer}
+use Rattle.calls.specs.represent.Answers.{answer_with, line_answer}
 use Rattle.session.specs.Reading.{Reading, reading}
 
 abbrev pub read_answer_of : Result ℕ LineRefusal → Answer

@@ -1,5 +1,5 @@
 -- What is guaranteed of the calls read and write; the calls that read makes follow the book.
-use Rattle.calls.specs.code.Answers.{NumberOrRefusal, answer_of}
+use Rattle.calls.specs.represent.Answers.{NumberOrRefusal, answer_of}
 use Rattle.std.specs.Prelude.{ℕ, ◌≤◌, ◌≡◌, true, List, ◌∷◌, ◌++◌, map, length, take}
 use Rattle.std.proofs.Math.Option.{some}
 use Rattle.terms.specs.Row.{Row}
@@ -8,7 +8,7 @@ use Rattle.common.specs.Lists.{Every}
 use Rattle.lines.specs.Line.{Line, line, lines}
 use Rattle.lines.specs.Written.{AllFit}
 use Rattle.session.specs.declared.session.Session.{Session}
-use Rattle.session.specs.code.Results.{ReadResult}
+use Rattle.session.specs.represent.Results.{ReadResult}
 use Rattle.calls.specs.Book.{Step, answer, IsAccepted}
 use Rattle.calls.specs.Calls.{Call, term, step, text, point, return, CallSeen, AllAccepted}
 use Rattle.calls.specs.Runs.{Run}

@@ -1,5 +1,5 @@
 -- The call replace on a session, and what its acceptance means on every session that calls lead to.
-use Rattle.calls.specs.code.Answers.{DoneOrRefusal, done_answer_of}
+use Rattle.calls.specs.represent.Answers.{DoneOrRefusal, done_answer_of}
 use Rattle.std.specs.Prelude.{ℕ, ◌≡◌, false, List, ◌↔◌, T}
 use Rattle.common.specs.Lists.{Every}
 use Rattle.xpath.specs.Term.{Path}

@@ -8,8 +8,8 @@ use Rattle.calls.specs.PointCall.{point_names}
 use Rattle.calls.specs.Runs.{Run}
 use Rattle.calls.specs.Calls.{Call, term, step, text, point, return, CallSeen, book_after}
 use Rattle.calls.specs.PointLaws.{KeepsPoints}
-use Rattle.calls.specs.code.Tables.{row_width, step_width}
-use Rattle.calls.specs.code.Points.{point_width}
+use Rattle.calls.specs.represent.Tables.{row_width, step_width}
+use Rattle.calls.specs.represent.Points.{point_width}
 use Rattle.session.specs.View.{view, no_points}
 use Rattle.terms.specs.Row.{row_numbers}
 use Rattle.calls.specs.Book.{step_numbers}

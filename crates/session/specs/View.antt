@@ -6,9 +6,9 @@ use Rattle.session.specs.declared.session.Session.{Session}
 use Rattle.calls.specs.declared.points.PointCounts.{PointCounts}
 use Rattle.calls.specs.Book.{Step, max_steps, step_numbers, Point, point, max_points, Book, pointed_book}
 use Rattle.calls.specs.PointCall.{place_of}
-use Rattle.calls.specs.code.Tables.{row_width, step_width, rows_counted, steps_counted, first_rows, first_steps}
-use Rattle.calls.specs.code.Points.{point_width, counts, points_counted, counts_names, counts_numbers, point_named}
-use Rattle.calls.specs.code.Points.{first_points, cleared}
+use Rattle.calls.specs.represent.Tables.{row_width, step_width, rows_counted, steps_counted, first_rows, first_steps}
+use Rattle.calls.specs.represent.Points.{point_width, counts, points_counted, counts_names, counts_numbers, point_named}
+use Rattle.calls.specs.represent.Points.{first_points, cleared}
 
 -- how many rows, steps and points are held
 abbrev pub rows_held : Session → ℕ

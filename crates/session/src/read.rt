@@ -1,11 +1,11 @@
 // The reading of a bundle: its lines are the calls, made from a fresh session.
 ghost use Rattle.std.specs.Prelude.{◌≡◌, ◌*◌, ◌≤◌, length, OnErr};
 ghost use Rattle.calls.specs.Book.{max_steps};
-ghost use Rattle.calls.specs.code.Tables.{step_width};
+ghost use Rattle.calls.specs.represent.Tables.{step_width};
 ghost use Rattle.session.specs.View.{fresh_session};
 ghost use Rattle.session.specs.ReadCall.{ReadMet};
-ghost use Rattle.session.specs.code.Results.{read_result};
-ghost use Rattle.session.specs.code.Parts.{wrong_form_at, RowsReadMet, StepsReadMet, CallsReadMet};
+ghost use Rattle.session.specs.represent.Results.{read_result};
+ghost use Rattle.session.specs.private.Parts.{wrong_form_at, RowsReadMet, StepsReadMet, CallsReadMet};
 
 use crate::session::Session;
 use bundles::{ROW_NAMES, STEP_NAMES};

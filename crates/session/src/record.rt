@@ -2,9 +2,9 @@
 // drop one in use.
 ghost use Rattle.std.specs.Prelude.{◌≡◌, OnErr};
 ghost use Rattle.calls.specs.Calls.{Call};
-ghost use Rattle.calls.specs.code.Answers.{done_answer_of};
-ghost use Rattle.records.specs.code.Held.{records_in};
-ghost use Rattle.records.specs.code.Promises.{RecordMade};
+ghost use Rattle.calls.specs.represent.Answers.{done_answer_of};
+ghost use Rattle.records.specs.represent.Held.{records_in};
+ghost use Rattle.records.specs.private.Promises.{RecordMade};
 ghost use Rattle.records.specs.Register.{drops_in_use};
 ghost use Rattle.session.specs.View.{view};
 ghost use Rattle.session.specs.Promises.{session_answer};

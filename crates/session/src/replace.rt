@@ -1,5 +1,5 @@
 // The call replace: whether a list of old rows is covered by a list of new ones.
-ghost use Rattle.terms.specs.code.RowTypes.{PlaceIs};
+ghost use Rattle.terms.specs.represent.RowTypes.{PlaceIs};
 ghost use Rattle.replacing.specs.Covered.{step_saying};
 ghost use Rattle.session.specs.View.{view};
 ghost use Rattle.session.specs.ReplaceGuarantee.{ReplaceMet};

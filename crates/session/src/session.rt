@@ -1,12 +1,12 @@
 // A session: rows of terms, steps of derivations and named points, and the calls on it.
-ghost use Rattle.calls.specs.code.Answers.{answer_of, done_answer_of, step_of};
+ghost use Rattle.calls.specs.represent.Answers.{answer_of, done_answer_of, step_of};
 ghost use Rattle.std.specs.Prelude.{◌≡◌, ◌*◌, OnErr, length};
 ghost use Rattle.terms.specs.Row.{row_width, max_rows};
-ghost use Rattle.terms.specs.code.RowTypes.{row_of};
+ghost use Rattle.terms.specs.represent.RowTypes.{row_of};
 ghost use Rattle.calls.specs.Book.{max_steps};
 ghost use Rattle.calls.specs.Calls.{Call};
-ghost use Rattle.calls.specs.code.Points.{first_point_numbers};
-ghost use Rattle.calls.specs.code.Tables.{step_width, first_row_numbers, first_step_numbers};
+ghost use Rattle.calls.specs.represent.Points.{first_point_numbers};
+ghost use Rattle.calls.specs.represent.Tables.{step_width, first_row_numbers, first_step_numbers};
 ghost use Rattle.session.specs.View.{rows_held, steps_held, points_held, fresh_session};
 ghost use Rattle.session.specs.Promises.{Met, SelectMet};
 
@@ -43,7 +43,7 @@ impl Model for Session {
 
     ghost Value = { SessionTables };
 
-    ghost use Rattle.session.specs.code.Tables.{tables_in};
+    ghost use Rattle.session.specs.represent.Tables.{tables_in};
 
     ghost view = { tables_in };
 }

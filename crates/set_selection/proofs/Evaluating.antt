@@ -14,19 +14,21 @@ use Rattle.common.specs.Bounded.{any_below, all_below}
 use Rattle.common.proofs.Reflect.{tests_equal, any_yes, yes_any, all_yes, yes_all, yes_or, eq_or_ne}
 use Rattle.common.proofs.Tests.{any_cong}
 use Rattle.xpath.specs.Document.{Document, row_ok, well_formed}
-use Rattle.xpath.specs.Term.{Path, Qualifier, Void, Root, AxisStep, Union, Composition, Filter, True, False, Not, And, Or, In}
+use Rattle.xpath.specs.Term.{Path, Qualifier, Void, Root, AxisStep, Union, Composition, Filter, True, False, Not, And}
+use Rattle.xpath.specs.Term.{Or, In}
 use Rattle.xpath.specs.Meaning.{selects, holds}
 use Rattle.terms.specs.Row.{Row, row_at}
 use Rattle.terms.specs.Terms.{Term, terms, term_by, as_path, as_qualifier, path_in, qualifier_in}
 use Rattle.selection.proofs.Folds.{all_cong}
 use Rattle.set_selection.proofs.Written.{DoneBelow}
 use Rattle.selection.proofs.Rows.{term_not_held, term_held, leaf_path_lem, false_qualifier}
-use Rattle.selection.specs.code.Parts.{leaf_path}
+use Rattle.selection.specs.private.Parts.{leaf_path}
 use Rattle.set_selection.specs.Sets.{marked, image, Image, NoMarks, Pointwise}
 use Rattle.documents.specs.Columns.{rows_of, Sound}
 use Rattle.set_selection.specs.Evaluations.{Holding, Only}
 use Rattle.set_selection.proofs.Anys.{subst_T, any_none, any_single}
-use Rattle.set_selection.proofs.Images.{image_cong, image_then, image_kept, image_none, image_or, image_on, no_marks_made}
+use Rattle.set_selection.proofs.Images.{image_cong, image_then, image_kept, image_none, image_or, image_on}
+use Rattle.set_selection.proofs.Images.{no_marks_made}
 use Rattle.set_selection.proofs.Images.{all_marked}
 use Rattle.set_selection.proofs.Relations.{size}
 

@@ -11,7 +11,8 @@ use mir.Facts.{and_yes, yes_and, or_yes, eqb_yes, yes_eqb}
 use borrow.Author.Tests.{ne_eqb, lt-ltb, le-ltb}
 use Rattle.common.proofs.Reflect.{tests_equal, le_or_lt, eq_or_ne, facts}
 use Rattle.common.proofs.Tests.{eqb_turned}
-use Rattle.xpath.specs.Document.{Document, kind_at, parent_at, name_at, is_attribute, is_child, is_ancestor, are_siblings}
+use Rattle.xpath.specs.Document.{Document, kind_at, parent_at, name_at, is_attribute, is_child, is_ancestor}
+use Rattle.xpath.specs.Document.{are_siblings}
 use Rattle.xpath.specs.Axis.{on_axis}
 use Rattle.set_selection.specs.Walks.{is_under, is_over, is_below, is_above, is_after, is_before, is_later, is_earlier}
 use Rattle.documents.specs.Columns.{rows_of, Sound}

@@ -12,7 +12,7 @@ use Rattle.xpath.specs.Document.{Document, kind_at, name_at}
 use Rattle.xpath.specs.Axis.{on_axis, passes}
 use Rattle.xpath.specs.Term.{AxisStep}
 use Rattle.xpath.specs.Meaning.{selects}
-use Rattle.xpath.specs.code.Tests.{fits, Asks}
+use Rattle.xpath.specs.private.Tests.{fits, Asks}
 use Rattle.xpath.specs.declared.node_tests.StepTest.{StepTest}
 use Rattle.set_selection.specs.Sets.{marked, Image, Pointwise}
 use Rattle.documents.specs.Columns.{rows_of, Sound}

@@ -5,7 +5,7 @@ ghost use Rattle.xpath.specs.Meaning.{selects};
 ghost use Rattle.xpath.specs.Term.{Void, Union, Composition, Filter, In};
 ghost use Rattle.terms.specs.Row.{table_of};
 ghost use Rattle.terms.specs.Terms.{terms, path_at, path_in, qualifier_in, term_by, as_path, as_qualifier};
-ghost use Rattle.terms.specs.code.RowTypes.{row_of};
+ghost use Rattle.terms.specs.represent.RowTypes.{row_of};
 ghost use Rattle.set_selection.specs.Sets.{Image, marked};
 ghost use Rattle.documents.specs.Documents.{doc};
 ghost use Rattle.set_selection.specs.Evaluations.{Only, document_in, rows_in, terms_before, Holding};

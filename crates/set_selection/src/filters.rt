@@ -1,8 +1,8 @@
 // Sets of nodes by their kinds and names, and sets of two sets: one pass each.
 ghost use Rattle.std.specs.Prelude.{◌≡◌, ℕ, Bool, ◌&&◌, ◌||◌, not, eqb, length, get_or};
-ghost use Rattle.common.specs.code.Numbers.{kind_number};
+ghost use Rattle.common.specs.represent.Numbers.{kind_number};
 ghost use Rattle.set_selection.specs.Sets.{Pointwise, marked};
-ghost use Rattle.xpath.specs.code.Tests.{fits};
+ghost use Rattle.xpath.specs.private.Tests.{fits};
 
 use common::node_kind::{self, NodeKind};
 use xpath::StepTest;

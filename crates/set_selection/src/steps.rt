@@ -1,14 +1,15 @@
 // Steps from a set of nodes, and back from one.
 ghost use Rattle.std.specs.Prelude.{◌≡◌, ◌<◌, ◌&&◌, ◌||◌, false, true, not, eqb, length, get_or, set, replicate, IfOk};
 ghost use Rattle.common.specs.Bounded.{any_below};
-ghost use Rattle.common.specs.code.Numbers.{axis_number};
+ghost use Rattle.common.specs.represent.Numbers.{axis_number};
 ghost use Rattle.xpath.specs.Axis.{on_axis};
 ghost use Rattle.xpath.specs.Term.{AxisStep, Root};
 ghost use Rattle.xpath.specs.Meaning.{selects};
 ghost use Rattle.set_selection.specs.Sets.{Image, Pointwise, marked};
-ghost use Rattle.set_selection.specs.Walks.{is_under, is_over, is_below, is_above, is_after, is_before, is_later, is_earlier};
+ghost use Rattle.set_selection.specs.Walks.{is_under, is_over, is_below, is_above, is_after, is_before, is_later};
+ghost use Rattle.set_selection.specs.Walks.{is_earlier};
 ghost use Rattle.set_selection.specs.Evaluations.{doc};
-ghost use Rattle.xpath.specs.code.Tests.{fits};
+ghost use Rattle.xpath.specs.private.Tests.{fits};
 
 use crate::columns::Columns;
 use crate::{filters, walks};

@@ -2,15 +2,15 @@
 #![tactic(auto)]
 
 ghost use Rattle.std.specs.Prelude.{◌≡◌};
-ghost use Rattle.common.specs.code.Refusal.{RefusedAt};
+ghost use Rattle.common.specs.represent.Refusal.{RefusedAt};
 ghost use Rattle.common.specs.declared.refusal.Refusal.TheVariants.{BadSide, BadPremise};
 ghost use Rattle.terms.specs.Row.{row_at, table_of};
 ghost use Rattle.terms.specs.Fields.{is_path};
-ghost use Rattle.matching.specs.code.RowWayBack.{Noted};
+ghost use Rattle.matching.specs.private.RowWayBack.{Noted};
 ghost use Rattle.calls.specs.StepCall.{same_sort, bad_side_of, premise_ok, bad_premise_of};
 ghost use Rattle.calls.specs.Uses.{uses_of};
-ghost use Rattle.calls.specs.code.Tables.{steps_of, book_held};
-ghost use Rattle.calls.specs.code.Answers.{answer_of, step_of};
+ghost use Rattle.calls.specs.represent.Tables.{steps_of, book_held};
+ghost use Rattle.calls.specs.represent.Answers.{answer_of, step_of};
 ghost use Rattle.calls.specs.Promises.{row_yielded, row_step_answer};
 
 use calls::{Held, MAX_STEPS, Step, sides_of, step_count, whole_steps};

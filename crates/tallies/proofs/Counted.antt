@@ -8,14 +8,14 @@ use lib.ListN.{length}
 use borrow.Author.Tests.{le-leb, lt-leb}
 use Rattle.std.specs.Prelude.{is_ok}
 use Rattle.calls.specs.Book.{accepted}
-use Rattle.session.specs.code.Results.{ReadResult}
+use Rattle.session.specs.represent.Results.{ReadResult}
 use Rattle.session.specs.View.{view}
 use Rattle.session.specs.Reading.{reading}
 use Rattle.session.specs.ReadCall.{ReadMet}
 use Rattle.tallies.specs.declared.Tally.{Tally}
 use Rattle.common.specs.Limits.{max_bytes}
 use Rattle.tallies.specs.Count.{File, file, is_accepted}
-use Rattle.tallies.specs.code.Tally.{tally, plus, plus_each, column_of, with_steps, with_file}
+use Rattle.tallies.specs.represent.Tally.{tally, plus, plus_each, column_of, with_steps, with_file}
 
 -- a file that is accepted or not leaves the one or the other tally
 by_accepted : (t : Tally) (f : File) (b : Bool) → is_accepted f ≡ b

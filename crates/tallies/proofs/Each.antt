@@ -5,7 +5,7 @@ use mathlib.Core.List.{List, [], ◌∷◌}
 use native.Mathlib.Omega.{arith}
 use lib.ListN.{length, get_or, replicate}
 use Rattle.tallies.specs.Count.{each_from, sum}
-use Rattle.tallies.specs.code.Tally.{max_count, plus, plus_each}
+use Rattle.tallies.specs.represent.Tally.{max_count, plus, plus_each}
 
 pub each_length : (r k : ℕ) (f : ℕ → ℕ) → length (each_from r k f) ≡ k
 unfolding each_from

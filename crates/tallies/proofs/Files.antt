@@ -13,8 +13,8 @@ use Rattle.session.specs.Reading.{reading}
 use Rattle.tallies.specs.declared.Tally.{Tally}
 use Rattle.tallies.specs.NameList.{max_files}
 use Rattle.tallies.specs.Count.{File, is_accepted, counted_steps, uses, total, each_rule, entries_by, entries}
-use Rattle.tallies.specs.code.Tally.{max_count, plus, plus_each, column_of, fresh_tally, with_steps, with_file}
-use Rattle.tallies.specs.code.Tally.{with_files, entries_of}
+use Rattle.tallies.specs.represent.Tally.{max_count, plus, plus_each, column_of, fresh_tally, with_steps, with_file}
+use Rattle.tallies.specs.represent.Tally.{with_files, entries_of}
 use Rattle.tallies.proofs.Each.{each_same, each_zero, each_plus, plus_fits}
 use Rattle.tallies.proofs.AddsUp.{uses_below, total_few}
 

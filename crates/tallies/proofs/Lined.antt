@@ -16,7 +16,7 @@ use Rattle.std.specs.Array.{IsFromFnResultFrom, IsFromFnResult}
 use Rattle.std.proofs.lemmas.List.{length-map, get_or-map}
 use Rattle.tallies.specs.declared.TallyLine.{TallyLine}
 use Rattle.tallies.specs.declared.TallyLine.TheVariants.{Rule, Total}
-use Rattle.tallies.specs.code.Tally.{plus, plus_each, column_of, entry_of, no_entry, LineIs}
+use Rattle.tallies.specs.represent.Tally.{plus, plus_each, column_of, entry_of, no_entry, LineIs}
 use Rattle.tallies.proofs.Each.{each_length, each_at, plus_length, plus_at}
 
 rule_entries_length : (r : ℕ) (ns : List ℕ) → length (rule_entries r ns) ≡ length ns

@@ -13,7 +13,7 @@ use Rattle.common.specs.declared.refusal.Refusal.TheVariants.{BadName}
 use Rattle.lines.specs.Line.{lines}
 use lib.ListN.{length}
 use Rattle.calls.specs.Book.{Answer, answer}
-use Rattle.calls.specs.code.Answers.{done_answer_of}
+use Rattle.calls.specs.represent.Answers.{done_answer_of}
 use Rattle.calls.proofs.Cases.{HasCase}
 use Rattle.tallies.specs.declared.Tally.{Tally}
 use Rattle.tallies.specs.declared.TallyLine.{TallyLine}
@@ -21,7 +21,7 @@ use Rattle.tallies.specs.declared.TallyLine.TheVariants.{Rule, Total}
 use Rattle.tallies.specs.NameList.{is_bad_name, list_answer}
 use Rattle.tallies.specs.Count.{File, file_of, Entry, entry, rule_entries, entries_by}
 use Rattle.tallies.specs.Promise.{AllAdded, none_added, file_added, TallyPromise}
-use Rattle.tallies.specs.code.Tally.{fresh_tally, file_read, with_file, with_files, entry_of, entries_of}
+use Rattle.tallies.specs.represent.Tally.{fresh_tally, file_read, with_file, with_files, entry_of, entries_of}
 use Rattle.tallies.proofs.AddsUp.{column_adds_up}
 use Rattle.tallies.proofs.Files.{lines_are}
 use Rattle.tallies.proofs.Tally.new.Reads as new-reads

@@ -1,5 +1,5 @@
 pub mod NameList
 pub mod Count
 pub mod Promise
-pub mod code
+pub mod represent
 pub mod values

@@ -2,11 +2,11 @@
 #![tactic(auto)]
 
 ghost use Rattle.std.specs.Prelude.{◌≡◌, map};
-ghost use Rattle.calls.specs.code.Answers.{done_answer_of};
+ghost use Rattle.calls.specs.represent.Answers.{done_answer_of};
 ghost use Rattle.session.specs.View.{view};
 ghost use Rattle.tallies.specs.NameList.{is_bad_name, list_answer};
-ghost use Rattle.tallies.specs.code.Tally.{plus_each, column_of, fresh_tally, file_read, with_file};
-ghost use Rattle.tallies.specs.code.Tally.{entries_of, entry_of, LineIs};
+ghost use Rattle.tallies.specs.represent.Tally.{plus_each, column_of, fresh_tally, file_read, with_file};
+ghost use Rattle.tallies.specs.represent.Tally.{entries_of, entry_of, LineIs};
 
 use common::Refusal;
 use session::Session;
@@ -74,7 +74,7 @@ fn plus_uses(mut uses: [u64; RULES], session: &Session) -> [u64; RULES]
 }
 
 impl Tally {
-    #[tactic(auto, unfolding(crate::specs::code::Tally::fresh_tally))]
+    #[tactic(auto, unfolding(crate::specs::represent::Tally::fresh_tally))]
     pub fn new() -> Tally
         ensures { result ≡ fresh_tally }
     {

@@ -5,7 +5,7 @@ use Rattle.common.specs.Limits.{max_bytes}
 use Rattle.inputs.proofs.Taken.{taken}
 use Rattle.tallies.specs.declared.Tally.{Tally}
 use Rattle.tallies.specs.Count.{file}
-use Rattle.tallies.specs.code.Tally.{with_file}
+use Rattle.tallies.specs.represent.Tally.{with_file}
 use Rattle.tallies.proofs.Counted.{long_left}
 
 with_file-take : (most : ℕ) → max_bytes < most → (t : Tally) (xs : List ℕ)

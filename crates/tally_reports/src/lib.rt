@@ -5,7 +5,7 @@ mod judged;
 
 ghost use Rattle.std.specs.Prelude.{◌≡◌, ◌⊎◌, true, false, [], IfSome};
 ghost use Rattle.tallies.specs.Count.{file};
-ghost use Rattle.tallies.specs.code.Tally.{with_file};
+ghost use Rattle.tallies.specs.represent.Tally.{with_file};
 
 use answer_lines::AnswerLine;
 use arrayvec::ArrayString;

@@ -4,11 +4,11 @@
 ghost use Rattle.std.specs.Prelude.{◌≡◌, ◌≤◌, length};
 ghost use Rattle.terms.specs.Row.{table_of, max_rows, find};
 ghost use Rattle.terms.specs.Nesting.{nesting};
-ghost use Rattle.terms.specs.code.RowTypes.{row_of, FoundIs};
+ghost use Rattle.terms.specs.represent.RowTypes.{row_of, FoundIs};
 ghost use Rattle.calls.specs.TermCall.{term_answer};
-ghost use Rattle.calls.specs.code.Answers.{answer_of};
-ghost use Rattle.calls.specs.code.Points.{cleared};
-ghost use Rattle.term_calls.specs.code.Placed.{TermKept};
+ghost use Rattle.calls.specs.represent.Answers.{answer_of};
+ghost use Rattle.calls.specs.represent.Points.{cleared};
+ghost use Rattle.term_calls.specs.private.Placed.{TermKept};
 
 use common::Refusal;
 use terms::{KeptRows, Row};

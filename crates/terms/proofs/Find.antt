@@ -12,7 +12,7 @@ use borrow.Author.Tests.{eq-eqb}
 use Rattle.common.proofs.Reflect.{facts, true_iff}
 use Rattle.terms.specs.Row.{Row, row_at, same_row, find}
 use Rattle.terms.specs.AcceptedRows.{is_new}
-use Rattle.terms.specs.code.RowTypes.{FoundIs}
+use Rattle.terms.specs.represent.RowTypes.{FoundIs}
 use Rattle.std.proofs.Common.{map, position, Some, None, ltb}
 use Rattle.std.proofs.Common.{add_comm}
 use Rattle.std.specs.List.{position_or_len}

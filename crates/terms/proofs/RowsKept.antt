@@ -10,7 +10,7 @@ use lib.Seq.{sets, length-take-le, take-suc-set, get_or-set_same, get_or-set_oth
 use Rattle.common.proofs.Reflect.{eq_or_ne}
 use Rattle.terms.specs.Row.{Row, row_width, row_numbers, max_rows, entries_from, same_row, find}
 use Rattle.terms.specs.Nesting.{nesting_by, nestings, nesting}
-use Rattle.terms.specs.code.Kept.{slot_count, slot_of, rows_in, Filters, Nestings, Kept}
+use Rattle.terms.specs.private.Kept.{slot_count, slot_of, rows_in, Filters, Nestings, Kept}
 use Rattle.terms.proofs.LentRows.{rows_lent, row_put}
 use Rattle.terms.proofs.Find.{same_row_no}
 use Rattle.terms.proofs.Nesting.{nestings_snoc}

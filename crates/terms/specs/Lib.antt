@@ -3,5 +3,6 @@ pub mod Fields
 pub mod Nesting
 pub mod Terms
 pub mod AcceptedRows
-pub mod code
+pub mod represent
+pub mod private
 pub mod values

@@ -4,8 +4,8 @@ ghost use Rattle.std.specs.Prelude.{◌≡◌, false, ◌+◌, ◌*◌, ◌≤�
 ghost use Rattle.std.proofs.lemmas.List.Edits.{sets};
 ghost use Rattle.terms.specs.Row.{row_width, row_numbers, table_of, max_rows, find};
 ghost use Rattle.terms.specs.Nesting.{nesting};
-ghost use Rattle.terms.specs.code.RowTypes.{row_of, FoundIs};
-ghost use Rattle.terms.specs.code.Kept.{slot_count, slot_of, rows_in, Nestings, Kept};
+ghost use Rattle.terms.specs.represent.RowTypes.{row_of, FoundIs};
+ghost use Rattle.terms.specs.private.Kept.{slot_count, slot_of, rows_in, Nestings, Kept};
 
 use crate::{MAX_ROWS, ROW_WIDTH, Row, TABLE_NUMBERS, deeper_operand, find_row, row_count};
 
@@ -25,7 +25,7 @@ pub struct KeptRows {
 }
 
 // The slot that a row falls in.
-#[tactic(auto, unfolding(crate::specs::code::Kept::slot_of))]
+#[tactic(auto, unfolding(crate::specs::private::Kept::slot_of))]
 fn slot_of(row: Row) -> usize
     ensures { (result ≡ slot_of (row_of row)) × (result < slot_count) }
 {

@@ -10,9 +10,9 @@ ghost use Rattle.std.specs.Prelude.{map, length, get_or, set};
 ghost use Rattle.terms.specs.Row.{row_at, row_numbers, row_of_numbers, table_of, max_rows, find};
 ghost use Rattle.terms.specs.Fields.{is_path, is_qualifier, fields_of, held_path, held_qualifier, field_ok, bad_place};
 ghost use Rattle.terms.specs.Nesting.{operand_nesting, nesting_by, nesting};
-ghost use Rattle.terms.specs.code.Kept.{Nestings};
-ghost use Rattle.terms.specs.code.RowTypes.{row_of, field_of, fields_in, KindIs, RowIs, FoundIs};
-ghost use Rattle.common.specs.code.Refusal.{RefusedAt};
+ghost use Rattle.terms.specs.private.Kept.{Nestings};
+ghost use Rattle.terms.specs.represent.RowTypes.{row_of, field_of, fields_in, KindIs, RowIs, FoundIs};
+ghost use Rattle.common.specs.represent.Refusal.{RefusedAt};
 ghost use Rattle.common.specs.declared.refusal.Refusal.TheVariants.{BadField};
 
 use common::Refusal;

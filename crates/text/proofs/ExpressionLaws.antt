@@ -12,13 +12,13 @@ use Rattle.grammar.specs.Bytes.{Bytes}
 use Rattle.grammar.specs.Words.{number_of}
 use Rattle.grammar.specs.Grammar.{Unary, operand, conj, Or, alone, disj, spell_and, spell_or}
 use Rattle.grammar.specs.Denotes.{unary_of, and_of, or_of, and_names, or_names, put_qual, nest_qual}
-use Rattle.grammar.specs.code.Reader.{need, inside, Open, first, begin, Left, nothing, either, Pend, plain, both}
-use Rattle.grammar.specs.code.Reader.{left_of, and_to, or_to, wrap, room_of, enter, run, unary_byte}
-use Rattle.words.specs.code.Scan.{byte_at}
-use Rattle.heads.specs.code.Head.{proceed}
-use Rattle.readings.specs.code.Build.{Standing, capped, moved_to, refused_at, Sized, PutMet}
-use Rattle.readings.specs.code.Passing.{WordMet, after_and, after_or}
-use Rattle.text.specs.code.Readers.{MadeQual, Reached, UnaryMet, AndRead, AndFails, AndMet, OrFails, OrMet}
+use Rattle.grammar.specs.private.Reader.{need, inside, Open, first, begin, Left, nothing, either, Pend, plain, both}
+use Rattle.grammar.specs.private.Reader.{left_of, and_to, or_to, wrap, room_of, enter, run, unary_byte}
+use Rattle.words.specs.private.Scan.{byte_at}
+use Rattle.heads.specs.private.Head.{proceed}
+use Rattle.readings.specs.private.Build.{Standing, capped, moved_to, refused_at, Sized, PutMet}
+use Rattle.readings.specs.private.Passing.{WordMet, after_and, after_or}
+use Rattle.text.specs.private.Readers.{MadeQual, Reached, UnaryMet, AndRead, AndFails, AndMet, OrFails, OrMet}
 use Rattle.readings.proofs.Built.{unlisted_append, made_from, made_join}
 
 -- an operator name changes only the place

@@ -7,7 +7,7 @@ use lib.ListN.{length, take, drop, length-append, take-append-drop}
 use lib.Seq.{sets, sets-eq, length-take-le, drop_at}
 use Rattle.common.specs.Lists.{joined as numbers_of}
 use Rattle.terms.specs.Row.{Row, table_of, rows_numbers, table_with}
-use Rattle.readings.specs.code.Build.{row_width, row_numbers, Sized, Beyond}
+use Rattle.readings.specs.private.Build.{row_width, row_numbers, Sized, Beyond}
 use Rattle.text.specs.Promises.{held_rows}
 use Rattle.readings.proofs.Built.{table_count}
 

@@ -21,18 +21,19 @@ use Rattle.grammar.specs.Grammar.{implied, called, test, Union, Unary, paths, gr
 use Rattle.grammar.specs.Grammar.{spell_unary, spell_bool}
 use Rattle.grammar.specs.Denotes.{unary_of, union_of, or_of, constant_of, unary_names, unlisted, put}
 use Rattle.grammar.specs.Denotes.{put_path, put_qual, nest_path, nest_qual}
-use Rattle.grammar.specs.code.Reader.{State, need, after, const_open, closed, inside, Open, bracket, negate, grouped}
-use Rattle.grammar.specs.code.Reader.{first, begin, Pend, step, finish, follow, run, outcome, bad, room}
-use Rattle.grammar.specs.code.Reader.{room_of, enter, shut, need_byte, lead_byte, group_byte, after_byte}
-use Rattle.grammar.specs.code.Reader.{paren_byte_next}
-use Rattle.grammar.specs.code.Reader.{call_byte, union_byte, unary_byte}
+use Rattle.grammar.specs.private.Reader.{State, need, after, const_open, closed, inside, Open, bracket, negate, grouped}
+use Rattle.grammar.specs.private.Reader.{first, begin, Pend, step, finish, follow, run, outcome, bad, room}
+use Rattle.grammar.specs.private.Reader.{room_of, enter, shut, need_byte, lead_byte, group_byte, after_byte}
+use Rattle.grammar.specs.private.Reader.{paren_byte_next}
+use Rattle.grammar.specs.private.Reader.{call_byte, union_byte, unary_byte}
 use Rattle.heads.specs.declared.Opens.{Opens}
 use Rattle.heads.specs.declared.Opens.TheVariants as Opening
-use Rattle.words.specs.code.Scan.{byte_at, Passed}
-use Rattle.heads.specs.code.Head.{NoCall, CallAt, OperandMet, proceed}
-use Rattle.readings.specs.code.Build.{Standing, capped, moved_to, refused_at, Sized, Made, PutMet, Grown, some_of_put}
-use Rattle.readings.specs.code.Passing.{ConstPut, NegatePut}
-use Rattle.text.specs.code.Readers.{after_union, union_at_top, MadeQual, NoOperand, UnionMet, UnaryMet}
+use Rattle.words.specs.private.Scan.{byte_at, Passed}
+use Rattle.heads.specs.private.Head.{NoCall, CallAt, OperandMet, proceed}
+use Rattle.readings.specs.private.Build.{Standing, capped, moved_to, refused_at, Sized, Made, PutMet, Grown}
+use Rattle.readings.specs.private.Build.{some_of_put}
+use Rattle.readings.specs.private.Passing.{ConstPut, NegatePut}
+use Rattle.text.specs.private.Readers.{after_union, union_at_top, MadeQual, NoOperand, UnionMet, UnaryMet}
 use Rattle.words.proofs.Scanned.{past, head_drop}
 use Rattle.heads.proofs.Ran.{on_here, on_pass, on_stop, over, need_over, closed_over}
 use Rattle.heads.proofs.Headed.{byte_there, passed_length, passed_to, on_fail, same_split}

@@ -19,18 +19,18 @@ use Rattle.grammar.specs.Grammar.{LocationStep, Rel, slash, slashes, Path, root,
 use Rattle.grammar.specs.Grammar.{Unary, paths, spell_step, spell_rel, spell_path, spell_union}
 use Rattle.grammar.specs.Denotes.{Named, every_below, step_of, rel_of, rel_after, path_of, union_of, step_names}
 use Rattle.grammar.specs.Denotes.{rel_names, path_names, union_names, unlisted, put_path, nest_path}
-use Rattle.grammar.specs.code.Reader.{need, root1, slash1, after, Ctx, top, inside, Open, bracket, negate}
-use Rattle.grammar.specs.code.Reader.{grouped, Pend, Alt, first, more, Lead, start, after1, after2, begin, Prefix}
-use Rattle.grammar.specs.code.Reader.{bare, at_root, at_any, prefix_of, join, with_prefix, path_to, join_alt}
-use Rattle.grammar.specs.code.Reader.{step, follow}
-use Rattle.grammar.specs.code.Reader.{finish, run, room, shut, need_byte, lead_byte, lead_end, group_byte}
-use Rattle.grammar.specs.code.Reader.{after_byte, path_byte, union_byte, unary_byte, at_top}
-use Rattle.words.specs.code.Scan.{byte_at, Passed, begins_step}
-use Rattle.heads.specs.code.Head.{callable, Due}
-use Rattle.readings.specs.code.Build.{Standing, capped, moved_to, refused_at, PutMet, Grown, below_of, only_in_step}
-use Rattle.readings.specs.code.Passing.{FirstPut, SlashPut, BeginPut, Starting, start_of, root_start}
-use Rattle.text.specs.code.Readers.{after_path, after_union, union_at_top, MadePath, Ready, Reached, StepMet}
-use Rattle.text.specs.code.Readers.{NoOperand, PathFails, PathMet, UnionFails, UnionMet}
+use Rattle.grammar.specs.private.Reader.{need, root1, slash1, after, Ctx, top, inside, Open, bracket, negate}
+use Rattle.grammar.specs.private.Reader.{grouped, Pend, Alt, first, more, Lead, start, after1, after2, begin, Prefix}
+use Rattle.grammar.specs.private.Reader.{bare, at_root, at_any, prefix_of, join, with_prefix, path_to, join_alt}
+use Rattle.grammar.specs.private.Reader.{step, follow}
+use Rattle.grammar.specs.private.Reader.{finish, run, room, shut, need_byte, lead_byte, lead_end, group_byte}
+use Rattle.grammar.specs.private.Reader.{after_byte, path_byte, union_byte, unary_byte, at_top}
+use Rattle.words.specs.private.Scan.{byte_at, Passed, begins_step}
+use Rattle.heads.specs.private.Head.{callable, Due}
+use Rattle.readings.specs.private.Build.{Standing, capped, moved_to, refused_at, PutMet, Grown, below_of, only_in_step}
+use Rattle.readings.specs.private.Passing.{FirstPut, SlashPut, BeginPut, Starting, start_of, root_start}
+use Rattle.text.specs.private.Readers.{after_path, after_union, union_at_top, MadePath, Ready, Reached, StepMet}
+use Rattle.text.specs.private.Readers.{NoOperand, PathFails, PathMet, UnionFails, UnionMet}
 use Rattle.words.proofs.Scanned.{head_drop}
 use Rattle.heads.proofs.Ran.{on_pass, need_over}
 use Rattle.heads.proofs.Headed.{byte_there, passed_length, passed_to, on_fail}

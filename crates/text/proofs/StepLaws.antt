@@ -16,16 +16,16 @@ use Rattle.grammar.specs.Bytes.{Bytes, is_space}
 use Rattle.grammar.specs.Words.{number_of}
 use Rattle.grammar.specs.Grammar.{LocationStep, filter, Or, takes_predicate, spell_step, spell_or}
 use Rattle.grammar.specs.Denotes.{step_of, or_of, step_names, or_names, put_path, put_qual, nest_path}
-use Rattle.grammar.specs.code.Reader.{State, after, Ctx, Open, bracket, Alt, Lead, step, follow, run, bad}
-use Rattle.grammar.specs.code.Reader.{room, room_of, enter, shut, after_byte, paren_byte_next, colon_byte_next}
+use Rattle.grammar.specs.private.Reader.{State, after, Ctx, Open, bracket, Alt, Lead, step, follow, run, bad}
+use Rattle.grammar.specs.private.Reader.{room, room_of, enter, shut, after_byte, paren_byte_next, colon_byte_next}
 use Rattle.grammar.proofs.Basics.{is_true}
 use Rattle.std.specs.Prelude.{Ok, Err}
 use Rattle.heads.specs.declared.Head.{Head}
-use Rattle.words.specs.code.Scan.{byte_at, Passed}
-use Rattle.heads.specs.code.Head.{callable, NoCall, Due, HeadMet, proceed}
-use Rattle.readings.specs.code.Build.{Standing, capped, moved_to, refused_at, PutMet, HeadPut, only_in_step}
-use Rattle.readings.specs.code.Passing.{CloseMet}
-use Rattle.text.specs.code.Readers.{MadeQual, Ready, Reached, PredicateMet, StepRead, StepFails, StepMet, OrMet}
+use Rattle.words.specs.private.Scan.{byte_at, Passed}
+use Rattle.heads.specs.private.Head.{callable, NoCall, Due, HeadMet, proceed}
+use Rattle.readings.specs.private.Build.{Standing, capped, moved_to, refused_at, PutMet, HeadPut, only_in_step}
+use Rattle.readings.specs.private.Passing.{CloseMet}
+use Rattle.text.specs.private.Readers.{MadeQual, Ready, Reached, PredicateMet, StepRead, StepFails, StepMet, OrMet}
 use Rattle.words.proofs.Scanned.{there}
 use Rattle.heads.proofs.Ran.{on_pass, over}
 use Rattle.heads.proofs.Headed.{byte_there, passed_length, on_fail}

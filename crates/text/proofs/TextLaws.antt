@@ -15,22 +15,22 @@ use Rattle.terms.specs.Row.{Row, max_rows, table_with}
 use Rattle.grammar.specs.Bytes.{Bytes}
 use Rattle.grammar.specs.Words.{number_of}
 use Rattle.grammar.specs.Denotes.{unlisted, union_names, union_of, put_path, nest_path}
-use Rattle.grammar.specs.code.Reader.{top, initial, union_byte, follow, room, run, outcome, good, bad}
+use Rattle.grammar.specs.private.Reader.{top, initial, union_byte, follow, room, run, outcome, good, bad}
 use Rattle.grammar.specs.Answer.{Reply, reply, Answers}
-use Rattle.grammar.specs.code.ReaderAnswer.{term_answer, names_answer, read_answer, answer}
+use Rattle.grammar.specs.private.ReaderAnswer.{term_answer, names_answer, read_answer, answer}
 use Rattle.grammar.proofs.Answered.{given}
 use Rattle.grammar.proofs.Longer.{answer_longer, refused_stays}
 use Rattle.std.specs.Prelude.{Some, None, Result, Ok, Err}
 use Rattle.readings.specs.declared.Reading.{Reading}
 use Rattle.common.specs.declared.refusal.Refusal.{Refusal}
-use Rattle.common.specs.code.Refusal.{refusal_number, refusal_value}
+use Rattle.common.specs.represent.Refusal.{refusal_number, refusal_value}
 use Rattle.common.specs.declared.refusal.Refusal.TheVariants.{OutsideGrammar}
 use Rattle.common.proofs.Refusals.{refusal_some}
 use Rattle.common.proofs.Results.{Mapped, mapped_ok, mapped_err}
-use Rattle.heads.specs.code.Head.{callable, place_of}
-use Rattle.readings.specs.code.Build.{Standing, stands, ended, refused_at, Sized, Holds, first_of, nothing_read}
+use Rattle.heads.specs.private.Head.{callable, place_of}
+use Rattle.readings.specs.private.Build.{Standing, stands, ended, refused_at, Sized, Holds, first_of, nothing_read}
 use Rattle.text.specs.Promises.{held_rows, TextRead}
-use Rattle.text.specs.code.Readers.{after_union, union_at_top, refusal_of, end_of, UnionRead, UnionMet, TextMet}
+use Rattle.text.specs.private.Readers.{after_union, union_at_top, refusal_of, end_of, UnionRead, UnionMet, TextMet}
 use Rattle.common.specs.Lists.{joined as numbers_of}
 use Rattle.readings.proofs.Built.{table_count}
 use Rattle.text.proofs.Left.{left_table}

@@ -5,7 +5,7 @@ use Rattle.grammar.specs.Bytes.{Bytes}
 use Rattle.grammar.specs.Answer.{Answers}
 use Rattle.text.specs.declared.TextHeld.{TextHeld}
 use Rattle.common.specs.declared.refusal.Refusal.{Refusal}
-use Rattle.common.specs.code.Refusal.{refusal_number, refusal_value}
+use Rattle.common.specs.represent.Refusal.{refusal_number, refusal_value}
 
 -- the rows that a table holds, as many as are counted
 abbrev pub held_rows : List ℕ → ℕ → List Row

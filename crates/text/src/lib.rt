@@ -7,11 +7,11 @@
 ghost use Rattle.std.specs.Prelude.{◌≡◌, true, false, min, ◌≤◌, length};
 ghost use Rattle.terms.specs.Row.{max_rows};
 ghost use Rattle.grammar.specs.Bytes.{is_space, open_bracket};
-ghost use Rattle.words.specs.code.Scan.{byte_at};
-ghost use Rattle.words.specs.code.Index.{max_length};
-ghost use Rattle.readings.specs.code.Build.{stands, ended, Sized};
-ghost use Rattle.text.specs.code.Readers.{Ready, PredicateMet, StepMet, PathMet, UnionMet, UnaryMet, AndMet};
-ghost use Rattle.text.specs.code.Readers.{OrMet, TextMet, end_of};
+ghost use Rattle.words.specs.private.Scan.{byte_at};
+ghost use Rattle.words.specs.private.Index.{max_length};
+ghost use Rattle.readings.specs.private.Build.{stands, ended, Sized};
+ghost use Rattle.text.specs.private.Readers.{Ready, PredicateMet, StepMet, PathMet, UnionMet, UnaryMet, AndMet};
+ghost use Rattle.text.specs.private.Readers.{OrMet, TextMet, end_of};
 ghost use Rattle.text.specs.Promises.{TextRead};
 
 use common::Refusal;

@@ -14,17 +14,17 @@ use Rattle.calls.specs.PointLaws.{ReturnRestores}
 use Rattle.calls.specs.Runs.{Run}
 use Rattle.calls.specs.SelectLaws.{LimitSuffices, MarksSameElsewhere}
 use Rattle.calls.specs.TextLaws.{AnswersAsDefined, AsTermCalls, GivesItsTerm, GivesItsNesting}
-use Rattle.calls.specs.code.Answers.{NumberOrRefusal, DoneOrRefusal, OrderOrRefusal}
+use Rattle.calls.specs.represent.Answers.{NumberOrRefusal, DoneOrRefusal, OrderOrRefusal}
 use Rattle.common.specs.Lists.{Every}
 use Rattle.common.specs.NodeTests.{star_test, node_test}
 use Rattle.std.specs.Prelude.{Option, Result}
 use Rattle.grammar.specs.Abbreviations.{Expanded, Meant}
-use Rattle.matching.specs.code.RowYields.{Sides, one_sort, says_of, row_yields}
+use Rattle.matching.specs.private.RowYields.{Sides, one_sort, says_of, row_yields}
 use Rattle.ordering.specs.BundleOrder.{steps_order}
 use Rattle.ordering.specs.OrderLaws.{TotalOrder, SortedMatch}
 use Rattle.ordering.specs.TermOrder.{term_order}
-use Rattle.records.specs.code.Held.{records_in}
-use Rattle.records.specs.code.Listed.{listed}
+use Rattle.records.specs.represent.Held.{records_in}
+use Rattle.records.specs.represent.Listed.{listed}
 use Rattle.records.specs.Records.{current}
 use Rattle.records.specs.Releases.{crew_listing, crew_current, OfficeCall, OfficeSeen, ShowsReleased, ShowsInOrder}
 use Rattle.records.specs.declared.Record.{Record}
@@ -54,26 +54,26 @@ use Rattle.xpath.specs.AxisLaws.{FiveAxesPartition, AxesToAttribute, AxesFromAtt
 use Rattle.xpath.specs.Document.{Document, document_of, document_refusal, well_formed}
 use Rattle.xpath.specs.Meaning.{selects}
 use Rattle.xpath.specs.Term.{Path}
-use Rattle.xpath.specs.code.Check.{ClimbMade, DocumentChecked}
-use Rattle.xpath.specs.code.ClimbPromise.{ClimbPromise}
+use Rattle.xpath.specs.represent.Check.{ClimbMade, DocumentChecked}
+use Rattle.xpath.specs.represent.ClimbPromise.{ClimbPromise}
 use Rattle.xpath.specs.declared.document.Climb.{Climb}
 use Rattle.rules.specs.WayBack.{way_back}
 use Rattle.rules.specs.values.RuleTen.{EndingYields}
 use Rattle.grammar.specs.Grammar.{Union, Spells}
-use Rattle.session.specs.code.Results.{ReadResult}
-use Rattle.register.specs.code.Results as register-read
+use Rattle.session.specs.represent.Results.{ReadResult}
+use Rattle.register.specs.represent.Results as register-read
 use Rattle.auditing.specs.Audit.{report}
 use Rattle.calls.specs.StepCall.{step_numbered}
 use Rattle.calls.specs.Uses.{uses_of}
 use Rattle.calls.specs.Promises.{sides_of}
-use Rattle.matching.specs.code.MatchTypes.{sides_in}
-use Rattle.terms.specs.code.RowTypes.{PlaceIs}
+use Rattle.matching.specs.private.MatchTypes.{sides_in}
+use Rattle.terms.specs.represent.RowTypes.{PlaceIs}
 use Rattle.replacing.specs.Covered.{step_saying}
 use Rattle.tallies.specs.declared.Tally.{Tally}
 use Rattle.tallies.specs.Count.{file_of, Entry}
 use Rattle.tallies.specs.NameList.{list_answer}
 use Rattle.tallies.specs.Promise.{TallyPromise}
-use Rattle.tallies.specs.code.Tally.{fresh_tally}
+use Rattle.tallies.specs.represent.Tally.{fresh_tally}
 use Rattle.xpath.specs.OneName.{StepSameElsewhere}
 use Rattle.xpath.proofs.Source as xpath
 use Rattle.tallies.proofs.Source as tallies

@@ -6,10 +6,10 @@ use mathlib.Core.List.{List, [], ◌∷◌}
 use Rattle.std.specs.Prelude.{Option as Optional, Some, None, MatchOption}
 use Rattle.std.specs.Bool.{then_some}
 use Rattle.lines.specs.Line.{Line, lines}
-use Rattle.lines.specs.code.NumbersRead.{first_parts}
+use Rattle.lines.specs.private.NumbersRead.{first_parts}
 use Rattle.script.specs.declared.CallLine.{CallLine}
 use Rattle.script.specs.Command.{command_of}
-use Rattle.script.specs.code.CommandRead.{written_command, CallMet, CallRead}
+use Rattle.script.specs.private.CommandRead.{written_command, CallMet, CallRead}
 use Rattle.transcript.specs.declared.Style.{Style}
 use Rattle.transcript.specs.Transcript.{word_taken, is_taken, ending_line}
 

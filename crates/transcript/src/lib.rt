@@ -3,9 +3,9 @@
 
 ghost use Rattle.std.specs.Prelude.{◌≡◌};
 ghost use Rattle.std.specs.Result.{result_err};
-ghost use Rattle.terms.specs.code.RowTypes.{PlaceIs};
+ghost use Rattle.terms.specs.represent.RowTypes.{PlaceIs};
 ghost use Rattle.lines.specs.Line.{lines};
-ghost use Rattle.script.specs.code.CommandRead.{written_command};
+ghost use Rattle.script.specs.private.CommandRead.{written_command};
 ghost use Rattle.transcript.specs.Transcript.{word_taken, ending_line};
 
 use answer_lines::AnswerLine;

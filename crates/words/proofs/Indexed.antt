@@ -18,10 +18,10 @@ use Rattle.lines.specs.Line.{lines, same_bytes}
 use Rattle.grammar.specs.Bytes.{Bytes, is_word}
 use Rattle.grammar.specs.Words.{find, bytes_of, number_of}
 use Rattle.lines.proofs.SameBytes.{same_bytes_lem}
-use Rattle.words.specs.code.Scan.{byte_at}
-use Rattle.words.specs.code.Names.{first_line_is, numbered_from}
-use Rattle.words.specs.code.Index.{signed_by, signature_of, line_of, ended}
-use Rattle.words.specs.code.Index.{LineMet, LineAt, LineIndexed}
+use Rattle.words.specs.private.Scan.{byte_at}
+use Rattle.words.specs.private.Names.{first_line_is, numbered_from}
+use Rattle.words.specs.private.Index.{signed_by, signature_of, line_of, ended}
+use Rattle.words.specs.private.Index.{LineMet, LineAt, LineIndexed}
 use Rattle.words.specs.declared.index.IndexedLine.{IndexedLine}
 use Rattle.words.proofs.Named.{first_bytes_lem, first_line}
 use Rattle.words.proofs.Listed.{after_byte_lem, after_end, find_past, numbered_one, next_from, first_hit}

@@ -15,12 +15,12 @@ use lib.ListN.{length, get_or, drop, drop_of_length-le}
 use lib.Seq.{drop-cons, drop-drop, get_or-drop}
 use Rattle.common.proofs.Tests.{at_most_one}
 use Rattle.lines.specs.Line.{Line, lines, in_first_line}
-use Rattle.lines.specs.code.NumbersRead.{starts_with}
+use Rattle.lines.specs.private.NumbersRead.{starts_with}
 use Rattle.grammar.specs.Bytes.{Bytes, is_word}
 use Rattle.grammar.specs.Words.{find, next, bytes_of, numbered, number_of}
-use Rattle.words.specs.code.Scan.{byte_at}
-use Rattle.words.specs.code.Names.{first_line_is, numbered_from, LinesPassed, Sought, Searched}
-use Rattle.words.specs.code.Index.{ended}
+use Rattle.words.specs.private.Scan.{byte_at}
+use Rattle.words.specs.private.Names.{first_line_is, numbered_from, LinesPassed, Sought, Searched}
+use Rattle.words.specs.private.Index.{ended}
 use Rattle.words.proofs.Named.{line_is}
 
 -- the lines after the first, one byte on

@@ -13,13 +13,13 @@ use Rattle.std.specs.Prelude.{Option as Maybe, Some, None, MatchOption, option_m
 use Rattle.std.specs.List.{AllWithin, HoldsAt, range_with_len}
 use Rattle.common.proofs.Tests.{eqb_turned}
 use Rattle.lines.specs.Line.{Line, line, lines, in_first_line, same_bytes}
-use Rattle.lines.specs.code.NumbersRead.{starts_with}
+use Rattle.lines.specs.private.NumbersRead.{starts_with}
 use Rattle.common.specs.Lists.{all_of}
 use Rattle.grammar.specs.Bytes.{Bytes, is_start, is_name, is_word}
 use Rattle.grammar.proofs.Basics.{start_name}
 use Rattle.lines.proofs.SameBytes.{same_bytes_lem, same_itself}
-use Rattle.words.specs.code.Names.{pick_from, found, first_line_is}
-use Rattle.words.specs.code.Index.{line_of, ended}
+use Rattle.words.specs.private.Names.{pick_from, found, first_line_is}
+use Rattle.words.specs.private.Index.{line_of, ended}
 
 -- the bytes of the first line
 unfoldable pub first_bytes : List Line → Bytes

@@ -17,7 +17,7 @@ use Rattle.common.specs.Lists.{all_of}
 use Rattle.lines.proofs.First.{first_or_length}
 use Rattle.grammar.specs.Bytes.{Bytes}
 use Rattle.grammar.proofs.Back.{snoc}
-use Rattle.words.specs.code.Scan.{byte_at, PassedOver, Passed}
+use Rattle.words.specs.private.Scan.{byte_at, PassedOver, Passed}
 
 pub past : (s : Bytes) (at : ℕ) → length s ≤ at → byte_at s at ≡ 0
 past s at h = get_or-eq_default s 0 h

@@ -1,1 +1,1 @@
-pub mod code
+pub mod private

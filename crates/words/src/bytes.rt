@@ -1,7 +1,7 @@
 // Bytes of a text: whitespace, and names.
 ghost use Rattle.std.specs.Prelude.{◌≡◌, ◌≤◌, ℕ, Bool, length};
 ghost use Rattle.grammar.specs.Bytes.{is_space, is_start, is_name};
-ghost use Rattle.words.specs.code.Scan.{byte_at, PassedOver, Passed};
+ghost use Rattle.words.specs.private.Scan.{byte_at, PassedOver, Passed};
 
 /// The byte at a place, 0 past the end: no reader takes a 0, so none has to ask for the end.
 pub fn byte_at(s: &[u8], at: usize) -> u8

@@ -1,6 +1,6 @@
 // The index of a lent list of names: of its first lines, where each begins and the signature of its bytes.
 ghost use Rattle.std.specs.Prelude.{◌≡◌, ◌<◌, ◌≤◌, length, take, drop};
-ghost use Rattle.words.specs.code.Index.{max_length, signed_by, signature_of, ended, LineMet, Indexed};
+ghost use Rattle.words.specs.private.Index.{max_length, signed_by, signature_of, ended, LineMet, Indexed};
 
 /// How many lines an index has at most.
 pub const MAX_LINES: usize = 10240;
@@ -15,7 +15,7 @@ pub struct IndexedLine {
 }
 
 // The signature of some bytes and one more.
-#[tactic(auto, unfolding(crate::specs::code::Index::signed_by))]
+#[tactic(auto, unfolding(crate::specs::private::Index::signed_by))]
 fn signed_by(signature: u32, byte: u8) -> u32
     ensures { result ≡ signed_by signature byte }
 {

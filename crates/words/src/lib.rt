@@ -8,9 +8,9 @@ pub mod names;
 
 ghost use Rattle.std.specs.Prelude.{◌≡◌, option_map};
 ghost use Rattle.common.specs.NodeTests.{node_test};
-ghost use Rattle.common.specs.code.Numbers.{axis_number, test_number};
+ghost use Rattle.common.specs.represent.Numbers.{axis_number, test_number};
 ghost use Rattle.grammar.specs.Words.{axes, types};
-ghost use Rattle.words.specs.code.Names.{pick_from, found};
+ghost use Rattle.words.specs.private.Names.{pick_from, found};
 
 pub use crate::names::{Names, Word};
 use common::axis::Axis;

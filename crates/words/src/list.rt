@@ -5,9 +5,9 @@ ghost use Rattle.std.specs.Prelude.{IsTrue, IfSome, MatchOption, MatchResult};
 ghost use Rattle.lines.specs.Line.{newline, lines};
 ghost use Rattle.lines.specs.Number.{max_number};
 ghost use Rattle.grammar.specs.Words.{number_of};
-ghost use Rattle.words.specs.code.Scan.{byte_at};
-ghost use Rattle.words.specs.code.Index.{signature_of, LineIndexed};
-ghost use Rattle.words.specs.code.Names.{first_line_is, block_size, given, LinesPassed, Searched};
+ghost use Rattle.words.specs.private.Scan.{byte_at};
+ghost use Rattle.words.specs.private.Index.{signature_of, LineIndexed};
+ghost use Rattle.words.specs.private.Names.{first_line_is, block_size, given, LinesPassed, Searched};
 
 use crate::index::{IndexedLine, ends_at, signature};
 use crate::names::{Names, Word};

@@ -1,7 +1,7 @@
 // A lent list of names with its index, and a word that is sought in it.
 ghost use Rattle.std.specs.Prelude.{◌≡◌, true};
 ghost use Rattle.grammar.specs.Bytes.{is_word};
-ghost use Rattle.words.specs.code.Index.{Indexed};
+ghost use Rattle.words.specs.private.Index.{Indexed};
 
 use crate::index::IndexedLine;
 

@@ -3,7 +3,7 @@ use Rattle.std.proofs.Common.{ℕ, zero, suc, ◌≡◌, ◌≤◌, ◌<◌, Boo
 use Rattle.std.proofs.Common.{sym, ap, arith, eqb, eq-eqb}
 use borrow.Author.Tests.{eqb-true, ne_eqb}
 use Rattle.xpath.specs.Document.{Document, parent_at, is_child, climb_meets, is_ancestor}
-use Rattle.xml_document.specs.code.Checks.{reaches}
+use Rattle.xml_document.specs.private.Checks.{reaches}
 
 pub or_true : (a b : Bool) → (a || b) ≡ true → (a ≡ true) ⊎ (b ≡ true)
 or_true true b e = inl refl

@@ -9,7 +9,7 @@ use Rattle.xpath.specs.Document.{kind_and_name_ok, is_attribute, attribute_place
 use Rattle.xml_document.specs.Columns.{rows_of, Renumbered, Renumbers}
 use Rattle.xml_document.specs.Xml.{IsXml, AreXml, text_inside, texts_apart, inside_by, apart_by, document_element_by}
 use Rattle.xml_document.specs.Xml.{document_elements}
-use Rattle.xml_document.specs.code.Checks.{Passes, RowsOk, Counts, reaches, placed_by}
+use Rattle.xml_document.specs.private.Checks.{Passes, RowsOk, Counts, reaches, placed_by}
 use Rattle.xml_document.specs.declared.columns.Columns.{Columns}
 use Rattle.xml_document.proofs.Climb.{true_or, and_true, true_and, up}
 use Rattle.xml_document.proofs.Look.{kind_at-rows, parent_at-rows, name_at-rows, length-rows}

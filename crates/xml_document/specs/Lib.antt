@@ -1,5 +1,5 @@
 pub mod Columns
 pub mod Xml
 pub mod Names
-pub mod code
+pub mod private
 pub mod values

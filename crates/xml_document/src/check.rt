@@ -3,7 +3,7 @@ ghost use Rattle.std.specs.Prelude.{◌≡◌, ℕ, true, suc, ◌<◌, length, 
 ghost use Rattle.xpath.specs.Document.{kind_and_name_ok, row_ok};
 ghost use Rattle.xml_document.specs.Columns.{Renumbered};
 ghost use Rattle.xml_document.specs.Xml.{AreXml, text_inside, texts_apart, inside_by, apart_by, document_element_by};
-ghost use Rattle.xml_document.specs.code.Checks.{Passes, Counts, AllOk, reaches, placed_by};
+ghost use Rattle.xml_document.specs.private.Checks.{Passes, Counts, AllOk, reaches, placed_by};
 
 use crate::columns::Columns;
 use common::node_kind::NodeKind;
@@ -39,7 +39,7 @@ fn is_named(kind: u8, name: u32) -> bool
 }
 
 // Whether an attribute behind row n, `before`, stands where it must: its parent is `of`.
-#[tactic(auto, unfolding(crate::specs::code::Checks::placed_by))]
+#[tactic(auto, unfolding(crate::specs::private::Checks::placed_by))]
 fn is_attribute_placed(parent: usize, of: Row, n: usize, before: Row) -> bool
     ensures { result ≡ placed_by parent of.kind n before.kind before.parent }
 {

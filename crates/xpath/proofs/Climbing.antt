@@ -14,7 +14,7 @@ use Rattle.xpath.specs.Document.{Document, parent_at, is_child, climb_meets, is_
 use Rattle.xpath.specs.Document.{document_of, lent_rows, max_nodes, bad_row, bad_row_by, document_refusal}
 use Rattle.xpath.specs.Climb.{above, climb_takes, parents_taken, climb_met, Least}
 use Rattle.xpath.specs.Climb.{CountEnds, CountLeast, AnswersAlike, RefusesAlike}
-use Rattle.xpath.specs.code.Check.{closed, ClimbMade}
+use Rattle.xpath.specs.represent.Check.{closed, ClimbMade}
 use Rattle.common.proofs.Reflect.{or-false, le_or_lt, eq_or_ne}
 use Rattle.xpath.proofs.Tree.{ParentsSmaller, parents_smaller, parent_smaller}
 use Rattle.common.proofs.Search.{first_alike}

@@ -12,8 +12,8 @@ use mir.Facts.{and_yes, yes_and, leb_yes}
 use Rattle.xpath.specs.Document.{Document, parent_at, is_ancestor, row_ok, well_formed}
 use Rattle.common.specs.Bounded.{all_below}
 use Rattle.xpath.specs.Climb.{above, parents_taken}
-use Rattle.xpath.specs.code.Check.{closed, closed_before, closed_in_turn}
-use Rattle.xpath.specs.code.Ends.{EndsAt, Ends, Filled}
+use Rattle.xpath.specs.represent.Check.{closed, closed_before, closed_in_turn}
+use Rattle.xpath.specs.represent.Ends.{EndsAt, Ends, Filled}
 use Rattle.common.proofs.Reflect.{tests_equal, eq_or_ne, le_or_lt}
 use Rattle.xpath.proofs.Tree.{Ancestor, parent_is, ancestor_cases, ancestor_yes, row_facts}
 use Rattle.xpath.proofs.Tree.{ancestor_smaller, yes_ancestor, subtree_contiguous}

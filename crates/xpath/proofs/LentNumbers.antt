@@ -10,7 +10,7 @@ use Rattle.std.specs.Int.{div_ceil}
 use Rattle.std.proofs.Common.{map}
 use Rattle.std.specs.Simd.{first_chunks}
 use borrow.Author.Tests.{ltb-true, ltb-false}
-use Rattle.xpath.specs.code.Nodes.{node_in}
+use Rattle.xpath.specs.private.Nodes.{node_in}
 use Rattle.xpath.specs.Document.{Node, node, root_node, kind_at, parent_at, name_at, document_of, lent_rows}
 
 -- a whole row is three numbers

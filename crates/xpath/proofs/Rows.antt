@@ -15,9 +15,9 @@ use Rattle.common.specs.Bounded.{first_below}
 use Rattle.xpath.specs.Document.{Document, kind_at, parent_at, name_at}
 use Rattle.xpath.specs.Document.{row_ok_by, document_of, lent_rows, bad_row_by, max_nodes, document_refusal}
 use Rattle.xpath.specs.Climb.{climb_met}
-use Rattle.xpath.specs.code.Ends.{Filled}
-use Rattle.xpath.specs.code.Check.{closed, closed_before, closed_in_turn, ClimbMade, Placed, FirstBad}
-use Rattle.xpath.specs.code.Check.{DocumentChecked}
+use Rattle.xpath.specs.represent.Ends.{Filled}
+use Rattle.xpath.specs.represent.Check.{closed, closed_before, closed_in_turn, ClimbMade, Placed, FirstBad}
+use Rattle.xpath.specs.represent.Check.{DocumentChecked}
 use Rattle.common.proofs.Search.{first_not_yet, first_found, found_below}
 use Rattle.xpath.proofs.LentNumbers.{nodes_lent}
 use Rattle.xpath.proofs.Refusal.{accepted_iff}

@@ -6,8 +6,8 @@ use Rattle.common.proofs.Lent.{lent, lent_to_write}
 use Rattle.std.specs.Prelude.{Result}
 use Rattle.xpath.specs.Document.{document_of}
 use Rattle.xpath.specs.Climb.{parents_taken, climb_met, ClimbEnds, Least}
-use Rattle.xpath.specs.code.Check.{closed, ClimbMade, DocumentChecked}
-use Rattle.xpath.specs.code.ClimbPromise.{ClimbPromise}
+use Rattle.xpath.specs.represent.Check.{closed, ClimbMade, DocumentChecked}
+use Rattle.xpath.specs.represent.ClimbPromise.{ClimbPromise}
 use Rattle.xpath.specs.declared.document.Climb.{Climb}
 use Rattle.xpath.proofs.Climbing.{count_ends, count_least, answers_alike}
 use Rattle.xpath.proofs.document.climb_toward.Reads as climb-reads

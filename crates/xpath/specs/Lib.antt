@@ -7,5 +7,6 @@ pub mod Meaning
 pub mod Visits
 pub mod Chain
 pub mod OneName
-pub mod code
+pub mod represent
+pub mod private
 pub mod values

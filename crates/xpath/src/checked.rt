@@ -1,6 +1,6 @@
 // A document that was checked.
 ghost use Rattle.xpath.specs.Document.{document_of};
-ghost use Rattle.xpath.specs.code.Ends.{Prepared};
+ghost use Rattle.xpath.specs.represent.Ends.{Prepared};
 
 /// Its lent numbers, and where the subtree of each of its rows ends.
 #[derive(Clone, Copy)]

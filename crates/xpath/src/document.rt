@@ -3,10 +3,10 @@
 ghost use Rattle.std.specs.Prelude.{◌≡◌, ◌||◌, suc, ◌<◌, ◌≤◌, length, get_or, eqb, map};
 ghost use Rattle.xpath.specs.Document.{parent_at, is_attribute, attribute_placed, kind_and_name_ok, row_ok_by};
 ghost use Rattle.xpath.specs.Document.{document_of, root_node, max_nodes};
-ghost use Rattle.xpath.specs.code.Nodes.{node_of, node_in};
+ghost use Rattle.xpath.specs.private.Nodes.{node_of, node_in};
 ghost use Rattle.common.specs.NodeKinds.{attribute_kind};
 ghost use Rattle.xpath.specs.Climb.{climb_met};
-ghost use Rattle.xpath.specs.code.Check.{DocumentChecked, ClimbMade, Placed, FirstBad, closed_before};
+ghost use Rattle.xpath.specs.represent.Check.{DocumentChecked, ClimbMade, Placed, FirstBad, closed_before};
 
 use crate::{MAX_NODES, NODE_WIDTH};
 use common::node_kind;

@@ -1,9 +1,9 @@
 // The node tests.
 ghost use Rattle.std.specs.Prelude.{◌≡◌, ℕ, Bool, true, ◌&&◌, eqb};
-ghost use Rattle.common.specs.code.Numbers.{kind_number};
+ghost use Rattle.common.specs.represent.Numbers.{kind_number};
 ghost use Rattle.xpath.specs.Document.{document_of};
 ghost use Rattle.xpath.specs.Axis.{principal, passes};
-ghost use Rattle.xpath.specs.code.Tests.{fits, Asks};
+ghost use Rattle.xpath.specs.private.Tests.{fits, Asks};
 
 use crate::document::{self, Node};
 use common::axis;

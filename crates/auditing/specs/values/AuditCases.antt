@@ -2,7 +2,7 @@
 use Rattle.std.specs.Prelude.{ℕ, ◌≤◌, ◌<◌, ◌≡◌, refl, List, length, replicate}
 use Rattle.std.proofs.Common.{lt-ltb, le-ltb}
 use Rattle.terms.specs.Row.{table_of}
-use Rattle.calls.specs.code.Tables.{steps_of}
+use Rattle.calls.specs.represent.Tables.{steps_of}
 use Rattle.lines.specs.Line.{in_first_line, lines, is_line}
 use Rattle.session.specs.View.{view, fresh_session}
 use Rattle.session.specs.Reading.{lines_read, reading}

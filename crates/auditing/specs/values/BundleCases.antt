@@ -11,7 +11,7 @@ use Rattle.terms.specs.Terms.{as_path, as_qualifier, term_by, terms, term_at}
 use Rattle.rules.specs.RuleTable.{rules}
 use Rattle.rules.specs.Claim.{says}
 use Rattle.rules.specs.Yields.{forms_in, forms_of, first_count, premise_count}
-use Rattle.rules.specs.code.RuleFits.{rule_fits}
+use Rattle.rules.specs.private.RuleFits.{rule_fits}
 use Rattle.rules.specs.Decision.{yields_dec}
 use Rattle.lines.specs.Ascii.{ascii}
 use Rattle.lines.specs.Line.{in_first_line, lines, in_first_part, parts, same_bytes, is_line}
@@ -23,7 +23,7 @@ use Rattle.calls.specs.TermCall.{term_answer}
 use Rattle.calls.specs.StepCall.{same_sort, bad_side_of, premise_ok, bad_premise_of, claim_of, premises_of}
 use Rattle.calls.specs.StepCall.{step_answer_by, is_yielded}
 use Rattle.calls.specs.StepCall.{step_answer}
-use Rattle.calls.specs.code.Tables.{steps_of}
+use Rattle.calls.specs.represent.Tables.{steps_of}
 use Rattle.session.specs.View.{view, fresh_session, with_row, with_step}
 use Rattle.bundles.specs.Bundle.{row_names, step_names, row_of_line, step_of_line}
 use Rattle.session.specs.Reading.{steps_read, rows_read, lines_read, reading}

@@ -5,7 +5,7 @@ use Rattle.common.specs.declared.refusal.Refusal.{Refusal}
 use Rattle.terms.specs.Row.{table_of}
 use Rattle.text.specs.declared.TextHeld.{TextHeld}
 use Rattle.text.specs.Promises.{text_number}
-use Rattle.calls.specs.code.Answers.{NumberOrRefusal, answer_of}
+use Rattle.calls.specs.represent.Answers.{NumberOrRefusal, answer_of}
 use Rattle.calls.proofs.Accepted.{ok_accepted}
 use Rattle.calls.proofs.TextLaws.{answers_as_defined}
 use Rattle.bench_select.proofs.bench_text.Goals as goal

@@ -1,7 +1,7 @@
 -- `bundle_length` meets its contract.
 use native.Mathlib.Omega.{arith}
 use Rattle.terms.specs.Row.{table_of}
-use Rattle.calls.specs.code.Tables.{steps_of}
+use Rattle.calls.specs.represent.Tables.{steps_of}
 use Rattle.bundles.proofs.Tables.{bundle_length_lem}
 use Rattle.bundles.proofs.bundle_length.Goals as goal
 

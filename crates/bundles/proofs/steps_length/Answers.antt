@@ -4,7 +4,7 @@ use mathlib.Core.List.{[]}
 use native.Mathlib.Omega.{arith}
 use lib.ListN.{length}
 use Rattle.calls.specs.Book.{step_of_numbers}
-use Rattle.calls.specs.code.Tables.{steps_of}
+use Rattle.calls.specs.represent.Tables.{steps_of}
 use Rattle.calls.proofs.Tables.{steps_lent}
 use Rattle.bundles.specs.Bundle.{step_text, steps_text}
 use Rattle.bundles.proofs.Tables.{there, all_there, length_left, nothing_left}

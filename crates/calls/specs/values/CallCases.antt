@@ -19,7 +19,7 @@ use Rattle.terms.specs.Terms.{as_path, as_qualifier, term_by, terms, term_at}
 use Rattle.rules.specs.RuleTable.{rules}
 use Rattle.rules.specs.Claim.{says}
 use Rattle.rules.specs.Yields.{forms_in, forms_of, first_count, premise_count}
-use Rattle.rules.specs.code.RuleFits.{rule_fits}
+use Rattle.rules.specs.private.RuleFits.{rule_fits}
 use Rattle.rules.specs.Decision.{yields_dec}
 use Rattle.selection.specs.Marks.{written}
 use Rattle.calls.specs.Book as books

@@ -7,7 +7,7 @@ use Rattle.terms.specs.Row.{Row, row}
 use Rattle.calls.specs.Book as books
 use Rattle.calls.specs.Book.{Point, Book, pointed_book, empty_book, answer}
 use Rattle.calls.specs.Calls.{point, return}
-use Rattle.calls.specs.code.Points.{counts, counts_of, counts_names, point_named, first_points, cleared}
+use Rattle.calls.specs.represent.Points.{counts, counts_of, counts_names, point_named, first_points, cleared}
 use Rattle.calls.specs.PointCall.{place_of}
 use Rattle.calls.specs.PointLaws.{KeepsPoints}
 use Rattle.calls.specs.values.CallCases.{term, step, ◌leaving◌, seen_from, ◌gets◌, AllSeen, Answered, Refused}

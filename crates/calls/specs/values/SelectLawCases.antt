@@ -19,7 +19,7 @@ use Rattle.terms.specs.Terms.{as_path, as_qualifier, term_by, terms, term_at, pa
 use Rattle.selection.specs.Marks.{written}
 use Rattle.calls.specs.Book.{Answer, answer}
 use Rattle.calls.specs.SelectCall.{select_answer, select_buffer}
-use Rattle.calls.specs.code.Answers.{NumberOrRefusal, answer_of}
+use Rattle.calls.specs.represent.Answers.{NumberOrRefusal, answer_of}
 use Rattle.calls.specs.Promises.{SelectMade}
 use Rattle.calls.specs.SelectLaws.{LimitSuffices, MarksSameElsewhere}
 

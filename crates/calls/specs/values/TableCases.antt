@@ -2,11 +2,11 @@
 use Rattle.std.specs.Prelude.{ℕ, ◌≡◌, refl, List, [], ◌∷◌, length, replicate}
 use Rattle.common.specs.values.Expected.{◌is◌, AllRight}
 use Rattle.terms.specs.Row.{row, table_of}
-use Rattle.matching.specs.code.MatchTypes.{sides_in}
-use Rattle.matching.specs.code.RowYields.{sides}
+use Rattle.matching.specs.private.MatchTypes.{sides_in}
+use Rattle.matching.specs.private.RowYields.{sides}
 use Rattle.calls.specs.Book.{step, step_of_numbers}
-use Rattle.calls.specs.code.Answers.{step_of}
-use Rattle.calls.specs.code.Tables.{steps_of, first_rows, first_steps}
+use Rattle.calls.specs.represent.Answers.{step_of}
+use Rattle.calls.specs.represent.Tables.{steps_of, first_rows, first_steps}
 
 abbrev two_rows : List ℕ
 two_rows = 2 ∷ 1 ∷ 0 ∷ 2 ∷ 6 ∷ 0 ∷ 0 ∷ 0 ∷ []

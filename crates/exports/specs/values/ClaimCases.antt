@@ -16,7 +16,7 @@ use Rattle.terms.specs.Terms.{as_path, as_qualifier, term_by, terms, term_at}
 use Rattle.rules.specs.RuleTable.{rules}
 use Rattle.rules.specs.Claim.{says}
 use Rattle.rules.specs.Yields.{forms_in, forms_of, first_count, premise_count}
-use Rattle.rules.specs.code.RuleFits.{rule_fits}
+use Rattle.rules.specs.private.RuleFits.{rule_fits}
 use Rattle.rules.specs.Decision.{yields_dec}
 use Rattle.grammar.specs.Bytes.{is_space, is_start, is_name, is_quote}
 use Rattle.grammar.specs.Words as words
@@ -24,23 +24,25 @@ use Rattle.grammar.specs.Words.{next, axes, types, is_some, instruction_word, or
 use Rattle.grammar.specs.Words.{number_of}
 use Rattle.grammar.specs.Grammar.{spell_axis, spell_test, spell_bool, spell_step, spell_rel, spell_path, spell_union}
 use Rattle.grammar.specs.Grammar.{spell_unary, spell_and, spell_or, takes_predicate}
-use Rattle.grammar.specs.code.Reader.{run, outcome, follow, step, finish, need_byte, after_byte, path_byte}
-use Rattle.grammar.specs.code.Reader.{union_byte, unary_byte, shut, group_byte, lead_byte, call_byte, paren_byte_next}
-use Rattle.grammar.specs.code.Reader.{colon_byte_next, keyword_byte, lead_end, at_top, room, room_of, prefix_of, join}
-use Rattle.grammar.specs.code.Reader.{with_prefix, join_alt, wrap, left_of, and_to}
+use Rattle.grammar.specs.private.Reader.{run, outcome, follow, step, finish, need_byte, after_byte, path_byte}
+use Rattle.grammar.specs.private.Reader.{union_byte, unary_byte, shut, group_byte, lead_byte, call_byte}
+use Rattle.grammar.specs.private.Reader.{paren_byte_next}
+use Rattle.grammar.specs.private.Reader.{colon_byte_next, keyword_byte, lead_end, at_top, room, room_of, prefix_of}
+use Rattle.grammar.specs.private.Reader.{join}
+use Rattle.grammar.specs.private.Reader.{with_prefix, join_alt, wrap, left_of, and_to}
 use Rattle.grammar.specs.Denotes.{unlisted, test_names, step_names, rel_names, path_names, union_names, unary_names}
 use Rattle.grammar.specs.Denotes.{and_names, or_names, axis_of, constant_of, test_of, step_of, rel_of, rel_after}
 use Rattle.grammar.specs.Denotes.{path_of, union_of, unary_of, and_of, or_of, put, put_path, put_qual, nest_path}
 use Rattle.grammar.specs.Denotes.{nest_qual}
-use Rattle.grammar.specs.code.ReaderAnswer as grammar
-use Rattle.grammar.specs.code.ReaderAnswer.{names_answer, read_answer}
+use Rattle.grammar.specs.private.ReaderAnswer as grammar
+use Rattle.grammar.specs.private.ReaderAnswer.{names_answer, read_answer}
 use Rattle.grammar.proofs.Answered.{answered}
 use Rattle.calls.specs.TermCall.{term_answer}
 use Rattle.calls.specs.StepCall.{same_sort, bad_side_of, premise_ok, bad_premise_of, claim_of, premises_of}
 use Rattle.calls.specs.StepCall.{step_answer_by}
 use Rattle.calls.specs.StepCall.{is_yielded, step_answer}
 use Rattle.calls.specs.TextCall.{text_reply, text_answer}
-use Rattle.calls.specs.code.Tables.{steps_of}
+use Rattle.calls.specs.represent.Tables.{steps_of}
 use Rattle.bundles.specs.Bundle as bundles
 use Rattle.bundles.specs.Bundle.{row_names, row_of_line, step_of_line}
 use Rattle.replacing.specs.Covered.{is_held_step, is_in, is_replaced, step_saying}

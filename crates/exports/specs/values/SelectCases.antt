@@ -23,16 +23,18 @@ use Rattle.grammar.specs.Words.{next, axes, types, is_some, instruction_word, or
 use Rattle.grammar.specs.Words.{number_of}
 use Rattle.grammar.specs.Grammar.{spell_axis, spell_test, spell_bool, spell_step, spell_rel, spell_path, spell_union}
 use Rattle.grammar.specs.Grammar.{spell_unary, spell_and, spell_or, takes_predicate}
-use Rattle.grammar.specs.code.Reader.{run, outcome, follow, step, finish, need_byte, after_byte, path_byte}
-use Rattle.grammar.specs.code.Reader.{union_byte, unary_byte, shut, group_byte, lead_byte, call_byte, paren_byte_next}
-use Rattle.grammar.specs.code.Reader.{colon_byte_next, keyword_byte, lead_end, at_top, room, room_of, prefix_of, join}
-use Rattle.grammar.specs.code.Reader.{with_prefix, join_alt, wrap, left_of, and_to}
+use Rattle.grammar.specs.private.Reader.{run, outcome, follow, step, finish, need_byte, after_byte, path_byte}
+use Rattle.grammar.specs.private.Reader.{union_byte, unary_byte, shut, group_byte, lead_byte, call_byte}
+use Rattle.grammar.specs.private.Reader.{paren_byte_next}
+use Rattle.grammar.specs.private.Reader.{colon_byte_next, keyword_byte, lead_end, at_top, room, room_of, prefix_of}
+use Rattle.grammar.specs.private.Reader.{join}
+use Rattle.grammar.specs.private.Reader.{with_prefix, join_alt, wrap, left_of, and_to}
 use Rattle.grammar.specs.Denotes.{unlisted, test_names, step_names, rel_names, path_names, union_names, unary_names}
 use Rattle.grammar.specs.Denotes.{and_names, or_names, axis_of, constant_of, test_of, step_of, rel_of, rel_after}
 use Rattle.grammar.specs.Denotes.{path_of, union_of, unary_of, and_of, or_of, put, put_path, put_qual, nest_path}
 use Rattle.grammar.specs.Denotes.{nest_qual}
-use Rattle.grammar.specs.code.ReaderAnswer as grammar
-use Rattle.grammar.specs.code.ReaderAnswer.{names_answer}
+use Rattle.grammar.specs.private.ReaderAnswer as grammar
+use Rattle.grammar.specs.private.ReaderAnswer.{names_answer}
 use Rattle.grammar.proofs.Answered.{answered}
 use Rattle.calls.specs.SelectCall.{select_answer, select_buffer}
 use Rattle.calls.specs.TextCall.{text_reply, text_answer}

@@ -4,7 +4,7 @@ use mathlib.Core.Path.{◌≡◌}
 use lib.ListN.{length, drop}
 use Rattle.lines.specs.Line.{lines}
 use Rattle.filing.specs.Filing.{filed, lines_filed}
-use Rattle.filing.specs.code.FilingMade.{lent_by}
+use Rattle.filing.specs.private.FilingMade.{lent_by}
 use Rattle.filing.proofs.make_lines.Given as goal
 
 abbrev pub invariant-loop-i : goal.invariant-loop-i

@@ -20,14 +20,15 @@ use Rattle.grammar.specs.Denotes.{unlisted}
 use Rattle.grammar.specs.Denotes.{test_names, step_names, rel_names, path_names, union_names, unary_names, and_names}
 use Rattle.grammar.specs.Grammar.{spell_step, spell_rel, spell_path, spell_union}
 use Rattle.grammar.specs.Grammar.{spell_unary, spell_and, spell_or, takes_predicate, spell_axis, spell_test, spell_bool}
-use Rattle.grammar.specs.code.Reader.{after_byte, path_byte, union_byte, unary_byte, shut, group_byte, lead_byte}
-use Rattle.grammar.specs.code.Reader.{call_byte}
-use Rattle.grammar.specs.code.Reader.{colon_byte_next, keyword_byte, lead_end, at_top, room, room_of, prefix_of, join}
-use Rattle.grammar.specs.code.Reader.{with_prefix}
-use Rattle.grammar.specs.code.Reader.{join_alt, wrap, left_of, and_to, run, outcome, follow, step, finish, need_byte}
-use Rattle.grammar.specs.code.Reader.{paren_byte_next}
-use Rattle.grammar.specs.code.ReaderAnswer as grammar
-use Rattle.grammar.specs.code.ReaderAnswer.{names_answer, read_answer}
+use Rattle.grammar.specs.private.Reader.{after_byte, path_byte, union_byte, unary_byte, shut, group_byte, lead_byte}
+use Rattle.grammar.specs.private.Reader.{call_byte}
+use Rattle.grammar.specs.private.Reader.{colon_byte_next, keyword_byte, lead_end, at_top, room, room_of, prefix_of}
+use Rattle.grammar.specs.private.Reader.{join}
+use Rattle.grammar.specs.private.Reader.{with_prefix}
+use Rattle.grammar.specs.private.Reader.{join_alt, wrap, left_of, and_to, run, outcome, follow, step, finish, need_byte}
+use Rattle.grammar.specs.private.Reader.{paren_byte_next}
+use Rattle.grammar.specs.private.ReaderAnswer as grammar
+use Rattle.grammar.specs.private.ReaderAnswer.{names_answer, read_answer}
 use Rattle.grammar.specs.Words as words
 use Rattle.grammar.specs.Words.{number_of, next, axes, types, is_some, instruction_word, or_zero, bytes_of, numbered}
 use Rattle.calls.specs.Book as book
@@ -35,8 +36,8 @@ use Rattle.calls.specs.Calls.{Call}
 use Rattle.calls.specs.PointCall.{place_of, point_answer, return_answer}
 use Rattle.calls.specs.TermCall.{term_answer}
 use Rattle.calls.specs.TextCall.{text_reply, text_answer}
-use Rattle.calls.specs.code.Points.{counts_of}
-use Rattle.calls.specs.code.Tables.{steps_of}
+use Rattle.calls.specs.represent.Points.{counts_of}
+use Rattle.calls.specs.represent.Tables.{steps_of}
 use Rattle.bundles.specs.Bundle as bundles
 use Rattle.bundles.specs.Bundle.{row_names, rows_text, steps_text, bundle_text}
 use Rattle.session.specs.View.{view, fresh_session, with_row, with_rows, with_point, at_point}

@@ -11,16 +11,18 @@ use Rattle.grammar.specs.Words as words
 use Rattle.grammar.specs.Words.{next, axes, types, is_some, instruction_word, or_zero, bytes_of, numbered, number_of}
 use Rattle.grammar.specs.Grammar.{takes_predicate, spell_axis, spell_test, spell_bool, spell_step, spell_rel}
 use Rattle.grammar.specs.Grammar.{spell_path, spell_union, spell_unary, spell_and, spell_or}
-use Rattle.grammar.specs.code.Reader.{run, outcome, follow, step, finish, need_byte, after_byte, path_byte}
-use Rattle.grammar.specs.code.Reader.{union_byte, unary_byte, shut, group_byte, lead_byte, call_byte, paren_byte_next}
-use Rattle.grammar.specs.code.Reader.{colon_byte_next, keyword_byte, lead_end, at_top, room, room_of, prefix_of, join}
-use Rattle.grammar.specs.code.Reader.{with_prefix, join_alt, wrap, left_of, and_to}
+use Rattle.grammar.specs.private.Reader.{run, outcome, follow, step, finish, need_byte, after_byte, path_byte}
+use Rattle.grammar.specs.private.Reader.{union_byte, unary_byte, shut, group_byte, lead_byte, call_byte}
+use Rattle.grammar.specs.private.Reader.{paren_byte_next}
+use Rattle.grammar.specs.private.Reader.{colon_byte_next, keyword_byte, lead_end, at_top, room, room_of, prefix_of}
+use Rattle.grammar.specs.private.Reader.{join}
+use Rattle.grammar.specs.private.Reader.{with_prefix, join_alt, wrap, left_of, and_to}
 use Rattle.grammar.specs.Denotes.{unlisted, test_names, step_names, rel_names, path_names, union_names, unary_names}
 use Rattle.grammar.specs.Denotes.{and_names, or_names, axis_of, constant_of, test_of, step_of, rel_of, rel_after}
 use Rattle.grammar.specs.Denotes.{path_of, union_of, unary_of, and_of, or_of, put, put_path, put_qual, nest_path}
 use Rattle.grammar.specs.Denotes.{nest_qual}
 use Rattle.grammar.specs.Answer.{Reply, reply}
-use Rattle.grammar.specs.code.ReaderAnswer.{term_answer, names_answer, read_answer, answer}
+use Rattle.grammar.specs.private.ReaderAnswer.{term_answer, names_answer, read_answer, answer}
 
 -- the answer; to unfold it is to unfold all that it computes with
 unfoldable told : Bytes → Bytes → List Row → Reply

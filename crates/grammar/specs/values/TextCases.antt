@@ -12,11 +12,11 @@ use Rattle.grammar.specs.Bytes.{colon_byte, at_byte, capital_a, capital_z, open_
 use Rattle.grammar.specs.Bytes.{underscore_byte, letter_a, letter_d, letter_n, letter_o, letter_r, letter_z}
 use Rattle.grammar.specs.Words.{find, next, axes, types, is_some, instruction_word}
 use Rattle.grammar.specs.Grammar.{takes_predicate}
-use Rattle.grammar.specs.code.Reader.{Outcome, good, bad, run, initial, outcome, follow, step, finish, need_byte}
-use Rattle.grammar.specs.code.Reader.{after_byte, path_byte, union_byte, unary_byte, shut, group_byte, lead_byte}
-use Rattle.grammar.specs.code.Reader.{call_byte, paren_byte_next, colon_byte_next, keyword_byte, lead_end, at_top}
-use Rattle.grammar.specs.code.Reader.{room, room_of}
-use Rattle.grammar.specs.code.Reader.{prefix_of, join, with_prefix, join_alt, wrap, left_of, and_to}
+use Rattle.grammar.specs.private.Reader.{Outcome, good, bad, run, initial, outcome, follow, step, finish, need_byte}
+use Rattle.grammar.specs.private.Reader.{after_byte, path_byte, union_byte, unary_byte, shut, group_byte, lead_byte}
+use Rattle.grammar.specs.private.Reader.{call_byte, paren_byte_next, colon_byte_next, keyword_byte, lead_end, at_top}
+use Rattle.grammar.specs.private.Reader.{room, room_of}
+use Rattle.grammar.specs.private.Reader.{prefix_of, join, with_prefix, join_alt, wrap, left_of, and_to}
 
 abbrev bytes : Bytes
 bytes =

@@ -2,7 +2,7 @@
 use mathlib.Core.Path.{ap, ◌∙◌}
 use Rattle.std.specs.Prelude.{unwrap_or}
 use Rattle.lines.specs.Ascii.{ascii}
-use Rattle.words.specs.code.Names.{found}
+use Rattle.words.specs.private.Names.{found}
 use Rattle.heads.specs.declared.Opens.TheVariants as Opening
 use Rattle.heads.proofs.Headed.{opened}
 use Rattle.heads.proofs.opened_by.Goals as goal

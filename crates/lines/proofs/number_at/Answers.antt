@@ -4,7 +4,7 @@ use mathlib.Core.Path.{sym, ap, ◌∙◌}
 use native.Mathlib.Omega.{arith}
 use lib.ListN.{length, get_or}
 use mathlib.Core.Option.{some}
-use Rattle.lines.specs.code.NumbersRead.{number_before}
+use Rattle.lines.specs.private.NumbersRead.{number_before}
 use Rattle.lines.proofs.Scan.{nothing_there, no_digit_there, digit_there, length_there, rest_there}
 use Rattle.lines.proofs.Scan.{end_there, stops_there, goes_on_there, first_digit_fits, one_more_fits, scan_past}
 use Rattle.lines.proofs.number_at.Goals as goal

@@ -3,7 +3,7 @@
 use Prim.Native.Nat.{◌≤◌}
 use mathlib.Core.Path.{◌≡◌}
 use lib.ListN.{drop}
-use Rattle.lines.specs.code.NumbersRead.{number_cut}
+use Rattle.lines.specs.private.NumbersRead.{number_cut}
 use Rattle.lines.proofs.Scan.{scan}
 use Rattle.lines.proofs.number_at.Given as goal
 

@@ -8,7 +8,7 @@ use Rattle.lines.specs.Ascii.{ascii}
 use Rattle.lines.specs.Line.{Line, line, in_first_line, lines, in_first_part, parts, same_bytes, is_line, first_is}
 use Rattle.lines.specs.Number.{max_number, is_digit, is_decimal, append_digits}
 use Rattle.lines.specs.Number.{number_up_to, numbers_up_to, numbers_of}
-use Rattle.lines.specs.code.NumbersRead.{cut, number_before, number_cut, starts_with}
+use Rattle.lines.specs.private.NumbersRead.{cut, number_before, number_cut, starts_with}
 use Rattle.lines.specs.Written.{digits_of, decimal, line_text}
 
 abbrev lines_of : String → List Line

@@ -1,15 +1,15 @@
 -- `mark_step` meets its contract.
 use Rattle.std.proofs.Common.{◌≡◌, ℕ, List, ◌&&◌, length, Some}
 use mathlib.Core.Bool.{and-false}
-use Rattle.common.specs.code.Numbers.{axis_number}
+use Rattle.common.specs.represent.Numbers.{axis_number}
 use Rattle.common.specs.declared.axis.Axis.{Axis}
 use Rattle.xpath.specs.Document.{Document}
 use Rattle.xpath.specs.Axis.{on_axis, passes}
-use Rattle.xpath.specs.code.Tests.{fits, picks, Asks}
+use Rattle.xpath.specs.private.Tests.{fits, picks, Asks}
 use Rattle.xpath.specs.declared.node_tests.StepTest.{StepTest}
 use Rattle.xpath.specs.declared.node_tests.StepTest.TheVariants.{Everything, Kind, Name}
-use Rattle.marking.specs.code.Added.{Added}
-use Rattle.xpath.specs.code.Checked.{doc}
+use Rattle.marking.specs.private.Added.{Added}
+use Rattle.xpath.specs.private.Checked.{doc}
 use Rattle.marking.proofs.Added.{added_cong, nothing_added}
 use Rattle.marking.proofs.Steps.{no_axis}
 use Rattle.marking.proofs.mark_step.Goals as goal

@@ -9,11 +9,11 @@ use Rattle.std.proofs.lemmas.List.{length_push}
 use Rattle.std.proofs.lemmas.Slice.Zip.{zip_turn, zip_end}
 use Rattle.terms.specs.Row.{table_of, max_rows}
 use Rattle.calls.specs.Book.{answer}
-use Rattle.calls.specs.code.Tables.{steps_of}
+use Rattle.calls.specs.represent.Tables.{steps_of}
 use Rattle.ordering.specs.BundleOrder.{term_step, step_order, term_steps, bundle_order}
 use Rattle.ordering.specs.OrderCall.{order_value, bundle_order_answer}
 use Rattle.ordering.proofs.Compared.{number_of_order, none_noted, numbers_compared}
-use Rattle.ordering.specs.code.FieldsCompared.{order_of}
+use Rattle.ordering.specs.private.FieldsCompared.{order_of}
 use Rattle.ordering.proofs.Steps.{at, step_there, steps_there, step_decides, step_passes, ends}
 use Rattle.ordering.proofs.bundle_order_on.Goals as goal
 use Rattle.ordering.proofs.bundle_order_on.Goals.{After-order_steps-order}

@@ -3,8 +3,8 @@
 use mathlib.Core.Path.{◌≡◌}
 use lib.ListN.{length}
 use Rattle.terms.specs.Row.{table_of}
-use Rattle.calls.specs.code.Tables.{steps_of}
-use Rattle.ordering.specs.code.FieldsCompared.{Noted}
+use Rattle.calls.specs.represent.Tables.{steps_of}
+use Rattle.ordering.specs.private.FieldsCompared.{Noted}
 use Rattle.ordering.proofs.Steps.{from}
 use Rattle.ordering.proofs.bundle_order_on.Given as goal
 

@@ -1,6 +1,6 @@
 -- `term_kind` meets its contract.
 use mathlib.Core.Path.{ap, ◌∙◌}
-use Rattle.common.specs.code.Numbers.{row_number}
+use Rattle.common.specs.represent.Numbers.{row_number}
 use Rattle.ordering.proofs.Rows.{kind_read}
 use Rattle.ordering.proofs.term_kind.Goals as goal
 

@@ -9,7 +9,7 @@ use Rattle.std.proofs.lemmas.Iterator.{YieldsList-from_slice, YieldsList-from_ma
 use Rattle.std.proofs.lemmas.Iterator.Adapters.{option_map_id}
 use Rattle.std.proofs.lemmas.Iterator.Consumers.{YieldsList-from_enumerate}
 use Rattle.std.proofs.lemmas.Iterator.Search.{find_from_yields_List}
-use Rattle.calls.specs.code.Points.{counts_in}
+use Rattle.calls.specs.represent.Points.{counts_in}
 use Rattle.calls.proofs.PointTables.{point_found}
 use Rattle.point_calls.proofs.find_point.Goals as goal
 

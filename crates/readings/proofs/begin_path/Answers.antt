@@ -1,6 +1,6 @@
 -- `begin_path` meets its contract.
 use mathlib.Core.Path.{sym, ◌∙◌}
-use Rattle.readings.specs.code.Build.{stands}
+use Rattle.readings.specs.private.Build.{stands}
 use Rattle.readings.proofs.Worded.{begin_bare, begin_root, begin_any}
 use Rattle.readings.proofs.begin_path.Goals as goal
 

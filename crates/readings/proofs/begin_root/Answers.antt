@@ -1,6 +1,6 @@
 -- `begin_root` meets its contract.
 use mathlib.Core.Path.{sym, ◌∙◌}
-use Rattle.readings.specs.code.Build.{stands}
+use Rattle.readings.specs.private.Build.{stands}
 use Rattle.readings.proofs.Worded.{root_step, root_slash, root_alone}
 use Rattle.readings.proofs.begin_root.Goals as goal
 

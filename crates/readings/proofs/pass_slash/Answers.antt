@@ -1,6 +1,6 @@
 -- `pass_slash` meets its contract.
 use mathlib.Core.Path.{sym, ◌∙◌}
-use Rattle.readings.specs.code.Build.{stands}
+use Rattle.readings.specs.private.Build.{stands}
 use Rattle.readings.proofs.Worded.{slash_two, slash_one}
 use Rattle.readings.proofs.pass_slash.Goals as goal
 

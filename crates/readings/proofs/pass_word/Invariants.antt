@@ -2,7 +2,7 @@
 use Prim.Native.Nat.{ℕ, ◌+◌, ◌<◌, ◌≤◌}
 use mathlib.Core.Path.{◌≡◌}
 use lib.ListN.{length, get_or}
-use Rattle.words.specs.code.Scan.{byte_at}
+use Rattle.words.specs.private.Scan.{byte_at}
 use Rattle.readings.proofs.pass_word.Given as goal
 
 abbrev pub invariant-loop-i : goal.invariant-loop-i

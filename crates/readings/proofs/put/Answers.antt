@@ -3,8 +3,8 @@ use mathlib.Core.Path.{refl, sym}
 use native.Mathlib.Omega.{arith}
 use borrow.Author.Tests.{not-true, not-false}
 use Rattle.readings.proofs.Built.{put_none, put_found, put_full, put_added}
-use Rattle.terms.specs.code.RowTypes.{row_of}
-use Rattle.readings.specs.code.Build.{stands}
+use Rattle.terms.specs.represent.RowTypes.{row_of}
+use Rattle.readings.specs.private.Build.{stands}
 use Rattle.readings.proofs.put.Goals as goal
 
 pub returns-then-not-r : goal.returns-then-not-r

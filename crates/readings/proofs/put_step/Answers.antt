@@ -1,6 +1,6 @@
 -- `put_step` meets its contract.
 use Rattle.readings.proofs.Built.{step_put}
-use Rattle.readings.specs.code.Build.{stands}
+use Rattle.readings.specs.private.Build.{stands}
 use Rattle.readings.proofs.put_step.Goals as goal
 
 pub returns : goal.returns

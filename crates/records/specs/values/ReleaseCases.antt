@@ -13,7 +13,7 @@ use Rattle.calls.specs.Above.{both, passed, own}
 use Rattle.records.specs.Records.{empty_record, recorded, current, row_of, is_fit_step, record_answer, all_kept}
 use Rattle.records.specs.Releases.{none_released, release_answer, with_release, released, crew_listing, crew_current}
 use Rattle.records.specs.Releases.{OfficeCall, OfficeHoldings, plain_office}
-use Rattle.records.specs.code.Listed.{listed}
+use Rattle.records.specs.represent.Listed.{listed}
 use Rattle.records.specs.values.RecordCases.{many}
 
 -- editions 1, 2 and 3 of series 7, and editions 1 and 2 of series 9 among them

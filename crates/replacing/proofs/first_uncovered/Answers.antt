@@ -3,7 +3,7 @@ use Rattle.std.proofs.Common.{◌≡◌, rules, position, tests}
 use Rattle.std.specs.List.{zip}
 use Rattle.std.proofs.lemmas.Iterator.{YieldsList-from_slice, YieldsList-from_zip}
 use Rattle.std.proofs.lemmas.Iterator.Search.{position_from_yields_List}
-use Rattle.calls.specs.code.Tables.{book_held}
+use Rattle.calls.specs.represent.Tables.{book_held}
 use Rattle.replacing.proofs.Judged.{is_bad_pair, uncovered_found}
 use Rattle.replacing.proofs.first_uncovered.Goals as goal
 

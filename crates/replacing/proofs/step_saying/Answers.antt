@@ -6,8 +6,8 @@ use Rattle.std.proofs.Common.{◌≡◌, rules, position, tests}
 use Rattle.std.proofs.lemmas.Iterator.{YieldsList-from_slice}
 use Rattle.std.proofs.lemmas.Iterator.Search.{position_from_yields_List}
 use Rattle.common.specs.Bounded.{first_below}
-use Rattle.calls.specs.code.Tables.{book_held}
-use Rattle.replacing.specs.code.Places.{IndexIs}
+use Rattle.calls.specs.represent.Tables.{book_held}
+use Rattle.replacing.specs.private.Places.{IndexIs}
 use Rattle.replacing.proofs.Saying.{has_rows, says_at, unheld, said_found, said_first, none_said}
 use Rattle.replacing.proofs.step_saying.Goals as goal
 use Rattle.replacing.proofs.step_saying.Goals.{After-position}

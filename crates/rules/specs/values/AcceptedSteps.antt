@@ -11,7 +11,7 @@ use Rattle.common.specs.Lists.{all_of, any_of}
 use Rattle.common.proofs.Entries.{all_of_yes}
 use Rattle.rules.specs.RuleTable.{rules}
 use Rattle.rules.specs.Yields.{Yields}
-use Rattle.rules.specs.code.RuleFits.{fits, some_form_fits, rule_fits, yielded_yes}
+use Rattle.rules.specs.private.RuleFits.{fits, some_form_fits, rule_fits, yielded_yes}
 
 -- a rule, what a step says, and what its premises say
 pub record Sample : Type 0 where

@@ -13,7 +13,7 @@ use Rattle.rules.specs.RuleTable.{rules}
 use Rattle.common.specs.Lists.{all_of}
 use Rattle.common.proofs.Entries.{all_of_yes}
 use Rattle.rules.specs.Yields.{forms_in, forms_of}
-use Rattle.rules.specs.code.RuleFits.{rule_fits, yes_yielded}
+use Rattle.rules.specs.private.RuleFits.{rule_fits, yes_yielded}
 use Rattle.rules.specs.values.AcceptedSteps.{Sample, sample, p, q, r, s, f, g, h, ◌::N, ◌::M, ◌::star, ◌::node}
 use Rattle.rules.specs.values.AcceptedSteps.{◌::text, ◌::instruction, ◌::target, ending_in_node, way_back_of}
 use Rattle.rules.specs.values.AcceptedSteps.{step_back_of, p_back, q_back, accepted, sample_yielded, SampleYields}

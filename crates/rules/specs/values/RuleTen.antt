@@ -9,7 +9,7 @@ use Rattle.rules.specs.Notation.{p, r, a, b, N, M}
 use Rattle.rules.specs.Claim.{Containment}
 use Rattle.rules.specs.Instance.{Test}
 use Rattle.rules.specs.Yields.{Yields}
-use Rattle.rules.specs.code.RuleFits.{fits, some_form_fits}
+use Rattle.rules.specs.private.RuleFits.{fits, some_form_fits}
 use Rattle.rules.specs.values.AcceptedSteps.{Sample, endings_in_node}
 
 -- the form whose second premise ends in t

@@ -13,7 +13,7 @@ use Rattle.rules.specs.RuleTable.{rules}
 use Rattle.rules.specs.Claim.{Claim, Containment, Implication}
 use Rattle.rules.specs.Instance.{Test, Letters, axis_for, test_for, path_for, claim_for, meets}
 use Rattle.rules.specs.Yields.{forms_in, forms_of}
-use Rattle.rules.specs.code.RuleFits.{some_form_fits}
+use Rattle.rules.specs.private.RuleFits.{some_form_fits}
 
 -- what a form of a rule says for a choice of the letters: its conclusion, its premises in order, its conditions
 pub record Said : Type 0 where

@@ -4,7 +4,7 @@ use native.Mathlib.Omega.{arith}
 use lib.ListN.{length, length-append}
 use Rattle.lines.proofs.Parts.{PartsMet}
 use Rattle.script.specs.Command.{all_numbers}
-use Rattle.script.specs.code.CommandRead.{items}
+use Rattle.script.specs.private.CommandRead.{items}
 use Rattle.script.proofs.Numbers.{SoFar, no_number_yet, one_more_number, last_of_all}
 use Rattle.script.proofs.Calls.{list_call}
 use Rattle.script.proofs.Lists.{no_number_there, no_room}

@@ -1,7 +1,7 @@
 -- `listed` meets its contract. The loop's invariant: the line has the numbers so far and goes on at `from`.
 use mathlib.Core.Path.{◌≡◌}
 use lib.ListN.{length}
-use Rattle.script.specs.code.CommandRead.{items}
+use Rattle.script.specs.private.CommandRead.{items}
 use Rattle.script.proofs.Numbers.{SoFar}
 use Rattle.script.proofs.listed.Given as goal
 

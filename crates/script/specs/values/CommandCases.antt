@@ -7,7 +7,7 @@ use Rattle.lines.specs.Ascii.{ascii}
 use Rattle.lines.specs.Line.{in_first_line, lines, in_first_part, parts, same_bytes}
 use Rattle.common.specs.Lists.{all_of}
 use Rattle.lines.specs.Number.{is_digit, is_decimal, append_digits, numbers_up_to}
-use Rattle.lines.specs.code.NumbersRead.{first_parts}
+use Rattle.lines.specs.private.NumbersRead.{first_parts}
 use Rattle.script_words.specs.declared.Word.TheVariants.{Term, Step, Select, Document, Fresh, Old, New, Replace}
 use Rattle.script_words.specs.declared.Word.TheVariants.{Write, Point, Return, Other, Order, BundleOrder, Names, Text}
 use Rattle.script_words.specs.declared.Word.TheVariants.{Record, Current, Release, Records, Released, CrewCurrent}

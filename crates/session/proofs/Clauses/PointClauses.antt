@@ -1,5 +1,5 @@
 -- Each clause of what is promised of points, written out once more: without one of them this fails.
-use Rattle.calls.specs.code.Answers.{NumberOrRefusal, answer_of}
+use Rattle.calls.specs.represent.Answers.{NumberOrRefusal, answer_of}
 use Prim.Native.Nat.{ℕ}
 use mathlib.Core.Path.{◌≡◌, ◌∙◌}
 use mathlib.Core.List.{List, ◌∷◌}
@@ -12,7 +12,7 @@ use Rattle.calls.specs.Calls.{Call, point, return, CallSeen, book_answer, book_a
 use Rattle.calls.specs.PointLaws.{KeepsPoints}
 use Rattle.calls.proofs.Returns.{return_restores}
 use Rattle.session.specs.declared.session.Session.{Session}
-use Rattle.session.specs.code.Results.{ReadResult}
+use Rattle.session.specs.represent.Results.{ReadResult}
 use Rattle.session.specs.View.{view, fresh_session}
 use Rattle.session.specs.SessionLaws.{session_of, without_points, SetsNoPoint}
 use Rattle.session.specs.ReadCall.{read_answer_of}

@@ -1,5 +1,5 @@
 -- Each clause of what is guaranteed of read and write, written out once more: without one of them this fails.
-use Rattle.calls.specs.code.Answers.{NumberOrRefusal, answer_of}
+use Rattle.calls.specs.represent.Answers.{NumberOrRefusal, answer_of}
 use Prim.Native.Nat.{ℕ, ◌≤◌, ◌<◌}
 use mathlib.Core.Path.{◌≡◌, refl, sym, ap, subst, ◌∙◌}
 use mathlib.Core.Bool.{Bool, true, false, cond}
@@ -17,7 +17,7 @@ use Rattle.calls.specs.Book.{Step, answer}
 use Rattle.calls.specs.Runs.{Run}
 use Rattle.calls.specs.Calls.{Call, term, step, CallSeen}
 use Rattle.session.specs.declared.session.Session.{Session}
-use Rattle.session.specs.code.Results.{ReadResult}
+use Rattle.session.specs.represent.Results.{ReadResult}
 use Rattle.session.specs.View.{view, fresh_session}
 use Rattle.terms.specs.Row.{row_numbers}
 use Rattle.calls.specs.Book.{step_numbers}

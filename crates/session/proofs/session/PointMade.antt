@@ -2,7 +2,7 @@
 use Rattle.std.specs.Prelude.{Ok, Err}
 use Rattle.common.specs.declared.refusal.Refusal.{Refusal}
 use Rattle.common.proofs.Refusals.{refusal_some}
-use Rattle.calls.specs.code.Answers.{DoneOrRefusal, done_answer_of, refusal_answer}
+use Rattle.calls.specs.represent.Answers.{DoneOrRefusal, done_answer_of, refusal_answer}
 use Prim.Native.Nat.{ℕ, ◌+◌, ◌*◌, ◌≤◌, ◌<◌}
 use mathlib.Core.Path.{◌≡◌, refl, sym, ap, ◌∙◌}
 use mathlib.Core.List.{List}
@@ -13,9 +13,9 @@ use Rattle.session.specs.declared.session.Session.{Session}
 use Rattle.calls.specs.declared.points.PointCounts.{PointCounts}
 use Rattle.calls.specs.Book.{Answer, answer, max_points}
 use Rattle.calls.specs.PointCall.{point_names, place_of, point_answer, return_answer}
-use Rattle.calls.specs.code.Tables.{row_width, step_width}
-use Rattle.calls.specs.code.Points.{point_width, counts, counts_names, counts_numbers}
-use Rattle.calls.specs.code.Points.{first_point_numbers, cleared, ReturnFound}
+use Rattle.calls.specs.represent.Tables.{row_width, step_width}
+use Rattle.calls.specs.represent.Points.{point_width, counts, counts_names, counts_numbers}
+use Rattle.calls.specs.represent.Points.{first_point_numbers, cleared, ReturnFound}
 use Rattle.calls.specs.Calls.{point, return}
 use Rattle.session.specs.View.{rows_held, steps_held, points_held, points_in, view, with_point, at_point}
 use Rattle.session.specs.Promises.{Met}

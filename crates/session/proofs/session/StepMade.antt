@@ -1,12 +1,12 @@
 -- From the judgement of a step to the step call on the session.
-use Rattle.calls.specs.code.Answers.{NumberOrRefusal, answer_of}
+use Rattle.calls.specs.represent.Answers.{NumberOrRefusal, answer_of}
 use Prim.Native.Nat.{ℕ, ◌+◌, ◌*◌}
 use mathlib.Core.Path.{◌≡◌, ◌∙◌}
 use mathlib.Core.List.{List}
 use lib.Seq.{sets}
 use Rattle.session.specs.declared.session.Session.{Session}
 use Rattle.calls.specs.Book.{Step, book}
-use Rattle.calls.specs.code.Tables.{step_width, first_rows, first_steps}
+use Rattle.calls.specs.represent.Tables.{step_width, first_rows, first_steps}
 use Rattle.session.specs.View.{steps_held, view, with_step}
 use Rattle.calls.specs.Book.{step_numbers}
 use Rattle.calls.specs.StepCall.{step_answer_by}

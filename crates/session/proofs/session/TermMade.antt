@@ -1,5 +1,5 @@
 -- From a term call on a session's table to one on the session.
-use Rattle.calls.specs.code.Answers.{NumberOrRefusal, answer_of}
+use Rattle.calls.specs.represent.Answers.{NumberOrRefusal, answer_of}
 use Prim.Native.Nat.{ℕ, ◌+◌, ◌*◌, min}
 use mathlib.Core.Path.{◌≡◌, sym, subst, ◌∙◌}
 use mathlib.Core.List.{List}
@@ -8,12 +8,12 @@ use lib.Seq.{sets}
 use Rattle.terms.specs.Row.{Row, max_rows}
 use Rattle.session.specs.declared.session.Session.{Session}
 use Rattle.calls.specs.TermCall.{term_answer}
-use Rattle.calls.specs.code.Tables.{row_width}
+use Rattle.calls.specs.represent.Tables.{row_width}
 use Rattle.session.specs.View.{rows_held, view, with_row}
 use Rattle.terms.specs.Row.{row_numbers}
 use Rattle.calls.specs.Calls.{term}
 use Rattle.session.specs.Promises.{Met}
-use Rattle.term_calls.specs.code.Placed.{TermPlaced, TermKept}
+use Rattle.term_calls.specs.private.Placed.{TermPlaced, TermKept}
 use Rattle.calls.proofs.Accepted.{if_accepted, if_refused}
 
 -- a call on kept rows is one on the session's table, where these are the rows held

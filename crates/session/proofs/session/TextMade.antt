@@ -9,7 +9,7 @@ use Rattle.grammar.specs.Answer.{Reply, reply}
 use Rattle.std.specs.Prelude.{Result, Ok, Err}
 use Rattle.text.specs.declared.TextHeld.{TextHeld}
 use Rattle.common.specs.declared.refusal.Refusal.{Refusal}
-use Rattle.common.specs.code.Refusal.{refusal_number, refusal_value}
+use Rattle.common.specs.represent.Refusal.{refusal_number, refusal_value}
 use Rattle.text.specs.Promises.{text_number, text_value, TextRead}
 use Rattle.common.proofs.Refusals.{refusal_some}
 use Rattle.calls.specs.Book.{answer}

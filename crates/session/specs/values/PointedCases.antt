@@ -6,8 +6,8 @@ use Rattle.terms.specs.Row.{row, table_of}
 use Rattle.calls.specs.Book as books
 use Rattle.calls.specs.PointCall.{place_of, point_names}
 use Rattle.calls.specs.Calls.{term, step, return}
-use Rattle.calls.specs.code.Tables.{steps_of}
-use Rattle.calls.specs.code.Points.{counts_of}
+use Rattle.calls.specs.represent.Tables.{steps_of}
+use Rattle.calls.specs.represent.Points.{counts_of}
 use Rattle.session.specs.declared.session.Session.{Session}
 use Rattle.session.specs.View.{view, with_point, at_point}
 use Rattle.session.specs.SessionLaws.{SetsNoPoint}

@@ -9,7 +9,7 @@ use Rattle.lines.specs.Written.{digits_of, decimal, line_text}
 use Rattle.calls.specs.Book as book
 use Rattle.calls.specs.Book.{Step, answer}
 use Rattle.calls.specs.Calls.{term, step, point, return}
-use Rattle.calls.specs.code.Tables.{steps_of}
+use Rattle.calls.specs.represent.Tables.{steps_of}
 use Rattle.bundles.specs.Bundle.{row_names, step_names, rows_text, steps_text, bundle_text}
 use Rattle.session.specs.View.{view, no_points, fresh_session}
 use Rattle.session.specs.WriteCall.{session_text, write_answer, write_buffer}

@@ -2,10 +2,10 @@
 use mathlib.Core.Path.{◌≡◌, ◌∙◌}
 use borrow.Author.Rules.{rules}
 use borrow.Author.Tests.{tests}
-use Rattle.matching.specs.code.MatchTypes.{sides_in}
+use Rattle.matching.specs.private.MatchTypes.{sides_in}
 use Rattle.matching.proofs.ListOfTwo.{map_two}
 use Rattle.calls.specs.StepCall.{premises_of, step_numbered}
-use Rattle.calls.specs.code.Tables.{steps_of}
+use Rattle.calls.specs.represent.Tables.{steps_of}
 use Rattle.calls.specs.Promises.{sides_of, row_yielded}
 use Rattle.calls.proofs.Yielded.{sides_taken}
 use Rattle.step_calls.proofs.is_yielded.Goals as goal

@@ -3,7 +3,7 @@ use mathlib.Core.Path.{◌≡◌, ap, ◌∙◌}
 use lib.ListN.{length, get_or}
 use Rattle.rules.specs.Yields.{max_rule}
 use Rattle.session.specs.View.{view}
-use Rattle.tallies.specs.code.Tally.{plus}
+use Rattle.tallies.specs.represent.Tally.{plus}
 use Rattle.tallies.proofs.Lined.{none_added, one_added, all_added}
 use borrow.Author.Rules.{rules}
 use Rattle.tallies.proofs.plus_uses.Goals as goal

@@ -15,7 +15,7 @@ use Rattle.terms.specs.Terms.{as_path, as_qualifier, term_by, terms, term_at}
 use Rattle.rules.specs.RuleTable.{rules}
 use Rattle.rules.specs.Claim.{says}
 use Rattle.rules.specs.Yields.{forms_in, forms_of, first_count, premise_count}
-use Rattle.rules.specs.code.RuleFits.{rule_fits}
+use Rattle.rules.specs.private.RuleFits.{rule_fits}
 use Rattle.rules.specs.Decision.{yields_dec}
 use Rattle.lines.specs.Ascii.{ascii}
 use Rattle.lines.specs.Line.{in_first_line, lines, in_first_part, parts, same_bytes, is_line}
@@ -25,7 +25,7 @@ use Rattle.calls.specs.Book.{Step, step, answer, accepted}
 use Rattle.calls.specs.TermCall.{term_answer}
 use Rattle.calls.specs.StepCall.{same_sort, bad_side_of, premise_ok, bad_premise_of, claim_of, premises_of}
 use Rattle.calls.specs.StepCall.{step_answer_by, is_yielded, step_answer}
-use Rattle.calls.specs.code.Tables.{steps_of}
+use Rattle.calls.specs.represent.Tables.{steps_of}
 use Rattle.calls.specs.Uses.{uses_of}
 use Rattle.session.specs.View.{view, fresh_session, with_row, with_step}
 use Rattle.bundles.specs.Bundle.{row_names, step_names, row_of_line, step_of_line}
@@ -33,7 +33,7 @@ use Rattle.session.specs.Reading.{steps_read, rows_read, lines_read, reading}
 use Rattle.tallies.specs.NameList.{is_bad_name, list_answer}
 use Rattle.tallies.specs.Count.{File, file, is_accepted, counted_steps, uses, total, each_from, each_rule, sum}
 use Rattle.tallies.specs.Count.{Entry, entry, rule_entries, entries_by, entries}
-use Rattle.tallies.specs.code.Tally.{plus, plus_each, column_of, fresh_tally, with_steps, no_entry}
+use Rattle.tallies.specs.represent.Tally.{plus, plus_each, column_of, fresh_tally, with_steps, no_entry}
 
 -- n names "a", each with its newline, and then a last line
 names : ℕ → String → List ℕ

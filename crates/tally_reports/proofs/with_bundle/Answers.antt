@@ -2,7 +2,7 @@
 use Rattle.std.proofs.Common.{ℕ, ◌+◌, false, List, ap, ◌∙◌, lit<}
 use Rattle.common.specs.Limits.{max_bytes}
 use Rattle.tallies.specs.Count.{file}
-use Rattle.tallies.specs.code.Tally.{with_file}
+use Rattle.tallies.specs.represent.Tally.{with_file}
 use Rattle.tally_reports.proofs.Bundles.{tallied, failed_tallied}
 use Rattle.tally_reports.proofs.with_bundle.Goals as goal
 

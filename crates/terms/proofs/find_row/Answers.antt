@@ -4,7 +4,7 @@ use Rattle.std.proofs.Common.{tests, ℕ, List}
 use Rattle.std.proofs.lemmas.Iterator.{YieldsList-from_slice}
 use Rattle.std.proofs.lemmas.Iterator.Search.{position_from_yields_List}
 use Rattle.terms.specs.Row.{row_of_numbers, same_row}
-use Rattle.terms.specs.code.RowTypes.{row_of}
+use Rattle.terms.specs.represent.RowTypes.{row_of}
 use Rattle.terms.proofs.Find.{found_by}
 use Rattle.terms.proofs.find_row.Goals as goal
 

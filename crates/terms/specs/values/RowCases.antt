@@ -3,7 +3,7 @@ use Rattle.std.specs.Prelude.{ℕ, zero, suc, refl, true, false, List, [], ◌�
 use Rattle.common.specs.values.Expected.{◌is◌, AllRight}
 use Rattle.xpath.specs.Term.{Void, Root, AxisStep, Union, Composition, Filter, True, False, Not, And, Or, In}
 use Rattle.terms.specs.Row.{Row, row, row_of_numbers, table_of, entries_from, same_row, find}
-use Rattle.terms.specs.code.RowTypes.{row_of}
+use Rattle.terms.specs.represent.RowTypes.{row_of}
 use Rattle.terms.specs.Fields.{fields_of, is_path, is_qualifier, held_path, held_qualifier, field_ok, bad_place}
 use Rattle.terms.specs.Nesting.{operand_nesting, nesting_by, nestings, nesting}
 use Rattle.terms.specs.Terms.{Term, of_path, of_qualifier, as_path, as_qualifier, term_by, terms}

@@ -8,7 +8,7 @@ use Rattle.common.proofs.Errors.{err_is}
 use Prim.Native.Nat.{◌<◌}
 use Rattle.std.proofs.lemmas.Bool.{ne_eqb}
 use borrow.Author.Tests.{not-true, not-false}
-use Rattle.readings.specs.code.Build.{stands, ended}
+use Rattle.readings.specs.private.Build.{stands, ended}
 use Rattle.readings.proofs.Worded.{and_word, or_word, first_joins, first_stays}
 use Rattle.text.proofs.StepLaws.{enclosed_refused, enclosed, predicate_full, predicate_refused, predicate_joined}
 use Rattle.text.proofs.StepLaws.{step_refused, step_head, step_filter, step_stopped, step_ends}

@@ -2,7 +2,7 @@
 use mathlib.Core.Bool.{true}
 use Prim.Native.Nat.{◌+◌, ◌-◌, ◌*◌}
 use lib.ListN.{length}
-use Rattle.readings.specs.code.Build.{stands}
+use Rattle.readings.specs.private.Build.{stands}
 use Rattle.text.proofs.StepLaws.{StepGot}
 use Rattle.text.proofs.PathLaws.{PathGot, UnionGot}
 use Rattle.text.proofs.ExpressionLaws.{AndGot, OrGot}

@@ -1,7 +1,7 @@
 -- `axis_of` meets its contract.
 use mathlib.Core.Path.{refl, ap, ◌∙◌}
 use Rattle.std.specs.Prelude.{option_map}
-use Rattle.common.specs.code.Numbers.{axis_number}
+use Rattle.common.specs.represent.Numbers.{axis_number}
 use Rattle.grammar.specs.Words.{axes}
 use Rattle.words.proofs.Named.{picked_by}
 use Rattle.words.proofs.axis_of.Goals as goal

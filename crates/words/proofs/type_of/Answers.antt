@@ -1,7 +1,7 @@
 -- `type_of` meets its contract.
 use mathlib.Core.Path.{refl, ap, ◌∙◌}
 use Rattle.std.specs.Prelude.{option_map}
-use Rattle.common.specs.code.Numbers.{test_number}
+use Rattle.common.specs.represent.Numbers.{test_number}
 use Rattle.grammar.specs.Words.{types}
 use Rattle.words.proofs.Named.{picked_by}
 use Rattle.words.proofs.type_of.Goals as goal

@@ -8,7 +8,7 @@ use Rattle.xpath.specs.Document.{bad_row, bad_row_by}
 use Rattle.xpath.specs.Document.{document_refusal, document_refusal_by}
 use Rattle.xpath.specs.Climb.{above, climb_takes, parents_taken, climb_met, ClimbEnds, Least}
 use Rattle.xpath.specs.Climb.{CountEnds, CountLeast, AnswersAlike, RefusesAlike}
-use Rattle.xpath.specs.code.Check.{closed, closed_before, closed_in_turn}
+use Rattle.xpath.specs.represent.Check.{closed, closed_before, closed_in_turn}
 use Rattle.xpath.specs.values.DocumentCases.{lent}
 use Rattle.common.specs.values.Expected.{◌is◌, AllRight}
 

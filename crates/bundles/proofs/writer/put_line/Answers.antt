@@ -3,7 +3,7 @@ use mathlib.Core.List.{[], ◌∷◌}
 use native.Mathlib.Omega.{arith}
 use lib.ListN.{length-append}
 use Rattle.lines.specs.Line.{newline}
-use Rattle.bundles.specs.code.TextPut.{text_of_line}
+use Rattle.bundles.specs.private.TextPut.{text_of_line}
 use Rattle.bundles.proofs.writer.put_line.Goals as goal
 
 pub put_names-requires : goal.put_names-requires

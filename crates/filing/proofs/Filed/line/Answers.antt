@@ -4,7 +4,7 @@ use Rattle.common.proofs.Results.{none_by_ok_or}
 use Rattle.common.specs.declared.refusal.Refusal.TheVariants as refusals
 use Rattle.common.proofs.Errors.{err_is}
 use Rattle.script.specs.Command.{command_of}
-use Rattle.script.specs.code.CommandRead.{CallRead}
+use Rattle.script.specs.private.CommandRead.{CallRead}
 use Rattle.filing.proofs.LineLaws.{line_not_read, line_read}
 use Rattle.filing.proofs.Filed.line.Goals as goal
 

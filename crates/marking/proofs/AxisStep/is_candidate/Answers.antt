@@ -5,9 +5,9 @@ use denote.Enum.Bare.{sameb}
 use Rattle.common.specs.contracts.axis.Axis.{the_type}
 use Rattle.common.specs.declared.axis.Axis.{Axis}
 use Rattle.common.specs.declared.axis.Axis.TheVariants.{Attribute}
-use Rattle.common.specs.code.Numbers.{axis_number}
+use Rattle.common.specs.represent.Numbers.{axis_number}
 use Rattle.xpath.specs.Document.{Document, Node, root_node, kind_at, name_at}
-use Rattle.marking.specs.code.Added.{may_hold, candidate}
+use Rattle.marking.specs.private.Added.{may_hold, candidate}
 use Rattle.marking.proofs.AxisTests.{is_attribute_axis}
 use Rattle.marking.proofs.AxisStep.is_candidate.Goals as goal
 

@@ -2,7 +2,7 @@
 use Rattle.std.proofs.Common.{true, refl, arith}
 use mathlib.Core.Logic.{inl, inr}
 use Rattle.xpath.proofs.Tree.{parent_smaller}
-use Rattle.marking.specs.code.Added.{may_hold}
+use Rattle.marking.specs.private.Added.{may_hold}
 use Rattle.marking.proofs.Steps.{self_marked, child_marked, attribute_marked, descendant_marked, ancestor_marked}
 use Rattle.marking.proofs.Steps.{descendant_or_self_marked, ancestor_or_self_marked, following_marked}
 use Rattle.marking.proofs.Steps.{preceding_marked, children_of, following_sibling_marked, preceding_sibling_marked}

@@ -1,6 +1,6 @@
 -- `mark_ancestors` meets its contract: the climb goes from each ancestor to the next.
-use Rattle.xpath.specs.code.Checked.{doc}
-use Rattle.xpath.specs.code.Tests.{picks}
+use Rattle.xpath.specs.private.Checked.{doc}
+use Rattle.xpath.specs.private.Tests.{picks}
 use Rattle.marking.proofs.Walks.{AncestorsFrom}
 use Rattle.marking.proofs.AxisStep.mark_ancestors.Given as goal
 

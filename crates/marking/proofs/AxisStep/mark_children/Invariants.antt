@@ -1,8 +1,8 @@
 -- `mark_children` meets its contract: the end of a child's subtree is the next child.
 use Rattle.std.proofs.Common.{◌-◌, get_or}
-use Rattle.common.specs.code.Numbers.{axis_number}
-use Rattle.xpath.specs.code.Checked.{doc}
-use Rattle.marking.specs.code.Added.{candidate}
+use Rattle.common.specs.represent.Numbers.{axis_number}
+use Rattle.xpath.specs.private.Checked.{doc}
+use Rattle.marking.specs.private.Added.{candidate}
 use Rattle.marking.proofs.Walks.{ChildrenBelow}
 use Rattle.marking.proofs.AxisStep.mark_children.Given as goal
 

@@ -1,8 +1,8 @@
 -- `mark_range` meets its contract.
 use Rattle.std.proofs.Common.{length}
-use Rattle.common.specs.code.Numbers.{axis_number}
-use Rattle.xpath.specs.code.Checked.{doc}
-use Rattle.marking.specs.code.Added.{Added, candidate}
+use Rattle.common.specs.represent.Numbers.{axis_number}
+use Rattle.xpath.specs.private.Checked.{doc}
+use Rattle.marking.specs.private.Added.{Added, candidate}
 use Rattle.marking.proofs.Added.{between}
 use Rattle.marking.proofs.AxisStep.mark_range.Given as goal
 

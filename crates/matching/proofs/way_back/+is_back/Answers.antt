@@ -5,7 +5,7 @@ use mathlib.Core.Path.{◌≡◌}
 use mathlib.Core.Bool.{◌&&◌}
 use Rattle.std.proofs.lemmas.Grind.{common_steps}
 use Rattle.terms.specs.Row.{table_of}
-use Rattle.matching.specs.code.RowWayBack.{Noted}
+use Rattle.matching.specs.private.RowWayBack.{Noted}
 use Rattle.matching.proofs.RowWayBack as ways
 use Rattle.matching.proofs.way_back.+is_back.Goals as goal
 use Rattle.matching.proofs.way_back.+is_back.Goals.{After-reversal_of}

@@ -1,11 +1,11 @@
 -- By the kind of the row that is reversed.
 use native.Mathlib.Omega.{arith}
 use Rattle.std.proofs.lemmas.Grind.{common_steps}
-use Rattle.matching.specs.code.RowWayBack.{is_back_by}
-use Rattle.matching.specs.code.MatchTypes.{Reverses}
+use Rattle.matching.specs.private.RowWayBack.{is_back_by}
+use Rattle.matching.specs.private.MatchTypes.{Reverses}
 use borrow.Author.Rules.{rules}
 use Rattle.terms.specs.Row.{table_of}
-use Rattle.terms.specs.code.RowTypes.{row_of}
+use Rattle.terms.specs.represent.RowTypes.{row_of}
 use Rattle.matching.proofs.RowWayBack.{no_way_back, other_kind}
 use Rattle.matching.proofs.way_back.reversal_of.Goals as goal
 

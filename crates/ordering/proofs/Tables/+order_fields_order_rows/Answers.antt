@@ -7,9 +7,9 @@ use native.Mathlib.Omega.{arith}
 use Rattle.std.proofs.lemmas.Grind.{common_steps}
 use Rattle.terms.specs.Row.{table_of}
 use Rattle.terms.specs.Terms.{term_at}
-use Rattle.terms.specs.code.RowTypes.{field_of, row_of, fields_in}
+use Rattle.terms.specs.represent.RowTypes.{field_of, row_of, fields_in}
 use Rattle.ordering.specs.TermOrder.{term_order}
-use Rattle.ordering.specs.code.FieldsCompared.{is_operand}
+use Rattle.ordering.specs.private.FieldsCompared.{is_operand}
 use Rattle.ordering.proofs.Rows as ways
 use Rattle.ordering.proofs.Compared as law
 use Rattle.ordering.proofs.Tables.+order_fields_order_rows.Goals as goal

@@ -1,7 +1,7 @@
 -- `order_steps` meets its contract: three comparisons, one after the other.
 use mathlib.Core.Path.{refl, sym, ◌∙◌}
 use Rattle.terms.specs.Row.{table_of}
-use Rattle.calls.specs.code.Answers.{step_of}
+use Rattle.calls.specs.represent.Answers.{step_of}
 use Rattle.ordering.proofs.Compared.{numbers_compared, first_decides, second_decides, third_decides}
 use Rattle.ordering.proofs.Steps.{by_rows}
 use Rattle.ordering.proofs.Tables.order_steps.Goals as goal

@@ -6,7 +6,7 @@ use borrow.Author.Rules.{rules}
 use borrow.Author.Tests.{tests}
 use Rattle.std.proofs.lemmas.Iterator.{YieldsList-from_slice}
 use Rattle.std.proofs.lemmas.Iterator.Search.{all_from_yields_List}
-use Rattle.records.specs.code.Held.{records_in}
+use Rattle.records.specs.represent.Held.{records_in}
 use Rattle.records.proofs.Searches.{kept_is}
 use Rattle.records.proofs.Records.all_kept.Goals as goal
 

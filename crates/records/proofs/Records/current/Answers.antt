@@ -7,7 +7,7 @@ use Rattle.std.proofs.lemmas.Iterator.{YieldsList-from_slice, YieldsList-from_ma
 use Rattle.std.proofs.lemmas.Iterator.Adapters.{option_map_id}
 use Rattle.std.proofs.lemmas.Iterator.Consumers.{YieldsList-from_filter, max_from_yields_List}
 use Rattle.records.specs.declared.Record.{Record}
-use Rattle.records.specs.code.Held.{records_in}
+use Rattle.records.specs.represent.Held.{records_in}
 use Rattle.records.proofs.Searches.{of_series, current_is}
 use Rattle.records.proofs.Records.current.Goals as goal
 

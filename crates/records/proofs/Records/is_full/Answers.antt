@@ -5,7 +5,7 @@ use lib.Dec.{leb}
 use lib.ListN.{length}
 use lib.Seq.{length-take-le}
 use Rattle.records.specs.Records.{max_records}
-use Rattle.records.specs.code.Held.{size_of}
+use Rattle.records.specs.represent.Held.{size_of}
 use Rattle.records.proofs.Searches.{length_mapped}
 use borrow.Author.Rules.{rules}
 use Rattle.records.proofs.Records.is_full.Goals as goal

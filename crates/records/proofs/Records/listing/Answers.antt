@@ -4,10 +4,10 @@ use mathlib.Core.Path.{ap, ◌∙◌}
 use native.Mathlib.Omega.{arith}
 use lib.ListN.{length, length-take}
 use Rattle.records.specs.Records.{max_records}
-use Rattle.records.specs.code.Held.{size_of, records_in}
+use Rattle.records.specs.represent.Held.{size_of, records_in}
 use Rattle.records.specs.Releases.{released}
-use Rattle.records.specs.code.Listed.{listed}
-use Rattle.records.specs.code.Promises.{all_releases}
+use Rattle.records.specs.represent.Listed.{listed}
+use Rattle.records.specs.private.Promises.{all_releases}
 use Rattle.records.proofs.Released.{every_released}
 use Rattle.records.proofs.Records.listing.Goals as goal
 

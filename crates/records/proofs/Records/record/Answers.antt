@@ -7,7 +7,7 @@ use Rattle.common.proofs.Errors.{err_is}
 use Rattle.common.proofs.Refusals.{refusal_some}
 use Rattle.calls.proofs.Accepted.{if_accepted, if_refused}
 use Rattle.records.specs.Records.{max_records}
-use Rattle.records.specs.code.Held.{size_of, records_in, with_record}
+use Rattle.records.specs.represent.Held.{size_of, records_in, with_record}
 use Rattle.records.proofs.Searches.{length_mapped}
 use Rattle.records.proofs.Judged.{record_accepted}
 use borrow.Author.Rules.{rules}

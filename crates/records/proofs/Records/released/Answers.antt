@@ -8,7 +8,7 @@ use Rattle.std.proofs.lemmas.List.{length_push}
 use Rattle.std.proofs.lemmas.Slice.Zip.{zip_turn, zip_end}
 use Rattle.records.specs.declared.Record.{Record}
 use Rattle.records.specs.Records.{empty_record, max_records}
-use Rattle.records.specs.code.Held.{size_of, records_in, with_record}
+use Rattle.records.specs.represent.Held.{size_of, records_in, with_record}
 use Rattle.records.proofs.Searches.{length_mapped}
 use Rattle.records.proofs.Released.{none_shown, has_room, shown_more, shown_same, all_shown}
 use Rattle.records.proofs.Records.released.Goals as goal

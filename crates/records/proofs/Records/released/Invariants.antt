@@ -1,6 +1,6 @@
 -- `Records::released` meets its contract. The loop's invariant: what is released before this place is shown.
 use lib.ListN.{length}
-use Rattle.records.specs.code.Held.{records_in}
+use Rattle.records.specs.represent.Held.{records_in}
 use Rattle.records.proofs.Released.{Shown}
 use Rattle.records.proofs.Records.released.Given as goal
 

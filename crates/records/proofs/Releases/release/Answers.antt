@@ -7,8 +7,8 @@ use lib.Seq.{length-take-le}
 use borrow.Author.Rules.{rules}
 use Rattle.calls.proofs.Accepted.{if_accepted, if_refused}
 use Rattle.records.specs.Records.{max_records}
-use Rattle.records.specs.code.Held.{size_of, records_in}
-use Rattle.records.specs.code.Listed.{flagged}
+use Rattle.records.specs.represent.Held.{size_of, records_in}
+use Rattle.records.specs.represent.Listed.{flagged}
 use Rattle.records.proofs.Searches.{length_mapped}
 use Rattle.records.proofs.Released.{place_0, past_last, of_a_record}
 use Rattle.records.proofs.Releases.release.Goals as goal

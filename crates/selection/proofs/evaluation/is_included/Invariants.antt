@@ -5,7 +5,7 @@ use mathlib.Core.Bool.{Bool, not, ◌||◌}
 use mathlib.Core.List.{List}
 use lib.ListN.{length}
 use Rattle.common.specs.Bounded.{all_below}
-use Rattle.marking.specs.code.Added.{marked}
+use Rattle.marking.specs.private.Added.{marked}
 use Rattle.selection.proofs.evaluation.is_included.Given as goal
 
 abbrev pub test : List ℕ → List ℕ → ℕ → Bool

@@ -7,12 +7,12 @@ use mathlib.Core.Bool.{false}
 use lib.ListN.{drop}
 use Rattle.common.proofs.Results.{none_by_ok_or}
 use Rattle.lines.specs.Line.{lines, first_is}
-use Rattle.lines.specs.code.NumbersRead.{LineMet}
+use Rattle.lines.specs.private.NumbersRead.{LineMet}
 use Rattle.terms.specs.Row.{row_width, max_rows, row_of_numbers}
-use Rattle.term_calls.specs.code.Placed.{TermKept}
+use Rattle.term_calls.specs.private.Placed.{TermKept}
 use Rattle.common.proofs.Errors.{err_is}
 use Rattle.calls.proofs.Accepted.{if_accepted, ok_accepted, err_refused}
-use Rattle.session.specs.code.Parts.{refused_by}
+use Rattle.session.specs.private.Parts.{refused_by}
 use Rattle.session.proofs.LineCalls.{is_step_names, refused_by_map_err}
 use Rattle.session.proofs.LineCalls.{names_there, row_end, row_wrong_there, row_refused_there, row_held_there}
 use Rattle.lines.specs.Ascii.{ascii}

@@ -7,7 +7,7 @@ use Rattle.lines.specs.Line.{lines}
 use Rattle.session.specs.View.{fresh_session}
 use Rattle.calls.specs.Promises.{row_step_answer}
 use Rattle.session.specs.Reading.{rows_read}
-use Rattle.session.specs.code.Parts.{holding}
+use Rattle.session.specs.private.Parts.{holding}
 use Rattle.session.proofs.read.read_rows.Given as goal
 
 abbrev pub invariant-loop-at : goal.invariant-loop-at

@@ -5,11 +5,11 @@ use mathlib.Core.Path.{◌≡◌, sym, ap, ◌∙◌}
 use native.Mathlib.Omega.{arith}
 use lib.Seq.{sets}
 use Rattle.common.proofs.Results.{none_by_ok_or}
-use Rattle.lines.specs.code.NumbersRead.{LineMet}
+use Rattle.lines.specs.private.NumbersRead.{LineMet}
 use Rattle.calls.specs.Book.{step_numbers, step_of_numbers, max_steps, book}
 use Rattle.calls.specs.Promises.{row_step_answer}
-use Rattle.calls.specs.code.Answers.{answer_of}
-use Rattle.calls.specs.code.Tables.{step_width, first_rows, first_steps}
+use Rattle.calls.specs.represent.Answers.{answer_of}
+use Rattle.calls.specs.represent.Tables.{step_width, first_rows, first_steps}
 use Rattle.common.proofs.Errors.{err_is}
 use Rattle.calls.proofs.Accepted.{ok_accepted, err_refused}
 use Rattle.session.proofs.LineCalls.{refused_by_map_err}

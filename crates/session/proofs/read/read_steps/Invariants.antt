@@ -5,12 +5,12 @@ use mathlib.Core.Path.{◌≡◌}
 use lib.ListN.{length, drop}
 use Rattle.lines.specs.Line.{lines}
 use Rattle.terms.specs.Row.{max_rows}
-use Rattle.matching.specs.code.RowWayBack.{Noted}
+use Rattle.matching.specs.private.RowWayBack.{Noted}
 use Rattle.calls.specs.Book.{max_steps}
-use Rattle.calls.specs.code.Tables.{step_width, first_rows}
+use Rattle.calls.specs.represent.Tables.{step_width, first_rows}
 use Rattle.calls.specs.Promises.{row_step_answer}
 use Rattle.session.specs.Reading.{steps_read}
-use Rattle.session.specs.code.Parts.{holding}
+use Rattle.session.specs.private.Parts.{holding}
 use Rattle.session.proofs.read.read_steps.Given as goal
 
 abbrev pub invariant-loop-at : goal.invariant-loop-at

@@ -2,7 +2,7 @@
 use Rattle.std.proofs.Common.{ℕ, ◌≡◌, ◌<◌, refl, sym, ap, ◌∙◌, arith}
 use mathlib.Core.Logic.{⊎_elim}
 use Rattle.common.proofs.Reflect.{le_or_lt}
-use Rattle.common.specs.code.Numbers.{row_number}
+use Rattle.common.specs.represent.Numbers.{row_number}
 use Rattle.terms.specs.Row.{Row, table_of}
 use Rattle.terms.specs.Terms.{terms, as_path, term_by}
 use Rattle.set_selection.proofs.Evaluating.{path_held, path_not_held, void_row_is}

@@ -1,6 +1,6 @@
 -- `unite` meets its contract.
 use Rattle.std.proofs.Common.{ℕ, Bool, ◌≡◌, ◌&&◌, ◌||◌, not, eqb, get_or}
-use Rattle.common.specs.code.Numbers.{kind_number}
+use Rattle.common.specs.represent.Numbers.{kind_number}
 use Rattle.set_selection.specs.Sets.{marked}
 use Rattle.set_selection.proofs.Written.{PointTo}
 use Rattle.set_selection.proofs.filters.unite.Given as goal

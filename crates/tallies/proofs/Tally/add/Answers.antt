@@ -1,6 +1,6 @@
 -- `Tally::add` meets its contract.
 use mathlib.Core.Path.{ap, ◌∙◌}
-use Rattle.tallies.specs.code.Tally.{plus}
+use Rattle.tallies.specs.represent.Tally.{plus}
 use Rattle.tallies.proofs.Counted.{failed_left, long_left, refused_left, file_counted}
 use Rattle.tallies.proofs.Tally.add.Goals as goal
 

@@ -3,7 +3,7 @@ use mathlib.Core.Path.{◌≡◌}
 use lib.ListN.{length}
 use borrow.Author.Rules.{rules}
 use Rattle.rules.specs.Yields.{max_rule}
-use Rattle.tallies.specs.code.Tally.{entries_of, LineIs}
+use Rattle.tallies.specs.represent.Tally.{entries_of, LineIs}
 use Rattle.tallies.specs.declared.TallyLine.TheVariants.{Total}
 use Rattle.tallies.proofs.Lined.{all_made, all_lines}
 use Rattle.tallies.proofs.Tally.lines.Goals as goal

@@ -2,7 +2,7 @@
 use Prim.Native.Nat.{◌≤◌}
 use mathlib.Core.Path.{◌≡◌}
 use lib.ListN.{length}
-use Rattle.words.specs.code.Index.{LineAt}
+use Rattle.words.specs.private.Index.{LineAt}
 use Rattle.words.proofs.Indexed.{Entries}
 use Rattle.words.proofs.index.index_lines.Given as goal
 

@@ -2,7 +2,7 @@
 use mathlib.Core.Bool.{true}
 use native.Mathlib.Omega.{arith}
 use Rattle.std.proofs.Common.{◌≡◌, rules, tests, drop}
-use Rattle.words.specs.code.Index.{ended}
+use Rattle.words.specs.private.Index.{ended}
 use Rattle.words.proofs.Indexed.{left_more, line_left, goes_on}
 use Rattle.words.proofs.index.pass_line.Goals as goal
 

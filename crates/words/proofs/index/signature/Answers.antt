@@ -3,7 +3,7 @@ use mathlib.Core.Path.{◌≡◌, ◌∙◌}
 use Prim.Native.Nat.{ℕ}
 use Rattle.std.proofs.Common.{rules}
 use Rattle.std.specs.List.{fold}
-use Rattle.words.specs.code.Index.{signed_by}
+use Rattle.words.specs.private.Index.{signed_by}
 use Rattle.words.proofs.Indexed.{signed_all}
 use Rattle.words.proofs.index.signature.Goals as goal
 

@@ -2,7 +2,7 @@
 use Rattle.std.proofs.Common.{◌≡◌, ◌∙◌, ℕ, suc, ◌-◌, ◌+◌, ◌<◌, min, List, length, sym, subst, arith}
 use Rattle.xpath.specs.Document.{document_of, row_ok_by}
 use Rattle.xpath.specs.Climb.{climb_met}
-use Rattle.xpath.specs.code.Check.{closed_before}
+use Rattle.xpath.specs.represent.Check.{closed_before}
 use Rattle.xpath.proofs.Rows.{Passed, none_passed, passed_on, root_passed, some_row, bad_found, all_passed}
 use Rattle.xpath.proofs.Rows.{incomplete_found}
 use Rattle.xpath.proofs.document.first_bad_row.Goals as goal

@@ -3,9 +3,9 @@ use mathlib.Core.Path.{◌∙◌}
 use native.Mathlib.Omega.{arith}
 use Rattle.lines.specs.Ascii.{ascii}
 use Rattle.terms.specs.Row.{table_of}
-use Rattle.calls.specs.code.Tables.{steps_of}
+use Rattle.calls.specs.represent.Tables.{steps_of}
 use Rattle.bundles.specs.Bundle.{row_names, step_names, bundle_text}
-use Rattle.bundles.specs.code.TextPut.{text_of_line}
+use Rattle.bundles.specs.private.TextPut.{text_of_line}
 use Rattle.bundles.proofs.Putting.{put_both, put_keeps}
 use Rattle.bundles.proofs.Tables.{bundle_length_lem}
 use Rattle.bundles.proofs.writer.Writer.append_bundle.Goals as goal

@@ -4,9 +4,9 @@ use mathlib.Core.List.{[]}
 use native.Mathlib.Omega.{arith}
 use lib.ListN.{length}
 use Rattle.calls.specs.Book.{step_of_numbers}
-use Rattle.calls.specs.code.Tables.{steps_of}
+use Rattle.calls.specs.represent.Tables.{steps_of}
 use Rattle.bundles.specs.Bundle.{step_text, steps_text}
-use Rattle.bundles.specs.code.TextPut.{text_of_line}
+use Rattle.bundles.specs.private.TextPut.{text_of_line}
 use Rattle.bundles.proofs.Putting.{all_rest, text_room, text_put, texts_done, put_as}
 use Rattle.bundles.proofs.Tables.{there, all_there}
 use Rattle.bundles.proofs.writer.Writer.append_steps.Goals as goal

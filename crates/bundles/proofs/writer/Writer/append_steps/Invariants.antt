@@ -1,7 +1,7 @@
 -- `Writer::append_steps` meets its contract: the lines left make all of them with those that are put.
 use mathlib.Core.Path.{◌≡◌}
 use lib.ListN.{drop}
-use Rattle.calls.specs.code.Tables.{steps_of}
+use Rattle.calls.specs.represent.Tables.{steps_of}
 use Rattle.bundles.specs.Bundle.{steps_text}
 use Rattle.bundles.proofs.Putting.{Rest}
 use Rattle.bundles.proofs.writer.Writer.append_steps.Given as goal

@@ -5,7 +5,7 @@ use native.Mathlib.Omega.{arith}
 use lib.ListN.{length}
 use Rattle.terms.specs.Row.{row_of_numbers, table_of}
 use Rattle.bundles.specs.Bundle.{row_text, rows_text}
-use Rattle.bundles.specs.code.TextPut.{text_of_line}
+use Rattle.bundles.specs.private.TextPut.{text_of_line}
 use Rattle.bundles.proofs.Putting.{all_rest, text_room, text_put, texts_done, put_as}
 use Rattle.bundles.proofs.Tables.{there, all_there}
 use Rattle.bundles.proofs.writer.Writer.append_terms.Goals as goal

@@ -8,7 +8,7 @@ use native.Mathlib.Omega.{arith}
 use borrow.Author.Tests.{lt-ltb, le-ltb}
 use Rattle.xpath.specs.Document.{Document}
 use Rattle.xpath.specs.Climb.{parents_taken}
-use Rattle.xpath.specs.code.Check.{ClimbMade}
+use Rattle.xpath.specs.represent.Check.{ClimbMade}
 use Rattle.xpath.proofs.Climbing.{way_starts, way_on, way_over, way_stuck}
 use Rattle.documents.proofs.unchecked.Unchecked.climb_toward.Goals as goal
 

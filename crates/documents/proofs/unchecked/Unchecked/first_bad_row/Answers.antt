@@ -4,7 +4,7 @@ use Rattle.std.proofs.Common.{◌∙◌, arith}
 use Rattle.std.proofs.lemmas.List.{length-replicate}
 use Rattle.xpath.specs.Document.{row_ok_by}
 use Rattle.xpath.specs.Climb.{climb_met}
-use Rattle.xpath.specs.code.Check.{closed_before}
+use Rattle.xpath.specs.represent.Check.{closed_before}
 use Rattle.xpath.proofs.Ends.{filled_with}
 use Rattle.documents.specs.Checks.{listed}
 use Rattle.documents.proofs.Passing.{root_passed, row_passed, root_found, row_found, none_found}

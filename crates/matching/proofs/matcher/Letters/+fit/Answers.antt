@@ -1,9 +1,9 @@
 -- `fit` meets its contract, by the ways of Matching.antt.
 use Rattle.terms.specs.Row.{table_of}
-use Rattle.common.specs.code.Numbers.{row_number}
-use Rattle.matching.specs.code.PatternTypes.{letter_number, pattern_of}
-use Rattle.matching.specs.code.RowYields.{match}
-use Rattle.matching.specs.code.MatchTypes.{matched, Matches}
+use Rattle.common.specs.represent.Numbers.{row_number}
+use Rattle.matching.specs.private.PatternTypes.{letter_number, pattern_of}
+use Rattle.matching.specs.private.RowYields.{match}
+use Rattle.matching.specs.private.MatchTypes.{matched, Matches}
 use mathlib.Core.Bool.{false}
 use Rattle.matching.proofs.Matching.{checked, match_keeps, goes_on, stops, letter_way, other_letter_way, row_way}
 use Rattle.matching.proofs.Matching.{other_row_way}

@@ -1,5 +1,5 @@
 -- The letter gets its value.
-use Rattle.matching.specs.code.PatternTypes.{letter_number}
+use Rattle.matching.specs.private.PatternTypes.{letter_number}
 use Rattle.matching.proofs.Matching.{bind_way}
 use Rattle.matching.proofs.matcher.Letters.bind.Goals as goal
 

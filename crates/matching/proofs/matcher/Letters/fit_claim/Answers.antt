@@ -1,7 +1,7 @@
 -- The left row and then the right one.
 use Rattle.terms.specs.Row.{table_of}
-use Rattle.matching.specs.code.PatternTypes.{pattern_of}
-use Rattle.matching.specs.code.RowYields.{match_claim}
+use Rattle.matching.specs.private.PatternTypes.{pattern_of}
+use Rattle.matching.specs.private.RowYields.{match_claim}
 use Rattle.matching.proofs.Matching.{match_keeps, goes_on, stops}
 use Rattle.matching.proofs.matcher.Letters.fit_claim.Goals as goal
 

@@ -2,8 +2,8 @@
 use native.Mathlib.Omega.{arith}
 use Rattle.std.proofs.lemmas.Grind.{common_steps}
 use Rattle.rules.specs.Instance.{meets}
-use Rattle.matching.specs.code.Pattern.{axis_letter_number, test_letter_number, name_letter}
-use Rattle.matching.specs.code.RowYields.{numbers_in}
+use Rattle.matching.specs.private.Pattern.{axis_letter_number, test_letter_number, name_letter}
+use Rattle.matching.specs.private.RowYields.{numbers_in}
 use Rattle.matching.proofs.matcher.Letters.meet.Goals as goal
 
 pub returns-in-ABelowB : goal.returns-in-ABelowB

@@ -8,9 +8,9 @@ use Rattle.std.proofs.lemmas.Iterator.{YieldsList-from_slice}
 use Rattle.std.proofs.lemmas.Iterator.Search.{all_from_yields_List}
 use Rattle.terms.specs.Row.{table_of}
 use Rattle.rules.specs.Instance.{meets}
-use Rattle.matching.specs.code.PatternTypes.{condition_of, form_of}
-use Rattle.matching.specs.code.RowYields.{numbers_in, match_form, yields_by}
-use Rattle.matching.specs.code.MatchTypes.{sides_in, values_in, Matches}
+use Rattle.matching.specs.private.PatternTypes.{condition_of, form_of}
+use Rattle.matching.specs.private.RowYields.{numbers_in, match_form, yields_by}
+use Rattle.matching.specs.private.MatchTypes.{sides_in, values_in, Matches}
 use Rattle.matching.proofs.Forms.{all_mapped}
 use Rattle.matching.proofs.Matching.{claims_keep, goes_on, stops, form_fits, form_fails}
 use Rattle.matching.proofs.pattern.Form.yields.Goals as goal

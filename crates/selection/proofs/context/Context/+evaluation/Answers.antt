@@ -7,11 +7,11 @@ use borrow.Author.Tests.{eq-eqb, ne_eqb, lt-ltb, le-leb}
 use lib.ListN.{length}
 use Rattle.xpath.specs.Meaning.{selects, holds}
 use Rattle.xpath.specs.Visits.{visits, qualifier_visits}
-use Rattle.terms.specs.code.RowTypes.{row_of}
+use Rattle.terms.specs.represent.RowTypes.{row_of}
 use Rattle.terms.specs.Terms.{path_in, qualifier_in, term_by, as_qualifier}
-use Rattle.marking.specs.code.Added.{marked}
+use Rattle.marking.specs.private.Added.{marked}
 use Rattle.marking.proofs.Added.{up_start, up_marked, up_left, added_cong, added_twice}
-use Rattle.selection.specs.code.Parts.{document_in, terms_in}
+use Rattle.selection.specs.private.Parts.{document_in, terms_in}
 use Rattle.selection.proofs.Folds.{all_cong}
 use Rattle.selection.proofs.Marks.{fresh_marked, fresh_are_marks, none_joined, joined_skipped, joined_next}
 use Rattle.selection.proofs.Limits.{none_visited, skipped, visited_next, stopped_at, second_over}

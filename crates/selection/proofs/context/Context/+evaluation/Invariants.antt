@@ -5,9 +5,9 @@ use lib.ListN.{length}
 use Rattle.xpath.specs.Meaning.{selects, holds}
 use Rattle.xpath.specs.Visits.{visits, qualifier_visits}
 use Rattle.terms.specs.Terms.{path_in, qualifier_in}
-use Rattle.marking.specs.code.Added.{marked, Added}
+use Rattle.marking.specs.private.Added.{marked, Added}
 use Rattle.marking.proofs.Added.{between}
-use Rattle.selection.specs.code.Parts.{document_in, terms_in}
+use Rattle.selection.specs.private.Parts.{document_in, terms_in}
 use Rattle.selection.proofs.Marks.{joined_below}
 use Rattle.selection.proofs.Limits.{Visited}
 use Rattle.selection.proofs.context.Context.+evaluation.Given as goal

@@ -1,7 +1,7 @@
 -- `selection::mark_leaf` meets its contract, kind by kind.
 use native.Mathlib.Omega.{arith}
-use Rattle.terms.specs.code.RowTypes.{row_of}
-use Rattle.selection.specs.code.Parts.{leaf_path}
+use Rattle.terms.specs.represent.RowTypes.{row_of}
+use Rattle.selection.specs.private.Parts.{leaf_path}
 use Rattle.selection.proofs.Rows.{root_added, step_added, void_added}
 use Rattle.selection.proofs.context.Context.mark_leaf.Goals as goal
 

@@ -3,10 +3,10 @@ use mathlib.Core.Path.{ap, ap₂, ◌∙◌}
 use mathlib.Core.Bool.{not}
 use lib.ListN.{length}
 use Rattle.terms.specs.Row.{table_of}
-use Rattle.calls.specs.code.Tables.{steps_of, first_rows, first_steps}
+use Rattle.calls.specs.represent.Tables.{steps_of, first_rows, first_steps}
 use Rattle.records.specs.Records.{all_kept}
-use Rattle.records.specs.code.Held.{records_in}
-use Rattle.session.specs.code.Tables.{tables_in}
+use Rattle.records.specs.represent.Held.{records_in}
+use Rattle.session.specs.represent.Tables.{tables_in}
 use Rattle.session.proofs.PointsHeld.{rows_there, steps_there}
 use Rattle.session.proofs.session.Session.drops_in_use.Goals as goal
 

@@ -1,7 +1,7 @@
 -- `Session::judge_return` meets its contract: the points held are those of the view.
 use Rattle.common.proofs.Errors.{err_is}
 use Rattle.calls.specs.Book.{answer}
-use Rattle.calls.specs.code.Answers.{refusal_answer}
+use Rattle.calls.specs.represent.Answers.{refusal_answer}
 use Rattle.session.proofs.session.PointMade.{return_judged}
 use Rattle.session.proofs.session.Session.judge_return.Goals as goal
 

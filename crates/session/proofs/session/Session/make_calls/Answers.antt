@@ -3,10 +3,10 @@ use mathlib.Core.Path.{sym, ap, ◌∙◌}
 use native.Mathlib.Omega.{arith}
 use Rattle.common.proofs.Errors.{err_is}
 use Rattle.calls.specs.Book.{answer}
-use Rattle.session.specs.code.Parts.{refused_by}
+use Rattle.session.specs.private.Parts.{refused_by}
 use Rattle.lines.specs.Ascii.{ascii}
 use Rattle.bundles.specs.Bundle.{row_names}
-use Rattle.session.specs.code.Tables.{tables_in}
+use Rattle.session.specs.represent.Tables.{tables_in}
 use Rattle.session.proofs.LineCalls.{is_row_names}
 use Rattle.session.proofs.ReadMade.{no_names, first_line, rows_read_lem, steps_read_lem, fresh_with}
 use Rattle.session.proofs.session.Session.make_calls.Goals as goal

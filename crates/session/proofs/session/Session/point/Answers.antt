@@ -7,8 +7,8 @@ use Rattle.std.specs.Prelude.{Ok, Err}
 use Rattle.common.proofs.Errors.{err_is}
 use Rattle.common.proofs.Refusals.{refusal_some}
 use Rattle.calls.specs.Book.{max_points}
-use Rattle.calls.specs.code.Points.{point_width}
-use Rattle.session.specs.code.Tables.{tables_in}
+use Rattle.calls.specs.represent.Points.{point_width}
+use Rattle.session.specs.represent.Tables.{tables_in}
 use Rattle.session.proofs.session.PointMade.{point_room, point_made_held, point_made_refused}
 use borrow.Author.Rules.{rules}
 use Rattle.session.proofs.session.Session.point.Goals as goal

@@ -1,6 +1,6 @@
 -- `Session::read` meets its contract.
 use mathlib.Core.Path.{ap, ◌∙◌}
-use Rattle.session.specs.code.Parts.{refused_by}
+use Rattle.session.specs.private.Parts.{refused_by}
 use Rattle.session.proofs.ReadMade.{read_met}
 use Rattle.session.proofs.session.Session.read.Goals as goal
 

@@ -1,7 +1,7 @@
 -- `Session::return_to` meets its contract: the tables are cleared, and the counts set, just where the point is found.
 use native.Mathlib.Omega.{arith}
 use Rattle.common.proofs.Errors.{err_is}
-use Rattle.session.specs.code.Tables.{tables_in}
+use Rattle.session.specs.represent.Tables.{tables_in}
 use Rattle.session.proofs.session.PointMade.{few_places, return_made_held, return_made_refused}
 use Rattle.session.proofs.session.Session.return_to.Goals as goal
 

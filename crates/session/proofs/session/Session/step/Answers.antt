@@ -7,11 +7,11 @@ use Rattle.std.specs.Prelude.{Ok, Err}
 use Rattle.common.proofs.Errors.{err_is}
 use Rattle.common.proofs.Refusals.{refusal_some}
 use Rattle.calls.specs.Book.{max_steps}
-use Rattle.calls.specs.code.Tables.{step_width}
+use Rattle.calls.specs.represent.Tables.{step_width}
 use Rattle.calls.specs.Promises.{row_step_answer}
 use Rattle.calls.proofs.Tables.{steps_held_lem}
 use Rattle.calls.proofs.StepJudged.{step_accepted}
-use Rattle.session.specs.code.Tables.{tables_in}
+use Rattle.session.specs.represent.Tables.{tables_in}
 use Rattle.session.proofs.session.StepMade.{step_made_held, step_made_refused}
 use borrow.Author.Rules.{rules}
 use Rattle.session.proofs.session.Session.step.Goals as goal

@@ -4,7 +4,7 @@ use Rattle.std.specs.Prelude.{Err}
 use Rattle.common.proofs.Errors.{err_is}
 use Rattle.common.proofs.Refusals.{refusal_some}
 use Rattle.session.specs.Promises.{session}
-use Rattle.session.specs.code.Tables.{tables_in}
+use Rattle.session.specs.represent.Tables.{tables_in}
 use Rattle.session.proofs.Refused.{refused_kept}
 use Rattle.session.proofs.session.TermMade.{placed_kept, term_made_held, term_made_refused}
 use Rattle.session.proofs.session.Session.term.Goals as goal

@@ -2,7 +2,7 @@
 use Rattle.std.specs.Prelude.{Err}
 use Rattle.common.proofs.Errors.{err_is}
 use Rattle.session.specs.Promises.{session}
-use Rattle.session.specs.code.Tables.{tables_in}
+use Rattle.session.specs.represent.Tables.{tables_in}
 use Rattle.session.proofs.Refused.{refused_kept}
 use Rattle.session.proofs.session.TextMade.{text_made_held, text_made_refused}
 use Rattle.session.proofs.session.Session.text.Goals as goal

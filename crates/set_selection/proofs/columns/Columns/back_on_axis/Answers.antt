@@ -5,7 +5,8 @@ use Rattle.set_selection.specs.Sets.{Image, marked}
 use Rattle.set_selection.specs.Walks.{is_under, is_over, is_below, is_above, is_after, is_before, is_later, is_earlier}
 use Rattle.set_selection.proofs.Images.{image_cong, image_then, image_kept, image_self, image_or, ok_to}
 use Rattle.set_selection.proofs.Relations.{back_self, back_parent, back_ancestor, back_ancestor_or_self}
-use Rattle.set_selection.proofs.Relations.{back_descendant_or_self, back_attribute, back_child, back_descendant, back_following}
+use Rattle.set_selection.proofs.Relations.{back_descendant_or_self, back_attribute, back_child, back_descendant}
+use Rattle.set_selection.proofs.Relations.{back_following}
 use Rattle.set_selection.proofs.Relations.{back_preceding, back_following_sibling, back_preceding_sibling}
 use Rattle.set_selection.proofs.columns.Columns.back_on_axis.Goals as goal
 

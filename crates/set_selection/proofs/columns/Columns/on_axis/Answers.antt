@@ -4,8 +4,10 @@ use Rattle.xpath.specs.Axis.{on_axis}
 use Rattle.set_selection.specs.Sets.{Image, marked}
 use Rattle.set_selection.specs.Walks.{is_under, is_over, is_below, is_above, is_after, is_before, is_later, is_earlier}
 use Rattle.set_selection.proofs.Images.{image_cong, image_then, image_kept, image_self, image_or, ok_to}
-use Rattle.set_selection.proofs.Relations.{child_axis, attribute_axis, parent_axis, descendant_axis, ancestor_axis, self_axis}
-use Rattle.set_selection.proofs.Relations.{descendant_or_self_axis, ancestor_or_self_axis, following_axis, preceding_axis}
+use Rattle.set_selection.proofs.Relations.{child_axis, attribute_axis, parent_axis, descendant_axis, ancestor_axis}
+use Rattle.set_selection.proofs.Relations.{self_axis}
+use Rattle.set_selection.proofs.Relations.{descendant_or_self_axis, ancestor_or_self_axis, following_axis}
+use Rattle.set_selection.proofs.Relations.{preceding_axis}
 use Rattle.set_selection.proofs.Relations.{following_sibling_axis, preceding_sibling_axis}
 use Rattle.set_selection.proofs.columns.Columns.on_axis.Goals as goal
 

@@ -1,6 +1,6 @@
 -- `step_back` meets its contract.
 use Rattle.std.proofs.Common.{ℕ, Bool, ◌≡◌, ◌<◌, ◌≤◌, List, length, get_or, refl, sym, ap, ◌∙◌, arith}
-use Rattle.xpath.specs.code.Tests.{fits, Asks}
+use Rattle.xpath.specs.private.Tests.{fits, Asks}
 use Rattle.xpath.proofs.Axes.{past_last_axis}
 use Rattle.set_selection.proofs.Images.{ok_to}
 use Rattle.set_selection.proofs.Stepping.{stepped, stepped_back, stepped_none, back_none, past_axis, past_test}

@@ -1,10 +1,10 @@
 -- The functions that evaluate a row meet their contracts.
 use Rattle.std.proofs.Common.{ℕ, Bool, ◌≡◌, ◌<◌, ◌≤◌, List, length, refl, sym, ap, subst, ◌∙◌, arith, rules}
-use Rattle.common.specs.code.Numbers.{row_number}
+use Rattle.common.specs.represent.Numbers.{row_number}
 use Rattle.xpath.specs.Term.{Path, Qualifier}
 use Rattle.xpath.specs.Meaning.{selects}
 use Rattle.terms.specs.Row.{table_of}
-use Rattle.terms.specs.code.RowTypes.{row_of}
+use Rattle.terms.specs.represent.RowTypes.{row_of}
 use Rattle.selection.proofs.Rows.{false_qualifier}
 use Rattle.set_selection.specs.Sets.{Image}
 use Rattle.set_selection.specs.Evaluations.{document_in, rows_in, terms_before, Holding}
@@ -17,8 +17,10 @@ use Rattle.set_selection.proofs.Relations.{size}
 use Rattle.set_selection.proofs.Evaluating.{void_selected, void_back, union_selected, union_back, composition_selected}
 use Rattle.set_selection.proofs.Evaluating.{composition_back, filter_selected, filter_back, true_holding, false_holding}
 use Rattle.set_selection.proofs.Evaluating.{not_holding, and_holding, or_holding, none_holding, included, holding_all}
-use Rattle.set_selection.proofs.Evaluating.{path_not_held, qualifier_not_held, path_held, qualifier_held, root_row_is, step_row_is}
-use Rattle.set_selection.proofs.Evaluating.{union_row_is, composition_row_is, filter_row_is, true_row_is, not_row_is, and_row_is}
+use Rattle.set_selection.proofs.Evaluating.{path_not_held, qualifier_not_held, path_held, qualifier_held, root_row_is}
+use Rattle.set_selection.proofs.Evaluating.{step_row_is}
+use Rattle.set_selection.proofs.Evaluating.{union_row_is, composition_row_is, filter_row_is, true_row_is, not_row_is}
+use Rattle.set_selection.proofs.Evaluating.{and_row_is}
 use Rattle.set_selection.proofs.Evaluating.{or_row_is, in_row_is, no_path_row}
 use Rattle.set_selection.proofs.evaluation.Evaluation.+evaluation.Goals as goal
 

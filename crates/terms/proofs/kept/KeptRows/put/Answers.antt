@@ -5,7 +5,7 @@ use native.Mathlib.Omega.{arith}
 use lib.ListN.{length}
 use borrow.Author.Rules.{rules}
 use Rattle.terms.specs.Row.{row_width, max_rows}
-use Rattle.terms.specs.code.RowTypes.{row_of}
+use Rattle.terms.specs.represent.RowTypes.{row_of}
 use Rattle.terms.proofs.RowsKept.{put_kept}
 use Rattle.terms.proofs.kept.KeptRows.put.Goals as goal
 

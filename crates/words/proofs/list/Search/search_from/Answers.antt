@@ -4,7 +4,7 @@ use native.Mathlib.Omega.{arith}
 use Rattle.std.specs.Prelude.{None}
 use Rattle.std.specs.Result.{result_ok}
 use Rattle.std.proofs.Common.{rules}
-use Rattle.words.specs.code.Names.{given}
+use Rattle.words.specs.private.Names.{given}
 use Rattle.words.proofs.Listed.{sought_all, missed}
 use Rattle.words.proofs.list.Search.search_from.Goals as goal
 

@@ -1,7 +1,7 @@
 -- `search_from` meets its contract.
 use Prim.Native.Nat.{◌-◌, ◌≤◌}
 use lib.ListN.{length}
-use Rattle.words.specs.code.Names.{Sought}
+use Rattle.words.specs.private.Names.{Sought}
 use Rattle.words.proofs.list.Search.search_from.Given as goal
 
 abbrev pub invariant-loop-self : goal.invariant-loop-self

@@ -1,6 +1,6 @@
 -- `walk` meets its contract.
 use mathlib.Core.Bool.{false}
-use Rattle.words.specs.code.Names.{Searched}
+use Rattle.words.specs.private.Names.{Searched}
 use Rattle.words.proofs.list.Search.walk.Given as goal
 
 abbrev pub invariant-loop-i : goal.invariant-loop-i

@@ -1,5 +1,5 @@
 use Rattle.std.proofs.Common.{ℕ, ◌≡◌, ◌-◌, length, arith, subst, add-one}
-use Rattle.xml_document.specs.code.Checks.{RowsOk}
+use Rattle.xml_document.specs.private.Checks.{RowsOk}
 use Rattle.xml_document.proofs.Passing.{rows_start, rows_next}
 use Rattle.xml_document.proofs.columns.Columns.are_rows_ok.Goals as goal
 

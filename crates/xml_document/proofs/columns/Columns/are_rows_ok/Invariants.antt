@@ -1,4 +1,4 @@
-use Rattle.xml_document.specs.code.Checks.{RowsOk}
+use Rattle.xml_document.specs.private.Checks.{RowsOk}
 use Rattle.xml_document.proofs.columns.Columns.are_rows_ok.Given as goal
 
 abbrev pub invariant-loop-n : goal.invariant-loop-n

@@ -1,4 +1,4 @@
-use Rattle.xml_document.specs.code.Checks.{Counts}
+use Rattle.xml_document.specs.private.Checks.{Counts}
 use Rattle.xml_document.proofs.columns.Columns.document_element_count.Given as goal
 
 abbrev pub invariant-loop-n : goal.invariant-loop-n

@@ -1,2 +1,0 @@
-pub mod RowTypes
-pub mod Kept

@@ -1,0 +1,3 @@
+pub mod Checked
+pub mod Nodes
+pub mod Tests
