@@ -1,4 +1,4 @@
-/* Spinebriar for a host in C. Link target/staticlib/libexports.a, which tools/archive.sh makes for Linux on
+/* Spinebriar for a host in C. Link target/staticlib/libspinebriar.a, which tools/archive.sh makes for Linux on
    x86-64.
 
    Of every call: the number of the answer is the result, 0 for acceptance. A pointer may not be null, also where its

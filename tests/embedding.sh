@@ -9,7 +9,7 @@
 # failure ends it with status 1.
 set -eu
 cd "$(dirname "$0")/.."
-archive=$(tools/archive.sh exports)
+archive=$(tools/archive.sh spinebriar)
 out=target/embedding_test
 bundle=$out/bundle
 mkdir -p $out

@@ -172,12 +172,12 @@ def limits():
 # the limits of docs/SPECIFICATION.md, in its order: the row of a table, and the constant of the specifications
 LIMITS = [('rows held', 'terms/specs/Row', 'max_rows'), ('nesting of a row', 'terms/specs/Nesting', 'max_nesting'),
           ('rows', 'xpath/specs/Document', 'max_nodes'), ('steps held', 'calls/specs/Book', 'max_steps'),
-          ('levels of an expression', 'grammar/specs/Grammar', 'max_levels'),
+          ('levels of an expression', 'selector_grammar/specs/Grammar', 'max_levels'),
           ('number of a name', 'common/specs/Limits', 'max_number'), ('points held', 'calls/specs/Book', 'max_points'),
           ('name of a point', 'common/specs/Limits', 'max_number'),
           ('records held', 'records/specs/Records', 'max_records'),
-          ('old rows', 'replacing/specs/ReplaceCall', 'max_list'),
-          ('new rows', 'replacing/specs/ReplaceCall', 'max_list'),
+          ('old rows', 'replacement/specs/ReplaceCall', 'max_list'),
+          ('new rows', 'replacement/specs/ReplaceCall', 'max_list'),
           ('file names', 'tallies/specs/NameList', 'max_files'),
           ('bytes of a file', 'common/specs/Limits', 'max_bytes'),
           ('bytes', 'common/specs/Limits', 'max_bytes')]
@@ -185,12 +185,12 @@ LIMITS = [('rows held', 'terms/specs/Row', 'max_rows'), ('nesting of a row', 'te
 
 # where a call's refusals are tried in turn: the call, the file, the definition
 ORDERS = [('term', 'calls/specs/TermCall', 'term_answer'), ('step', 'calls/specs/StepCall', 'step_answer_by'),
-          ('text', 'grammar/specs/Answer', 'data Answers'), ('select', 'calls/specs/SelectCall', 'select_answer'),
+          ('text', 'selector_grammar/specs/Answer', 'data Answers'), ('select', 'calls/specs/SelectCall', 'select_answer'),
           ('write', 'session/specs/WriteCall', 'write_answer'), ('point', 'calls/specs/PointCall', 'point_answer'),
           ('return', 'calls/specs/PointCall', 'return_answer'), ('record', 'records/specs/Records', 'record_answer'),
           ('release', 'records/specs/Releases', 'release_answer'),
-          ('replace', 'replacing/specs/ReplaceCall', 'replace_answer'),
-          ('order', 'ordering/specs/OrderCall', 'order_answer')]
+          ('replace', 'replacement/specs/ReplaceCall', 'replace_answer'),
+          ('order', 'term_order/specs/OrderCall', 'order_answer')]
 
 
 # refusals whose definitions have no order: of a line, of a list of files, and of a return that a register bars

@@ -3,8 +3,8 @@
 
    At the root of the repository:
 
-       tools/archive.sh exports
-       cc -Wall -Wextra -Iinclude -o target/host examples/embedding/host.c target/staticlib/libexports.a
+       tools/archive.sh spinebriar
+       cc -Wall -Wextra -Iinclude -o target/host examples/embedding/host.c target/staticlib/libspinebriar.a
        target/host FILE
 */
 #include <stdio.h>

@@ -11,7 +11,7 @@ cd "$(dirname "$0")/../.."
 seconds=$((${1:?usage: tests/command/fuzz.sh MINUTES} * 12))
 . tools/need.sh
 need clang=clang /usr/include/expat.h=libexpat1-dev
-archive=${ARCHIVE:-$(tools/archive.sh exports)}
+archive=${ARCHIVE:-$(tools/archive.sh spinebriar)}
 sources='tests/command/fuzz.c host/check.c host/claim.c host/select.c host/file.c host/rows.c host/document.c
     host/paths.c host/limit.c host/terms.c host/rules.c host/bundle.c host/names.c host/bytes.c'
 for what in BUNDLE XML SELECTOR NAMES CALLS; do

@@ -14,7 +14,7 @@ out=target/bench
 
 . tools/need.sh
 need cargo=cargo cc=gcc python3=python3 xml2-config=libxml2-dev
-session=$(tools/archive.sh exports)
+session=$(tools/archive.sh spinebriar)
 selection=$(tools/archive.sh bench_select)
 tools/programs.sh replay
 old=${2:-}

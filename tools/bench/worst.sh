@@ -10,7 +10,7 @@ out=target/bench
 . tools/need.sh
 need cargo=cargo cc=gcc python3=python3
 
-session=$(tools/archive.sh exports)
+session=$(tools/archive.sh spinebriar)
 mkdir -p $out
 cargo build --release --quiet --manifest-path tools/reference/Cargo.toml
 cc -O2 -Wall -Wextra -Werror -Iinclude tools/bench/reading.c "$session" \

@@ -23,8 +23,8 @@ LIST = [f"n{number}" for number in range(1, 10)]
 def library():
     """The archive as a shared library."""
     need({"cc": "gcc"})
-    archive = subprocess.run(["tools/archive.sh", "exports"], cwd=TREE, check=True, capture_output=True, text=True)
-    shared = TREE / "target/exports.so"
+    archive = subprocess.run(["tools/archive.sh", "spinebriar"], cwd=TREE, check=True, capture_output=True, text=True)
+    shared = TREE / "target/spinebriar.so"
     whole = f"-Wl,--whole-archive,{TREE / archive.stdout.strip()},--no-whole-archive"
     subprocess.run(["cc", "-shared", "-o", shared, whole], check=True)
     return ctypes.CDLL(str(shared))

@@ -8,8 +8,8 @@ use mathlib.Core.List.{List}
 use lib.ListN.{length}
 use Rattle.terms.specs.Row.{Row}
 use Rattle.calls.specs.Book.{Book, Answer, answer}
-use Rattle.ordering.specs.Order.{Order, less, equal, greater}
-use Rattle.ordering.specs.OrderCall.{order_value, order_answer, bundle_order_answer}
+use Rattle.term_order.specs.Order.{Order, less, equal, greater}
+use Rattle.term_order.specs.OrderCall.{order_value, order_answer, bundle_order_answer}
 
 order_value_least : (o : Order) → order_value o ≤ 2
 order_value_least less = omega arith

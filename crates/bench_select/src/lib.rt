@@ -7,7 +7,7 @@ ghost use Rattle.terms.specs.Row.{table_of};
 ghost use Rattle.calls.specs.SelectCall.{select_answer, select_buffer};
 ghost use Rattle.calls.specs.Book.{book};
 ghost use Rattle.calls.specs.represent.Tables.{first_rows, first_steps, steps_of};
-ghost use Rattle.ordering.specs.OrderCall.{order_answer, bundle_order_answer};
+ghost use Rattle.term_order.specs.OrderCall.{order_answer, bundle_order_answer};
 ghost use Rattle.calls.specs.TextCall.{text_reply};
 ghost use Rattle.bundles.specs.Bundle.{bundle_text};
 
@@ -59,7 +59,7 @@ pub extern "C" fn bench_write<'a>(
 pub extern "C" fn bench_order<'a>(left: &'a [u16], i: u16, right: &'a [u16], j: u16) -> u32
     ensures { result ≡ (order_answer (table_of left.now) i (table_of right.now) j).value }
 {
-    let answer = ordering::order_on(left, i, right, j);
+    let answer = term_order::order_on(left, i, right, j);
     answer.value() as u32
 }
 
@@ -83,7 +83,7 @@ pub extern "C" fn bench_bundle_order<'a>(
         rows: right,
         steps: right_steps,
     };
-    let answer = ordering::bundle_order_on(left, right);
+    let answer = term_order::bundle_order_on(left, right);
     answer.value() as u32
 }
 
@@ -93,6 +93,6 @@ pub extern "C" fn bench_text(names: &[u8], selector: &[u8]) -> u16
     ensures { result ≡ (text_reply names.now selector.now []).number }
 {
     let mut rows = terms::KeptRows::new();
-    let read = text::read_text(selector, names, &mut rows, 0);
+    let read = selector_reader::read_text(selector, names, &mut rows, 0);
     read.map(|held| held.row).number()
 }

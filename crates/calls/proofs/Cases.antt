@@ -13,8 +13,8 @@ use Rattle.terms.specs.Fields.{max_kind, held_path, bad_place}
 use Rattle.terms.specs.Nesting.{max_nesting, nesting}
 use Rattle.terms.specs.Terms.{path_at}
 use Rattle.rules.specs.Yields.{max_rule}
-use Rattle.grammar.specs.Bytes.{Bytes}
-use Rattle.grammar.specs.Answer.{Answers, outside, unnumbered, deep, full, held}
+use Rattle.selector_grammar.specs.Bytes.{Bytes}
+use Rattle.selector_grammar.specs.Answer.{Answers, outside, unnumbered, deep, full, held}
 use Rattle.std.specs.Prelude.{Ok, Err}
 use Rattle.common.specs.declared.refusal.Refusal.TheVariants as Refused
 use Rattle.calls.specs.Book.{Step, max_steps, max_points, Book, Answer, answer}

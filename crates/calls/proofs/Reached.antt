@@ -21,10 +21,10 @@ use Rattle.rules.specs.Claim.{says, IsTrue}
 use Rattle.rules.specs.Yields.{Yields}
 use Rattle.rules.specs.Decision.{yields_dec}
 use Rattle.rules.proofs.Sound.{yields_sound}
-use Rattle.grammar.specs.Bytes.{Bytes}
-use Rattle.grammar.proofs.Answered.{answered}
-use Rattle.grammar.proofs.Longer.{answer_longer}
-use Rattle.grammar.proofs.Standing.{answer_built}
+use Rattle.selector_grammar.specs.Bytes.{Bytes}
+use Rattle.selector_grammar.proofs.Answered.{answered}
+use Rattle.selector_grammar.proofs.Longer.{answer_longer}
+use Rattle.selector_grammar.proofs.Standing.{answer_built}
 use Rattle.calls.specs.Book as books
 use Rattle.calls.specs.Book.{Step, no_step, no_point, Book}
 use Rattle.calls.specs.TermCall.{term_answer}

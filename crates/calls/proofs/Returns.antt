@@ -15,7 +15,7 @@ use Rattle.common.proofs.Entries.{every_map, every_more, every_first, every_ther
 use Rattle.terms.specs.Row.{Row, max_rows}
 use Rattle.calls.specs.Book as books
 use Rattle.calls.specs.Book.{Step, Point, no_point, max_steps, max_points, Book, empty_book, answer}
-use Rattle.grammar.specs.Bytes.{Bytes}
+use Rattle.selector_grammar.specs.Bytes.{Bytes}
 use Rattle.calls.specs.TextCall.{text_answer}
 use Rattle.calls.specs.PointCall.{point_names, place_of, point_book, return_book}
 use Rattle.calls.specs.Promises.{row_yielded, row_step_answer}

@@ -11,15 +11,15 @@ use Rattle.terms.specs.Row.{Row, no_row, row_at, max_rows}
 use Rattle.terms.specs.Terms.{of_path}
 use Rattle.terms.specs.AcceptedRows.{is_well_formed, is_new, Built}
 use Rattle.terms.proofs.Built.{built_at, Accepted}
-use Rattle.grammar.specs.Bytes.{Bytes}
-use Rattle.grammar.specs.Words.{number_of}
-use Rattle.grammar.specs.Grammar.{Union}
-use Rattle.grammar.specs.Denotes.{union_of, nest_path}
-use Rattle.grammar.specs.Answer.{Reply, Answers}
-use Rattle.grammar.proofs.Answered.{answered, only}
-use Rattle.grammar.proofs.Place.{one_tree}
-use Rattle.grammar.proofs.Longer.{answer_longer, accepted_few}
-use Rattle.grammar.proofs.Standing.{answer_built, accepted}
+use Rattle.selector_grammar.specs.Bytes.{Bytes}
+use Rattle.selector_grammar.specs.Words.{number_of}
+use Rattle.selector_grammar.specs.Grammar.{Union}
+use Rattle.selector_grammar.specs.Denotes.{union_of, nest_path}
+use Rattle.selector_grammar.specs.Answer.{Reply, Answers}
+use Rattle.selector_grammar.proofs.Answered.{answered, only}
+use Rattle.selector_grammar.proofs.Place.{one_tree}
+use Rattle.selector_grammar.proofs.Longer.{answer_longer, accepted_few}
+use Rattle.selector_grammar.proofs.Standing.{answer_built, accepted}
 use Rattle.calls.specs.Book.{Step, Point, Book, pointed_book, Answer, answer}
 use Rattle.calls.specs.TermCall.{term_answer}
 use Rattle.calls.specs.TextCall.{text_reply, text_answer}

@@ -2,7 +2,7 @@
 use Rattle.std.specs.Prelude.{ℕ, List}
 use Rattle.common.specs.Lists.{Every}
 use Rattle.terms.specs.Row.{Row}
-use Rattle.grammar.specs.Bytes.{Bytes}
+use Rattle.selector_grammar.specs.Bytes.{Bytes}
 use Rattle.calls.specs.Book.{Step, Book, empty_book, Answer, IsAccepted}
 use Rattle.calls.specs.TermCall.{term_answer, term_book}
 use Rattle.calls.specs.StepCall.{step_answer, step_book}

@@ -1,9 +1,9 @@
 -- The call text on the plain book.
 use Rattle.std.specs.Prelude.{List}
 use Rattle.terms.specs.Row.{Row}
-use Rattle.grammar.specs.Bytes.{Bytes}
-use Rattle.grammar.specs.Answer.{Reply}
-use Rattle.grammar.proofs.Answered.{answered}
+use Rattle.selector_grammar.specs.Bytes.{Bytes}
+use Rattle.selector_grammar.specs.Answer.{Reply}
+use Rattle.selector_grammar.proofs.Answered.{answered}
 use Rattle.calls.specs.Book.{Book, pointed_book, Answer, answer}
 
 -- number, value and rows as `Answers` of grammar/specs/Answer.antt has them for the lent names and the text t:

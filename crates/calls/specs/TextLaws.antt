@@ -3,11 +3,11 @@ use Rattle.std.specs.Prelude.{ℕ, ◌≡◌, List, map, ◌↔◌, length, get_
 use Rattle.terms.specs.Row.{Row}
 use Rattle.terms.specs.Nesting.{nestings}
 use Rattle.terms.specs.Terms.{of_path, term_at}
-use Rattle.grammar.specs.Bytes.{Bytes}
-use Rattle.grammar.specs.Words.{number_of}
-use Rattle.grammar.specs.Grammar.{Union, Spells}
-use Rattle.grammar.specs.Denotes.{union_of, nest_path}
-use Rattle.grammar.specs.Answer.{reply, Answers}
+use Rattle.selector_grammar.specs.Bytes.{Bytes}
+use Rattle.selector_grammar.specs.Words.{number_of}
+use Rattle.selector_grammar.specs.Grammar.{Union, Spells}
+use Rattle.selector_grammar.specs.Denotes.{union_of, nest_path}
+use Rattle.selector_grammar.specs.Answer.{reply, Answers}
 use Rattle.calls.specs.Book.{Book, IsAccepted}
 use Rattle.calls.specs.TextCall.{text_reply, text_answer, text_book}
 use Rattle.calls.specs.Runs.{shown, final}

@@ -19,9 +19,9 @@ use Rattle.calls.specs.Runs.{Run}
 use Rattle.calls.specs.Above.{passed, own}
 use Rattle.calls.proofs.Reached.{HeldLaws}
 use Rattle.calls.proofs.Runs.{run_map}
-use Rattle.replacing.specs.Covered.{is_held_step, is_in, is_replaced}
-use Rattle.replacing.specs.NoneLost.{Some, paths_of, StepSays}
-use Rattle.replacing.proofs.ByTerms.{replaced_iff}
+use Rattle.replacement.specs.Covered.{is_held_step, is_in, is_replaced}
+use Rattle.replacement.specs.NoneLost.{Some, paths_of, StepSays}
+use Rattle.replacement.proofs.ByTerms.{replaced_iff}
 use Rattle.records.specs.declared.Record.{Record}
 use Rattle.records.specs.Records.{max_records, current, row_of, is_fit_step, record_answer}
 use Rattle.records.specs.represent.Held.{records_in}

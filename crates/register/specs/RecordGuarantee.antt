@@ -6,7 +6,7 @@ use Rattle.terms.specs.Terms.{path_at}
 use Rattle.calls.specs.Book.{Book, Answer, IsAccepted}
 use Rattle.calls.specs.Runs.{Run}
 use Rattle.calls.specs.Above.{passed, own}
-use Rattle.replacing.specs.NoneLost.{StepSays}
+use Rattle.replacement.specs.NoneLost.{StepSays}
 use Rattle.records.specs.declared.Record.{Record}
 use Rattle.records.specs.Records.{max_records, current, row_of, is_fit_step}
 use Rattle.records.specs.Releases.{OfficeCall, OfficeSeen, office_after}

@@ -7,17 +7,17 @@ use Rattle.terms.specs.Row.{Row}
 use Rattle.terms.specs.Terms.{term_at}
 use Rattle.calls.specs.Book.{Book}
 use Rattle.calls.specs.Calls.{book_after}
-use Rattle.ordering.specs.TermOrder.{term_order}
-use Rattle.ordering.specs.OrderCall.{order_answer, bundle_order_answer}
-use Rattle.ordering.specs.OrderLaws.{Sorted}
+use Rattle.term_order.specs.TermOrder.{term_order}
+use Rattle.term_order.specs.OrderCall.{order_answer, bundle_order_answer}
+use Rattle.term_order.specs.OrderLaws.{Sorted}
 use Rattle.session.specs.declared.session.Session.{Session}
 use Rattle.session.specs.View.{view, fresh_session}
 use Rattle.session.specs.Promises.{CallRelation, Met}
 use Rattle.session.specs.OrderGuarantee.{OrderRelation, BundleOrderRelation, OrderMet, BundleOrderMet}
 use Rattle.session.specs.OrderGuarantee.{SortedRows, ArchivesOrdered, OrderGuarantee}
-use Rattle.ordering.proofs.TermOrder.{terms_ordered}
-use Rattle.ordering.proofs.Sorted.{sorted_match}
-use Rattle.ordering.proofs.Judged.{equal_iff, bundles_equal_iff, at_most_lem}
+use Rattle.term_order.proofs.TermOrder.{terms_ordered}
+use Rattle.term_order.proofs.Sorted.{sorted_match}
+use Rattle.term_order.proofs.Judged.{equal_iff, bundles_equal_iff, at_most_lem}
 use Rattle.session.proofs.Simulation.{calls_follow}
 use Rattle.session.proofs.FollowsBook.{CallsKept, made_from_fresh}
 

@@ -5,16 +5,16 @@ use mathlib.Core.Path.{◌≡◌, sym, ap, subst, ◌∙◌}
 use mathlib.Core.List.{List}
 use Rattle.calls.specs.Book.{Book}
 use Rattle.calls.specs.Calls.{book_after}
-use Rattle.replacing.specs.ReplaceCall.{replace_answer}
-use Rattle.replacing.specs.NoneLost.{paths_of}
+use Rattle.replacement.specs.ReplaceCall.{replace_answer}
+use Rattle.replacement.specs.NoneLost.{paths_of}
 use Rattle.session.specs.declared.session.Session.{Session}
 use Rattle.session.specs.View.{view, fresh_session}
 use Rattle.session.specs.Promises.{CallRelation, Met}
 use Rattle.session.specs.ReplaceGuarantee.{ReplaceRelation, ReplaceMet, SetsReplaced, ReplaceGuarantee}
 use Rattle.calls.proofs.Reached.{HeldLaws, reachable_laws}
-use Rattle.replacing.proofs.Judged.{accepts_iff}
-use Rattle.replacing.proofs.ByTerms.{replaced_iff}
-use Rattle.replacing.proofs.NoneLost.{covered_none_lost, rows_covered}
+use Rattle.replacement.proofs.Judged.{accepts_iff}
+use Rattle.replacement.proofs.ByTerms.{replaced_iff}
+use Rattle.replacement.proofs.NoneLost.{covered_none_lost, rows_covered}
 use Rattle.session.proofs.Simulation.{calls_follow}
 use Rattle.session.proofs.FollowsBook.{CallsKept, made_from_fresh}
 

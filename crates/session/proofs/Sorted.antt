@@ -8,9 +8,9 @@ use lib.Seq.{get_or_at, drop-append_seam}
 use Rattle.terms.specs.Row.{Row, row_at, no_row, max_rows}
 use Rattle.common.specs.Lists.{Every}
 use Rattle.common.proofs.Entries.{every_map, every_more, every_first, every_later, every_there}
-use Rattle.grammar.specs.Bytes.{Bytes}
-use Rattle.grammar.proofs.Numbered.{NameFits}
-use Rattle.grammar.proofs.Standing.{answer_numbered}
+use Rattle.selector_grammar.specs.Bytes.{Bytes}
+use Rattle.selector_grammar.proofs.Numbered.{NameFits}
+use Rattle.selector_grammar.proofs.Standing.{answer_numbered}
 use Rattle.calls.specs.Book as books
 use Rattle.calls.specs.Book.{Step, Point, no_point, Book, empty_book}
 use Rattle.calls.specs.TextCall.{text_reply, text_answer}

@@ -34,8 +34,8 @@ use Rattle.session.specs.ReadGuarantee.{ReadGuarantee}
 use Rattle.session.specs.ReplaceGuarantee.{ReplaceGuarantee}
 use Rattle.session.specs.OrderGuarantee.{OrderGuarantee}
 use Rattle.session.specs.AcceptGuarantee.{AcceptGuarantee}
-use Rattle.replacing.proofs.Judged.{replace_case}
-use Rattle.ordering.proofs.Judged.{order_case, bundle_order_case}
+use Rattle.replacement.proofs.Judged.{replace_case}
+use Rattle.term_order.proofs.Judged.{order_case, bundle_order_case}
 use Rattle.calls.proofs.Runs.{made, run_exists}
 use Rattle.calls.proofs.Cases.{HasCase, either_case, term_case, step_case, text_case, point_case, return_case}
 use Rattle.calls.proofs.Cases.{select_case}

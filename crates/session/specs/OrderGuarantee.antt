@@ -5,10 +5,10 @@ use Rattle.terms.specs.Terms.{term_at}
 use Rattle.calls.specs.Book.{Book, answer, IsAccepted}
 use Rattle.calls.specs.Runs.{Run}
 use Rattle.calls.specs.Calls.{Call, CallSeen, book_after}
-use Rattle.ordering.specs.TermOrder.{term_order}
-use Rattle.ordering.specs.BundleOrder.{term_steps}
-use Rattle.ordering.specs.OrderCall.{order_answer, bundle_order_answer}
-use Rattle.ordering.specs.OrderLaws.{HoldSame}
+use Rattle.term_order.specs.TermOrder.{term_order}
+use Rattle.term_order.specs.BundleOrder.{term_steps}
+use Rattle.term_order.specs.OrderCall.{order_answer, bundle_order_answer}
+use Rattle.term_order.specs.OrderLaws.{HoldSame}
 use Rattle.session.specs.declared.session.Session.{Session}
 use Rattle.session.specs.View.{view}
 use Rattle.session.specs.Promises.{CallRelation}

@@ -7,9 +7,9 @@ use Rattle.terms.specs.Fields.{held_path}
 use Rattle.calls.specs.Book.{Book, IsAccepted}
 use Rattle.calls.specs.Runs.{Run}
 use Rattle.calls.specs.Calls.{Call, CallSeen, book_after}
-use Rattle.replacing.specs.Covered.{is_replaced, is_covered}
-use Rattle.replacing.specs.ReplaceCall.{are_bad_lists, replace_answer}
-use Rattle.replacing.specs.NoneLost.{paths_of, ReplacedByTerms, Covered, NoneLost}
+use Rattle.replacement.specs.Covered.{is_replaced, is_covered}
+use Rattle.replacement.specs.ReplaceCall.{are_bad_lists, replace_answer}
+use Rattle.replacement.specs.NoneLost.{paths_of, ReplacedByTerms, Covered, NoneLost}
 use Rattle.session.specs.declared.session.Session.{Session}
 use Rattle.session.specs.View.{view}
 use Rattle.session.specs.Promises.{CallRelation}

@@ -11,12 +11,12 @@ impl Session {
     pub fn order(&self, row: u16, other: &Session, other_row: u16) -> Result<Ordering, Refusal>
         ensures { OrderMet self.now row other.now other_row result }
     {
-        ordering::order_on(self.held_rows(), row, other.held_rows(), other_row)
+        term_order::order_on(self.held_rows(), row, other.held_rows(), other_row)
     }
 
     pub fn bundle_order(&self, other: &Session) -> Result<Ordering, Refusal>
         ensures { BundleOrderMet self.now other.now result }
     {
-        ordering::bundle_order_on(self.held(), other.held())
+        term_order::bundle_order_on(self.held(), other.held())
     }
 }

@@ -196,7 +196,7 @@ impl Session {
         ensures met { Met self.old (Call.text names.now selector.now) (answer_of result) self.new }
         ensures refused { OnErr result (self.new ≡ self.old) }
     {
-        let held = text::read_text(selector, names, &mut self.rows, self.row_count)?;
+        let held = selector_reader::read_text(selector, names, &mut self.rows, self.row_count)?;
         self.row_count = held.count;
         Ok(held.row)
     }

@@ -2,12 +2,12 @@
 use Rattle.calls.proofs.Returns.{return_restores}
 use Rattle.calls.proofs.SelectLaws.{limit_suffices, marks_same_elsewhere}
 use Rattle.calls.proofs.TextLaws.{answers_as_defined, as_term_calls, gives_its_term, gives_its_nesting}
-use Rattle.grammar.proofs.Abbreviated.{expanded, meant}
+use Rattle.selector_grammar.proofs.Abbreviated.{expanded, meant}
 use Rattle.matching.proofs.RowYields.{row_yields_iff}
-use Rattle.ordering.proofs.BundleOrder.{steps_ordered}
-use Rattle.ordering.proofs.Orders.{total_order}
-use Rattle.ordering.proofs.Sorted.{sorted_match}
-use Rattle.ordering.proofs.TermOrder.{terms_ordered}
+use Rattle.term_order.proofs.BundleOrder.{steps_ordered}
+use Rattle.term_order.proofs.Orders.{total_order}
+use Rattle.term_order.proofs.Sorted.{sorted_match}
+use Rattle.term_order.proofs.TermOrder.{terms_ordered}
 use Rattle.records.proofs.Crew.{shows_released}
 use Rattle.records.proofs.Shown.{shows_in_order}
 use Rattle.rules.proofs.Sound.{yields_sound}
@@ -20,14 +20,14 @@ use Rattle.xpath.proofs.AxisLaws as axis-laws
 use Rattle.xpath.proofs.Refusal.{accepted_iff}
 use Rattle.rules.proofs.RuleTen.{star_ending_yields, node_ending_yields}
 use Rattle.rules.proofs.WayBackSound.{way_back_selects}
-use Rattle.grammar.proofs.Place.{one_tree}
+use Rattle.selector_grammar.proofs.Place.{one_tree}
 use Rattle.session.proofs.Simulation as simulation
 use Rattle.session.proofs.Takes as session-takes
 use Rattle.session.proofs.Source as session
 use Rattle.register.proofs.Takes as register-takes
 use Rattle.register.proofs.Source as register
-use Rattle.exports.proofs.Takes as exports-takes
-use Rattle.exports.proofs.Source as exports
+use Rattle.host_calls.proofs.Takes as exports-takes
+use Rattle.host_calls.proofs.Source as exports
 use Rattle.theorems.proofs.Theorems.{SessionTheorems, RegisterTheorems, HostTheorems, MeaningTheorems}
 use Rattle.theorems.proofs.Theorems.{ProgramTheorems, Theorems}
 

@@ -18,11 +18,11 @@ use Rattle.calls.specs.represent.Answers.{NumberOrRefusal, DoneOrRefusal, OrderO
 use Rattle.common.specs.Lists.{Every}
 use Rattle.common.specs.NodeTests.{star_test, node_test}
 use Rattle.std.specs.Prelude.{Option, Result}
-use Rattle.grammar.specs.Abbreviations.{Expanded, Meant}
+use Rattle.selector_grammar.specs.Abbreviations.{Expanded, Meant}
 use Rattle.matching.specs.private.RowYields.{Sides, one_sort, says_of, row_yields}
-use Rattle.ordering.specs.BundleOrder.{steps_order}
-use Rattle.ordering.specs.OrderLaws.{TotalOrder, SortedMatch}
-use Rattle.ordering.specs.TermOrder.{term_order}
+use Rattle.term_order.specs.BundleOrder.{steps_order}
+use Rattle.term_order.specs.OrderLaws.{TotalOrder, SortedMatch}
+use Rattle.term_order.specs.TermOrder.{term_order}
 use Rattle.records.specs.represent.Held.{records_in}
 use Rattle.records.specs.represent.Listed.{listed}
 use Rattle.records.specs.Records.{current}
@@ -59,7 +59,7 @@ use Rattle.xpath.specs.represent.ClimbPromise.{ClimbPromise}
 use Rattle.xpath.specs.declared.document.Climb.{Climb}
 use Rattle.rules.specs.WayBack.{way_back}
 use Rattle.rules.specs.values.RuleTen.{EndingYields}
-use Rattle.grammar.specs.Grammar.{Union, Spells}
+use Rattle.selector_grammar.specs.Grammar.{Union, Spells}
 use Rattle.session.specs.represent.Results.{ReadResult}
 use Rattle.register.specs.represent.Results as register-read
 use Rattle.auditing.specs.Audit.{report}
@@ -68,7 +68,7 @@ use Rattle.calls.specs.Uses.{uses_of}
 use Rattle.calls.specs.Promises.{sides_of}
 use Rattle.matching.specs.private.MatchTypes.{sides_in}
 use Rattle.terms.specs.represent.RowTypes.{PlaceIs}
-use Rattle.replacing.specs.Covered.{step_saying}
+use Rattle.replacement.specs.Covered.{step_saying}
 use Rattle.tallies.specs.declared.Tally.{Tally}
 use Rattle.tallies.specs.Count.{file_of, Entry}
 use Rattle.tallies.specs.NameList.{list_answer}
@@ -81,16 +81,16 @@ use Rattle.session.proofs.Takes as session-takes
 use Rattle.session.proofs.Source as session
 use Rattle.register.proofs.Takes as register-takes
 use Rattle.register.proofs.Source as register
-use Rattle.exports.proofs.Takes as exports-takes
-use Rattle.exports.proofs.Source as exports
-use Rattle.grammar.specs.Bytes.{Bytes}
+use Rattle.host_calls.proofs.Takes as exports-takes
+use Rattle.host_calls.proofs.Source as exports
+use Rattle.selector_grammar.specs.Bytes.{Bytes}
 use Rattle.session.specs.Reading.{reading}
-use Rattle.exports.specs.ClaimCall.{Claimed, claim_answer}
-use Rattle.exports.specs.ClaimGuarantee.{ClaimGuarantee}
-use Rattle.exports.specs.TextSelect.{TextSelectMade}
-use Rattle.exports.specs.SelectGuarantee.{SelectGuarantee}
-use Rattle.exports.specs.FileGuarantee.{FileGuarantee}
-use Rattle.filing.specs.Filing.{FileMet}
+use Rattle.host_calls.specs.ClaimCall.{Claimed, claim_answer}
+use Rattle.host_calls.specs.ClaimGuarantee.{ClaimGuarantee}
+use Rattle.host_calls.specs.TextSelect.{TextSelectMade}
+use Rattle.host_calls.specs.SelectGuarantee.{SelectGuarantee}
+use Rattle.host_calls.specs.FileGuarantee.{FileGuarantee}
+use Rattle.script_bundle.specs.Filing.{FileMet}
 use Rattle.session.proofs.session.Session.step_saying.Reads as step-saying-reads
 use Rattle.session.proofs.session.Session.steps_held.Reads as steps-held-reads
 use Rattle.session.proofs.session.Session.rule_uses.Reads as rule-uses-reads

@@ -3,8 +3,8 @@ use mathlib.Core.Path.{◌≡◌, ap, ◌∙◌}
 use Rattle.std.specs.Prelude.{Result, Ok, Err, is_ok, MatchResult}
 use Rattle.common.specs.declared.refusal.Refusal.{Refusal}
 use Rattle.terms.specs.Row.{table_of}
-use Rattle.text.specs.declared.TextHeld.{TextHeld}
-use Rattle.text.specs.Promises.{text_number}
+use Rattle.selector_reader.specs.declared.TextHeld.{TextHeld}
+use Rattle.selector_reader.specs.Promises.{text_number}
 use Rattle.calls.specs.represent.Answers.{NumberOrRefusal, answer_of}
 use Rattle.calls.proofs.Accepted.{ok_accepted}
 use Rattle.calls.proofs.TextLaws.{answers_as_defined}

@@ -9,10 +9,10 @@ use Rattle.terms.specs.Terms.{Term, term_at}
 use Rattle.calls.specs.Book.{Book, answer, empty_book}
 use Rattle.calls.specs.Runs.{Run, final}
 use Rattle.calls.specs.Calls.{Call, CallSeen, plain_book}
-use Rattle.ordering.specs.TermOrder.{term_order}
-use Rattle.ordering.specs.BundleOrder.{term_step, term_steps}
-use Rattle.ordering.specs.OrderCall.{order_answer, bundle_order_answer}
-use Rattle.ordering.specs.OrderLaws.{occurrences}
+use Rattle.term_order.specs.TermOrder.{term_order}
+use Rattle.term_order.specs.BundleOrder.{term_step, term_steps}
+use Rattle.term_order.specs.OrderCall.{order_answer, bundle_order_answer}
+use Rattle.term_order.specs.OrderLaws.{occurrences}
 use Rattle.session.specs.declared.session.Session.{Session}
 use Rattle.session.specs.View.{view}
 use Rattle.session.specs.OrderGuarantee.{SortedRows, ArchivesOrdered}

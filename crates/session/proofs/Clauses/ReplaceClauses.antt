@@ -18,9 +18,9 @@ use Rattle.calls.specs.Book.{Book, empty_book}
 use Rattle.calls.specs.StepCall.{step_numbered, claim_of}
 use Rattle.calls.specs.Runs.{Run, final}
 use Rattle.calls.specs.Calls.{Call, CallSeen, plain_book}
-use Rattle.replacing.specs.Covered.{is_replaced, is_covered}
-use Rattle.replacing.specs.ReplaceCall.{are_bad_lists, replace_answer}
-use Rattle.replacing.specs.NoneLost.{Some, paths_of}
+use Rattle.replacement.specs.Covered.{is_replaced, is_covered}
+use Rattle.replacement.specs.ReplaceCall.{are_bad_lists, replace_answer}
+use Rattle.replacement.specs.NoneLost.{Some, paths_of}
 use Rattle.session.specs.declared.session.Session.{Session}
 use Rattle.session.specs.View.{view}
 use Rattle.session.specs.ReplaceGuarantee.{SetsReplaced}

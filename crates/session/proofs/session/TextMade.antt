@@ -4,13 +4,13 @@ use mathlib.Core.List.{List}
 use mathlib.Core.Path.{◌≡◌, refl, ap, ◌∙◌}
 use lib.ListN.{length}
 use Rattle.terms.specs.Row.{table_with}
-use Rattle.grammar.specs.Bytes.{Bytes}
-use Rattle.grammar.specs.Answer.{Reply, reply}
+use Rattle.selector_grammar.specs.Bytes.{Bytes}
+use Rattle.selector_grammar.specs.Answer.{Reply, reply}
 use Rattle.std.specs.Prelude.{Result, Ok, Err}
-use Rattle.text.specs.declared.TextHeld.{TextHeld}
+use Rattle.selector_reader.specs.declared.TextHeld.{TextHeld}
 use Rattle.common.specs.declared.refusal.Refusal.{Refusal}
 use Rattle.common.specs.represent.Refusal.{refusal_number, refusal_value}
-use Rattle.text.specs.Promises.{text_number, text_value, TextRead}
+use Rattle.selector_reader.specs.Promises.{text_number, text_value, TextRead}
 use Rattle.common.proofs.Refusals.{refusal_some}
 use Rattle.calls.specs.Book.{answer}
 use Rattle.calls.specs.TextCall.{text_reply, text_answer}

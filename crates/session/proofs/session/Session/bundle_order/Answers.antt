@@ -1,6 +1,6 @@
 -- `Session::bundle_order` meets its contract: the rows and steps held are those of the views.
-use Rattle.ordering.specs.BundleOrder.{term_steps, bundle_order}
-use Rattle.ordering.specs.OrderCall.{bundle_order_answer}
+use Rattle.term_order.specs.BundleOrder.{term_steps, bundle_order}
+use Rattle.term_order.specs.OrderCall.{bundle_order_answer}
 use Rattle.session.specs.View.{view}
 use Rattle.session.proofs.session.Session.bundle_order.Goals as goal
 

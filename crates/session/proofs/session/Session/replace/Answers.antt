@@ -1,6 +1,6 @@
 -- `Session::replace` meets its contract: the rows and steps held are those of the view.
-use Rattle.replacing.specs.Covered.{is_replaced, is_replaced_at}
-use Rattle.replacing.specs.ReplaceCall.{first_uncovered, replace_answer}
+use Rattle.replacement.specs.Covered.{is_replaced, is_replaced_at}
+use Rattle.replacement.specs.ReplaceCall.{first_uncovered, replace_answer}
 use Rattle.session.specs.View.{view}
 use Rattle.session.proofs.session.Session.replace.Goals as goal
 

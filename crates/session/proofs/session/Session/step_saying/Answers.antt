@@ -1,5 +1,5 @@
 -- `Session::step_saying` meets its contract: the rows and steps held are those of the view.
-use Rattle.replacing.specs.Covered.{is_replaced, step_saying}
+use Rattle.replacement.specs.Covered.{is_replaced, step_saying}
 use Rattle.session.specs.View.{view}
 use Rattle.session.proofs.session.Session.step_saying.Goals as goal
 

@@ -1,9 +1,0 @@
--- `put_step` meets its contract.
-use Rattle.readings.proofs.Built.{step_put}
-use Rattle.readings.specs.private.Build.{stands}
-use Rattle.readings.proofs.put_step.Goals as goal
-
-pub returns : goal.returns
-returns c =
-    step_put _ c.args.unlisted c.args.rows.now (stands c.args.from) c.args.at _ c.put-step.result _
-    c.or-missing.ensures c.put-step.ensures

@@ -1,6 +1,0 @@
--- `look` meets its contract.
-use Rattle.words.proofs.Listed.{LookMet}
-use Rattle.words.proofs.list.Search.look.Given as goal
-
-abbrev pub invariant-loop-k : goal.invariant-loop-k
-invariant-loop-k l = LookMet l.self.names.now l.self.word.bytes.now l.at l.k l.ends l.may

@@ -1,7 +1,0 @@
--- `walk` meets its contract.
-use mathlib.Core.Bool.{false}
-use Rattle.words.specs.private.Names.{Searched}
-use Rattle.words.proofs.list.Search.walk.Given as goal
-
-abbrev pub invariant-loop-i : goal.invariant-loop-i
-invariant-loop-i l = Searched l.self.names.now l.self.word.bytes.now l.from l.i l.ends false

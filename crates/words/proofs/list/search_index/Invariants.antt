@@ -1,6 +1,0 @@
--- `search_index` meets its contract.
-use Rattle.words.proofs.Indexed.{Before}
-use Rattle.words.proofs.list.search_index.Given as goal
-
-abbrev pub invariant-loop-k : goal.invariant-loop-k
-invariant-loop-k l = Before l.names.list.now l.word.bytes.now l.k
