@@ -28,7 +28,7 @@ pub extern "C" fn bench_select(
     ensures marks_after { marks.new ≡ select_buffer (table_of rows.now) row document.now
         context limit marks.old }
 {
-    let answer = select_calls::select_on(rows, row, document, context, limit, marks);
+    let answer = call_answers::select::select_on(rows, row, document, context, limit, marks);
     answer.number()
 }
 

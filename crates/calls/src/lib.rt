@@ -5,6 +5,7 @@
 #![tactic(auto)]
 
 mod answer;
+pub mod answer_line;
 mod held;
 mod points;
 mod step;

@@ -21,7 +21,8 @@ use Rattle.session.specs.View.{view, fresh_session}
 use Rattle.session.specs.Promises.{session_answer, session, CallsMade}
 use Rattle.session.specs.Reading.{Reading, refused_at, reading}
 use Rattle.session.specs.WriteCall.{session_text, write_answer, write_buffer}
-use Rattle.script_bundle.specs.Filing.{Action, lends, makes, line_action, line_number, line_session, line_names, lines_filed}
+use Rattle.script_bundle.specs.Filing.{Action, lends, makes, line_action, line_number, line_session, line_names}
+use Rattle.script_bundle.specs.Filing.{lines_filed}
 use Rattle.script_bundle.specs.Filing.{filed}
 use Rattle.script_bundle.specs.Filing.{file_answer, file_buffer, FileMet, calls_from, calls_in, action_calls}
 use Rattle.script_bundle.proofs.Fits.{calls_fit}

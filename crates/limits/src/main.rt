@@ -4,9 +4,9 @@
 
 ghost use Rattle.common.specs.Limits.{max_number};
 ghost use Rattle.std.specs.Prelude.{◌≡◌, ◌≤◌, ◌<◌, length};
-ghost use Rattle.script_words.specs.Words.{max_numbers};
+ghost use Rattle.script.specs.Words.{max_numbers};
 
-use answer_lines::AnswerLine;
+use calls::answer_line::AnswerLine;
 use calls::{Answer, Step};
 use common::axis::Axis;
 use common::node_kind::NodeKind;
@@ -107,7 +107,7 @@ fn steps(rt: &impl Print) {
 // The numbers of the largest document, and of one with a node more.
 const LARGEST: usize = xpath::NODE_WIDTH * Session::NODES;
 
-const TOO_LARGE: usize = script_words::MAX_NUMBERS;
+const TOO_LARGE: usize = script::words::MAX_NUMBERS;
 
 // The document of N numbers: the root, and texts under it.
 fn texts<const N: usize>() -> [u16; N] {

@@ -7,3 +7,5 @@ pub mod Written
 pub mod SameBytes
 pub mod First
 pub mod FirstLine
+pub mod Walk
+pub mod Pieces

@@ -4,3 +4,4 @@ pub mod Number
 pub mod Written
 pub mod private
 pub mod values
+pub mod Names

@@ -1,1 +1,2 @@
 pub mod NumbersRead
+pub mod LineStarts

@@ -5,6 +5,8 @@
 // would have to be measured for that.
 #![tactic(auto)]
 
+pub mod names;
+
 ghost use Rattle.std.specs.Prelude.{◌≡◌, true, [], ◌∷◌, ◌++◌, ◌+◌, ◌-◌, ◌==◌, drop, position, MatchOption};
 ghost use Rattle.std.proofs.Math.Option.{none};
 ghost use Rattle.lines.specs.Line.{newline, lines};

@@ -16,10 +16,10 @@ use Rattle.calls.specs.represent.Tables.{step_width}
 use Rattle.lines.specs.Line.{lines}
 use Rattle.lines.specs.private.NumbersRead.{first_parts}
 use Rattle.lines.proofs.Parts.{first_mapped, PartsMet}
-use Rattle.script_words.specs.declared.Word.{Word}
-use Rattle.script_words.specs.Words.{Shape}
-use Rattle.script_words.specs.Words.{Listed}
-use Rattle.script_words.specs.Words.{shape_of}
+use Rattle.script.specs.declared.words.Word.{Word}
+use Rattle.script.specs.Words.{Shape}
+use Rattle.script.specs.Words.{Listed}
+use Rattle.script.specs.Words.{shape_of}
 use Rattle.script.specs.declared.Command.{Command as Given}
 use Rattle.script.specs.declared.CallLine.{CallLine}
 use Rattle.script.specs.Command.{Command, command, all_numbers, at_most, numbers_in, named, word_command}

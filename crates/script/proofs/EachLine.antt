@@ -22,7 +22,7 @@ use Rattle.std.proofs.lemmas.List.{get_or-map}
 use Rattle.std.proofs.lemmas.List.FromFn.{get_or-enumerate_from, length-enumerate_from}
 use Rattle.lines.specs.Line.{newline, Line, line, in_first_line, in_first_part, lines}
 use Rattle.lines.proofs.FirstLine.{one_more}
-use Rattle.names.proofs.Pieces.{pieces, pieces_count, cuts, pieces_yielded}
+use Rattle.lines.proofs.Pieces.{pieces, pieces_count, cuts, pieces_yielded}
 
 abbrev alone : Line → List Line
 alone l = l ∷ []

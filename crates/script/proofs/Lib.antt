@@ -7,3 +7,4 @@ pub mod Selects
 pub mod Words
 pub mod Table
 pub mod EachLine
+pub mod WordsTable

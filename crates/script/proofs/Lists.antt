@@ -7,9 +7,9 @@ use lib.ListN.{length, drop}
 use Rattle.lines.specs.Line.{newline, space, lines}
 use Rattle.lines.specs.Number.{max_number}
 use Rattle.lines.specs.private.NumbersRead.{number_cut, first_parts}
-use Rattle.script_words.specs.declared.Word.{Word}
-use Rattle.script_words.specs.Words.{Listed}
-use Rattle.script_words.specs.Words.{shape_of}
+use Rattle.script.specs.declared.words.Word.{Word}
+use Rattle.script.specs.Words.{Listed}
+use Rattle.script.specs.Words.{shape_of}
 use Rattle.script.specs.Command.{at_most, word_command}
 use Rattle.script.proofs.Numbers.{SoFar, none_of_all, numbers_full}
 use Rattle.script.proofs.Calls.{no_list}

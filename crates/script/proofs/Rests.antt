@@ -14,7 +14,7 @@ use Rattle.lines.proofs.Cutting.{Free, lines_at, no_whole_line}
 use Rattle.lines.proofs.First.{Before, behind_first}
 use Rattle.lines.proofs.FirstLine.{one_more}
 use Rattle.lines.proofs.Parts.{PartsMet}
-use Rattle.script_words.specs.Words.{Rest}
+use Rattle.script.specs.Words.{Rest}
 use Rattle.script.specs.Command.{numbers_in}
 use Rattle.script.specs.Rest.{rest_of, first_bytes}
 

@@ -13,15 +13,15 @@ use Rattle.lines.specs.Line.{newline, space, lines}
 use Rattle.lines.specs.private.NumbersRead.{first_parts, starts_with}
 use Rattle.lines.proofs.Start.{starts}
 use Rattle.lines.proofs.Parts.{first_none}
-use Rattle.script_words.specs.declared.Word.{Word}
-use Rattle.script_words.specs.declared.TheConstants.{WORDS}
+use Rattle.script.specs.declared.words.Word.{Word}
+use Rattle.script.specs.declared.words.TheConstants.{WORDS}
 use Rattle.script.specs.declared.Command.{Command as Given}
 use Rattle.script.specs.declared.CallLine.{CallLine}
 use Rattle.script.specs.Command.{word_command, word_for, command_by, command_of}
-use Rattle.script_words.specs.Words.{words}
+use Rattle.script.specs.Words.{words}
 use Rattle.script.specs.private.CommandRead.{AloneRead, CallMet, CallRead}
-use Rattle.script_words.specs.private.Entries.{text_of, entry_of, no_entry}
-use Rattle.script_words.proofs.Table.{Sound, word_sound, word_at, word_count}
+use Rattle.script.specs.private.Entries.{text_of, entry_of, no_entry}
+use Rattle.script.proofs.WordsTable.{Sound, word_sound, word_at, word_count}
 use Rattle.script.proofs.Calls.{read_behind}
 use Rattle.script.proofs.Words.{word_and_numbers, word_alone, word_without_numbers, another_word}
 

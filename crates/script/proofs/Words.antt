@@ -17,11 +17,11 @@ use Rattle.lines.proofs.Start.{starts}
 use Rattle.lines.proofs.SameBytes.{same_bytes_lem, same_itself}
 use Rattle.lines.proofs.Parts.{FirstPart, no_line, only_part, part_before, first_part, before_newline, before_space}
 use Rattle.lines.proofs.Parts.{next_behind, first_none, first_mapped}
-use Rattle.script_words.specs.declared.Word.{Word}
-use Rattle.script_words.specs.declared.Word.TheVariants.{Term, Step, Select, Document, Fresh, Old, New, Replace}
-use Rattle.script_words.specs.declared.Word.TheVariants.{Write, Point, Return, Other, Order, BundleOrder, Names, Text}
-use Rattle.script_words.specs.declared.Word.TheVariants.{Record, Current, Release, Records, Released, CrewCurrent}
-use Rattle.script_words.specs.Words.{shape_of}
+use Rattle.script.specs.declared.words.Word.{Word}
+use Rattle.script.specs.declared.words.Word.TheVariants.{Term, Step, Select, Document, Fresh, Old, New, Replace}
+use Rattle.script.specs.declared.words.Word.TheVariants.{Write, Point, Return, Other, Order, BundleOrder, Names, Text}
+use Rattle.script.specs.declared.words.Word.TheVariants.{Record, Current, Release, Records, Released, CrewCurrent}
+use Rattle.script.specs.Words.{shape_of}
 use Rattle.script.specs.declared.Command.{Command as Given}
 use Rattle.script.specs.declared.CallLine.{CallLine}
 use Rattle.script.specs.Command.{named, word_command, word_for, command_by}

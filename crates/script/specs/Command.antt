@@ -4,10 +4,10 @@ use Rattle.std.proofs.Math.Option.{Option, none, some, Option-elim}
 use Rattle.common.specs.Limits.{max_bytes}
 use Rattle.lines.specs.Line.{same_bytes}
 use Rattle.lines.specs.Number.{max_number, numbers_up_to, line_numbers}
-use Rattle.script_words.specs.Words.{words, shape_of}
-use Rattle.script_words.specs.declared.Word.{Word}
-use Rattle.script_words.specs.Words.{Shape}
-use Rattle.script_words.specs.Words.{Counted, Listed, Selection, Room, Rest}
+use Rattle.script.specs.Words.{words, shape_of}
+use Rattle.script.specs.declared.words.Word.{Word}
+use Rattle.script.specs.Words.{Shape}
+use Rattle.script.specs.Words.{Counted, Listed, Selection, Room, Rest}
 
 pub record Command : Type 0 where
   pub word : Word

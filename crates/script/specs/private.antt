@@ -1,1 +1,2 @@
 pub mod CommandRead
+pub mod Entries

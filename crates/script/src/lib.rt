@@ -2,20 +2,21 @@
 #![tactic(auto)]
 
 mod list;
+pub mod words;
 
 ghost use Rattle.std.specs.Prelude.{◌≡◌, ◌+◌, ◌≤◌, min, length, take, drop};
-ghost use Rattle.script_words.specs.Words.{max_numbers};
-ghost use Rattle.script_words.specs.declared.Word.TheVariants as WORD;
+ghost use Rattle.script.specs.Words.{max_numbers};
+ghost use Rattle.script.specs.declared.words.Word.TheVariants as WORD;
 ghost use Rattle.lines.specs.Line.{lines};
 ghost use Rattle.calls.specs.represent.Tables.{step_width};
 ghost use Rattle.script.specs.Command.{word_command, command_of};
 ghost use Rattle.script.specs.Rest.{rest_of, newline_for_space, names_of, first_bytes};
 ghost use Rattle.script.specs.private.CommandRead.{CountedRead, ListRead, RestRead, AloneRead, CallRead};
 
+use crate::words::{MAX_LISTED, MAX_NUMBERS, WORDS, Word};
 use calls::{STEP_WIDTH, Step};
 pub use list::NumberList;
 use records::Record;
-use script_words::{MAX_LISTED, MAX_NUMBERS, WORDS, Word};
 use terms::{ROW_WIDTH, Row};
 
 const MAX_LIMIT: u32 = u32::MAX;

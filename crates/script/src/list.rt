@@ -1,8 +1,8 @@
 // The numbers that a line lists.
 ghost use Rattle.std.specs.Prelude.{◌≡◌, ◌≤◌, ◌<◌, [], ◌∷◌, ◌++◌, length};
-ghost use Rattle.script_words.specs.Words.{max_numbers};
+ghost use Rattle.script.specs.Words.{max_numbers};
 
-use script_words::MAX_NUMBERS;
+use crate::words::MAX_NUMBERS;
 
 /// The first `count` of an array: a line is read whatever memory is left, without a heap.
 #[derive(Clone, Copy)]

@@ -15,12 +15,12 @@ use Rattle.lines.specs.Number.{max_number, is_decimal, append_digits, number_up_
 use Rattle.selector_grammar.specs.Bytes.{Bytes}
 use Rattle.calls.specs.Calls.{Call}
 use Rattle.session.specs.ReadGuarantee.{CallFits}
-use Rattle.script_words.specs.declared.Word.{Word}
-use Rattle.script_words.specs.declared.Word.TheVariants.{Term, Step, Select, Document, Fresh, Old, New, Replace}
-use Rattle.script_words.specs.declared.Word.TheVariants.{Write, Point, Return, Other, Order, BundleOrder, Names, Text}
-use Rattle.script_words.specs.declared.Word.TheVariants.{Record, Current, Release, Records, Released, CrewCurrent}
+use Rattle.script.specs.declared.words.Word.{Word}
+use Rattle.script.specs.declared.words.Word.TheVariants.{Term, Step, Select, Document, Fresh, Old, New, Replace}
+use Rattle.script.specs.declared.words.Word.TheVariants.{Write, Point, Return, Other, Order, BundleOrder, Names, Text}
+use Rattle.script.specs.declared.words.Word.TheVariants.{Record, Current, Release, Records, Released, CrewCurrent}
 use Rattle.script.specs.Command.{numbers_in, named, word_for, word_command, command_by}
-use Rattle.script_words.specs.Words.{words, shape_of}
+use Rattle.script.specs.Words.{words, shape_of}
 use Rattle.script.specs.Rest.{rest_of, names_of}
 use Rattle.script_bundle.specs.Filing.{lends, lending, action_of, action_calls, line_action, line_names, calls_from}
 

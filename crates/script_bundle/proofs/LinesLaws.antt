@@ -22,7 +22,8 @@ use Rattle.script.specs.declared.Command.{Command as Given}
 use Rattle.script.specs.Command.{Command, command_of}
 use Rattle.script.specs.Rest.{rest_of, first_bytes}
 use Rattle.script.specs.private.CommandRead.{written_command}
-use Rattle.script_bundle.specs.Filing.{Action, action_of, line_action, line_number, line_session, line_names, lines_filed}
+use Rattle.script_bundle.specs.Filing.{Action, action_of, line_action, line_number, line_session, line_names}
+use Rattle.script_bundle.specs.Filing.{lines_filed}
 use Rattle.script_bundle.specs.declared.Filed.{Filed}
 use Rattle.script_bundle.specs.private.FilingMade.{lent_by, command_action, first_action, ActionTaken, ActionDone}
 

@@ -14,10 +14,10 @@ use Rattle.session.specs.View.{fresh_session}
 use Rattle.session.specs.Promises.{session_answer, session}
 use Rattle.session.specs.Reading.{Reading, refused_at}
 use Rattle.session.specs.WriteCall.{session_text, write_answer, write_buffer}
-use Rattle.script_words.specs.declared.Word.{Word}
-use Rattle.script_words.specs.declared.Word.TheVariants.{Term, Step, Select, Document, Fresh, Old, New, Replace}
-use Rattle.script_words.specs.declared.Word.TheVariants.{Write, Point, Return, Other, Order, BundleOrder, Names, Text}
-use Rattle.script_words.specs.declared.Word.TheVariants.{Record, Current, Release, Records, Released, CrewCurrent}
+use Rattle.script.specs.declared.words.Word.{Word}
+use Rattle.script.specs.declared.words.Word.TheVariants.{Term, Step, Select, Document, Fresh, Old, New, Replace}
+use Rattle.script.specs.declared.words.Word.TheVariants.{Write, Point, Return, Other, Order, BundleOrder, Names, Text}
+use Rattle.script.specs.declared.words.Word.TheVariants.{Record, Current, Release, Records, Released, CrewCurrent}
 use Rattle.script.specs.Command.{command_of}
 use Rattle.script.specs.Rest.{rest_of, names_of}
 

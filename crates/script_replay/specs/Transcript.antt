@@ -2,10 +2,10 @@
 use Rattle.std.specs.Prelude.{ℕ, ◌+◌, Bool, true, false, cond, List, [], ◌∷◌}
 use Rattle.std.proofs.Math.Option.{Option, none, some}
 use Rattle.lines.specs.Line.{Line, parts_read}
-use Rattle.script_words.specs.declared.Word.{Word}
-use Rattle.script_words.specs.declared.Word.TheVariants.{Term, Step, Select, Document, Fresh, Old, New, Replace, Write}
-use Rattle.script_words.specs.declared.Word.TheVariants.{Point, Return, Other, Order, BundleOrder, Names, Text}
-use Rattle.script_words.specs.declared.Word.TheVariants.{Record, Current, Release, Records, Released, CrewCurrent}
+use Rattle.script.specs.declared.words.Word.{Word}
+use Rattle.script.specs.declared.words.Word.TheVariants.{Term, Step, Select, Document, Fresh, Old, New, Replace, Write}
+use Rattle.script.specs.declared.words.Word.TheVariants.{Point, Return, Other, Order, BundleOrder, Names, Text}
+use Rattle.script.specs.declared.words.Word.TheVariants.{Record, Current, Release, Records, Released, CrewCurrent}
 use Rattle.script.specs.Command.{Command, command_of}
 use Rattle.script_replay.specs.declared.Style.{Style}
 use Rattle.script_replay.specs.declared.Style.TheVariants.{Answers, Nodes}

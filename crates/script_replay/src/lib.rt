@@ -8,8 +8,8 @@ ghost use Rattle.lines.specs.Line.{lines};
 ghost use Rattle.script.specs.private.CommandRead.{written_command};
 ghost use Rattle.script_replay.specs.Transcript.{word_taken, ending_line};
 
-use answer_lines::AnswerLine;
 use arrayvec::ArrayString;
+use calls::answer_line::AnswerLine;
 use calls::{Answer, LineRefusal};
 use common::Refusal;
 use register::{Records, Register};

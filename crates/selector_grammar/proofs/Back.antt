@@ -21,14 +21,20 @@ use Rattle.selector_grammar.specs.Grammar.{spell_or, spell_bool, Last, word, oth
 use Rattle.selector_grammar.specs.Grammar.{last_rel, last_path, last_union, last_unary, last_and, last_or, may_follow}
 use Rattle.selector_grammar.specs.Grammar.{takes_predicate, Spaces, FineAxis, FineStep, FineRel, FinePath}
 use Rattle.selector_grammar.specs.Grammar.{FineUnion, FineUnary, FineAnd, FineOr}
-use Rattle.selector_grammar.specs.private.Reader.{State, Next, need, root1, slash1, dot1, name, colon, testing, type_open}
-use Rattle.selector_grammar.specs.private.Reader.{quote, quoted, unquoted, after, const_open, closed, keyword, Keyword, k_a}
-use Rattle.selector_grammar.specs.private.Reader.{k_an, k_and, k_o, k_or, Ctx, top, inside, Open, bracket, negate, grouped}
-use Rattle.selector_grammar.specs.private.Reader.{Prefix, bare, at_root, at_any, Lead, start, after1, after2, Alt, first}
+use Rattle.selector_grammar.specs.private.Reader.{State, Next, need, root1, slash1, dot1, name, colon, testing}
+use Rattle.selector_grammar.specs.private.Reader.{type_open}
+use Rattle.selector_grammar.specs.private.Reader.{quote, quoted, unquoted, after, const_open, closed, keyword, Keyword}
+use Rattle.selector_grammar.specs.private.Reader.{k_a}
+use Rattle.selector_grammar.specs.private.Reader.{k_an, k_and, k_o, k_or, Ctx, top, inside, Open, bracket, negate}
+use Rattle.selector_grammar.specs.private.Reader.{grouped}
+use Rattle.selector_grammar.specs.private.Reader.{Prefix, bare, at_root, at_any, Lead, start, after1, after2, Alt}
+use Rattle.selector_grammar.specs.private.Reader.{first}
 use Rattle.selector_grammar.specs.private.Reader.{more, Left, nothing, either, Pend, plain, both, prefix_of, join}
-use Rattle.selector_grammar.specs.private.Reader.{with_prefix, path_to, join_alt, wrap, left_of, and_to, or_to, room, room_of}
+use Rattle.selector_grammar.specs.private.Reader.{with_prefix, path_to, join_alt, wrap, left_of, and_to, or_to, room}
+use Rattle.selector_grammar.specs.private.Reader.{room_of}
 use Rattle.selector_grammar.specs.private.Reader.{begin, enter, step, need_byte, shut, unary_byte, union_byte}
-use Rattle.selector_grammar.specs.private.Reader.{path_byte, group_byte, lead_byte, call_byte, paren_byte_next, colon_byte_next}
+use Rattle.selector_grammar.specs.private.Reader.{path_byte, group_byte, lead_byte, call_byte, paren_byte_next}
+use Rattle.selector_grammar.specs.private.Reader.{colon_byte_next}
 use Rattle.selector_grammar.specs.private.Reader.{after_byte}
 use Rattle.selector_grammar.specs.private.Reader.{keyword_byte}
 use Rattle.lines.proofs.SameBytes.{same_bytes_lem}

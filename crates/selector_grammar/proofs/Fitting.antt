@@ -17,14 +17,16 @@ use Rattle.terms.specs.Nesting.{operand_nesting, nesting_by, nesting}
 use Rattle.lines.specs.Line.{same_bytes}
 use Rattle.selector_grammar.specs.Bytes.{Bytes}
 use Rattle.selector_grammar.specs.Words.{find, next, is_some, or_zero, axes, types}
-use Rattle.selector_grammar.specs.Grammar.{Axis, implied, attribute, axis, Test, any, called, kind, target, LocationStep}
+use Rattle.selector_grammar.specs.Grammar.{Axis, implied, attribute, axis, Test, any, called, kind, target}
+use Rattle.selector_grammar.specs.Grammar.{LocationStep}
 use Rattle.selector_grammar.specs.Grammar.{dot, dots, test, filter, Rel, one, slash, slashes, Path, relative, root}
 use Rattle.selector_grammar.specs.Grammar.{rooted, anywhere, Union, single, union, Unary, paths, group, negation}
 use Rattle.selector_grammar.specs.Grammar.{constant, And, operand, conj, Or, alone, disj, FineAxis, FineTest, FineStep}
 use Rattle.selector_grammar.specs.Grammar.{FineRel, FinePath, FineUnion, FineUnary, FineAnd, FineOr}
 use Rattle.selector_grammar.specs.Denotes.{axis_of, test_of, constant_of, step_of, rel_of, rel_after, path_of, union_of}
 use Rattle.selector_grammar.specs.Denotes.{unary_of}
-use Rattle.selector_grammar.specs.Denotes.{and_of, or_of, Named, test_names, step_names, rel_names, path_names, union_names}
+use Rattle.selector_grammar.specs.Denotes.{and_of, or_of, Named, test_names, step_names, rel_names, path_names}
+use Rattle.selector_grammar.specs.Denotes.{union_names}
 use Rattle.selector_grammar.specs.Denotes.{unary_names, and_names, or_names, unlisted}
 use Rattle.selector_grammar.proofs.Stands.{well_formed_lem, StepFits, PathFits, QualifierFits}
 

@@ -14,7 +14,8 @@ use Rattle.common.specs.Lists.{all_of}
 use Rattle.selector_grammar.specs.Bytes.{Bytes, is_space, is_start, is_name, is_quote, is_word, nonempty}
 use Rattle.selector_grammar.specs.Bytes.{apart, not_word, true_word, false_word}
 use Rattle.selector_grammar.specs.Words.{find, next, axes, types, is_some, is_axis, is_type, instruction_word}
-use Rattle.selector_grammar.specs.Grammar.{Axis, implied, attribute, axis, Test, any, called, kind, target, LocationStep}
+use Rattle.selector_grammar.specs.Grammar.{Axis, implied, attribute, axis, Test, any, called, kind, target}
+use Rattle.selector_grammar.specs.Grammar.{LocationStep}
 use Rattle.selector_grammar.specs.Grammar.{dot, dots, test, filter, Rel, one, slash, slashes, Path, relative, root}
 use Rattle.selector_grammar.specs.Grammar.{rooted, anywhere, Union, single, union, Unary, paths, group, negation}
 use Rattle.selector_grammar.specs.Grammar.{constant, And, operand, conj, Or, alone, disj, spell_axis, spell_test}
@@ -26,11 +27,14 @@ use Rattle.selector_grammar.specs.Grammar.{FineUnion, FineUnary, FineAnd, FineOr
 use Rattle.selector_grammar.specs.private.Reader.{State, Next, need, root1, slash1, dot1, name, testing, type_open}
 use Rattle.selector_grammar.specs.private.Reader.{quote, quoted, unquoted, after, const_open, closed, keyword}
 use Rattle.selector_grammar.specs.private.Reader.{k_and, k_or, Ctx, inside, Open, bracket, negate, grouped}
-use Rattle.selector_grammar.specs.private.Reader.{Prefix, bare, at_root, at_any, Lead, start, after1, after2, Alt, first}
+use Rattle.selector_grammar.specs.private.Reader.{Prefix, bare, at_root, at_any, Lead, start, after1, after2, Alt}
+use Rattle.selector_grammar.specs.private.Reader.{first}
 use Rattle.selector_grammar.specs.private.Reader.{more, Left, nothing, either, Pend, plain, both, prefix_of, join}
 use Rattle.selector_grammar.specs.private.Reader.{with_prefix, join_alt, wrap, left_of, and_to, or_to, room, room_of}
-use Rattle.selector_grammar.specs.private.Reader.{begin, enter, step, walk, follow, need_byte, shut, unary_byte, union_byte}
-use Rattle.selector_grammar.specs.private.Reader.{path_byte, group_byte, lead_byte, call_byte, paren_byte_next, colon_byte_next}
+use Rattle.selector_grammar.specs.private.Reader.{begin, enter, step, walk, follow, need_byte, shut, unary_byte}
+use Rattle.selector_grammar.specs.private.Reader.{union_byte}
+use Rattle.selector_grammar.specs.private.Reader.{path_byte, group_byte, lead_byte, call_byte, paren_byte_next}
+use Rattle.selector_grammar.specs.private.Reader.{colon_byte_next}
 use Rattle.selector_grammar.specs.private.Reader.{after_byte}
 use Rattle.selector_grammar.specs.private.Reader.{keyword_byte}
 use Rattle.lines.proofs.SameBytes.{same_bytes_lem}

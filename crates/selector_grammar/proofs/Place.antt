@@ -15,15 +15,19 @@ use Rattle.selector_grammar.specs.Grammar.{constant, Or, spell_axis, spell_test}
 use Rattle.selector_grammar.specs.Grammar.{spell_step, spell_path, spell_union}
 use Rattle.selector_grammar.specs.Grammar.{Spaces, FineStep, FinePath}
 use Rattle.selector_grammar.specs.Grammar.{Spells, Viable, Outside}
-use Rattle.selector_grammar.specs.private.Reader.{State, Next, need, root1, slash1, dot1, name, colon, testing, type_open}
+use Rattle.selector_grammar.specs.private.Reader.{State, Next, need, root1, slash1, dot1, name, colon, testing}
+use Rattle.selector_grammar.specs.private.Reader.{type_open}
 use Rattle.selector_grammar.specs.private.Reader.{quote, quoted, unquoted, after, const_open, closed, keyword, k_a}
-use Rattle.selector_grammar.specs.private.Reader.{k_an, k_and, k_o, k_or, Ctx, top, inside, Open, bracket, negate, grouped}
-use Rattle.selector_grammar.specs.private.Reader.{Prefix, bare, at_root, at_any, Lead, start, after1, after2, Alt, first}
+use Rattle.selector_grammar.specs.private.Reader.{k_an, k_and, k_o, k_or, Ctx, top, inside, Open, bracket, negate}
+use Rattle.selector_grammar.specs.private.Reader.{grouped}
+use Rattle.selector_grammar.specs.private.Reader.{Prefix, bare, at_root, at_any, Lead, start, after1, after2, Alt}
+use Rattle.selector_grammar.specs.private.Reader.{first}
 use Rattle.selector_grammar.specs.private.Reader.{more, either, Pend, plain, both, prefix_of, join}
 use Rattle.selector_grammar.specs.private.Reader.{with_prefix, path_to, join_alt, left_of, and_to, or_to, room}
 use Rattle.selector_grammar.specs.private.Reader.{begin, step, walk, follow, need_byte, shut, unary_byte, union_byte}
 use Rattle.selector_grammar.specs.private.Reader.{path_byte, after_byte}
-use Rattle.selector_grammar.specs.private.Reader.{keyword_byte, finish, at_top, lead_end, Text, run, outcome, Outcome, good}
+use Rattle.selector_grammar.specs.private.Reader.{keyword_byte, finish, at_top, lead_end, Text, run, outcome, Outcome}
+use Rattle.selector_grammar.specs.private.Reader.{good}
 use Rattle.selector_grammar.specs.private.Reader.{bad, initial}
 use lib.ListN.{length, take, drop, take-append-drop, length-append}
 use lib.Seq.{take_at, take-take}

@@ -12,7 +12,8 @@ use Rattle.common.specs.RowKinds.{false_row, not_row, and_row, or_row, inclusion
 use Rattle.xpath.specs.Term as term
 use Rattle.xpath.specs.Term.{some_of}
 use Rattle.terms.specs.Row.{Row, row, find}
-use Rattle.selector_grammar.specs.Grammar.{Axis, implied, attribute, axis, Test, any, called, kind, target, LocationStep}
+use Rattle.selector_grammar.specs.Grammar.{Axis, implied, attribute, axis, Test, any, called, kind, target}
+use Rattle.selector_grammar.specs.Grammar.{LocationStep}
 use Rattle.selector_grammar.specs.Grammar.{dot, dots, test, filter, Rel, one, slash, slashes, Path, relative, root}
 use Rattle.selector_grammar.specs.Grammar.{rooted, anywhere, Union, single, union, Unary, paths, group, negation}
 use Rattle.selector_grammar.specs.Grammar.{constant, And, operand, conj, Or, alone, disj, spell_axis}

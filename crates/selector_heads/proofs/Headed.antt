@@ -22,13 +22,15 @@ use Rattle.lines.specs.Line.{same_bytes}
 use Rattle.common.specs.Lists.{all_of}
 use Rattle.selector_grammar.specs.Bytes.{Bytes, is_space, is_start, is_name, is_quote, is_word, not_word}
 use Rattle.selector_grammar.specs.Bytes.{true_word, false_word}
-use Rattle.selector_grammar.specs.Words.{find, next, types, axes, is_some, or_zero, is_type, type_code, is_axis, axis_code}
+use Rattle.selector_grammar.specs.Words.{find, next, types, axes, is_some, or_zero, is_type, type_code, is_axis}
+use Rattle.selector_grammar.specs.Words.{axis_code}
 use Rattle.selector_grammar.specs.Words.{instruction_word, number_of}
 use Rattle.selector_grammar.specs.Grammar.{Axis, implied, attribute, axis, Test, any, called, kind, target, dot}
 use Rattle.selector_grammar.specs.Grammar.{dots, test, Spaces, spell_axis, spell_test, spell_step, takes_predicate}
 use Rattle.selector_grammar.specs.Denotes.{step_of, test_of, axis_of, step_names, test_names, unlisted}
 use Rattle.selector_grammar.specs.private.Reader.{State, need, name, testing, colon, type_open, quote, quoted, unquoted}
-use Rattle.selector_grammar.specs.private.Reader.{after, dot1, Ctx, top, inside, Alt, first, more, Lead, start, bare, at_root}
+use Rattle.selector_grammar.specs.private.Reader.{after, dot1, Ctx, top, inside, Alt, first, more, Lead, start, bare}
+use Rattle.selector_grammar.specs.private.Reader.{at_root}
 use Rattle.selector_grammar.specs.private.Reader.{at_any, after1, after2, step, follow, finish, run, bad}
 use Rattle.selector_grammar.specs.private.Reader.{need_byte, after_byte, paren_byte_next, colon_byte_next, call_byte}
 use Rattle.lines.proofs.SameBytes.{same_bytes_lem}

@@ -6,7 +6,8 @@ ghost use Rattle.selector_grammar.specs.Bytes.{is_space, is_start, is_quote, is_
 ghost use Rattle.selector_grammar.specs.Words.{number_of};
 ghost use Rattle.selector_words.specs.private.Scan.{byte_at, begins_step};
 ghost use Rattle.selector_heads.specs.private.Head.{part, plain_head, named_head, opened_by, NameAt, DotMet};
-ghost use Rattle.selector_heads.specs.private.Head.{TargetMet, TypeMet, TestMet, HeadMet, OperandMet, name_number, name_place};
+ghost use Rattle.selector_heads.specs.private.Head.{TargetMet, TypeMet, TestMet, HeadMet, OperandMet, name_number};
+ghost use Rattle.selector_heads.specs.private.Head.{name_place};
 
 use common::axis::Axis;
 use common::node_test::NodeTest;

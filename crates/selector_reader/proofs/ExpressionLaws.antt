@@ -12,13 +12,15 @@ use Rattle.selector_grammar.specs.Bytes.{Bytes}
 use Rattle.selector_grammar.specs.Words.{number_of}
 use Rattle.selector_grammar.specs.Grammar.{Unary, operand, conj, Or, alone, disj, spell_and, spell_or}
 use Rattle.selector_grammar.specs.Denotes.{unary_of, and_of, or_of, and_names, or_names, put_qual, nest_qual}
-use Rattle.selector_grammar.specs.private.Reader.{need, inside, Open, first, begin, Left, nothing, either, Pend, plain, both}
+use Rattle.selector_grammar.specs.private.Reader.{need, inside, Open, first, begin, Left, nothing, either, Pend, plain}
+use Rattle.selector_grammar.specs.private.Reader.{both}
 use Rattle.selector_grammar.specs.private.Reader.{left_of, and_to, or_to, wrap, room_of, enter, run, unary_byte}
 use Rattle.selector_words.specs.private.Scan.{byte_at}
 use Rattle.selector_heads.specs.private.Head.{proceed}
 use Rattle.selector_readings.specs.private.Build.{Standing, capped, moved_to, refused_at, Sized, PutMet}
 use Rattle.selector_readings.specs.private.Passing.{WordMet, after_and, after_or}
-use Rattle.selector_reader.specs.private.Readers.{MadeQual, Reached, UnaryMet, AndRead, AndFails, AndMet, OrFails, OrMet}
+use Rattle.selector_reader.specs.private.Readers.{MadeQual, Reached, UnaryMet, AndRead, AndFails, AndMet, OrFails}
+use Rattle.selector_reader.specs.private.Readers.{OrMet}
 use Rattle.selector_readings.proofs.Built.{unlisted_append, made_from, made_join}
 
 -- an operator name changes only the place

@@ -21,7 +21,8 @@ use Rattle.selector_grammar.specs.Grammar.{implied, called, test, Union, Unary, 
 use Rattle.selector_grammar.specs.Grammar.{spell_unary, spell_bool}
 use Rattle.selector_grammar.specs.Denotes.{unary_of, union_of, or_of, constant_of, unary_names, unlisted, put}
 use Rattle.selector_grammar.specs.Denotes.{put_path, put_qual, nest_path, nest_qual}
-use Rattle.selector_grammar.specs.private.Reader.{State, need, after, const_open, closed, inside, Open, bracket, negate, grouped}
+use Rattle.selector_grammar.specs.private.Reader.{State, need, after, const_open, closed, inside, Open, bracket, negate}
+use Rattle.selector_grammar.specs.private.Reader.{grouped}
 use Rattle.selector_grammar.specs.private.Reader.{first, begin, Pend, step, finish, follow, run, outcome, bad, room}
 use Rattle.selector_grammar.specs.private.Reader.{room_of, enter, shut, need_byte, lead_byte, group_byte, after_byte}
 use Rattle.selector_grammar.specs.private.Reader.{paren_byte_next}

@@ -17,19 +17,24 @@ use Rattle.selector_grammar.specs.Bytes.{Bytes, is_space, is_start}
 use Rattle.selector_grammar.specs.Words.{number_of}
 use Rattle.selector_grammar.specs.Grammar.{LocationStep, Rel, slash, slashes, Path, root, Union}
 use Rattle.selector_grammar.specs.Grammar.{Unary, paths, spell_step, spell_rel, spell_path, spell_union}
-use Rattle.selector_grammar.specs.Denotes.{Named, every_below, step_of, rel_of, rel_after, path_of, union_of, step_names}
+use Rattle.selector_grammar.specs.Denotes.{Named, every_below, step_of, rel_of, rel_after, path_of, union_of}
+use Rattle.selector_grammar.specs.Denotes.{step_names}
 use Rattle.selector_grammar.specs.Denotes.{rel_names, path_names, union_names, unlisted, put_path, nest_path}
 use Rattle.selector_grammar.specs.private.Reader.{need, root1, slash1, after, Ctx, top, inside, Open, bracket, negate}
-use Rattle.selector_grammar.specs.private.Reader.{grouped, Pend, Alt, first, more, Lead, start, after1, after2, begin, Prefix}
-use Rattle.selector_grammar.specs.private.Reader.{bare, at_root, at_any, prefix_of, join, with_prefix, path_to, join_alt}
+use Rattle.selector_grammar.specs.private.Reader.{grouped, Pend, Alt, first, more, Lead, start, after1, after2, begin}
+use Rattle.selector_grammar.specs.private.Reader.{Prefix}
+use Rattle.selector_grammar.specs.private.Reader.{bare, at_root, at_any, prefix_of, join, with_prefix, path_to}
+use Rattle.selector_grammar.specs.private.Reader.{join_alt}
 use Rattle.selector_grammar.specs.private.Reader.{step, follow}
 use Rattle.selector_grammar.specs.private.Reader.{finish, run, room, shut, need_byte, lead_byte, lead_end, group_byte}
 use Rattle.selector_grammar.specs.private.Reader.{after_byte, path_byte, union_byte, unary_byte, at_top}
 use Rattle.selector_words.specs.private.Scan.{byte_at, Passed, begins_step}
 use Rattle.selector_heads.specs.private.Head.{callable, Due}
-use Rattle.selector_readings.specs.private.Build.{Standing, capped, moved_to, refused_at, PutMet, Grown, below_of, only_in_step}
+use Rattle.selector_readings.specs.private.Build.{Standing, capped, moved_to, refused_at, PutMet, Grown, below_of}
+use Rattle.selector_readings.specs.private.Build.{only_in_step}
 use Rattle.selector_readings.specs.private.Passing.{FirstPut, SlashPut, BeginPut, Starting, start_of, root_start}
-use Rattle.selector_reader.specs.private.Readers.{after_path, after_union, union_at_top, MadePath, Ready, Reached, StepMet}
+use Rattle.selector_reader.specs.private.Readers.{after_path, after_union, union_at_top, MadePath, Ready, Reached}
+use Rattle.selector_reader.specs.private.Readers.{StepMet}
 use Rattle.selector_reader.specs.private.Readers.{NoOperand, PathFails, PathMet, UnionFails, UnionMet}
 use Rattle.selector_words.proofs.Scanned.{head_drop}
 use Rattle.selector_heads.proofs.Ran.{on_pass, need_over}

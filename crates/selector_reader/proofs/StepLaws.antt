@@ -17,7 +17,8 @@ use Rattle.selector_grammar.specs.Words.{number_of}
 use Rattle.selector_grammar.specs.Grammar.{LocationStep, filter, Or, takes_predicate, spell_step, spell_or}
 use Rattle.selector_grammar.specs.Denotes.{step_of, or_of, step_names, or_names, put_path, put_qual, nest_path}
 use Rattle.selector_grammar.specs.private.Reader.{State, after, Ctx, Open, bracket, Alt, Lead, step, follow, run, bad}
-use Rattle.selector_grammar.specs.private.Reader.{room, room_of, enter, shut, after_byte, paren_byte_next, colon_byte_next}
+use Rattle.selector_grammar.specs.private.Reader.{room, room_of, enter, shut, after_byte, paren_byte_next}
+use Rattle.selector_grammar.specs.private.Reader.{colon_byte_next}
 use Rattle.selector_grammar.proofs.Basics.{is_true}
 use Rattle.std.specs.Prelude.{Ok, Err}
 use Rattle.selector_heads.specs.declared.Head.{Head}
@@ -25,7 +26,8 @@ use Rattle.selector_words.specs.private.Scan.{byte_at, Passed}
 use Rattle.selector_heads.specs.private.Head.{callable, NoCall, Due, HeadMet, proceed}
 use Rattle.selector_readings.specs.private.Build.{Standing, capped, moved_to, refused_at, PutMet, HeadPut, only_in_step}
 use Rattle.selector_readings.specs.private.Passing.{CloseMet}
-use Rattle.selector_reader.specs.private.Readers.{MadeQual, Ready, Reached, PredicateMet, StepRead, StepFails, StepMet, OrMet}
+use Rattle.selector_reader.specs.private.Readers.{MadeQual, Ready, Reached, PredicateMet, StepRead, StepFails, StepMet}
+use Rattle.selector_reader.specs.private.Readers.{OrMet}
 use Rattle.selector_words.proofs.Scanned.{there}
 use Rattle.selector_heads.proofs.Ran.{on_pass, over}
 use Rattle.selector_heads.proofs.Headed.{byte_there, passed_length, on_fail}

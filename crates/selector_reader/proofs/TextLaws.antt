@@ -28,9 +28,11 @@ use Rattle.common.specs.declared.refusal.Refusal.TheVariants.{OutsideGrammar}
 use Rattle.common.proofs.Refusals.{refusal_some}
 use Rattle.common.proofs.Results.{Mapped, mapped_ok, mapped_err}
 use Rattle.selector_heads.specs.private.Head.{callable, place_of}
-use Rattle.selector_readings.specs.private.Build.{Standing, stands, ended, refused_at, Sized, Holds, first_of, nothing_read}
+use Rattle.selector_readings.specs.private.Build.{Standing, stands, ended, refused_at, Sized, Holds, first_of}
+use Rattle.selector_readings.specs.private.Build.{nothing_read}
 use Rattle.selector_reader.specs.Promises.{held_rows, TextRead}
-use Rattle.selector_reader.specs.private.Readers.{after_union, union_at_top, refusal_of, end_of, UnionRead, UnionMet, TextMet}
+use Rattle.selector_reader.specs.private.Readers.{after_union, union_at_top, refusal_of, end_of, UnionRead, UnionMet}
+use Rattle.selector_reader.specs.private.Readers.{TextMet}
 use Rattle.common.specs.Lists.{joined as numbers_of}
 use Rattle.selector_readings.proofs.Built.{table_count}
 use Rattle.selector_reader.proofs.Left.{left_table}

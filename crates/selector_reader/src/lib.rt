@@ -10,7 +10,8 @@ ghost use Rattle.selector_grammar.specs.Bytes.{is_space, open_bracket};
 ghost use Rattle.selector_words.specs.private.Scan.{byte_at};
 ghost use Rattle.selector_words.specs.private.Index.{max_length};
 ghost use Rattle.selector_readings.specs.private.Build.{stands, ended, Sized};
-ghost use Rattle.selector_reader.specs.private.Readers.{Ready, PredicateMet, StepMet, PathMet, UnionMet, UnaryMet, AndMet};
+ghost use Rattle.selector_reader.specs.private.Readers.{Ready, PredicateMet, StepMet, PathMet, UnionMet, UnaryMet};
+ghost use Rattle.selector_reader.specs.private.Readers.{AndMet};
 ghost use Rattle.selector_reader.specs.private.Readers.{OrMet, TextMet, end_of};
 ghost use Rattle.selector_reader.specs.Promises.{TextRead};
 
@@ -18,9 +19,9 @@ use common::Refusal;
 use common::row_kind::RowKind;
 use selector_heads::{Opens, Selector};
 use selector_readings::{Reading, Start};
-use terms::KeptRows;
 use selector_words::Names;
 use selector_words::bytes::{byte_at, skip};
+use terms::KeptRows;
 
 // How deep predicates, groups and negations may nest.
 const MAX_LEVELS: usize = 32;

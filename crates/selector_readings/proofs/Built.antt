@@ -20,7 +20,8 @@ use Rattle.selector_grammar.specs.Denotes.{Put, put, Named, unlisted}
 use Rattle.selector_heads.specs.private.Head.{place_of}
 use Rattle.selector_readings.specs.declared.Reading.{Reading}
 use Rattle.selector_readings.specs.private.Build.{Standing, stands, row_width, row_numbers, capped, moved_to, row_taken}
-use Rattle.selector_readings.specs.private.Build.{no_room, Sized, Holds, Beyond, SameText, PutMet, first_of, Made, Grown}
+use Rattle.selector_readings.specs.private.Build.{no_room, Sized, Holds, Beyond, SameText, PutMet, first_of, Made}
+use Rattle.selector_readings.specs.private.Build.{Grown}
 use Rattle.selector_readings.specs.private.Build.{StepPut, joined, over, leaf}
 
 -- a row put never leaves fewer rows

@@ -12,11 +12,13 @@ use lib.ListN.{length, get_or, drop}
 use Rattle.selector_grammar.specs.Bytes.{Bytes, is_space, is_start, is_name}
 use Rattle.selector_grammar.specs.Grammar.{Unary}
 use Rattle.selector_grammar.specs.private.Reader.{need, keyword, k_a, k_an, k_and, k_o, k_or, inside, Open, Pend, plain}
-use Rattle.selector_grammar.specs.private.Reader.{both, either, left_of, and_to, or_to, first, begin, step, follow, finish, run}
+use Rattle.selector_grammar.specs.private.Reader.{both, either, left_of, and_to, or_to, first, begin, step, follow}
+use Rattle.selector_grammar.specs.private.Reader.{finish, run}
 use Rattle.selector_grammar.specs.private.Reader.{bad, unary_byte, keyword_byte, lead_end}
 use Rattle.selector_words.specs.private.Scan.{byte_at, Passed, begins_step}
 use Rattle.selector_heads.specs.private.Head.{proceed}
-use Rattle.selector_readings.specs.private.Build.{Standing, capped, moved_to, refused_at, Sized, PutMet, Grown, below_of}
+use Rattle.selector_readings.specs.private.Build.{Standing, capped, moved_to, refused_at, Sized, PutMet, Grown}
+use Rattle.selector_readings.specs.private.Build.{below_of}
 use Rattle.selector_readings.specs.private.Passing.{WordPassed, WordMet, FirstPut}
 use Rattle.selector_readings.specs.private.Passing.{SlashPut, BeginPut, Starting, start_of, root_start}
 use Rattle.selector_readings.specs.private.Passing.{after_and, after_or}

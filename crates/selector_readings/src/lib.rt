@@ -19,8 +19,8 @@ use common::axis::Axis;
 use common::node_test::NodeTest;
 use common::row_kind::RowKind;
 use selector_heads::{Head, Opens};
-use terms::Row;
 use selector_words::bytes::{byte_at, is_name, skip};
+use terms::Row;
 
 /// What was read ends before `at`, where no whitespace is. `row` is that of the last term read, `nesting` its nesting,
 /// `count` how many rows there are. `missing` is the place of the first name that is not listed. A reading whose rows

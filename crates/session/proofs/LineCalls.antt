@@ -23,7 +23,7 @@ use Rattle.calls.specs.represent.Tables.{row_width, step_width, first_rows, firs
 use Rattle.session.specs.View.{view, fresh_session}
 use Rattle.calls.specs.Book.{step_numbers, step_of_numbers}
 use Rattle.calls.specs.Promises.{row_step_answer}
-use Rattle.term_calls.specs.private.Placed.{TermPlaced}
+use Rattle.call_answers.specs.private.Placed.{TermPlaced}
 use Rattle.bundles.specs.Bundle.{row_names, step_names}
 use Rattle.common.specs.Refusals.{wrong_form}
 use Rattle.session.specs.Reading.{refused_at, steps_read, rows_read}

@@ -24,7 +24,7 @@ impl Session {
         ensures { result ≡ uses_of rule (view self.now).steps }
     {
         let steps = self.held_steps();
-        step_calls::rule_uses(steps, rule)
+        call_answers::step::rule_uses(steps, rule)
     }
 
     /// The rows of the last step; zeros if there is none.

@@ -47,7 +47,7 @@ fn read_rows(bytes: &[u8], start: usize, rows: &mut KeptRows) -> Result<RowsEnd,
         }
         let text = lines::numbers_line(bytes, at).ok_or(wrong_form(line))?;
         let row = Row::from(text.numbers);
-        term_calls::term_kept(rows, row).map_err(|refusal| LineRefusal { refusal, line })?;
+        call_answers::term::term_kept(rows, row).map_err(|refusal| LineRefusal { refusal, line })?;
         line += 1;
         at = text.next;
     }
@@ -76,7 +76,7 @@ fn read_steps(
         let text = lines::numbers_line(bytes, at).ok_or(wrong_form(line))?;
         let step = Step::from(text.numbers);
         let held = Held::first(&rows.numbers, rows.count, steps, m);
-        step_calls::judge_noted(held, step, &mut noted).map_err(|refusal| LineRefusal {
+        call_answers::step::judge_noted(held, step, &mut noted).map_err(|refusal| LineRefusal {
             refusal,
             line,
         })?;
@@ -97,7 +97,7 @@ impl Session {
         if !lines::is_line(bytes, 0, ROW_NAMES) {
             return Err(wrong_form(1));
         }
-        term_calls::keep_first(&mut self.rows, 0);
+        call_answers::term::keep_first(&mut self.rows, 0);
         let ended = read_rows(bytes, ROW_NAMES.len() + 1, &mut self.rows)?;
         let m = read_steps(bytes, ended, &self.rows, &mut self.steps)?;
         self.row_count = self.rows.count;

@@ -28,7 +28,7 @@ impl Session {
     pub fn judge_return(&self, name: u16) -> Result<(), Refusal>
         ensures { done_answer_of result ≡ session_answer self.now (Call.return name) }
     {
-        point_calls::judge_return(self.held_points(), name)?;
+        call_answers::point::judge_return(self.held_points(), name)?;
         Ok(())
     }
 
@@ -36,7 +36,7 @@ impl Session {
     pub fn drops_in_use(&self, records: &Records, name: u16) -> bool
         ensures { result ≡ drops_in_use (view self.now) (records_in records.now) (Call.return name) }
     {
-        let point = point_calls::point_named(self.held_points(), name);
+        let point = call_answers::point::point_named(self.held_points(), name);
         let (n, m) = (usize::from(point.rows), usize::from(point.steps));
         let kept = Held::first(&self.rows.numbers, n, &self.steps, m);
         !records.all_kept(terms::row_count(kept.rows), calls::step_count(kept.steps))

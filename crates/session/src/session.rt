@@ -137,8 +137,8 @@ impl Session {
         ensures refused { OnErr result (self.new ≡ self.old) }
     {
         let n = self.rows_counted();
-        term_calls::keep_first(&mut self.rows, n);
-        let number = term_calls::term_kept(&mut self.rows, row)?;
+        call_answers::term::keep_first(&mut self.rows, n);
+        let number = call_answers::term::term_kept(&mut self.rows, row)?;
         self.row_count = n + 1;
         Ok(number)
     }
@@ -148,7 +148,7 @@ impl Session {
         ensures refused { OnErr result (self.new ≡ self.old) }
     {
         let m = self.steps_counted();
-        let number = step_calls::judge_step(self.held(), step)?;
+        let number = call_answers::step::judge_step(self.held(), step)?;
         common::put_record(&mut self.steps, m, step.into());
         self.step_count = m + 1;
         Ok(number)
@@ -162,7 +162,7 @@ impl Session {
         let n = self.rows_counted();
         let m = self.steps_counted();
         let k = self.points_counted();
-        point_calls::judge_point(self.held_points(), name)?;
+        call_answers::point::judge_point(self.held_points(), name)?;
         let point = PointCounts {
             name,
             rows: n as u16,
@@ -179,14 +179,14 @@ impl Session {
         ensures met { Met self.old (Call.return name) (done_answer_of result) self.new }
         ensures refused { OnErr result (self.new ≡ self.old) }
     {
-        let (place, point) = point_calls::judge_return(self.held_points(), name)?;
+        let (place, point) = call_answers::point::judge_return(self.held_points(), name)?;
         let n = usize::from(point.rows);
         let m = usize::from(point.steps);
-        term_calls::clear_from(&mut self.rows, terms::ROW_WIDTH * n);
+        call_answers::term::clear_from(&mut self.rows, terms::ROW_WIDTH * n);
         self.row_count = n;
-        point_calls::clear(&mut self.steps, calls::STEP_WIDTH * m);
+        call_answers::point::clear(&mut self.steps, calls::STEP_WIDTH * m);
         self.step_count = m;
-        point_calls::clear(&mut self.points, calls::POINT_WIDTH * (place + 1));
+        call_answers::point::clear(&mut self.points, calls::POINT_WIDTH * (place + 1));
         self.point_count = place + 1;
         Ok(())
     }
@@ -214,6 +214,6 @@ impl Session {
         ensures { SelectMet self.now row document.now context limit marks.old result
             marks.new }
     {
-        select_calls::select_on(self.held_rows(), row, document, context, limit, marks)
+        call_answers::select::select_on(self.held_rows(), row, document, context, limit, marks)
     }
 }

@@ -17,14 +17,14 @@ pub struct JudgedFiles {
 
 // The file of that name; none if it can't be opened. A name that is no UTF-8 can't be.
 fn open_at(rt: &impl Files<File = File>, list: &[u8], k: usize) -> Option<File> {
-    let name = names::name_at(list, k);
+    let name = lines::names::name_at(list, k);
     let path = str::from_utf8(&list[name.start..name.end]).ok()?;
     File::open(rt, path).ok()
 }
 
 // The open files in order, up to the first that can't be opened.
 fn open_all(rt: &impl Files<File = File>, list: &[u8]) -> OpenFiles {
-    let count = names::count(list);
+    let count = lines::names::count(list);
     let mut files = [NO_FILE; tallies::MAX_FILES];
     for (k, place) in files.iter_mut().enumerate().take(count) {
         let Some(file) = open_at(rt, list, k) else {

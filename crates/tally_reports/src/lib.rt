@@ -7,8 +7,8 @@ ghost use Rattle.std.specs.Prelude.{◌≡◌, ◌⊎◌, true, false, [], IfSom
 ghost use Rattle.tallies.specs.Count.{file};
 ghost use Rattle.tallies.specs.represent.Tally.{with_file};
 
-use answer_lines::AnswerLine;
 use arrayvec::ArrayString;
+use calls::answer_line::AnswerLine;
 use judged::JudgedFiles;
 use std::alloc::Global;
 use std::fmt::{Display, Write};

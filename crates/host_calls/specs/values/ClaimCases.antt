@@ -22,17 +22,22 @@ use Rattle.selector_grammar.specs.Bytes.{is_space, is_start, is_name, is_quote}
 use Rattle.selector_grammar.specs.Words as words
 use Rattle.selector_grammar.specs.Words.{next, axes, types, is_some, instruction_word, or_zero, bytes_of, numbered}
 use Rattle.selector_grammar.specs.Words.{number_of}
-use Rattle.selector_grammar.specs.Grammar.{spell_axis, spell_test, spell_bool, spell_step, spell_rel, spell_path, spell_union}
+use Rattle.selector_grammar.specs.Grammar.{spell_axis, spell_test, spell_bool, spell_step, spell_rel, spell_path}
+use Rattle.selector_grammar.specs.Grammar.{spell_union}
 use Rattle.selector_grammar.specs.Grammar.{spell_unary, spell_and, spell_or, takes_predicate}
 use Rattle.selector_grammar.specs.private.Reader.{run, outcome, follow, step, finish, need_byte, after_byte, path_byte}
 use Rattle.selector_grammar.specs.private.Reader.{union_byte, unary_byte, shut, group_byte, lead_byte, call_byte}
 use Rattle.selector_grammar.specs.private.Reader.{paren_byte_next}
-use Rattle.selector_grammar.specs.private.Reader.{colon_byte_next, keyword_byte, lead_end, at_top, room, room_of, prefix_of}
+use Rattle.selector_grammar.specs.private.Reader.{colon_byte_next, keyword_byte, lead_end, at_top, room, room_of}
+use Rattle.selector_grammar.specs.private.Reader.{prefix_of}
 use Rattle.selector_grammar.specs.private.Reader.{join}
 use Rattle.selector_grammar.specs.private.Reader.{with_prefix, join_alt, wrap, left_of, and_to}
-use Rattle.selector_grammar.specs.Denotes.{unlisted, test_names, step_names, rel_names, path_names, union_names, unary_names}
-use Rattle.selector_grammar.specs.Denotes.{and_names, or_names, axis_of, constant_of, test_of, step_of, rel_of, rel_after}
-use Rattle.selector_grammar.specs.Denotes.{path_of, union_of, unary_of, and_of, or_of, put, put_path, put_qual, nest_path}
+use Rattle.selector_grammar.specs.Denotes.{unlisted, test_names, step_names, rel_names, path_names, union_names}
+use Rattle.selector_grammar.specs.Denotes.{unary_names}
+use Rattle.selector_grammar.specs.Denotes.{and_names, or_names, axis_of, constant_of, test_of, step_of, rel_of}
+use Rattle.selector_grammar.specs.Denotes.{rel_after}
+use Rattle.selector_grammar.specs.Denotes.{path_of, union_of, unary_of, and_of, or_of, put, put_path, put_qual}
+use Rattle.selector_grammar.specs.Denotes.{nest_path}
 use Rattle.selector_grammar.specs.Denotes.{nest_qual}
 use Rattle.selector_grammar.specs.private.ReaderAnswer as grammar
 use Rattle.selector_grammar.specs.private.ReaderAnswer.{names_answer, read_answer}

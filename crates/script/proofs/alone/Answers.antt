@@ -2,7 +2,7 @@
 use mathlib.Core.Path.{refl}
 use mathlib.Core.Option.{Option-elim}
 use Rattle.lines.specs.Number.{numbers_up_to}
-use Rattle.script_words.specs.Words.{shape_of}
+use Rattle.script.specs.Words.{shape_of}
 use Rattle.script.specs.Command.{at_most, named}
 use Rattle.script.proofs.Words.{other_alone}
 use Rattle.script.proofs.alone.Goals as goal

@@ -1,9 +1,9 @@
 -- `behind_word` meets its contract, word by word.
 use mathlib.Core.Path.{refl}
 use Rattle.std.proofs.Common.{rules}
-use Rattle.script_words.specs.declared.Word.TheVariants.{Term, Step, Document, Old, New, Replace, Point, Return, Order}
-use Rattle.script_words.specs.declared.Word.TheVariants.{Names, Text, Record, Current, Release, CrewCurrent}
-use Rattle.script_words.specs.Words.{shape_of}
+use Rattle.script.specs.declared.words.Word.TheVariants.{Term, Step, Document, Old, New, Replace, Point, Return, Order}
+use Rattle.script.specs.declared.words.Word.TheVariants.{Names, Text, Record, Current, Release, CrewCurrent}
+use Rattle.script.specs.Words.{shape_of}
 use Rattle.script.proofs.Words.{no_numbers_behind}
 use Rattle.script.proofs.behind_word.Goals as goal
 

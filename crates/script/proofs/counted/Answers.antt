@@ -2,7 +2,7 @@
 use mathlib.Core.Path.{◌≡◌, refl, ap, ◌∙◌}
 use lib.ListN.{length}
 use Rattle.std.proofs.Common.{rules}
-use Rattle.script_words.specs.Words.{Counted}
+use Rattle.script.specs.Words.{Counted}
 use Rattle.script.specs.Command.{command}
 use Rattle.script.proofs.Calls.{no_numbers_call, numbers_call, put_first}
 use Rattle.script.proofs.counted.Goals as goal

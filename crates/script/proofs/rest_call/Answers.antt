@@ -3,7 +3,7 @@ use mathlib.Core.Path.{sym, subst}
 use mathlib.Core.List.{[]}
 use Rattle.lines.specs.Line.{newline}
 use Rattle.lines.proofs.First.{First, Before, first}
-use Rattle.script_words.specs.Words.{Rest}
+use Rattle.script.specs.Words.{Rest}
 use Rattle.script.proofs.Calls.{no_numbers_call, numbers_call}
 use Rattle.script.proofs.Rests.{any_bytes, no_bytes}
 use Rattle.script.proofs.rest_call.Goals as goal

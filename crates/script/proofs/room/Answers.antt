@@ -4,9 +4,9 @@ use mathlib.Core.List.{[], ◌∷◌}
 use Rattle.lines.specs.Number.{numbers_up_to}
 use Rattle.lines.proofs.Parts.{starts_there}
 use Rattle.lines.proofs.LineRead.{one_within, no_last_within}
-use Rattle.script_words.specs.declared.Word.TheVariants.{Write}
-use Rattle.script_words.specs.Words.{Room}
-use Rattle.script_words.specs.Words.{shape_of}
+use Rattle.script.specs.declared.words.Word.TheVariants.{Write}
+use Rattle.script.specs.Words.{Room}
+use Rattle.script.specs.Words.{shape_of}
 use Rattle.script.specs.Command.{max_room}
 use Rattle.script.proofs.Calls.{no_numbers_call, numbers_call}
 use Rattle.script.proofs.room.Goals as goal

@@ -1,8 +1,8 @@
 -- `selection` meets its contract.
 use mathlib.Core.Path.{refl}
-use Rattle.script_words.specs.declared.Word.TheVariants.{Select}
-use Rattle.script_words.specs.Words.{Selection}
-use Rattle.script_words.specs.Words.{shape_of}
+use Rattle.script.specs.declared.words.Word.TheVariants.{Select}
+use Rattle.script.specs.Words.{Selection}
+use Rattle.script.specs.Words.{shape_of}
 use Rattle.script.proofs.Calls.{no_numbers_call, numbers_call}
 use Rattle.script.proofs.Selects.{no_row, no_context, no_limit, no_marks, all_four}
 use Rattle.script.proofs.selection.Goals as goal

@@ -8,12 +8,12 @@ use Rattle.calls.specs.Book.{step_numbers}
 use Rattle.calls.specs.represent.Answers.{step_of}
 use Rattle.lines.specs.Line.{lines}
 use Rattle.lines.specs.private.NumbersRead.{first_parts}
-use Rattle.script_words.specs.declared.Word.{Word}
-use Rattle.script_words.specs.declared.Word.TheVariants.{Term, Step, Select, Document, Fresh, Old, New, Replace}
-use Rattle.script_words.specs.declared.Word.TheVariants.{Write, Point, Return, Other, Order, BundleOrder, Names, Text}
-use Rattle.script_words.specs.declared.Word.TheVariants.{Record, Current, Release, Records, Released, CrewCurrent}
-use Rattle.script_words.specs.Words.{Counted, Listed, Rest}
-use Rattle.script_words.specs.Words.{shape_of}
+use Rattle.script.specs.declared.words.Word.{Word}
+use Rattle.script.specs.declared.words.Word.TheVariants.{Term, Step, Select, Document, Fresh, Old, New, Replace}
+use Rattle.script.specs.declared.words.Word.TheVariants.{Write, Point, Return, Other, Order, BundleOrder, Names, Text}
+use Rattle.script.specs.declared.words.Word.TheVariants.{Record, Current, Release, Records, Released, CrewCurrent}
+use Rattle.script.specs.Words.{Counted, Listed, Rest}
+use Rattle.script.specs.Words.{shape_of}
 use Rattle.script.specs.declared.Command.{Command as Given}
 use Rattle.script.specs.declared.Command.TheVariants as given
 use Rattle.script.specs.declared.CallLine.{CallLine}

@@ -8,11 +8,11 @@ use Rattle.lines.specs.Line.{in_first_line, lines, in_first_part, parts, same_by
 use Rattle.common.specs.Lists.{all_of}
 use Rattle.lines.specs.Number.{is_digit, is_decimal, append_digits, numbers_up_to}
 use Rattle.lines.specs.private.NumbersRead.{first_parts}
-use Rattle.script_words.specs.declared.Word.TheVariants.{Term, Step, Select, Document, Fresh, Old, New, Replace}
-use Rattle.script_words.specs.declared.Word.TheVariants.{Write, Point, Return, Other, Order, BundleOrder, Names, Text}
-use Rattle.script_words.specs.declared.Word.TheVariants.{Record, Current, Release, Records, Released, CrewCurrent}
+use Rattle.script.specs.declared.words.Word.TheVariants.{Term, Step, Select, Document, Fresh, Old, New, Replace}
+use Rattle.script.specs.declared.words.Word.TheVariants.{Write, Point, Return, Other, Order, BundleOrder, Names, Text}
+use Rattle.script.specs.declared.words.Word.TheVariants.{Record, Current, Release, Records, Released, CrewCurrent}
 use Rattle.script.specs.Command.{Command, command, at_most, named, word_for, command_by, command_of}
-use Rattle.script_words.specs.Words.{words, shape_of}
+use Rattle.script.specs.Words.{words, shape_of}
 
 -- the command of a text's first line
 abbrev first : String → Option Command

@@ -14,23 +14,31 @@ use Rattle.lines.specs.Number.{is_digit, is_decimal, append_digits, numbers_up_t
 use Rattle.lines.specs.Written.{digits_of, decimal, line_text}
 use Rattle.selector_grammar.proofs.Answered.{answered}
 use Rattle.selector_grammar.specs.Bytes.{is_space, is_start, is_name, is_quote}
-use Rattle.selector_grammar.specs.Denotes.{or_names, axis_of, constant_of, test_of, step_of, rel_of, rel_after, nest_qual}
-use Rattle.selector_grammar.specs.Denotes.{path_of, union_of, unary_of, and_of, or_of, put, put_path, put_qual, nest_path}
+use Rattle.selector_grammar.specs.Denotes.{or_names, axis_of, constant_of, test_of, step_of, rel_of, rel_after}
+use Rattle.selector_grammar.specs.Denotes.{nest_qual}
+use Rattle.selector_grammar.specs.Denotes.{path_of, union_of, unary_of, and_of, or_of, put, put_path, put_qual}
+use Rattle.selector_grammar.specs.Denotes.{nest_path}
 use Rattle.selector_grammar.specs.Denotes.{unlisted}
-use Rattle.selector_grammar.specs.Denotes.{test_names, step_names, rel_names, path_names, union_names, unary_names, and_names}
+use Rattle.selector_grammar.specs.Denotes.{test_names, step_names, rel_names, path_names, union_names, unary_names}
+use Rattle.selector_grammar.specs.Denotes.{and_names}
 use Rattle.selector_grammar.specs.Grammar.{spell_step, spell_rel, spell_path, spell_union}
-use Rattle.selector_grammar.specs.Grammar.{spell_unary, spell_and, spell_or, takes_predicate, spell_axis, spell_test, spell_bool}
-use Rattle.selector_grammar.specs.private.Reader.{after_byte, path_byte, union_byte, unary_byte, shut, group_byte, lead_byte}
+use Rattle.selector_grammar.specs.Grammar.{spell_unary, spell_and, spell_or, takes_predicate, spell_axis, spell_test}
+use Rattle.selector_grammar.specs.Grammar.{spell_bool}
+use Rattle.selector_grammar.specs.private.Reader.{after_byte, path_byte, union_byte, unary_byte, shut, group_byte}
+use Rattle.selector_grammar.specs.private.Reader.{lead_byte}
 use Rattle.selector_grammar.specs.private.Reader.{call_byte}
-use Rattle.selector_grammar.specs.private.Reader.{colon_byte_next, keyword_byte, lead_end, at_top, room, room_of, prefix_of}
+use Rattle.selector_grammar.specs.private.Reader.{colon_byte_next, keyword_byte, lead_end, at_top, room, room_of}
+use Rattle.selector_grammar.specs.private.Reader.{prefix_of}
 use Rattle.selector_grammar.specs.private.Reader.{join}
 use Rattle.selector_grammar.specs.private.Reader.{with_prefix}
-use Rattle.selector_grammar.specs.private.Reader.{join_alt, wrap, left_of, and_to, run, outcome, follow, step, finish, need_byte}
+use Rattle.selector_grammar.specs.private.Reader.{join_alt, wrap, left_of, and_to, run, outcome, follow, step, finish}
+use Rattle.selector_grammar.specs.private.Reader.{need_byte}
 use Rattle.selector_grammar.specs.private.Reader.{paren_byte_next}
 use Rattle.selector_grammar.specs.private.ReaderAnswer as grammar
 use Rattle.selector_grammar.specs.private.ReaderAnswer.{names_answer, read_answer}
 use Rattle.selector_grammar.specs.Words as words
-use Rattle.selector_grammar.specs.Words.{number_of, next, axes, types, is_some, instruction_word, or_zero, bytes_of, numbered}
+use Rattle.selector_grammar.specs.Words.{number_of, next, axes, types, is_some, instruction_word, or_zero, bytes_of}
+use Rattle.selector_grammar.specs.Words.{numbered}
 use Rattle.calls.specs.Book as book
 use Rattle.calls.specs.Calls.{Call}
 use Rattle.calls.specs.PointCall.{place_of, point_answer, return_answer}
@@ -41,9 +49,9 @@ use Rattle.calls.specs.represent.Tables.{steps_of}
 use Rattle.bundles.specs.Bundle as bundles
 use Rattle.bundles.specs.Bundle.{row_names, rows_text, steps_text, bundle_text}
 use Rattle.session.specs.View.{view, fresh_session, with_row, with_rows, with_point, at_point}
-use Rattle.script_words.specs.Words as script
+use Rattle.script.specs.Words as script
 use Rattle.script.specs.Command.{at_most, named, word_for, command_by}
-use Rattle.script_words.specs.Words.{shape_of}
+use Rattle.script.specs.Words.{shape_of}
 use Rattle.script.specs.Rest.{rest_of, names_of}
 use Rattle.script_bundle.specs.Filing.{lends, makes, lending, line_action, lines_filed, filed, file_answer, file_buffer}
 

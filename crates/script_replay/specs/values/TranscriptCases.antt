@@ -8,7 +8,7 @@ use Rattle.lines.specs.Ascii.{ascii}
 use Rattle.lines.specs.Line.{in_first_line, lines, in_first_part, parts, same_bytes}
 use Rattle.lines.specs.Number.{is_digit, is_decimal, append_digits, numbers_up_to}
 use Rattle.script.specs.Command.{at_most, named, word_for, command_by}
-use Rattle.script_words.specs.Words.{words, shape_of}
+use Rattle.script.specs.Words.{words, shape_of}
 use Rattle.script_replay.specs.declared.Style.{Style}
 use Rattle.script_replay.specs.declared.Style.TheVariants.{Answers, Nodes}
 use Rattle.script_replay.specs.Transcript.{ending_line}

@@ -8,18 +8,23 @@ use Rattle.lines.specs.Line.{in_first_line, lines, same_bytes}
 use Rattle.terms.specs.Row.{Row, row, same_row, find}
 use Rattle.selector_grammar.specs.Bytes.{Bytes, is_space, is_start, is_name, is_quote}
 use Rattle.selector_grammar.specs.Words as words
-use Rattle.selector_grammar.specs.Words.{next, axes, types, is_some, instruction_word, or_zero, bytes_of, numbered, number_of}
+use Rattle.selector_grammar.specs.Words.{next, axes, types, is_some, instruction_word, or_zero, bytes_of, numbered}
+use Rattle.selector_grammar.specs.Words.{number_of}
 use Rattle.selector_grammar.specs.Grammar.{takes_predicate, spell_axis, spell_test, spell_bool, spell_step, spell_rel}
 use Rattle.selector_grammar.specs.Grammar.{spell_path, spell_union, spell_unary, spell_and, spell_or}
 use Rattle.selector_grammar.specs.private.Reader.{run, outcome, follow, step, finish, need_byte, after_byte, path_byte}
 use Rattle.selector_grammar.specs.private.Reader.{union_byte, unary_byte, shut, group_byte, lead_byte, call_byte}
 use Rattle.selector_grammar.specs.private.Reader.{paren_byte_next}
-use Rattle.selector_grammar.specs.private.Reader.{colon_byte_next, keyword_byte, lead_end, at_top, room, room_of, prefix_of}
+use Rattle.selector_grammar.specs.private.Reader.{colon_byte_next, keyword_byte, lead_end, at_top, room, room_of}
+use Rattle.selector_grammar.specs.private.Reader.{prefix_of}
 use Rattle.selector_grammar.specs.private.Reader.{join}
 use Rattle.selector_grammar.specs.private.Reader.{with_prefix, join_alt, wrap, left_of, and_to}
-use Rattle.selector_grammar.specs.Denotes.{unlisted, test_names, step_names, rel_names, path_names, union_names, unary_names}
-use Rattle.selector_grammar.specs.Denotes.{and_names, or_names, axis_of, constant_of, test_of, step_of, rel_of, rel_after}
-use Rattle.selector_grammar.specs.Denotes.{path_of, union_of, unary_of, and_of, or_of, put, put_path, put_qual, nest_path}
+use Rattle.selector_grammar.specs.Denotes.{unlisted, test_names, step_names, rel_names, path_names, union_names}
+use Rattle.selector_grammar.specs.Denotes.{unary_names}
+use Rattle.selector_grammar.specs.Denotes.{and_names, or_names, axis_of, constant_of, test_of, step_of, rel_of}
+use Rattle.selector_grammar.specs.Denotes.{rel_after}
+use Rattle.selector_grammar.specs.Denotes.{path_of, union_of, unary_of, and_of, or_of, put, put_path, put_qual}
+use Rattle.selector_grammar.specs.Denotes.{nest_path}
 use Rattle.selector_grammar.specs.Denotes.{nest_qual}
 use Rattle.selector_grammar.specs.Answer.{Reply, reply}
 use Rattle.selector_grammar.specs.private.ReaderAnswer.{term_answer, names_answer, read_answer, answer}

@@ -7,14 +7,19 @@ use Rattle.common.specs.values.Expected.{Case, ◌is◌, AllRight}
 use Rattle.lines.specs.Ascii.{ascii}
 use Rattle.lines.specs.Line.{same_bytes}
 use Rattle.selector_grammar.specs.Bytes.{Bytes, is_space, is_start, is_name, is_quote}
-use Rattle.selector_grammar.specs.Bytes.{quote_byte, open_byte, close_byte, star_byte, hyphen_byte, dot_byte, slash_byte}
-use Rattle.selector_grammar.specs.Bytes.{colon_byte, at_byte, capital_a, capital_z, open_bracket, close_bracket, bar_byte}
+use Rattle.selector_grammar.specs.Bytes.{quote_byte, open_byte, close_byte, star_byte, hyphen_byte, dot_byte}
+use Rattle.selector_grammar.specs.Bytes.{slash_byte}
+use Rattle.selector_grammar.specs.Bytes.{colon_byte, at_byte, capital_a, capital_z, open_bracket, close_bracket}
+use Rattle.selector_grammar.specs.Bytes.{bar_byte}
 use Rattle.selector_grammar.specs.Bytes.{underscore_byte, letter_a, letter_d, letter_n, letter_o, letter_r, letter_z}
 use Rattle.selector_grammar.specs.Words.{find, next, axes, types, is_some, instruction_word}
 use Rattle.selector_grammar.specs.Grammar.{takes_predicate}
-use Rattle.selector_grammar.specs.private.Reader.{Outcome, good, bad, run, initial, outcome, follow, step, finish, need_byte}
-use Rattle.selector_grammar.specs.private.Reader.{after_byte, path_byte, union_byte, unary_byte, shut, group_byte, lead_byte}
-use Rattle.selector_grammar.specs.private.Reader.{call_byte, paren_byte_next, colon_byte_next, keyword_byte, lead_end, at_top}
+use Rattle.selector_grammar.specs.private.Reader.{Outcome, good, bad, run, initial, outcome, follow, step, finish}
+use Rattle.selector_grammar.specs.private.Reader.{need_byte}
+use Rattle.selector_grammar.specs.private.Reader.{after_byte, path_byte, union_byte, unary_byte, shut, group_byte}
+use Rattle.selector_grammar.specs.private.Reader.{lead_byte}
+use Rattle.selector_grammar.specs.private.Reader.{call_byte, paren_byte_next, colon_byte_next, keyword_byte, lead_end}
+use Rattle.selector_grammar.specs.private.Reader.{at_top}
 use Rattle.selector_grammar.specs.private.Reader.{room, room_of}
 use Rattle.selector_grammar.specs.private.Reader.{prefix_of, join, with_prefix, join_alt, wrap, left_of, and_to}
 

@@ -17,7 +17,8 @@ use Rattle.selector_grammar.specs.Grammar.{Axis, implied, attribute, axis, Test,
 use Rattle.selector_grammar.specs.Grammar.{test, Spaces, spell_test, spell_step, takes_predicate}
 use Rattle.selector_grammar.specs.Denotes.{step_of, test_of, step_names, test_names, unlisted}
 use Rattle.selector_grammar.specs.private.Reader.{State, Next, need, name, type_open, quote, after, Ctx, top, inside}
-use Rattle.selector_grammar.specs.private.Reader.{Alt, first, more, Lead, start, bare, at_root, at_any, after1, after2, step}
+use Rattle.selector_grammar.specs.private.Reader.{Alt, first, more, Lead, start, bare, at_root, at_any, after1, after2}
+use Rattle.selector_grammar.specs.private.Reader.{step}
 use Rattle.selector_grammar.specs.private.Reader.{follow, Outcome, finish, run, bad, paren_byte_next, colon_byte_next}
 use Rattle.selector_grammar.specs.private.Reader.{lead_byte, lead_end}
 use Rattle.selector_heads.specs.declared.Head.{Head}

@@ -10,13 +10,16 @@ use Rattle.std.proofs.lemmas.Bool.{ne_eqb}
 use borrow.Author.Tests.{not-true, not-false}
 use Rattle.selector_readings.specs.private.Build.{stands, ended}
 use Rattle.selector_readings.proofs.Worded.{and_word, or_word, first_joins, first_stays}
-use Rattle.selector_reader.proofs.StepLaws.{enclosed_refused, enclosed, predicate_full, predicate_refused, predicate_joined}
+use Rattle.selector_reader.proofs.StepLaws.{enclosed_refused, enclosed, predicate_full, predicate_refused}
+use Rattle.selector_reader.proofs.StepLaws.{predicate_joined}
 use Rattle.selector_reader.proofs.StepLaws.{step_refused, step_head, step_filter, step_stopped, step_ends}
-use Rattle.selector_reader.proofs.PathLaws.{begun, path_more, more_refused, path_ends, union_first, union_refused, union_more}
+use Rattle.selector_reader.proofs.PathLaws.{begun, path_more, more_refused, path_ends, union_first, union_refused}
+use Rattle.selector_reader.proofs.PathLaws.{union_more}
 use Rattle.selector_reader.proofs.PathLaws.{union_ends}
 use Rattle.selector_reader.proofs.OperandLaws.{unary_paths, paths_refused, unary_true, unary_false, unary_full}
 use Rattle.selector_reader.proofs.OperandLaws.{enclosed_fails, unary_enclosed}
-use Rattle.selector_reader.proofs.ExpressionLaws.{and_first, and_refused, and_stopped, and_more, or_first, or_refused, or_stopped}
+use Rattle.selector_reader.proofs.ExpressionLaws.{and_first, and_refused, and_stopped, and_more, or_first, or_refused}
+use Rattle.selector_reader.proofs.ExpressionLaws.{or_stopped}
 use Rattle.selector_reader.proofs.ExpressionLaws.{or_more, or_ends}
 use Rattle.selector_reader.proofs.+expression.Goals as goal
 use Rattle.selector_reader.proofs.+expression.Goals.{read_path-in-First+in_ok-got-in-First}

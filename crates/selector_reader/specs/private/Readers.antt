@@ -9,14 +9,17 @@ use Rattle.terms.specs.Row.{Row}
 use Rattle.selector_grammar.specs.Bytes.{Bytes, is_space}
 use Rattle.selector_grammar.specs.Bytes.{open_byte, letter_a}
 use Rattle.selector_grammar.specs.Words.{number_of}
-use Rattle.selector_grammar.specs.Grammar.{LocationStep, Path, Union, Unary, And, Or, filter, takes_predicate, spell_step}
+use Rattle.selector_grammar.specs.Grammar.{LocationStep, Path, Union, Unary, And, Or, filter, takes_predicate}
+use Rattle.selector_grammar.specs.Grammar.{spell_step}
 use Rattle.selector_grammar.specs.Grammar.{spell_path, spell_union, spell_unary, spell_and, spell_or}
 use Rattle.selector_grammar.specs.Denotes.{Put, Named, step_of, path_of, union_of, unary_of, and_of, or_of, step_names}
-use Rattle.selector_grammar.specs.Denotes.{path_names, union_names, unary_names, and_names, or_names, unlisted, put_path}
+use Rattle.selector_grammar.specs.Denotes.{path_names, union_names, unary_names, and_names, or_names, unlisted}
+use Rattle.selector_grammar.specs.Denotes.{put_path}
 use Rattle.selector_grammar.specs.Denotes.{put_qual, nest_path, nest_qual}
 use Rattle.selector_grammar.specs.private.Reader.{need, after, Ctx, top, inside, Open, Alt, first, Lead, begin}
 use Rattle.selector_grammar.specs.private.Reader.{Left, Pend, plain, left_of, and_to, room, room_of, enter}
-use Rattle.selector_grammar.specs.private.Reader.{follow, run, outcome, Outcome, bad, at_top, path_byte, union_byte, unary_byte}
+use Rattle.selector_grammar.specs.private.Reader.{follow, run, outcome, Outcome, bad, at_top, path_byte, union_byte}
+use Rattle.selector_grammar.specs.private.Reader.{unary_byte}
 use Rattle.selector_grammar.specs.private.Reader.{shut, Text}
 use Rattle.selector_grammar.specs.private.ReaderAnswer.{answer}
 use Rattle.selector_readings.specs.declared.Reading.{Reading}

@@ -16,7 +16,8 @@ use Rattle.selector_heads.specs.declared.Opens.TheVariants as Opening
 use Rattle.selector_heads.specs.private.Head.{Between, proceed}
 use Rattle.selector_readings.specs.declared.Start.{Start}
 use Rattle.selector_readings.specs.declared.Start.TheVariants as Beginning
-use Rattle.selector_readings.specs.private.Build.{Standing, stands, capped, moved_to, refused_at, Sized, PutMet, Grown, below_of}
+use Rattle.selector_readings.specs.private.Build.{Standing, stands, capped, moved_to, refused_at, Sized, PutMet, Grown}
+use Rattle.selector_readings.specs.private.Build.{below_of}
 
 -- the first n bytes of a name stand where r ends: its next byte does not, or a name's byte follows, or it is passed
 pub record WordPassed (s word : Bytes) (r q : Standing) : Type 0 where

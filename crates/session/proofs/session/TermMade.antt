@@ -13,7 +13,7 @@ use Rattle.session.specs.View.{rows_held, view, with_row}
 use Rattle.terms.specs.Row.{row_numbers}
 use Rattle.calls.specs.Calls.{term}
 use Rattle.session.specs.Promises.{Met}
-use Rattle.term_calls.specs.private.Placed.{TermPlaced, TermKept}
+use Rattle.call_answers.specs.private.Placed.{TermPlaced, TermKept}
 use Rattle.calls.proofs.Accepted.{if_accepted, if_refused}
 
 -- a call on kept rows is one on the session's table, where these are the rows held

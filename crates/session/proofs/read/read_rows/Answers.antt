@@ -9,7 +9,7 @@ use Rattle.common.proofs.Results.{none_by_ok_or}
 use Rattle.lines.specs.Line.{lines, first_is}
 use Rattle.lines.specs.private.NumbersRead.{LineMet}
 use Rattle.terms.specs.Row.{row_width, max_rows, row_of_numbers}
-use Rattle.term_calls.specs.private.Placed.{TermKept}
+use Rattle.call_answers.specs.private.Placed.{TermKept}
 use Rattle.common.proofs.Errors.{err_is}
 use Rattle.calls.proofs.Accepted.{if_accepted, ok_accepted, err_refused}
 use Rattle.session.specs.private.Parts.{refused_by}

@@ -3,7 +3,8 @@ use mathlib.Core.Path.{sym, ◌∙◌}
 use native.Mathlib.Omega.{arith}
 use Rattle.selector_words.proofs.Listed.{walk_hit, walk_miss, walk_byte}
 use Rattle.selector_words.proofs.list.Search.walk.Goals as goal
-use Rattle.selector_words.proofs.list.Search.walk.Goals.{then-self-i-eq-NEWLINE+else-is_name_line, else-self-i-eq-NEWLINE}
+use Rattle.selector_words.proofs.list.Search.walk.Goals.{then-self-i-eq-NEWLINE+else-is_name_line}
+use Rattle.selector_words.proofs.list.Search.walk.Goals.{else-self-i-eq-NEWLINE}
 
 pub returns-then-is_name_line : goal.returns-then-is_name_line
 returns-then-is_name_line c =

@@ -1,0 +1,3 @@
+pub mod RowsThere
+pub mod RuleUses
+pub mod SelectJudged
