@@ -29,7 +29,9 @@ if [ -n "$old" ]; then
         old_names="$old_names --redefine-sym spinebriar_$name=old_spinebriar_$name"
     done
     # shellcheck disable=SC2086
-    objcopy $old_names "$old/$("$old/tools/archive.sh" exports)" $out/old.a
+    old_name=exports
+    [ ! -d "$old/crates/spinebriar_c" ] || old_name=spinebriar
+    objcopy $old_names "$old/$("$old/tools/archive.sh" $old_name)" $out/old.a
     old_names=
     for name in select write order bundle_order text; do
         old_names="$old_names --redefine-sym bench_$name=old_bench_$name"
