@@ -7,7 +7,7 @@ use lib.ListN.{length}
 use borrow.Author.Tests.{lt-ltb, le-ltb}
 use Rattle.std.specs.Prelude.{is_ok}
 use Rattle.common.specs.Limits.{max_bytes}
-use Rattle.matching.specs.private.RowYields.{Sides}
+use Rattle.matching.specs.represent.Sides.{Sides}
 use Rattle.session.specs.represent.Results.{ReadResult}
 use Rattle.calls.specs.Book.{accepted}
 use Rattle.calls.specs.StepCall.{step_numbered}

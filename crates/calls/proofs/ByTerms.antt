@@ -18,7 +18,7 @@ use Rattle.terms.proofs.Built.{built_row}
 use Rattle.common.specs.Lists.{Every}
 use Rattle.xpath.specs.Term.{Path}
 use Rattle.rules.specs.Claim.{Containment, Implication, says}
-use Rattle.matching.specs.private.RowYields.{one_sort, says_of}
+use Rattle.matching.specs.represent.Sides.{one_sort, says_of}
 use Rattle.rules.specs.Yields.{max_rule, Yields}
 use Rattle.rules.specs.Decision.{yields_dec}
 use Rattle.matching.proofs.RowYields.{row_yields_iff}

@@ -22,7 +22,7 @@ use Rattle.rules.specs.Yields.{Yields}
 use Rattle.rules.specs.Decision.{yields_dec}
 use Rattle.rules.proofs.Sound.{yields_sound}
 use Rattle.selector_grammar.specs.Bytes.{Bytes}
-use Rattle.selector_grammar.proofs.Answered.{answered}
+use Rattle.selector_grammar.proofs.Answered.{given}
 use Rattle.selector_grammar.proofs.Longer.{answer_longer}
 use Rattle.selector_grammar.proofs.Standing.{answer_built}
 use Rattle.calls.specs.Book as books
@@ -100,9 +100,9 @@ text_added : (rs : List Row) (ps : List Step) (names t : Bytes) → HeldLaws rs 
     → HeldLaws (text_reply names t rs).rows ps
 unfolding text_reply
 text_added rs ps names t w =
-    let reply = answered names t rs in
-    let (new, e) = answer_longer names t rs _ _ _ reply.1 in
-    let built = answer_built names t rs w.built _ _ _ reply.1 in
+    let found = given names t rs in
+    let (new, e) = answer_longer names t rs _ _ _ found in
+    let built = answer_built names t rs w.built _ _ _ found in
     subst (λ (ss : List Row). HeldLaws ss ps) (sym e) (rows_added rs new ps w (subst Built e built))
 
 -- what holds of each, and of one more, holds of each of both

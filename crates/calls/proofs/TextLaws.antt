@@ -16,7 +16,7 @@ use Rattle.selector_grammar.specs.Words.{number_of}
 use Rattle.selector_grammar.specs.Grammar.{Union}
 use Rattle.selector_grammar.specs.Denotes.{union_of, nest_path}
 use Rattle.selector_grammar.specs.Answer.{Reply, Answers}
-use Rattle.selector_grammar.proofs.Answered.{answered, only}
+use Rattle.selector_grammar.proofs.Answered.{given, only}
 use Rattle.selector_grammar.proofs.Place.{one_tree}
 use Rattle.selector_grammar.proofs.Longer.{answer_longer, accepted_few}
 use Rattle.selector_grammar.proofs.Standing.{answer_built, accepted}
@@ -31,10 +31,10 @@ use Rattle.calls.proofs.TermJudged.{row_held}
 use Rattle.calls.proofs.Reached.{reachable_laws}
 
 pub answers_as_defined : AnswersAsDefined
-unfolding text_reply answered
+unfolding text_reply
 answers_as_defined names t rs n v ss = (
   λ a. only names t rs n v ss a,
-  λ e. subst (λ (q : Reply). Answers names t rs q.number q.value q.rows) (sym e) (answered names t rs).1,
+  λ e. subst (λ (q : Reply). Answers names t rs q.number q.value q.rows) (sym e) (given names t rs),
 )
 
 -- a row that is well formed and new is accepted where there is room

@@ -3,7 +3,7 @@ use Prim.Native.Nat.{ℕ, zero, suc}
 use mathlib.Core.Path.{◌≡◌, refl}
 use mathlib.Core.List.{List, [], ◌∷◌, map}
 use lib.ListN.{take}
-use Rattle.matching.specs.private.RowYields.{Sides}
+use Rattle.matching.specs.represent.Sides.{Sides}
 use Rattle.calls.specs.Book.{Step}
 use Rattle.calls.specs.StepCall.{step_numbered}
 use Rattle.calls.specs.Promises.{sides_of}

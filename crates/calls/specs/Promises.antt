@@ -1,7 +1,8 @@
 -- What is promised of calls on lent rows and steps.
 use Rattle.std.specs.Prelude.{ℕ, ◌≡◌, Bool, List, map, length}
 use Rattle.terms.specs.Row.{Row}
-use Rattle.matching.specs.private.RowYields.{Sides, row_yields}
+use Rattle.matching.specs.private.RowYields.{row_yields}
+use Rattle.matching.specs.represent.Sides.{Sides}
 use Rattle.calls.specs.Book.{Step, Book, Answer}
 use Rattle.calls.specs.StepCall.{premises_of, step_answer_by}
 use Rattle.calls.specs.SelectCall.{select_answer, select_buffer}

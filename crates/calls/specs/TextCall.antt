@@ -3,13 +3,13 @@ use Rattle.std.specs.Prelude.{List}
 use Rattle.terms.specs.Row.{Row}
 use Rattle.selector_grammar.specs.Bytes.{Bytes}
 use Rattle.selector_grammar.specs.Answer.{Reply}
-use Rattle.selector_grammar.proofs.Answered.{answered}
+use Rattle.selector_grammar.specs.private.ReaderAnswer.{reply_to}
 use Rattle.calls.specs.Book.{Book, pointed_book, Answer, answer}
 
 -- number, value and rows as `Answers` of grammar/specs/Answer.antt has them for the lent names and the text t:
 -- `answered` shows that it has some for every text, `AnswersAsDefined` of TextLaws.antt that it has no others
 unfoldable pub text_reply : (names t : Bytes) → List Row → Reply
-text_reply names t rs = (answered names t rs).0
+text_reply names t rs = reply_to names t rs
 
 -- the first refusal that applies, in the order 18, 19, 3, 11; else 0 with the row of the text's term
 unfoldable pub text_answer : List Row → (names t : Bytes) → Answer

@@ -1,6 +1,6 @@
 // Steps on lent numbers, five a step.
 ghost use Rattle.std.specs.Prelude.{◌≡◌, ◌-◌, map, length};
-ghost use Rattle.matching.specs.private.MatchTypes.{sides_in};
+ghost use Rattle.matching.specs.represent.Sides.{sides_in};
 ghost use Rattle.calls.specs.Book.{step_numbers, step_of_numbers};
 ghost use Rattle.calls.specs.StepCall.{step_numbered};
 ghost use Rattle.calls.specs.represent.Answers.{step_of};

@@ -12,7 +12,8 @@ use mir.Facts.{and_yes, yes_and, yes_eqb, eqb_yes}
 use Rattle.common.proofs.Reflect.{facts, eq_or_ne, T-dec}
 use Rattle.terms.specs.Row.{Row, row_at}
 use Rattle.matching.specs.private.Pattern.{Pattern, number, letter, row_pattern, letter_count, ClaimPattern}
-use Rattle.matching.specs.private.RowYields.{Sides, Match, check, bind, suits, is_row, match, match_claim, match_claims}
+use Rattle.matching.specs.private.RowYields.{Match, check, bind, suits, is_row, match, match_claim, match_claims}
+use Rattle.matching.specs.represent.Sides.{Sides}
 
 -- v is an instance of the pattern, where R says for which numbers a letter stands
 abbrev pub IsInstance : List Row → (ℕ → ℕ → Type 0) → Pattern → ℕ → Type 0

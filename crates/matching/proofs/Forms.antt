@@ -27,7 +27,8 @@ use Rattle.matching.specs.private.Pattern.{FormPattern, form_pattern, claim_patt
 use Rattle.matching.specs.declared.pattern.Form.{Form as CodeForm}
 use Rattle.matching.specs.private.PatternTypes.{claim_of, form_of, rule_table}
 use Rattle.matching.specs.private.RowWayBack.{is_with_back}
-use Rattle.matching.specs.private.RowYields.{Sides, form_yields, yields_by, forms_yield, way_back_yields, row_yields}
+use Rattle.matching.specs.private.RowYields.{form_yields, yields_by, forms_yield, way_back_yields, row_yields}
+use Rattle.matching.specs.represent.Sides.{Sides}
 
 -- the values of f below k
 values_below : {A : Type 0} → (ℕ → A) → ℕ → List A

@@ -20,10 +20,12 @@ use Rattle.rules.specs.Instance.{meets}
 use Rattle.common.specs.Lists.{all_of}
 use Rattle.matching.specs.private.Pattern.{Pattern, number, letter, row_pattern, letter_count, ClaimPattern}
 use Rattle.matching.specs.private.Pattern.{FormPattern}
-use Rattle.matching.specs.private.RowYields.{Sides, Match, check, bind, suits, is_row, match, match_claim, match_claims}
+use Rattle.matching.specs.private.RowYields.{Match, check, bind, suits, is_row, match, match_claim, match_claims}
+use Rattle.matching.specs.represent.Sides.{Sides}
 use Rattle.matching.specs.private.RowYields.{numbers_in, match_form, form_yields}
 use Rattle.matching.specs.private.PatternTypes.{claim_of}
-use Rattle.matching.specs.private.MatchTypes.{has_value, value_or_0, sides_in, values_in, matched, Matches}
+use Rattle.matching.specs.private.MatchTypes.{has_value, value_or_0, values_in, matched, Matches}
+use Rattle.matching.specs.represent.Sides.{sides_in}
 use Rattle.matching.proofs.ListOfTwo.{map_two}
 
 -- a value that a letter has is the one that it gets

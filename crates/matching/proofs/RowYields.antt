@@ -27,7 +27,8 @@ use Rattle.rules.specs.Yields.{forms_of, FormYields, way_back_rule, WayBackYield
 use Rattle.rules.specs.private.LettersRead.{claim_forms}
 use Rattle.rules.specs.private.RuleFits.{settled}
 use Rattle.matching.specs.private.Pattern.{letter_count, claim_pattern, form_pattern}
-use Rattle.matching.specs.private.RowYields.{Sides, one_sort, says_of, Match, suits, match_claims, empty_match}
+use Rattle.matching.specs.private.RowYields.{Match, suits, match_claims, empty_match}
+use Rattle.matching.specs.represent.Sides.{Sides, one_sort, says_of}
 use Rattle.matching.specs.private.RowYields.{numbers_in, match_form, form_yields, forms_yield, way_back_yields}
 use Rattle.matching.specs.private.RowYields.{row_yields}
 use Rattle.matching.specs.private.RowWayBack.{is_with_back}

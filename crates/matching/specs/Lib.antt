@@ -1,1 +1,2 @@
+pub mod represent
 pub mod private

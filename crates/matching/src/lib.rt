@@ -12,7 +12,7 @@ ghost use Rattle.terms.specs.Row.{Row, table_of};
 ghost use Rattle.rules.specs.Yields.{premise_count};
 ghost use Rattle.matching.specs.private.RowWayBack.{Noted};
 ghost use Rattle.matching.specs.private.RowYields.{row_yields};
-ghost use Rattle.matching.specs.private.MatchTypes.{sides_in};
+ghost use Rattle.matching.specs.represent.Sides.{sides_in};
 
 pub use matcher::Sides;
 use matcher::forms_of;

@@ -9,7 +9,8 @@ ghost use Rattle.matching.specs.private.PatternTypes.{letter_number, condition_o
 ghost use Rattle.matching.specs.private.PatternTypes.{forms_in, rule_table};
 ghost use Rattle.matching.specs.private.RowYields.{bind, suits, match, match_claim, match_claims};
 ghost use Rattle.matching.specs.private.RowYields.{empty_match, numbers_in, yields_by};
-ghost use Rattle.matching.specs.private.MatchTypes.{sides_in, values_in, matched, Matches, KindRowIs};
+ghost use Rattle.matching.specs.private.MatchTypes.{values_in, matched, Matches, KindRowIs};
+ghost use Rattle.matching.specs.represent.Sides.{sides_in};
 
 use crate::order::{axis_below, test_below};
 use crate::pattern::{Claim, Condition, Form, LETTER_COUNT, Letter, Pattern, RowPattern};

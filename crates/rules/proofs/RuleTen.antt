@@ -11,7 +11,8 @@ use Rattle.rules.specs.Form.{PathLetter, AxisLetter, TestLetter, test}
 use Rattle.rules.specs.RuleTable.{rules}
 use Rattle.rules.specs.Instance.{Test, axis_for, test_for, path_for, claim_for, meets}
 use Rattle.rules.specs.Yields.{forms_in, forms_of}
-use Rattle.rules.specs.values.RuleTen.{rule10_form, EndingYields}
+use Rattle.rules.specs.EndingYields.{EndingYields}
+use Rattle.rules.specs.values.RuleTen.{rule10_form}
 
 abbrev paths : Path → Path → PathLetter → Path
 paths u v PathLetter.p = u

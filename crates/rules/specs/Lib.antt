@@ -7,5 +7,6 @@ pub mod Instance
 pub mod WayBack
 pub mod Yields
 pub mod private
+pub mod EndingYields
 pub mod Decision
 pub mod values

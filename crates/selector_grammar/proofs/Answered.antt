@@ -15,17 +15,17 @@ use Rattle.selector_grammar.specs.Grammar.{Union, Spells}
 use Rattle.selector_grammar.specs.Denotes.{unlisted, union_names, union_of, put_path, nest_path}
 use Rattle.selector_grammar.specs.Answer.{Reply, reply, Answers, outside, unnumbered, deep, full, held}
 use Rattle.selector_grammar.specs.private.Reader.{Outcome, good, bad, run, initial}
-use Rattle.selector_grammar.specs.private.ReaderAnswer.{answer, read_answer, names_answer, term_answer}
+use Rattle.selector_grammar.specs.private.ReaderAnswer.{reply_to, reply_to_reading, reply_to_names, reply_to_term}
 use Rattle.selector_grammar.proofs.Basics.{so}
 use Rattle.selector_grammar.proofs.Place.{sound_run, complete_run, bad_outside, one_place}
 
 -- no other answer
 pub only : (list t : Bytes) (rs : List Row) (n v : ℕ) (r : List Row) → Answers list t rs n v r → reply n v r
-    ≡ answer list t rs
-unfolding answer read_answer names_answer term_answer
+    ≡ reply_to list t rs
+unfolding reply_to reply_to_reading reply_to_names reply_to_term
 only list t rs n v r (outside {k = k} h) = go (run t initial) refl
   where
-    go : (o : Outcome) → run t initial ≡ o → reply 18 k rs ≡ read_answer (run t initial) list (length t) rs
+    go : (o : Outcome) → run t initial ≡ o → reply 18 k rs ≡ reply_to_reading (run t initial) list (length t) rs
     go (bad m) e = rw e (ap (λ (i : ℕ). reply 18 i rs) (one_place t k (length t - m) h (bad_outside t m e)))
     go (good y) e = absurd (h.outside y.tree (sound_run t y e))
 only list t rs n v r (unnumbered {u = u} s e) = rw (complete_run t u s, e) refl
@@ -53,28 +53,24 @@ limited : (list t : Bytes) (rs : List Row) (u : Union) → Spells t u → unlist
     → (b c : Bool)
     → leb (nest_path (union_of (number_of list) u)) max_nesting ≡ b
     → leb (length (put_path (union_of (number_of list) u) rs).rows) max_rows ≡ c
-    → Is list t rs (term_answer (union_of (number_of list) u) rs)
-unfolding term_answer
+    → Is list t rs (reply_to_term (union_of (number_of list) u) rs)
+unfolding reply_to_term
 limited list t rs u s e false c h i = rw h (deep s e (leb-false _ max_nesting h))
 limited list t rs u s e true false h i = rw (h, i) (full s e (leb→le _ max_nesting (so _ h)) (leb-false _ max_rows i))
 limited list t rs u s e true true h i =
     rw (h, i) (held u s e (leb→le _ max_nesting (so _ h)) (leb→le _ max_rows (so _ i)))
 
 named : (list t : Bytes) (rs : List Row) (u : Union) → Spells t u → (k : Option ℕ)
-    → unlisted (number_of list) (union_names u 0) ≡ k → Is list t rs (names_answer k (union_of (number_of list) u) rs)
-unfolding names_answer
+    → unlisted (number_of list) (union_names u 0) ≡ k → Is list t rs (reply_to_names k (union_of (number_of list) u) rs)
+unfolding reply_to_names
 named list t rs u s none e = limited list t rs u s e _ _ refl refl
 named list t rs u s (some k) e = unnumbered s e
 
 -- there is an answer: the function's
-pub given : (list t : Bytes) (rs : List Row) → Is list t rs (answer list t rs)
-unfolding answer read_answer
+pub given : (list t : Bytes) (rs : List Row) → Is list t rs (reply_to list t rs)
+unfolding reply_to reply_to_reading
 given list t rs = go (run t initial) refl
   where
-    go : (o : Outcome) → run t initial ≡ o → Is list t rs (read_answer o list (length t) rs)
+    go : (o : Outcome) → run t initial ≡ o → Is list t rs (reply_to_reading o list (length t) rs)
     go (bad m) e = outside (bad_outside t m e)
     go (good y) e = named list t rs y.tree (sound_run t y e) _ refl
-
--- so a text call has its answer
-unfoldable pub answered : (list t : Bytes) (rs : List Row) → (a : Reply) × Is list t rs a
-answered list t rs = (answer list t rs, given list t rs)

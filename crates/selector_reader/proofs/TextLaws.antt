@@ -17,7 +17,7 @@ use Rattle.selector_grammar.specs.Words.{number_of}
 use Rattle.selector_grammar.specs.Denotes.{unlisted, union_names, union_of, put_path, nest_path}
 use Rattle.selector_grammar.specs.private.Reader.{top, initial, union_byte, follow, room, run, outcome, good, bad}
 use Rattle.selector_grammar.specs.Answer.{Reply, reply, Answers}
-use Rattle.selector_grammar.specs.private.ReaderAnswer.{term_answer, names_answer, read_answer, answer}
+use Rattle.selector_grammar.specs.private.ReaderAnswer.{reply_to_term, reply_to_names, reply_to_reading, reply_to}
 use Rattle.selector_grammar.proofs.Answered.{given}
 use Rattle.selector_grammar.proofs.Longer.{answer_longer, refused_stays}
 use Rattle.std.specs.Prelude.{Some, None, Result, Ok, Err}
@@ -48,7 +48,7 @@ module _ (s list : Bytes) (xs : List ℕ) (count : ℕ) (z : Sized xs count) (ys
 
   -- a refusal is the book's, and leaves the count
   refused_as : (y : Standing) → UnionMet s list 32 xs (nothing_read count) ys y → (n v : ℕ) → (n ≡ 0 → ⊥)
-      → (answer list s held).number ≡ n → (answer list s held).value ≡ v
+      → (reply_to list s held).number ≡ n → (reply_to list s held).value ≡ v
       → TextMet s list xs count ys (refusal_of n v count)
   refused_as y u n v h e f =
       record {
@@ -62,7 +62,7 @@ module _ (s list : Bytes) (xs : List ℕ) (count : ℕ) (z : Sized xs count) (ys
   -- the place is that of the run's end
   outside_at : (y : Standing) → UnionMet s list 32 xs (nothing_read count) ys y
       → run s initial ≡ bad (length s - y.at) → TextMet s list xs count ys (refusal_of 18 y.at count)
-  unfolding answer read_answer
+  unfolding reply_to reply_to_reading
   outside_at y u e =
       refused_as y u 18 y.at (λ h. omega (arith, h)) (rw e refl) (rw e (omega (arith, u.reached.fits)))
 
@@ -96,8 +96,8 @@ module _ (s list : Bytes) (xs : List ℕ) (count : ℕ) (z : Sized xs count) (ys
       path = union_of (number_of list) read.tree
 
       -- the whole text is a union: its names decide next
-      whole : answer list s held ≡ names_answer (unlisted (number_of list) (union_names read.tree 0)) path held
-      unfolding answer read_answer after_union union_at_top outcome room
+      whole : reply_to list s held ≡ reply_to_names (unlisted (number_of list) (union_names read.tree 0)) path held
+      unfolding reply_to reply_to_reading after_union union_at_top outcome room
       whole =
           let g : run s initial ≡ good (record { tree = read.tree; rest = read.spaces }) =
           read.runs top refl ∙ rw (drop_of_length-le s {i = y.at} h) refl in
@@ -111,27 +111,27 @@ module _ (s list : Bytes) (xs : List ℕ) (count : ℕ) (z : Sized xs count) (ys
       -- a name is not listed
       pub text_unlisted : (place : ℕ) → got.missing ≡ Some place
           → TextMet s list xs count ys (refusal_of 19 place count)
-      unfolding names_answer
+      unfolding reply_to_names
       text_unlisted place f =
           let g : unlisted (number_of list) (union_names read.tree 0) ≡ some place = sym names_told ∙ ap place_of f in
-          let a : answer list s held ≡ reply 19 place held = whole ∙ rw g refl in
+          let a : reply_to list s held ≡ reply 19 place held = whole ∙ rw g refl in
           refused_as y union 19 place (λ i. omega (arith, i)) (ap (λ (r : Reply). r.number) a)
           (ap (λ (r : Reply). r.value) a)
 
       module _ (f : got.missing ≡ None) where
-        all_listed : answer list s held ≡ term_answer path held
-        unfolding names_answer
+        all_listed : reply_to list s held ≡ reply_to_term path held
+        unfolding reply_to_names
         all_listed =
             let g : unlisted (number_of list) (union_names read.tree 0) ≡ none = sym names_told ∙ ap place_of f in
             whole ∙ rw g refl
 
         -- the term is nested too deep
         pub text_deep : 32 < got.nesting → TextMet s list xs count ys (refusal_of 3 0 count)
-        unfolding term_answer
+        unfolding reply_to_term
         text_deep i =
             let g : leb (nest_path path) 32 ≡ false =
             lt-leb (nest_path path) 32 (omega (arith, i, read.made.nest)) in
-            let a : answer list s held ≡ reply 3 0 held = all_listed ∙ rw g refl in
+            let a : reply_to list s held ≡ reply 3 0 held = all_listed ∙ rw g refl in
             refused_as y union 3 0 (λ j. omega (arith, j)) (ap (λ (r : Reply). r.number) a)
             (ap (λ (r : Reply). r.value) a)
 
@@ -145,24 +145,24 @@ module _ (s list : Bytes) (xs : List ℕ) (count : ℕ) (z : Sized xs count) (ys
 
           -- the rows don't fit
           pub text_full : got.fits ≡ false → TextMet s list xs count ys (refusal_of 11 0 count)
-          unfolding term_answer
+          unfolding reply_to_term
           text_full g =
               let k : leb (length (put_path path held).rows) max_rows ≡ false =
               lt-leb (length (put_path path held).rows) max_rows (holds.over g) in
-              let a : answer list s held ≡ reply 11 0 held = all_listed ∙ rw (shallow, k) refl in
+              let a : reply_to list s held ≡ reply 11 0 held = all_listed ∙ rw (shallow, k) refl in
               refused_as y union 11 0 (λ j. omega (arith, j)) (ap (λ (r : Reply). r.number) a)
               (ap (λ (r : Reply). r.value) a)
 
           -- accepted: the term's row, and all its rows
           pub text_held : got.fits ≡ true → TextMet s list xs count ys (end_of count (Ok got))
-          unfolding term_answer
+          unfolding reply_to_term
           text_held g =
               let rows : held_rows ys y.count ≡ (put_path path held).rows = holds.rows g in
               let size : length (put_path path held).rows ≡ y.count =
               sym (ap length rows) ∙ table_count ys y.count union.reached.sized in
               let k : leb (length (put_path path held).rows) max_rows ≡ true =
               le-leb (length (put_path path held).rows) max_rows (omega (arith, size, union.reached.sized.bound)) in
-              let a : answer list s held ≡ reply 0 (put_path path held).at (put_path path held).rows =
+              let a : reply_to list s held ≡ reply 0 (put_path path held).at (put_path path held).rows =
               all_listed ∙ rw (shallow, k) refl in
               record {
                 number = sym (ap (λ (r : Reply). r.number) a);
@@ -179,20 +179,20 @@ module _ (s list : Bytes) (xs : List ℕ) (count : ℕ) (n : ℕ) (few : n ≡ m
   abbrev rows : List Row
   rows = held_rows xs n
 
-  told : Answers list s rows (end_of n a).number (end_of n a).value (answer list s rows).rows
+  told : Answers list s rows (end_of n a).number (end_of n a).value (reply_to list s rows).rows
   told =
-      subst (λ (k : ℕ). Answers list s rows k (end_of n a).value (answer list s rows).rows) (sym m.number)
-      (subst (λ (k : ℕ). Answers list s rows (answer list s rows).number k (answer list s rows).rows)
+      subst (λ (k : ℕ). Answers list s rows k (end_of n a).value (reply_to list s rows).rows) (sym m.number)
+      (subst (λ (k : ℕ). Answers list s rows (reply_to list s rows).number k (reply_to list s rows).rows)
       (sym m.value) (given list s rows))
 
   pub read_refused : (e : Refusal) → a ≡ Err e → TextRead list s xs (min count max_rows) xs (Err e)
   unfolding table_with numbers_of
   read_refused e f =
       let all : length rows ≡ n = table_count xs n z in
-      let here : Answers list s rows (refusal_number e) (refusal_value e) (answer list s rows).rows =
+      let here : Answers list s rows (refusal_number e) (refusal_value e) (reply_to list s rows).rows =
       subst (λ (r : Result Reading Refusal). Answers list s rows (end_of n r).number (end_of n r).value
-      (answer list s rows).rows) f told in
-      let same : (answer list s rows).rows ≡ rows = refused_stays list s rows _ _ _ here (refusal_some e) in
+      (reply_to list s rows).rows) f told in
+      let same : (reply_to list s rows).rows ≡ rows = refused_stays list s rows _ _ _ here (refusal_some e) in
       let none : drop n rows ≡ [] = drop_of_length-le rows {i = n} (omega (arith, all)) in
       subst (λ (k : ℕ). TextRead list s xs k xs (Err e)) few
       record {
@@ -207,17 +207,17 @@ module _ (s list : Bytes) (xs : List ℕ) (count : ℕ) (n : ℕ) (few : n ≡ m
       → TextRead list s xs (min count max_rows) ys (Ok (record { row = r.row; count = r.count }))
   read_accepted r f =
       let met = subst (λ (q : Result Reading Refusal). TextMet s list xs n ys (end_of n q)) f m in
-      let here : Answers list s rows 0 r.row (answer list s rows).rows =
+      let here : Answers list s rows 0 r.row (reply_to list s rows).rows =
       subst (λ (q : Result Reading Refusal). Answers list s rows (end_of n q).number (end_of n q).value
-      (answer list s rows).rows) f told in
+      (reply_to list s rows).rows) f told in
       let left = met.accepted refl in
       let (new, grown) = answer_longer list s rows _ _ _ here in
       subst
       (λ (k : ℕ). TextRead list s xs k ys (Ok (record { row = r.row; count = r.count }))) few
       record {
-        after = (answer list s rows).rows;
+        after = (reply_to list s rows).rows;
         answers = here;
-        rows = left_table xs ys n r.count (answer list s rows).rows new z met.sized left grown (met.beyond refl);
+        rows = left_table xs ys n r.count (reply_to list s rows).rows new z met.sized left grown (met.beyond refl);
         count = sym (table_count ys r.count met.sized) ∙ ap length left;
         refused = tt;
       }

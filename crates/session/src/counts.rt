@@ -1,6 +1,6 @@
 // The counts of a session's steps, and its last step.
 ghost use Rattle.std.specs.Prelude.{◌≡◌, length};
-ghost use Rattle.matching.specs.private.MatchTypes.{sides_in};
+ghost use Rattle.matching.specs.represent.Sides.{sides_in};
 ghost use Rattle.calls.specs.StepCall.{step_numbered};
 ghost use Rattle.calls.specs.Uses.{uses_of};
 ghost use Rattle.calls.specs.Promises.{sides_of};

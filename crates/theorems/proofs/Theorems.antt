@@ -19,7 +19,8 @@ use Rattle.common.specs.Lists.{Every}
 use Rattle.common.specs.NodeTests.{star_test, node_test}
 use Rattle.std.specs.Prelude.{Option, Result}
 use Rattle.selector_grammar.specs.Abbreviations.{Expanded, Meant}
-use Rattle.matching.specs.private.RowYields.{Sides, one_sort, says_of, row_yields}
+use Rattle.matching.specs.private.RowYields.{row_yields}
+use Rattle.matching.specs.represent.Sides.{Sides, one_sort, says_of}
 use Rattle.term_order.specs.BundleOrder.{steps_order}
 use Rattle.term_order.specs.OrderLaws.{TotalOrder, SortedMatch}
 use Rattle.term_order.specs.TermOrder.{term_order}
@@ -58,7 +59,7 @@ use Rattle.xpath.specs.represent.Check.{ClimbMade, DocumentChecked}
 use Rattle.xpath.specs.represent.ClimbPromise.{ClimbPromise}
 use Rattle.xpath.specs.declared.document.Climb.{Climb}
 use Rattle.rules.specs.WayBack.{way_back}
-use Rattle.rules.specs.values.RuleTen.{EndingYields}
+use Rattle.rules.specs.EndingYields.{EndingYields}
 use Rattle.selector_grammar.specs.Grammar.{Union, Spells}
 use Rattle.session.specs.represent.Results.{ReadResult}
 use Rattle.register.specs.represent.Results as register-read
@@ -66,7 +67,7 @@ use Rattle.auditing.specs.Audit.{report}
 use Rattle.calls.specs.StepCall.{step_numbered}
 use Rattle.calls.specs.Uses.{uses_of}
 use Rattle.calls.specs.Promises.{sides_of}
-use Rattle.matching.specs.private.MatchTypes.{sides_in}
+use Rattle.matching.specs.represent.Sides.{sides_in}
 use Rattle.terms.specs.represent.RowTypes.{PlaceIs}
 use Rattle.replacement.specs.Covered.{step_saying}
 use Rattle.tallies.specs.declared.Tally.{Tally}

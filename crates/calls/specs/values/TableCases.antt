@@ -2,8 +2,8 @@
 use Rattle.std.specs.Prelude.{ℕ, ◌≡◌, refl, List, [], ◌∷◌, length, replicate}
 use Rattle.common.specs.values.Expected.{◌is◌, AllRight}
 use Rattle.terms.specs.Row.{row, table_of}
-use Rattle.matching.specs.private.MatchTypes.{sides_in}
-use Rattle.matching.specs.private.RowYields.{sides}
+use Rattle.matching.specs.represent.Sides.{sides_in}
+use Rattle.matching.specs.represent.Sides.{sides}
 use Rattle.calls.specs.Book.{step, step_of_numbers}
 use Rattle.calls.specs.represent.Answers.{step_of}
 use Rattle.calls.specs.represent.Tables.{steps_of, first_rows, first_steps}

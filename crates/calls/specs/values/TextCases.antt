@@ -27,9 +27,7 @@ use Rattle.selector_grammar.specs.Denotes.{rel_after}
 use Rattle.selector_grammar.specs.Denotes.{path_of, union_of, unary_of, and_of, or_of, put, put_path, put_qual}
 use Rattle.selector_grammar.specs.Denotes.{nest_path}
 use Rattle.selector_grammar.specs.Denotes.{nest_qual}
-use Rattle.selector_grammar.specs.private.ReaderAnswer as grammar
-use Rattle.selector_grammar.specs.private.ReaderAnswer.{names_answer, read_answer}
-use Rattle.selector_grammar.proofs.Answered.{answered}
+use Rattle.selector_grammar.specs.private.ReaderAnswer.{reply_to, reply_to_reading, reply_to_names, reply_to_term}
 use Rattle.calls.specs.Book.{empty_book}
 use Rattle.calls.specs.TermCall.{term_answer}
 use Rattle.calls.specs.PointCall.{place_of, point_answer, return_answer}
@@ -67,7 +65,7 @@ calls_made =
     ∷ []
 
 calls_told : map told (shown plain_book empty_book (calls_in calls_made)) ≡ map (λ c. c.expected) calls_made
-unfolding told shown point_answer return_answer place_of text_answer text_reply answered term_answer bad_place fields_of
+unfolding told shown point_answer return_answer place_of text_answer text_reply term_answer bad_place fields_of
     field_ok held_path held_qualifier is_path is_qualifier nesting nestings entries_from nesting_by operand_nesting
     ascii lines in_first_line same_row find run outcome follow step finish need_byte after_byte path_byte union_byte
     unary_byte shut group_byte lead_byte call_byte paren_byte_next colon_byte_next keyword_byte lead_end at_top room
@@ -76,5 +74,5 @@ unfolding told shown point_answer return_answer place_of text_answer text_reply 
     spell_bool spell_step spell_rel spell_path spell_union spell_unary spell_and spell_or takes_predicate unlisted
     test_names step_names rel_names path_names union_names unary_names and_names or_names axis_of constant_of test_of
     step_of rel_of rel_after path_of union_of unary_of and_of or_of put put_path put_qual nest_path nest_qual
-    grammar.term_answer names_answer read_answer grammar.answer
+    reply_to_term reply_to_names reply_to_reading reply_to
 calls_told = refl

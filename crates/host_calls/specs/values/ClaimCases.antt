@@ -39,9 +39,7 @@ use Rattle.selector_grammar.specs.Denotes.{rel_after}
 use Rattle.selector_grammar.specs.Denotes.{path_of, union_of, unary_of, and_of, or_of, put, put_path, put_qual}
 use Rattle.selector_grammar.specs.Denotes.{nest_path}
 use Rattle.selector_grammar.specs.Denotes.{nest_qual}
-use Rattle.selector_grammar.specs.private.ReaderAnswer as grammar
-use Rattle.selector_grammar.specs.private.ReaderAnswer.{names_answer, read_answer}
-use Rattle.selector_grammar.proofs.Answered.{answered}
+use Rattle.selector_grammar.specs.private.ReaderAnswer.{reply_to, reply_to_reading, reply_to_names, reply_to_term}
 use Rattle.calls.specs.TermCall.{term_answer}
 use Rattle.calls.specs.StepCall.{same_sort, bad_side_of, premise_ok, bad_premise_of, claim_of, premises_of}
 use Rattle.calls.specs.StepCall.{step_answer_by}
@@ -101,7 +99,7 @@ claims :
     ∷ [])
 unfolding told claim_answer old_claimed new_claimed said_answer step_saying first_below is_replaced is_held_step is_in
     any_of
-    with_rows table_with joined text_answer text_reply answered run outcome follow step finish need_byte after_byte
+    with_rows table_with joined text_answer text_reply run outcome follow step finish need_byte after_byte
     path_byte
     union_byte unary_byte shut group_byte lead_byte call_byte paren_byte_next colon_byte_next keyword_byte lead_end
     at_top room room_of
@@ -113,7 +111,7 @@ unfolding told claim_answer old_claimed new_claimed said_answer step_saying firs
     union_names
     unary_names and_names or_names axis_of constant_of test_of step_of rel_of rel_after path_of union_of unary_of
     and_of or_of put
-    put_path put_qual nest_path nest_qual grammar.term_answer names_answer read_answer grammar.answer
+    put_path put_qual nest_path nest_qual reply_to_term reply_to_names reply_to_reading reply_to
     ascii reading lines_read rows_read steps_read row_names bundles.step_names row_of_line step_of_line lines
     in_first_line parts in_first_part same_bytes is_line numbers_of numbers_up_to is_decimal all_of is_digit
     append_digits Option-elim view table_of steps_of fresh_session with_row with_step term_answer bad_place fields_of

@@ -38,9 +38,7 @@ use Rattle.selector_grammar.specs.Denotes.{rel_after}
 use Rattle.selector_grammar.specs.Denotes.{path_of, union_of, unary_of, and_of, or_of, put, put_path, put_qual}
 use Rattle.selector_grammar.specs.Denotes.{nest_path}
 use Rattle.selector_grammar.specs.Denotes.{nest_qual}
-use Rattle.selector_grammar.specs.private.ReaderAnswer as grammar
-use Rattle.selector_grammar.specs.private.ReaderAnswer.{names_answer}
-use Rattle.selector_grammar.proofs.Answered.{answered}
+use Rattle.selector_grammar.specs.private.ReaderAnswer.{reply_to, reply_to_reading, reply_to_names, reply_to_term}
 use Rattle.calls.specs.SelectCall.{select_answer, select_buffer}
 use Rattle.calls.specs.TextCall.{text_reply, text_answer}
 use Rattle.session.specs.View.{view, fresh_session, with_rows}
@@ -76,8 +74,7 @@ selects_made :
     ∷ [])
 unfolding
     text_select_answer text_select_buffer text-select.read_answer read_rows with_rows table_with joined text_answer
-    text_reply
-    answered run outcome follow step finish need_byte after_byte path_byte union_byte unary_byte shut group_byte
+    text_reply run outcome follow step finish need_byte after_byte path_byte union_byte unary_byte shut group_byte
     lead_byte
     call_byte paren_byte_next colon_byte_next keyword_byte lead_end at_top room room_of prefix_of join with_prefix
     join_alt wrap left_of
@@ -89,7 +86,7 @@ unfolding
     axis_of
     constant_of test_of step_of rel_of rel_after path_of union_of unary_of and_of or_of put put_path put_qual
     nest_path nest_qual
-    grammar.term_answer names_answer grammar.read_answer grammar.answer ascii lines in_first_line view table_of
+    reply_to_term reply_to_names reply_to_reading reply_to ascii lines in_first_line view table_of
     fresh_session
     find same_row select_answer Option-elim document_refusal lent_rows bad_row first_below document_of row_ok
     kind_and_name_ok

@@ -9,7 +9,7 @@ use Rattle.common.specs.Lists.{any_of}
 use Rattle.terms.specs.Row.{table_of}
 use Rattle.matching.specs.private.PatternTypes.{form_of}
 use Rattle.matching.specs.private.RowYields.{yields_by}
-use Rattle.matching.specs.private.MatchTypes.{sides_in}
+use Rattle.matching.specs.represent.Sides.{sides_in}
 use Rattle.matching.proofs.Forms.{way_back_way, other_rule_way, rule_way, any_mapped}
 use Rattle.matching.proofs.yields.Goals as goal
 

@@ -5,15 +5,11 @@ use Rattle.rules.specs.Order.{is_pair}
 use Rattle.terms.specs.declared.Row.{Row as CodeRow}
 use Rattle.terms.specs.Row.{Row, row_at}
 use Rattle.terms.specs.represent.RowTypes.{row_of}
-use Rattle.matching.specs.declared.matcher.Sides.{Sides as CodeSides}
 use Rattle.matching.specs.declared.matcher.Letters.{Letters}
 use Rattle.matching.specs.declared.way_back.Reversal.{Reversal}
 use Rattle.matching.specs.declared.way_back.Reversal.TheVariants.{Never, Always, Operands}
-use Rattle.matching.specs.private.RowYields.{Sides, sides, Match, is_row}
+use Rattle.matching.specs.private.RowYields.{Match, is_row}
 use Rattle.matching.specs.private.RowWayBack.{is_back_by}
-
-abbrev pub sides_in : CodeSides → Sides
-sides_in s = sides s.left s.right
 
 -- a letter stands for something
 abbrev pub has_value : Option ℕ → Bool

@@ -5,7 +5,7 @@ use Rattle.xpath.specs.Term.{Path, Qualifier}
 use Rattle.terms.specs.Row.{Row, row_at}
 use Rattle.terms.specs.Fields.{held_path, held_qualifier}
 use Rattle.common.specs.Lists.{all_of, any_of}
-use Rattle.rules.specs.Claim.{Claim, says}
+use Rattle.matching.specs.represent.Sides.{Sides}
 use Rattle.rules.specs.Instance.{Letters, meets}
 use Rattle.rules.specs.Yields.{forms_of, way_back_rule}
 use Rattle.matching.specs.private.RowWayBack.{is_with_back}
@@ -13,23 +13,6 @@ use Rattle.matching.specs.private.Pattern.{Pattern, number, letter, row_pattern,
 use Rattle.matching.specs.private.Pattern.{first_axis_letter, axis_letter_number, test_letter_number, name_letter}
 use Rattle.matching.specs.private.Pattern.{ClaimPattern}
 use Rattle.matching.specs.private.Pattern.{FormPattern, form_pattern}
-
--- the rows that a step is about
-pub record Sides : Type 0 where
-  pub left : ℕ
-  pub right : ℕ
-
-abbrev pub sides : ℕ → ℕ → Sides
-sides l r = record { left = l; right = r }
-
--- both rows are held paths, or both are held qualifiers
-unfoldable pub one_sort : List Row → Sides → Bool
-one_sort rs s =
-    held_path rs s.left && held_path rs s.right || held_qualifier rs s.left && held_qualifier rs s.right
-
--- what such a step says
-abbrev pub says_of : List Row → Sides → Claim
-says_of rs s = says rs s.left s.right
 
 -- whether all that was compared so far fits; which letters have a value, and that value
 pub record Match : Type 0 where

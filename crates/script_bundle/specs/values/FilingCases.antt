@@ -12,7 +12,6 @@ use Rattle.lines.specs.Ascii.{ascii}
 use Rattle.lines.specs.Line.{line, in_first_line, lines, in_first_part, parts, same_bytes}
 use Rattle.lines.specs.Number.{is_digit, is_decimal, append_digits, numbers_up_to}
 use Rattle.lines.specs.Written.{digits_of, decimal, line_text}
-use Rattle.selector_grammar.proofs.Answered.{answered}
 use Rattle.selector_grammar.specs.Bytes.{is_space, is_start, is_name, is_quote}
 use Rattle.selector_grammar.specs.Denotes.{or_names, axis_of, constant_of, test_of, step_of, rel_of, rel_after}
 use Rattle.selector_grammar.specs.Denotes.{nest_qual}
@@ -34,8 +33,7 @@ use Rattle.selector_grammar.specs.private.Reader.{with_prefix}
 use Rattle.selector_grammar.specs.private.Reader.{join_alt, wrap, left_of, and_to, run, outcome, follow, step, finish}
 use Rattle.selector_grammar.specs.private.Reader.{need_byte}
 use Rattle.selector_grammar.specs.private.Reader.{paren_byte_next}
-use Rattle.selector_grammar.specs.private.ReaderAnswer as grammar
-use Rattle.selector_grammar.specs.private.ReaderAnswer.{names_answer, read_answer}
+use Rattle.selector_grammar.specs.private.ReaderAnswer.{reply_to, reply_to_reading, reply_to_names, reply_to_term}
 use Rattle.selector_grammar.specs.Words as words
 use Rattle.selector_grammar.specs.Words.{number_of, next, axes, types, is_some, instruction_word, or_zero, bytes_of}
 use Rattle.selector_grammar.specs.Words.{numbered}
@@ -96,7 +94,7 @@ answers :
     ∷ answered_in 39 "" is (16 ∷ 40 ∷ [])
     ∷ answered_in 0 "term 2 1 0 0\n" is (2 ∷ 1 ∷ [])
     ∷ [])
-unfolding with_rows table_with joined text_answer text_reply answered run outcome follow step finish need_byte
+unfolding with_rows table_with joined text_answer text_reply run outcome follow step finish need_byte
     after_byte
     path_byte union_byte unary_byte shut group_byte lead_byte call_byte paren_byte_next colon_byte_next keyword_byte
     lead_end at_top room
@@ -106,8 +104,8 @@ unfolding with_rows table_with joined text_answer text_reply answered run outcom
     rel_names
     path_names union_names unary_names and_names or_names axis_of constant_of test_of step_of rel_of rel_after path_of
     union_of
-    unary_of and_of or_of put put_path put_qual nest_path nest_qual grammar.term_answer names_answer read_answer
-    grammar.answer ascii row_names bundles.step_names lines in_first_line parts in_first_part same_bytes numbers_up_to
+    unary_of and_of or_of put put_path put_qual nest_path nest_qual reply_to_term reply_to_names reply_to_reading
+    reply_to ascii row_names bundles.step_names lines in_first_line parts in_first_part same_bytes numbers_up_to
     is_decimal all_of is_digit append_digits Option-elim view table_of steps_of fresh_session with_row term_answer
     bad_place fields_of field_ok held_path held_qualifier is_path is_qualifier nesting nestings entries_from nesting_by
     operand_nesting find same_row term_at terms term_by as_path as_qualifier file_answer file_buffer filed lines_filed
@@ -125,7 +123,7 @@ bytes :
     ∷ file_buffer (ascii "term 2 1 0 1\njump\n") (replicate 48 7) is replicate 48 7
     ∷ file_buffer (ascii "term 2 1 0 1\n") (replicate 47 7) is replicate 47 7
     ∷ [])
-unfolding with_rows table_with joined text_answer text_reply answered run outcome follow step finish need_byte
+unfolding with_rows table_with joined text_answer text_reply run outcome follow step finish need_byte
     after_byte
     path_byte union_byte unary_byte shut group_byte lead_byte call_byte paren_byte_next colon_byte_next keyword_byte
     lead_end at_top room
@@ -135,8 +133,8 @@ unfolding with_rows table_with joined text_answer text_reply answered run outcom
     rel_names
     path_names union_names unary_names and_names or_names axis_of constant_of test_of step_of rel_of rel_after path_of
     union_of
-    unary_of and_of or_of put put_path put_qual nest_path nest_qual grammar.term_answer names_answer read_answer
-    grammar.answer ascii row_names bundles.step_names lines in_first_line parts in_first_part same_bytes numbers_up_to
+    unary_of and_of or_of put put_path put_qual nest_path nest_qual reply_to_term reply_to_names reply_to_reading
+    reply_to ascii row_names bundles.step_names lines in_first_line parts in_first_part same_bytes numbers_up_to
     is_decimal all_of is_digit append_digits Option-elim view table_of steps_of fresh_session with_row term_answer
     bad_place fields_of field_ok held_path held_qualifier is_path is_qualifier nesting nestings entries_from nesting_by
     operand_nesting find same_row term_at terms term_by as_path as_qualifier file_answer file_buffer filed lines_filed

@@ -12,19 +12,19 @@ use Rattle.selector_grammar.specs.Denotes.{unlisted, union_names, union_of, put_
 use Rattle.selector_grammar.specs.Answer.{Reply, reply}
 use Rattle.selector_grammar.specs.private.Reader.{Outcome, good, bad, run, initial}
 
-unfoldable pub term_answer : term.Path → List Row → Reply
-term_answer p rs = cond (leb (nest_path p) max_nesting)
+unfoldable pub reply_to_term : term.Path → List Row → Reply
+reply_to_term p rs = cond (leb (nest_path p) max_nesting)
     (cond (leb (length (put_path p rs).rows) max_rows) (reply 0 (put_path p rs).at (put_path p rs).rows)
     (reply terms_full 0 rs)) (reply too_deep 0 rs)
 
-unfoldable pub names_answer : Option ℕ → term.Path → List Row → Reply
-names_answer (some k) p rs = reply unlisted_name k rs
-names_answer none p rs = term_answer p rs
+unfoldable pub reply_to_names : Option ℕ → term.Path → List Row → Reply
+reply_to_names (some k) p rs = reply unlisted_name k rs
+reply_to_names none p rs = reply_to_term p rs
 
-unfoldable pub read_answer : Outcome → Bytes → ℕ → List Row → Reply
-read_answer (bad k) list n rs = reply outside_grammar (n - k) rs
-read_answer (good y) list n rs =
-    names_answer (unlisted (number_of list) (union_names y.tree 0)) (union_of (number_of list) y.tree) rs
+unfoldable pub reply_to_reading : Outcome → Bytes → ℕ → List Row → Reply
+reply_to_reading (bad k) list n rs = reply outside_grammar (n - k) rs
+reply_to_reading (good y) list n rs =
+    reply_to_names (unlisted (number_of list) (union_names y.tree 0)) (union_of (number_of list) y.tree) rs
 
-unfoldable pub answer : Bytes → Bytes → List Row → Reply
-answer list t rs = read_answer (run t initial) list (length t) rs
+unfoldable pub reply_to : Bytes → Bytes → List Row → Reply
+reply_to list t rs = reply_to_reading (run t initial) list (length t) rs

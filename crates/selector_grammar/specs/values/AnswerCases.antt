@@ -27,7 +27,7 @@ use Rattle.selector_grammar.specs.Denotes.{path_of, union_of, unary_of, and_of, 
 use Rattle.selector_grammar.specs.Denotes.{nest_path}
 use Rattle.selector_grammar.specs.Denotes.{nest_qual}
 use Rattle.selector_grammar.specs.Answer.{Reply, reply}
-use Rattle.selector_grammar.specs.private.ReaderAnswer.{term_answer, names_answer, read_answer, answer}
+use Rattle.selector_grammar.specs.private.ReaderAnswer.{reply_to_term, reply_to_names, reply_to_reading, reply_to}
 
 -- the answer; to unfold it is to unfold all that it computes with
 unfoldable told : Bytes → Bytes → List Row → Reply
@@ -43,8 +43,8 @@ unfolding
     unary_names
     and_names or_names axis_of constant_of test_of step_of rel_of rel_after path_of union_of unary_of and_of or_of put
     put_path
-    put_qual nest_path nest_qual term_answer names_answer read_answer answer
-told list t rs = answer list t rs
+    put_qual nest_path nest_qual reply_to_term reply_to_names reply_to_reading reply_to
+told list t rs = reply_to list t rs
 
 -- with the names a, b, c and d, where no row is held
 abbrev text : String → Reply

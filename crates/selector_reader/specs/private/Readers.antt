@@ -21,7 +21,7 @@ use Rattle.selector_grammar.specs.private.Reader.{Left, Pend, plain, left_of, an
 use Rattle.selector_grammar.specs.private.Reader.{follow, run, outcome, Outcome, bad, at_top, path_byte, union_byte}
 use Rattle.selector_grammar.specs.private.Reader.{unary_byte}
 use Rattle.selector_grammar.specs.private.Reader.{shut, Text}
-use Rattle.selector_grammar.specs.private.ReaderAnswer.{answer}
+use Rattle.selector_grammar.specs.private.ReaderAnswer.{reply_to}
 use Rattle.selector_readings.specs.declared.Reading.{Reading}
 use Rattle.common.specs.declared.refusal.Refusal.{Refusal}
 use Rattle.common.specs.represent.Refusal.{refusal_number, refusal_value}
@@ -234,8 +234,8 @@ end_of count (Err e) = refusal_of (refusal_number e) (refusal_value e) count
 
 -- the whole text on a table: the answer, and where it is accepted the rows, and what stands past them as it was
 pub record TextMet (s list : Bytes) (xs : List ℕ) (count : ℕ) (ys : List ℕ) (a : TextEnd) : Type 0 where
-  pub number : a.number ≡ (answer list s (held_rows xs count)).number
-  pub value : a.value ≡ (answer list s (held_rows xs count)).value
+  pub number : a.number ≡ (reply_to list s (held_rows xs count)).number
+  pub value : a.value ≡ (reply_to list s (held_rows xs count)).value
   pub sized : Sized ys a.count
-  pub accepted : a.number ≡ 0 → held_rows ys a.count ≡ (answer list s (held_rows xs count)).rows
+  pub accepted : a.number ≡ 0 → held_rows ys a.count ≡ (reply_to list s (held_rows xs count)).rows
   pub beyond : a.number ≡ 0 → Beyond xs count ys a.count

@@ -2,7 +2,7 @@
 use mathlib.Core.Path.{◌≡◌, ◌∙◌}
 use borrow.Author.Rules.{rules}
 use borrow.Author.Tests.{tests}
-use Rattle.matching.specs.private.MatchTypes.{sides_in}
+use Rattle.matching.specs.represent.Sides.{sides_in}
 use Rattle.matching.proofs.ListOfTwo.{map_two}
 use Rattle.calls.specs.StepCall.{premises_of, step_numbered}
 use Rattle.calls.specs.represent.Tables.{steps_of}

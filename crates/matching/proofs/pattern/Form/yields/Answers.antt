@@ -10,7 +10,8 @@ use Rattle.terms.specs.Row.{table_of}
 use Rattle.rules.specs.Instance.{meets}
 use Rattle.matching.specs.private.PatternTypes.{condition_of, form_of}
 use Rattle.matching.specs.private.RowYields.{numbers_in, match_form, yields_by}
-use Rattle.matching.specs.private.MatchTypes.{sides_in, values_in, Matches}
+use Rattle.matching.specs.private.MatchTypes.{values_in, Matches}
+use Rattle.matching.specs.represent.Sides.{sides_in}
 use Rattle.matching.proofs.Forms.{all_mapped}
 use Rattle.matching.proofs.Matching.{claims_keep, goes_on, stops, form_fits, form_fails}
 use Rattle.matching.proofs.pattern.Form.yields.Goals as goal
