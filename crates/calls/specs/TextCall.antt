@@ -6,8 +6,8 @@ use Rattle.selector_grammar.specs.Answer.{Reply}
 use Rattle.selector_grammar.specs.private.ReaderAnswer.{reply_to}
 use Rattle.calls.specs.Book.{Book, pointed_book, Answer, answer}
 
--- number, value and rows as `Answers` of grammar/specs/Answer.antt has them for the lent names and the text t:
--- `answered` shows that it has some for every text, `AnswersAsDefined` of TextLaws.antt that it has no others
+-- number, value and rows for the lent names and the text t: those that `Answers` of selector_grammar/specs/Answer.antt
+-- has, and no others (`AnswersAsDefined` of TextLaws.antt); `reply_to` finds them, reading the text byte by byte
 unfoldable pub text_reply : (names t : Bytes) → List Row → Reply
 text_reply names t rs = reply_to names t rs
 

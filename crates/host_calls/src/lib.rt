@@ -1,4 +1,4 @@
-// What a host in C calls, by the archive of crate exports_c: the number of each answer is the result, and values go
+// What a host in C calls, by the archive of crate spinebriar_c: the number of each answer is the result, and values go
 // into what it lends. Parameters are those of the host's calls, here and in each module.
 #![tactic(auto)]
 

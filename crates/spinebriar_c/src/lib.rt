@@ -1,4 +1,4 @@
-// The archive for a host in C: each call is that of crate exports, with its name, its clauses and its parameters. They
+// The archive for a host in C: each call is that of crate host_calls, with its name, its clauses and its parameters. They
 // stand twice, since no crate can depend on a static library, and theorems speaks of the calls.
 #![tactic(auto)]
 

@@ -1,5 +1,5 @@
 -- The answer to a text call as a function: what the reader makes of the text decides. It gives the answer that the
--- grammar does, and there is no other (`given` and `only` in grammar/proofs/Answered.antt).
+-- grammar does, and there is no other (`given` and `only` in selector_grammar/proofs/Answered.antt).
 use Rattle.std.specs.Prelude.{ℕ, ◌-◌, cond, List, leb, length}
 use Rattle.std.proofs.Math.Option.{Option, none, some}
 use Rattle.xpath.specs.Term as term

@@ -1,5 +1,5 @@
 -- Texts of the grammar, and texts outside it with their places, by computation: the reader decides the grammar
--- (`given` and `only` in grammar/proofs/Answered.antt).
+-- (`given` and `only` in selector_grammar/proofs/Answered.antt).
 use Rattle.std.specs.Prelude.{ℕ, zero, suc, ◌-◌, refl, List, [], ◌∷◌, ◌++◌, map, length}
 use Prim.Native.String.{String}
 use Rattle.std.proofs.Math.Option.{Option, none, some}
