@@ -28,7 +28,7 @@ use Rattle.session.specs.Reading.{reading}
 use Rattle.session.specs.ReadCall.{read_answer_of, ReadMet}
 use Rattle.host_calls.specs.ClaimCall.{claimed, the_claim, the_bundle, old_selector, new_selector}
 use Rattle.host_calls.specs.ClaimCall.{said_answer, new_claimed, old_claimed, claim_answer}
-use Rattle.host_calls.specs.represent.ClaimTypes.{claimed_of}
+use Rattle.host_calls.specs.private.ClaimTypes.{claimed_of}
 use Rattle.host_calls.specs.declared.claim.ClaimRefusal.{ClaimRefusal}
 use Rattle.host_calls.specs.declared.claim.ClaimRefusal.TheVariants.{Bundle, OldSelector, NewSelector, Claim}
 use Rattle.host_calls.specs.TextSelect.{read_answer, read_rows, text_select_answer, text_select_buffer, TextSelectMade}

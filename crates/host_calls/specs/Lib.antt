@@ -3,5 +3,5 @@ pub mod ClaimGuarantee
 pub mod TextSelect
 pub mod SelectGuarantee
 pub mod FileGuarantee
-pub mod represent
+pub mod private
 pub mod values

@@ -2,7 +2,7 @@
 ghost use Rattle.std.specs.Prelude.{◌≡◌};
 ghost use Rattle.calls.specs.Book.{answer};
 ghost use Rattle.host_calls.specs.ClaimCall.{claimed, claim_answer};
-ghost use Rattle.host_calls.specs.represent.ClaimTypes.{part_of, claim_refusal_answer, claimed_of};
+ghost use Rattle.host_calls.specs.private.ClaimTypes.{part_of, claim_refusal_answer, claimed_of};
 
 use crate::tell::tell;
 use calls::Answer;

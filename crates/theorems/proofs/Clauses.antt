@@ -1,4 +1,4 @@
--- Clauses of the list that no crate below writes out: without one of them this fails.
+-- Clauses of the theorems that no crate below writes out: without one of them this fails.
 use Prim.Native.Nat.{ℕ, ◌≤◌, ◌<◌}
 use mathlib.Core.Path.{◌≡◌}
 use mathlib.Core.List.{List, map}
@@ -13,7 +13,7 @@ use Rattle.xpath.proofs.Source.{Climbed}
 use Rattle.records.specs.declared.Record.{Record}
 use Rattle.records.specs.Records.{empty_record}
 use Rattle.records.specs.Releases.{released, Increasing, ShowsInOrder}
-use Rattle.theorems.proofs.Theorems.{Theorems}
+use Rattle.theorems.specs.Theorems.{Theorems}
 
 module _ (theorems : Theorems) where
   -- a climb from y toward x
@@ -24,25 +24,25 @@ module _ (theorems : Theorems) where
 
       -- its count ends it, and no fewer parents do
       pub climb_ends : (above d r.parents y ≤ x) ⊎ (above d r.parents y ≤ parent_at d (above d r.parents y))
-      climb_ends = (theorems.meaning.climb_promise.ends xs x y e es r left climbed).ends
+      climb_ends = (theorems.laws.meaning.climb_promise.ends xs x y e es r left climbed).ends
 
       pub climb_goes_on : (j : ℕ) → j < r.parents → (x < above d j y) × (parent_at d (above d j y) < above d j y)
-      climb_goes_on = (theorems.meaning.climb_promise.ends xs x y e es r left climbed).earlier
+      climb_goes_on = (theorems.laws.meaning.climb_promise.ends xs x y e es r left climbed).earlier
 
       module _ (w : T (well_formed d)) (h : y < length d) where
         pub count_leads : above d r.parents y ≤ x
-        count_leads = (theorems.meaning.climb_promise.least xs x y e es r left climbed w h).ends
+        count_leads = (theorems.laws.meaning.climb_promise.least xs x y e es r left climbed w h).ends
 
         pub no_fewer_lead : (j : ℕ) → j < r.parents → x < above d j y
-        no_fewer_lead = (theorems.meaning.climb_promise.least xs x y e es r left climbed w h).earlier
+        no_fewer_lead = (theorems.laws.meaning.climb_promise.least xs x y e es r left climbed w h).earlier
 
         pub answers_ancestor : r.met ≡ is_ancestor d x y
-        answers_ancestor = theorems.meaning.climb_promise.answers xs x y e es r left climbed w h
+        answers_ancestor = theorems.laws.meaning.climb_promise.answers xs x y e es r left climbed w h
 
   -- what a crew gets
   module _ (rs : List Record) (fs : List ℕ) where
     abbrev shown : ShowsInOrder rs fs
-    shown = theorems.register.shows_in_order rs fs
+    shown = theorems.laws.register.shows_in_order rs fs
 
     pub places_in_order : Increasing shown.places
     places_in_order = shown.in_order

@@ -1,3 +1,2 @@
-pub mod Theorems
 pub mod Proved
 pub mod Clauses

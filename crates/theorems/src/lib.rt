@@ -1,2 +1,3 @@
-// Every theorem, as one list: proofs/Theorems.antt. There is no code here.
+// Every theorem: specs/, a file for each of the six sentences that README.md names, the laws, and that calls exist.
+// There is no code here.
 #![tactic(auto)]

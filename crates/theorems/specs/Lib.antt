@@ -1,0 +1,9 @@
+pub mod Calls
+pub mod Selection
+pub mod Rules
+pub mod Book
+pub mod Bundles
+pub mod Editions
+pub mod Laws
+pub mod Exist
+pub mod Theorems
