@@ -4,7 +4,7 @@ pub mod Lists
 pub mod Rests
 pub mod NamesPut
 pub mod Selects
-pub mod Words
+pub mod WordLists
 pub mod Table
 pub mod EachLine
 pub mod WordsTable

@@ -23,7 +23,7 @@ use Rattle.script.specs.private.CommandRead.{AloneRead, CallMet, CallRead}
 use Rattle.script.specs.private.Entries.{text_of, entry_of, no_entry}
 use Rattle.script.proofs.WordsTable.{Sound, word_sound, word_at, word_count}
 use Rattle.script.proofs.Calls.{read_behind}
-use Rattle.script.proofs.Words.{word_and_numbers, word_alone, word_without_numbers, another_word}
+use Rattle.script.proofs.WordLists.{word_and_numbers, word_alone, word_without_numbers, another_word}
 
 -- the words before the first i are tried
 abbrev pub Tried : (xs : List ℕ) (at i : ℕ) → Type 0

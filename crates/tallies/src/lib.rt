@@ -56,7 +56,7 @@ fn is_bad_name(opened: &[bool], k: usize) -> bool
 pub fn judge_list(list: &[u8], opened: &[bool]) -> Result<(), Refusal>
     ensures { done_answer_of result ≡ list_answer list.now opened.now }
 {
-    match (0..names::count(list)).find(|&k| is_bad_name(opened, k)) {
+    match (0..lines::names::count(list)).find(|&k| is_bad_name(opened, k)) {
         Some(k) => Err(Refusal::BadName(k + 1)),
         None => Ok(()),
     }

@@ -4,7 +4,7 @@ use mathlib.Core.Option.{Option-elim}
 use Rattle.lines.specs.Number.{numbers_up_to}
 use Rattle.script.specs.Words.{shape_of}
 use Rattle.script.specs.Command.{at_most, named}
-use Rattle.script.proofs.Words.{other_alone}
+use Rattle.script.proofs.WordLists.{other_alone}
 use Rattle.script.proofs.alone.Goals as goal
 
 pub returns-in-Document : goal.returns-in-Document

@@ -4,7 +4,7 @@ use Rattle.std.proofs.Common.{rules}
 use Rattle.script.specs.declared.words.Word.TheVariants.{Term, Step, Document, Old, New, Replace, Point, Return, Order}
 use Rattle.script.specs.declared.words.Word.TheVariants.{Names, Text, Record, Current, Release, CrewCurrent}
 use Rattle.script.specs.Words.{shape_of}
-use Rattle.script.proofs.Words.{no_numbers_behind}
+use Rattle.script.proofs.WordLists.{no_numbers_behind}
 use Rattle.script.proofs.behind_word.Goals as goal
 
 pub returns-in-Term : goal.returns-in-Term
