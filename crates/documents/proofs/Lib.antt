@@ -1,2 +1,3 @@
 pub mod Fields
 mod Passing
+pub mod LentRows

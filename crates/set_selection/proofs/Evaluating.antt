@@ -28,8 +28,7 @@ use Rattle.documents.specs.Columns.{rows_of, Sound}
 use Rattle.set_selection.specs.Evaluations.{Holding, Only}
 use Rattle.set_selection.proofs.Anys.{subst_T, any_none, any_single}
 use Rattle.set_selection.proofs.Images.{image_cong, image_then, image_kept, image_none, image_or, image_on}
-use Rattle.set_selection.proofs.Images.{no_marks_made}
-use Rattle.set_selection.proofs.Images.{all_marked}
+use Rattle.set_selection.proofs.Images.{no_marks_made, all_marked}
 use Rattle.set_selection.proofs.Relations.{size}
 
 turned : (a b : Bool) → (a && b) ≡ (b && a)
@@ -75,7 +74,8 @@ module _ (d : Document) where
         size = length-set (replicate n false) 0 b ∙ length-replicate {A = Bool} n false ∙ l;
         each = λ y k. ⊎_elim
             (λ q. ap (λ (i : ℕ). marked (set (replicate n false) 0 b) i) q
-            ∙ get_or-set_same (replicate n false) 0 b false (omega (arith, length-replicate {A = Bool} n false, h, l, e))
+            ∙ get_or-set_same (replicate n false) 0 b false (omega
+            (arith, length-replicate {A = Bool} n false, h, l, e))
             ∙ f
             ∙ any_cong (marked m) (λ x. marked m x && (ltb y (length d) && eqb y 0)) (length m)
             (λ x j. sym (rw (lt-ltb y (length d) (omega (arith, k, e)), eq-eqb y 0 q) (and-true (marked m x)))))
@@ -225,7 +225,8 @@ module _ (d : Document) where
       rw (e, z)
       (record {
         size = s.size ∙ u.size ∙ whole;
-        each = λ y h. s.each y (omega (arith, u.size, whole, h)) ∙ ap not (u.each y (omega (arith, whole, h))) ∙ same y h;
+        each = λ y h. s.each y (omega (arith, u.size, whole, h)) ∙ ap not (u.each y (omega (arith, whole, h))) ∙ same
+            y h;
       })
     where
       whole : length m ≡ length d
@@ -237,7 +238,8 @@ module _ (d : Document) where
       same : (y : ℕ) → y < length d →
           not (image (λ x y. selects d p y x) m y) ≡ all_below (length d) (λ z. not (selects d p y z) || false)
       same y h =
-          tests_equal (not (image (λ x y. selects d p y x) m y)) (all_below (length d) (λ z. not (selects d p y z) || false)) (
+          tests_equal (not (image (λ x y. selects d p y x) m y))
+          (all_below (length d) (λ z. not (selects d p y z) || false)) (
             λ t. yes_all (length d) (λ z. not (selects d p y z) || false)
                 (λ k j. yes_or (not (selects d p y k)) false
                 (inl (not_T (selects d p y k) (λ r. T_not (image (λ x y. selects d p y x) m y) t
@@ -256,7 +258,8 @@ module _ (d : Document) where
       Image (selects d p) m a → (y : ℕ) → y < length d → marked a y ≡ selects d p x y
   only_selected p x {m} {a} h u v y k = v.each y (omega (arith, u.size, k)) ∙ image_of_only (selects d p) h u y
 
-  pub included : (p q : Path) (x : ℕ) {m a b : List Bool} → x < length d → Only (length d) x m → Image (selects d p) m a →
+  pub included : (p q : Path) (x : ℕ) {m a b : List Bool} → x < length d → Only (length d) x m → Image (selects d p) m
+      a →
       Image (selects d q) m b →
       all_below (length a) (λ y. not (marked a y) || marked b y) ≡ holds d (In p q) x
   unfolding holds
@@ -326,7 +329,8 @@ module _ (ts : List Term) (r : Row) where
   unfolding leaf_path
   no_path_row o n l m k =
       leaf_path_lem ts r l m k
-      ∙ ⊎_elim (λ e. rw e refl) (λ h. let g : 2 < r.kind = omega (arith, o, n, h) in rw get_or-eq_default refl) (eq_or_ne r.kind 0)
+      ∙ ⊎_elim (λ e. rw e refl) (λ h. let g : 2 < r.kind = omega (arith, o, n, h) in rw get_or-eq_default refl)
+      (eq_or_ne r.kind 0)
 
   pub void_row_is : r.kind ≡ 0 → as_path (term_by ts r) ≡ Void
   unfolding term_by as_path

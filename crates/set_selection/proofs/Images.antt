@@ -130,8 +130,10 @@ image_or {R} {S} {m} {a} {b} {c} u v p =
               let q = and_yes (marked m r.0) (R r.0 y || S r.0 y) r.2 in
               yes_or (image R m y) (image S m y)
               (⊎_elim
-              (λ s. inl (yes_any (length m) (λ x. marked m x && R x y) r.0 r.1 (yes_and (marked m r.0) (R r.0 y) q.0 s)))
-              (λ s. inr (yes_any (length m) (λ x. marked m x && S x y) r.0 r.1 (yes_and (marked m r.0) (S r.0 y) q.0 s)))
+              (λ s. inl (yes_any (length m) (λ x. marked m x && R x y) r.0 r.1
+              (yes_and (marked m r.0) (R r.0 y) q.0 s)))
+              (λ s. inr (yes_any (length m) (λ x. marked m x && S x y) r.0 r.1
+              (yes_and (marked m r.0) (S r.0 y) q.0 s)))
               (or_yes (R r.0 y) (S r.0 y) q.1)),
         )
 
@@ -165,7 +167,8 @@ image_on {R} {S} {m} {a} {b} u v =
               let q = and_yes (R s.0 r.0) (S r.0 y) r.2 in
               yes_any (length m) (λ z. image R m z && S z y) r.0 r.1
               (yes_and (image R m r.0) (S r.0 y)
-              (yes_any (length m) (λ x. marked m x && R x r.0) s.0 s.1 (yes_and (marked m s.0) (R s.0 r.0) p.0 q.0)) q.1),
+              (yes_any (length m) (λ x. marked m x && R x r.0) s.0 s.1 (yes_and (marked m s.0) (R s.0 r.0) p.0 q.0))
+              q.1),
         )
 
 -- more marks than none

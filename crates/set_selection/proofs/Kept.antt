@@ -17,8 +17,7 @@ use Rattle.common.proofs.Reflect.{le_or_lt, eq_or_ne, tests_equal, any_yes, yes_
 use Rattle.common.proofs.Tests.{any_cong}
 use Rattle.set_selection.specs.Sets.{marked, image, Image, MoreImage, NoMarks}
 use Rattle.documents.specs.Columns.{Within, EndsWithin}
-use Rattle.set_selection.specs.Walks.{is_under, is_over, is_below, is_above, is_after, is_before, is_later}
-use Rattle.set_selection.specs.Walks.{is_earlier}
+use Rattle.set_selection.specs.Walks.{is_under, is_over, is_below, is_above, is_after, is_before, is_later, is_earlier}
 use Rattle.set_selection.proofs.Anys.{subst_T, any_until, any_none, any_single, any_down, or_absorbs}
 use Rattle.set_selection.proofs.Written.{DoneBelow, DoneFrom, done_none, done_on, from_on}
 
@@ -242,7 +241,8 @@ module _ (m : List Bool) (ps : List ℕ) where
           (eq_or_ne p (get_or ps x 0))
       by_mark p false a c f = f ∙ ap (λ (b : Bool). a || b) (sym (or-false c))
 
-  pub spread_all : (old out : List Bool) (x : ℕ) → ((p : ℕ) → p < length m → x ≡ length m) → length out ≡ length old → Spread old x out →
+  pub spread_all : (old out : List Bool) (x : ℕ) → ((p : ℕ) → p < length m → x ≡ length m) → length out ≡ length old →
+      Spread old x out →
       MoreImage (is_over ps) m old out
   spread_all old out x e size u =
       record {

@@ -43,7 +43,8 @@ same_marks (false ∷ xs) (false ∷ ys) e = ap (λ l. false ∷ l) (same_marks 
 same_marks (true ∷ xs) (false ∷ ys) e = absurd (cc)
 same_marks (false ∷ xs) (true ∷ ys) e = absurd (cc)
 
-pub has_last : (s : Slot) (f : Found) {m out : List Bool} → s ≡ Last f → f.from.items ≡ m → f.to.items ≡ out → Has s m out
+pub has_last : (s : Slot) (f : Found) {m out : List Bool} → s ≡ Last f → f.from.items ≡ m → f.to.items ≡ out → Has s m
+    out
 has_last s f e a b = rw e (a, b)
 
 pub recalled : (P : ℕ → List Bool → List Bool → Type 0) (m : Memory) (r : ℕ) {from out : List Bool} → Remembers P m →
@@ -58,7 +59,8 @@ noted P old new r {from} {out} u n p k =
     (λ w. has_right (P k) (slot new k) (subst (λ (i : ℕ). P i from out) (sym w.0) p) w.1)
     (n k)
 
-pub fresh_remembered : (rs : List Row) (d : Document) (m : Memories) → Fresh m.forward × Fresh m.back × Fresh m.holding →
+pub fresh_remembered : (rs : List Row) (d : Document) (m : Memories) → Fresh m.forward × Fresh m.back × Fresh
+    m.holding →
     Remembered rs d m
 fresh_remembered rs d m u =
     record {

@@ -37,7 +37,16 @@ later_siblings x y p q a b =
     tests_equal ((a && (not (eqb x 0) && (ltb x y && eqb p q))) && b)
     ((not (eqb x 0) && (not (eqb y 0) && eqb q p) && not (eqb x y) && a && b) && ltb x y) (
       λ t. let r = simp facts at t in
-          simp facts (((((r.0.1.0, (λ e. omega (arith, r.0.1.1.0), sym r.0.1.1.1)), λ e. omega (arith, r.0.1.1.0)), r.0.0), r.1), r.0.1.1.0),
+          simp facts (
+            (
+              (
+                ((r.0.1.0, (λ e. omega (arith, r.0.1.1.0), sym r.0.1.1.1)), λ e. omega (arith, r.0.1.1.0)),
+                r.0.0,
+              ),
+              r.1,
+            ),
+            r.0.1.1.0,
+          ),
       λ t. let r = simp facts at t in
           simp facts ((r.0.0.1, (r.0.0.0.0.0, (r.1, sym r.0.0.0.0.1.1))), r.0.1),
     )
@@ -49,7 +58,16 @@ earlier_siblings x y p q a b =
     tests_equal ((a && (not (eqb y 0) && (ltb y x && eqb q p))) && b)
     ((not (eqb x 0) && (not (eqb y 0) && eqb q p) && not (eqb x y) && a && b) && ltb y x) (
       λ t. let r = simp facts at t in
-          simp facts (((((λ e. omega (arith, r.0.1.1.0), (r.0.1.0, r.0.1.1.1)), λ e. omega (arith, r.0.1.1.0)), r.0.0), r.1), r.0.1.1.0),
+          simp facts (
+            (
+              (
+                ((λ e. omega (arith, r.0.1.1.0), (r.0.1.0, r.0.1.1.1)), λ e. omega (arith, r.0.1.1.0)),
+                r.0.0,
+              ),
+              r.1,
+            ),
+            r.0.1.1.0,
+          ),
       λ t. let r = simp facts at t in
           simp facts ((r.0.0.1, (r.0.0.0.0.1.0, (r.1, r.0.0.0.0.1.1))), r.0.1),
     )

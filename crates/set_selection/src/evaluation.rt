@@ -68,7 +68,8 @@ impl Evaluation<'_> {
     ) -> Result<Vec<bool>, AllocError>
         requires size { length marks.now ≡ length self.now.columns.now.kinds.now }
         requires remembered { Remembered (rows_in self.now) (document_in self.now) memories.old }
-        ensures found { IfOk result (λ v. Image (selects (document_in self.now) (path_in (terms_before self.now top) r)) marks.now v.items) }
+        ensures found { IfOk result (λ v. Image
+            (selects (document_in self.now) (path_in (terms_before self.now top) r)) marks.now v.items) }
         ensures remembered { Remembered (rows_in self.now) (document_in self.now) memories.new }
     {
         if top <= r {
@@ -93,7 +94,9 @@ impl Evaluation<'_> {
     ) -> Result<Vec<bool>, AllocError>
         requires size { length marks.now ≡ length self.now.columns.now.kinds.now }
         requires remembered { Remembered (rows_in self.now) (document_in self.now) memories.old }
-        ensures found { IfOk result (λ v. Image (selects (document_in self.now) (as_path (term_by (terms_before self.now top) (row_of row)))) marks.now v.items) }
+        ensures found { IfOk result (λ v. Image
+            (selects (document_in self.now) (as_path (term_by (terms_before self.now top) (row_of row))))
+            marks.now v.items) }
         ensures remembered { Remembered (rows_in self.now) (document_in self.now) memories.new }
     {
         let a = usize::from(row.a);
@@ -131,7 +134,8 @@ impl Evaluation<'_> {
     ) -> Result<Vec<bool>, AllocError>
         requires size { length marks.now ≡ length self.now.columns.now.kinds.now }
         requires remembered { Remembered (rows_in self.now) (document_in self.now) memories.old }
-        ensures found { IfOk result (λ v. Image (λ x y. selects (document_in self.now) (path_in (terms_before self.now top) r) y x) marks.now v.items) }
+        ensures found { IfOk result (λ v. Image
+            (λ x y. selects (document_in self.now) (path_in (terms_before self.now top) r) y x) marks.now v.items) }
         ensures remembered { Remembered (rows_in self.now) (document_in self.now) memories.new }
     {
         if top <= r {
@@ -156,7 +160,9 @@ impl Evaluation<'_> {
     ) -> Result<Vec<bool>, AllocError>
         requires size { length marks.now ≡ length self.now.columns.now.kinds.now }
         requires remembered { Remembered (rows_in self.now) (document_in self.now) memories.old }
-        ensures found { IfOk result (λ v. Image (λ x y. selects (document_in self.now) (as_path (term_by (terms_before self.now top) (row_of row))) y x) marks.now v.items) }
+        ensures found { IfOk result (λ v. Image
+            (λ x y. selects (document_in self.now) (as_path (term_by (terms_before self.now top) (row_of row))) y x)
+            marks.now v.items) }
         ensures remembered { Remembered (rows_in self.now) (document_in self.now) memories.new }
     {
         let a = usize::from(row.a);
@@ -192,7 +198,8 @@ impl Evaluation<'_> {
         memories: &mut Memories,
     ) -> Result<Vec<bool>, AllocError>
         requires remembered { Remembered (rows_in self.now) (document_in self.now) memories.old }
-        ensures found { IfOk result (λ v. Holding (document_in self.now) (qualifier_in (terms_before self.now top) r) v.items) }
+        ensures found { IfOk result (λ v. Holding (document_in self.now)
+            (qualifier_in (terms_before self.now top) r) v.items) }
         ensures remembered { Remembered (rows_in self.now) (document_in self.now) memories.new }
     {
         if top <= r {
@@ -215,7 +222,8 @@ impl Evaluation<'_> {
         memories: &mut Memories,
     ) -> Result<Vec<bool>, AllocError>
         requires remembered { Remembered (rows_in self.now) (document_in self.now) memories.old }
-        ensures found { IfOk result (λ v. Holding (document_in self.now) (as_qualifier (term_by (terms_before self.now top) (row_of row))) v.items) }
+        ensures found { IfOk result (λ v. Holding (document_in self.now)
+            (as_qualifier (term_by (terms_before self.now top) (row_of row))) v.items) }
         ensures remembered { Remembered (rows_in self.now) (document_in self.now) memories.new }
     {
         let n = self.columns.node_count();
@@ -263,7 +271,8 @@ impl Evaluation<'_> {
         memories: &mut Memories,
     ) -> Result<Vec<bool>, AllocError>
         requires remembered { Remembered (rows_in self.now) (document_in self.now) memories.old }
-        ensures found { IfOk result (λ v. Holding (document_in self.now) (In (path_in (terms_before self.now top) a) (path_in (terms_before self.now top) b)) v.items) }
+        ensures found { IfOk result (λ v. Holding (document_in self.now)
+            (In (path_in (terms_before self.now top) a) (path_in (terms_before self.now top) b)) v.items) }
         ensures remembered { Remembered (rows_in self.now) (document_in self.now) memories.new }
     {
         let n = self.columns.node_count();
@@ -288,7 +297,8 @@ pub fn select_all(
     context: &[bool],
 ) -> Result<Vec<bool>, AllocError>
     requires { length context.now ≡ length document.now.kinds.items }
-    ensures { IfOk result (λ v. Image (selects (doc document.now) (path_at (table_of rows.now) row)) context.now v.items) }
+    ensures { IfOk result (λ v. Image (selects (doc document.now) (path_at (table_of rows.now) row))
+        context.now v.items) }
 {
     let columns = Columns {
         kinds: &document.kinds,

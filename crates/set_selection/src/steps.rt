@@ -6,8 +6,8 @@ ghost use Rattle.xpath.specs.Axis.{on_axis};
 ghost use Rattle.xpath.specs.Term.{AxisStep, Root};
 ghost use Rattle.xpath.specs.Meaning.{selects};
 ghost use Rattle.set_selection.specs.Sets.{Image, Pointwise, marked};
-ghost use Rattle.set_selection.specs.Walks.{is_under, is_over, is_below, is_above, is_after, is_before, is_later};
-ghost use Rattle.set_selection.specs.Walks.{is_earlier};
+ghost use Rattle.set_selection.specs.Walks.{is_under, is_over, is_below, is_above};
+ghost use Rattle.set_selection.specs.Walks.{is_after, is_before, is_later, is_earlier};
 ghost use Rattle.set_selection.specs.Evaluations.{doc};
 ghost use Rattle.xpath.specs.private.Tests.{fits};
 
@@ -192,7 +192,8 @@ impl Columns<'_> {
     // The marked nodes that are no attributes.
     fn others(&self, alloc: Global, marks: &[bool]) -> Result<Vec<bool>, AllocError>
         requires { length marks.now ≡ length self.now.kinds.now }
-        ensures { IfOk result (λ v. Pointwise marks.now v.items (λ y m. m && not (eqb (get_or self.now.kinds.now y 0) 5))) }
+        ensures { IfOk result (λ v. Pointwise marks.now v.items
+            (λ y m. m && not (eqb (get_or self.now.kinds.now y 0) 5))) }
     {
         let mut out = Vec::from_slice(alloc, marks)?;
         filters::leave_attributes(self.kinds, &mut out);
@@ -331,7 +332,8 @@ impl Columns<'_> {
         marks: &[bool],
     ) -> Result<Vec<bool>, AllocError>
         requires { length marks.now ≡ length self.now.kinds.now }
-        ensures { IfOk result (λ v. Image (λ x y. selects (doc self.now) (AxisStep axis test name) y x) marks.now v.items) }
+        ensures { IfOk result (λ v. Image (λ x y. selects (doc self.now) (AxisStep axis test name) y x)
+            marks.now v.items) }
     {
         let Ok(on) = Axis::try_from(axis) else {
             return no_marks(alloc, marks.len());

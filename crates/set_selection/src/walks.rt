@@ -2,8 +2,8 @@
 ghost use Rattle.std.specs.Prelude.{◌≡◌, length};
 ghost use Rattle.set_selection.specs.Sets.{Image, MoreImage, NoMarks};
 ghost use Rattle.documents.specs.Columns.{Within, EndsWithin};
-ghost use Rattle.set_selection.specs.Walks.{is_under, is_over, is_below, is_above, is_after, is_before, is_later};
-ghost use Rattle.set_selection.specs.Walks.{is_earlier};
+ghost use Rattle.set_selection.specs.Walks.{is_under, is_over, is_below, is_above};
+ghost use Rattle.set_selection.specs.Walks.{is_after, is_before, is_later, is_earlier};
 
 /// Marks each node whose parent is marked, and no other.
 pub fn mark_children(parents: &[u32], marks: &[bool], out: &mut [bool])

@@ -10,5 +10,6 @@ pub returns : goal.returns
 unfolding term_at
 returns c =
     let e : take c.row_count-count.result (table_of c.args.rows.now) ≡ table_of c.args.rows.now =
-    ap (λ (n : ℕ). take n (table_of c.args.rows.now)) c.row_count-count.ensures ∙ take-length (table_of c.args.rows.now) in
+    ap (λ (n : ℕ). take n (table_of c.args.rows.now)) c.row_count-count.ensures ∙ take-length
+    (table_of c.args.rows.now) in
     rw (e, c.deref.ensures.value, c.deref-2.ensures.value, c.deref-3.ensures.value) at c.select.ensures.found

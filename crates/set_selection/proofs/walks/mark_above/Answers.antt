@@ -1,12 +1,11 @@
 -- `mark_above` meets its contract.
-use Rattle.std.proofs.Common.{ℕ, ◌≡◌, ◌<◌, ◌≤◌, ◌+◌, ◌-◌, ◌&&◌, Bool, true, false, suc, ◌∙◌, sym, refl, ap, List, rules}
-use Rattle.std.proofs.Common.{arith, length, get_or, eqb, not}
+use Rattle.std.proofs.Common.{ℕ, ◌≡◌, ◌<◌, ◌≤◌, ◌+◌, ◌-◌, ◌&&◌, Bool, true, false, suc, ◌∙◌, sym, refl, ap, List}
+use Rattle.std.proofs.Common.{rules, arith, length, get_or, eqb, not}
 use Rattle.set_selection.proofs.Written.{done_none, done_on, from_on, image_done, image_from, DoneBelow, DoneFrom}
 use Rattle.set_selection.proofs.Kept.{reach_none, reach_on, reach_value, next_none, next_on, next_value, first_none}
-use Rattle.set_selection.proofs.Kept.{first_on}
-use Rattle.set_selection.proofs.Kept.{first_value, past_none, past_on, past_value, under_value, spread_none, spread_on}
-use Rattle.set_selection.proofs.Kept.{spread_all, later_value, later_first, spread_end, spread_down, earlier_value}
-use Rattle.set_selection.proofs.Kept.{earlier_all}
+use Rattle.set_selection.proofs.Kept.{first_on, first_value, past_none, past_on, past_value, under_value, spread_none}
+use Rattle.set_selection.proofs.Kept.{spread_on, spread_all, later_value, later_first, spread_end, spread_down}
+use Rattle.set_selection.proofs.Kept.{earlier_value, earlier_all}
 use Rattle.set_selection.specs.Sets.{marked}
 use borrow.Author.Tests.{ne_eqb}
 use lib.Seq.{get_or-set_same, get_or-set_other}

@@ -17,10 +17,12 @@ pub returns-in_default-new : goal.returns-in_default-new
 returns-in_default-new c =
     let e = rw c.from.ensures at c.in_default-new.ensures in
     ok_to _ c.no_marks-in_default-new.ensures
-    (λ v u. stepped_none _ _ _ _ c.args.self.now.sound c.args.axis c.args.test c.args.name c.args.marks.now c.requires (λ x y. past_test _ _ _ _ x y (e _ y)) _ refl _ u)
+    (λ v u. stepped_none _ _ _ _ c.args.self.now.sound c.args.axis c.args.test c.args.name c.args.marks.now c.requires
+    (λ x y. past_test _ _ _ _ x y (e _ y)) _ refl _ u)
 
 pub returns : goal.returns
 returns c =
     let e = rw c.from.ensures at c.in-Some.ensures in
     let u = rw c.in-Ok.ensures at c.in_ok-out.ensures in
-    stepped _ _ _ _ c.args.self.now.sound c.args.axis c.args.test c.args.name c.args.marks.now c.requires c.in-Some.test e u c.tested.ensures
+    stepped _ _ _ _ c.args.self.now.sound c.args.axis c.args.test c.args.name c.args.marks.now c.requires
+    c.in-Some.test e u c.tested.ensures

@@ -17,11 +17,13 @@ pub returns-in_default-new : goal.returns-in_default-new
 returns-in_default-new c =
     let e = rw c.from.ensures at c.in_default-new.ensures in
     ok_to _ c.no_marks-in_default-new.ensures
-    (λ v u. back_none _ _ _ _ c.args.self.now.sound c.args.axis c.args.test c.args.name c.args.marks.now c.requires (λ x y. past_test _ _ _ _ x y (e _ y)) _ refl _ u)
+    (λ v u. back_none _ _ _ _ c.args.self.now.sound c.args.axis c.args.test c.args.name c.args.marks.now c.requires
+    (λ x y. past_test _ _ _ _ x y (e _ y)) _ refl _ u)
 
 pub returns : goal.returns
 returns c =
     let e = rw c.from.ensures at c.in-Some.ensures in
     let p = rw c.in_ok-all.ensures.items at c.tested-kept.ensures in
     let w = rw (c.deref.ensures.value, c.in-Ok.ensures) at c.back_on_axis.ensures in
-    ok_to _ w (λ v u. stepped_back _ _ _ _ c.args.self.now.sound c.args.axis c.args.test c.args.name c.args.marks.now c.requires c.in-Some.test e p u)
+    ok_to _ w (λ v u. stepped_back _ _ _ _ c.args.self.now.sound c.args.axis c.args.test c.args.name c.args.marks.now
+    c.requires c.in-Some.test e p u)

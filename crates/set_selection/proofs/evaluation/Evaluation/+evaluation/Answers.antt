@@ -15,19 +15,19 @@ use Rattle.set_selection.proofs.Written.{done_none, done_on}
 use Rattle.set_selection.proofs.Images.{made}
 use Rattle.set_selection.proofs.Relations.{size}
 use Rattle.set_selection.proofs.Evaluating.{void_selected, void_back, union_selected, union_back, composition_selected}
-use Rattle.set_selection.proofs.Evaluating.{composition_back, filter_selected, filter_back, true_holding, false_holding}
-use Rattle.set_selection.proofs.Evaluating.{not_holding, and_holding, or_holding, none_holding, included, holding_all}
-use Rattle.set_selection.proofs.Evaluating.{path_not_held, qualifier_not_held, path_held, qualifier_held, root_row_is}
-use Rattle.set_selection.proofs.Evaluating.{step_row_is}
-use Rattle.set_selection.proofs.Evaluating.{union_row_is, composition_row_is, filter_row_is, true_row_is, not_row_is}
-use Rattle.set_selection.proofs.Evaluating.{and_row_is}
-use Rattle.set_selection.proofs.Evaluating.{or_row_is, in_row_is, no_path_row}
+use Rattle.set_selection.proofs.Evaluating.{composition_back, filter_selected, filter_back, true_holding}
+use Rattle.set_selection.proofs.Evaluating.{false_holding, not_holding, and_holding, or_holding, none_holding}
+use Rattle.set_selection.proofs.Evaluating.{included, holding_all, path_not_held, qualifier_not_held, path_held}
+use Rattle.set_selection.proofs.Evaluating.{qualifier_held, root_row_is, step_row_is, union_row_is, composition_row_is}
+use Rattle.set_selection.proofs.Evaluating.{filter_row_is, true_row_is, not_row_is, and_row_is, or_row_is, in_row_is}
+use Rattle.set_selection.proofs.Evaluating.{no_path_row}
 use Rattle.set_selection.proofs.evaluation.Evaluation.+evaluation.Goals as goal
 
 pub hold-returns-then-top-r-clause-found : goal.hold-returns-then-top-r-clause-found
 hold-returns-then-top-r-clause-found t c =
     let l = c.node_count.ensures ∙ sym (size _ _ _ _ c.args.self.now.columns.now.sound) in
-    made c.no_marks.result c.no_marks.ensures (λ v u. false_holding (document_in c.args.self.now) l (qualifier_not_held (table_of c.args.self.now.rows.now) c.args.top c.args.r c.if-top-r.true) u)
+    made c.no_marks.result c.no_marks.ensures (λ v u. false_holding (document_in c.args.self.now) l
+    (qualifier_not_held (table_of c.args.self.now.rows.now) c.args.top c.args.r c.if-top-r.true) u)
 
 pub hold-returns-clause-found : goal.hold-returns-clause-found
 hold-returns-clause-found t c =
@@ -51,13 +51,15 @@ hold-returns-clause-remembered t c =
     record {
       forward = u.forward;
       back = u.back;
-      holding = noted _ c.hold_row.new.memories.holding c.note.new.self _ u.holding c.note.ensures (rw c.deref.ensures.value w);
+      holding = noted _ c.hold_row.new.memories.holding c.note.new.self _ u.holding c.note.ensures
+          (rw c.deref.ensures.value w);
     }
 
 pub hold_row-returns-in_ok-out-in-Some-Not-clause-found : goal.hold_row-returns-in_ok-out-in-Some-Not-clause-found
 hold_row-returns-in_ok-out-in-Some-Not-clause-found t c =
     let k = sym c.in-Some-Not.ensures ∙ ap row_number c.in-Some-Not.field-0-is in
-    not_holding _ (not_row_is _ _ k) (rw c.from-a.ensures at c.in_ok-out-in-Some-Not.ensures.found) c.complemented.ensures
+    not_holding _ (not_row_is _ _ k) (rw c.from-a.ensures at c.in_ok-out-in-Some-Not.ensures.found)
+    c.complemented.ensures
 
 pub hold_row-returns-in_ok-other-in-Some-And-clause-found : goal.hold_row-returns-in_ok-other-in-Some-And-clause-found
 hold_row-returns-in_ok-other-in-Some-And-clause-found t c =
@@ -75,7 +77,8 @@ hold_row-returns-in_ok-other-in-Some-Or-clause-found t c =
     let p = rw c.deref-in-Some-Or.ensures.value at c.united.ensures in
     or_holding _ x y (or_row_is _ _ k) p
 
-pub hold_row-returns-in_ok-out-in-Some-Inclusion-clause-found : goal.hold_row-returns-in_ok-out-in-Some-Inclusion-clause-found
+pub hold_row-returns-in_ok-out-in-Some-Inclusion-clause-found :
+    goal.hold_row-returns-in_ok-out-in-Some-Inclusion-clause-found
 hold_row-returns-in_ok-out-in-Some-Inclusion-clause-found t c =
     let k = sym c.in-Some-Inclusion.ensures ∙ ap row_number c.in-Some-Inclusion.field-0-is in
     let l = c.node_count-n.ensures ∙ sym (size _ _ _ _ c.args.self.now.columns.now.sound) in
@@ -102,8 +105,14 @@ pub hold_row-returns-in_default-clause-found : goal.hold_row-returns-in_default-
 hold_row-returns-in_default-clause-found t c =
     let l = c.node_count-n.ensures ∙ sym (size _ _ _ _ c.args.self.now.columns.now.sound) in
     elim c.in_default.branch [
-      | goal.hold_row-in_default-via-in-Some+in_default w ↦ made _ c.no_marks.ensures (λ v u. false_holding (document_in c.args.self.now) l (false_qualifier (terms_before c.args.self.now c.args.top) (row_of c.args.row) (λ e. grind arith) (λ e. grind arith) (λ e. grind arith) (λ e. grind arith) (λ e. grind arith)) u)
-      | goal.hold_row-in_default-via-in_default w ↦ made _ c.no_marks.ensures (λ v u. false_holding (document_in c.args.self.now) l (false_qualifier (terms_before c.args.self.now c.args.top) (row_of c.args.row) (λ e. grind arith) (λ e. grind arith) (λ e. grind arith) (λ e. grind arith) (λ e. grind arith)) u)
+      | goal.hold_row-in_default-via-in-Some+in_default w ↦ made _ c.no_marks.ensures
+          (λ v u. false_holding (document_in c.args.self.now) l
+          (false_qualifier (terms_before c.args.self.now c.args.top) (row_of c.args.row) (λ e. grind arith)
+          (λ e. grind arith) (λ e. grind arith) (λ e. grind arith) (λ e. grind arith)) u)
+      | goal.hold_row-in_default-via-in_default w ↦ made _ c.no_marks.ensures
+          (λ v u. false_holding (document_in c.args.self.now) l
+          (false_qualifier (terms_before c.args.self.now c.args.top) (row_of c.args.row) (λ e. grind arith)
+          (λ e. grind arith) (λ e. grind arith) (λ e. grind arith) (λ e. grind arith)) u)
     ]
 
 pub include-loop-x-preserved : goal.include-loop-x-preserved
@@ -154,12 +163,14 @@ select-returns-clause-remembered t c =
     let u = c.in_ok-out.ensures.remembered in
     let w = rw c.row_at.ensures at c.in_ok-out.ensures.found in
     record {
-      forward = noted _ c.select_row.new.memories.forward c.note.new.self _ u.forward c.note.ensures (rw c.deref.ensures.value w);
+      forward = noted _ c.select_row.new.memories.forward c.note.new.self _ u.forward c.note.ensures
+          (rw c.deref.ensures.value w);
       back = u.back;
       holding = u.holding;
     }
 
-pub select_row-returns-in_ok-other-in-Some-Union-clause-found : goal.select_row-returns-in_ok-other-in-Some-Union-clause-found
+pub select_row-returns-in_ok-other-in-Some-Union-clause-found :
+    goal.select_row-returns-in_ok-other-in-Some-Union-clause-found
 select_row-returns-in_ok-other-in-Some-Union-clause-found t c =
     let k = sym c.in-Some-Union.ensures ∙ ap row_number c.in-Some-Union.field-0-is in
     let x = rw c.from-a.ensures at c.in_ok-out-in-Some-Union.ensures.found in
@@ -172,17 +183,22 @@ select_row-intersected-requires t c =
     let h = c.in_ok-holding-in-Some-Filter.ensures.found in
     let o = c.in_ok-out-in-Some-Filter.ensures.found in
     let e = size _ _ _ _ c.args.self.now.columns.now.sound in
-    c.in_ok-out-in-Some-Filter.ensures.found.size ∙ c.requires.size ∙ sym e ∙ sym h.size ∙ ap length (sym c.deref-in-Some-Filter.ensures.value)
+    c.in_ok-out-in-Some-Filter.ensures.found.size ∙ c.requires.size ∙ sym e ∙ sym h.size ∙ ap length
+    (sym c.deref-in-Some-Filter.ensures.value)
 
-pub select_row-returns-in_ok-first-in-Some-Composition-clause-found : goal.select_row-returns-in_ok-first-in-Some-Composition-clause-found
+pub select_row-returns-in_ok-first-in-Some-Composition-clause-found :
+    goal.select_row-returns-in_ok-first-in-Some-Composition-clause-found
 select_row-returns-in_ok-first-in-Some-Composition-clause-found t c =
     let k = sym c.in-Some-Composition.ensures ∙ ap row_number c.in-Some-Composition.field-0-is in
     let l = c.requires.size ∙ sym (size _ _ _ _ c.args.self.now.columns.now.sound) in
     let x = rw c.from-a.ensures at c.in_ok-first-in-Some-Composition.ensures.found in
-    let w = rw (c.deref-in-Some-Composition.ensures.value, c.from-b.ensures) at c.select-in-Some-Composition-2.ensures.found in
-    made c.select-in-Some-Composition-2.result w (λ v u. composition_selected (document_in c.args.self.now) (composition_row_is (terms_before c.args.self.now c.args.top) (row_of c.args.row) k) l x u)
+    let w = rw (c.deref-in-Some-Composition.ensures.value, c.from-b.ensures) at
+    c.select-in-Some-Composition-2.ensures.found in
+    made c.select-in-Some-Composition-2.result w (λ v u. composition_selected (document_in c.args.self.now)
+    (composition_row_is (terms_before c.args.self.now c.args.top) (row_of c.args.row) k) l x u)
 
-pub select_row-returns-in_ok-holding-in-Some-Filter-clause-found : goal.select_row-returns-in_ok-holding-in-Some-Filter-clause-found
+pub select_row-returns-in_ok-holding-in-Some-Filter-clause-found :
+    goal.select_row-returns-in_ok-holding-in-Some-Filter-clause-found
 select_row-returns-in_ok-holding-in-Some-Filter-clause-found t c =
     let k = sym c.in-Some-Filter.ensures ∙ ap row_number c.in-Some-Filter.field-0-is in
     let l = c.requires.size ∙ sym (size _ _ _ _ c.args.self.now.columns.now.sound) in
@@ -196,20 +212,26 @@ select_row-returns-in-Some-Step-clause-found t c =
     let k = sym c.in-Some-Step.ensures ∙ ap row_number c.in-Some-Step.field-0-is in
     let s = c.args.self.now in
     made _ c.step.ensures
-    (λ v u. subst (λ (p : Path). Image (selects (document_in s) p) c.args.marks.now v.items) (sym (step_row_is (terms_before s c.args.top) (row_of c.args.row) k)) u)
+    (λ v u. subst (λ (p : Path). Image (selects (document_in s) p) c.args.marks.now v.items)
+    (sym (step_row_is (terms_before s c.args.top) (row_of c.args.row) k)) u)
 
 pub select_row-returns-in-Some-Root-clause-found : goal.select_row-returns-in-Some-Root-clause-found
 select_row-returns-in-Some-Root-clause-found t c =
     let k = sym c.in-Some-Root.ensures ∙ ap row_number c.in-Some-Root.field-0-is in
     let s = c.args.self.now in
     made _ c.root.ensures
-    (λ v u. subst (λ (p : Path). Image (selects (document_in s) p) c.args.marks.now v.items) (sym (root_row_is (terms_before s c.args.top) (row_of c.args.row) k)) u)
+    (λ v u. subst (λ (p : Path). Image (selects (document_in s) p) c.args.marks.now v.items)
+    (sym (root_row_is (terms_before s c.args.top) (row_of c.args.row) k)) u)
 
 pub select_row-returns-in_default-clause-found : goal.select_row-returns-in_default-clause-found
 select_row-returns-in_default-clause-found t c =
     elim c.in_default.branch [
-      | goal.select_row-in_default-via-in-Some+in_default w ↦ made _ c.no_marks.ensures (λ v u. void_selected _ (no_path_row (terms_before c.args.self.now c.args.top) (row_of c.args.row) (λ e. grind arith) (λ e. grind arith) (λ e. grind arith) (λ e. grind arith) (λ e. grind arith)) refl u)
-      | goal.select_row-in_default-via-in_default w ↦ made _ c.no_marks.ensures (λ v u. void_selected _ (no_path_row (terms_before c.args.self.now c.args.top) (row_of c.args.row) (λ e. grind arith) (λ e. grind arith) (λ e. grind arith) (λ e. grind arith) (λ e. grind arith)) refl u)
+      | goal.select_row-in_default-via-in-Some+in_default w ↦ made _ c.no_marks.ensures
+          (λ v u. void_selected _ (no_path_row (terms_before c.args.self.now c.args.top) (row_of c.args.row)
+          (λ e. grind arith) (λ e. grind arith) (λ e. grind arith) (λ e. grind arith) (λ e. grind arith)) refl u)
+      | goal.select_row-in_default-via-in_default w ↦ made _ c.no_marks.ensures
+          (λ v u. void_selected _ (no_path_row (terms_before c.args.self.now c.args.top) (row_of c.args.row)
+          (λ e. grind arith) (λ e. grind arith) (λ e. grind arith) (λ e. grind arith) (λ e. grind arith)) refl u)
     ]
 
 pub select_back-returns-then-top-r-clause-found : goal.select_back-returns-then-top-r-clause-found
@@ -237,11 +259,13 @@ select_back-returns-clause-remembered t c =
     let w = rw c.row_at.ensures at c.in_ok-out.ensures.found in
     record {
       forward = u.forward;
-      back = noted _ c.select_row_back.new.memories.back c.note.new.self _ u.back c.note.ensures (rw c.deref.ensures.value w);
+      back = noted _ c.select_row_back.new.memories.back c.note.new.self _ u.back c.note.ensures
+          (rw c.deref.ensures.value w);
       holding = u.holding;
     }
 
-pub select_row_back-returns-in_ok-other-in-Some-Union-clause-found : goal.select_row_back-returns-in_ok-other-in-Some-Union-clause-found
+pub select_row_back-returns-in_ok-other-in-Some-Union-clause-found :
+    goal.select_row_back-returns-in_ok-other-in-Some-Union-clause-found
 select_row_back-returns-in_ok-other-in-Some-Union-clause-found t c =
     let k = sym c.in-Some-Union.ensures ∙ ap row_number c.in-Some-Union.field-0-is in
     let x = rw c.from-a.ensures at c.in_ok-out-in-Some-Union.ensures.found in
@@ -265,40 +289,51 @@ select_row_back-select_back-requires-in-Some-Filter t c =
       ),
     )
 
-pub select_row_back-returns-in_ok-last-in-Some-Composition-clause-found : goal.select_row_back-returns-in_ok-last-in-Some-Composition-clause-found
+pub select_row_back-returns-in_ok-last-in-Some-Composition-clause-found :
+    goal.select_row_back-returns-in_ok-last-in-Some-Composition-clause-found
 select_row_back-returns-in_ok-last-in-Some-Composition-clause-found t c =
     let k = sym c.in-Some-Composition.ensures ∙ ap row_number c.in-Some-Composition.field-0-is in
     let l = c.requires.size ∙ sym (size _ _ _ _ c.args.self.now.columns.now.sound) in
     let x = rw c.from-b.ensures at c.in_ok-last-in-Some-Composition.ensures.found in
     let w = rw (c.deref-in-Some-Composition.ensures.value, c.from-a.ensures)
     at c.select_back-in-Some-Composition-2.ensures.found in
-    made c.select_back-in-Some-Composition-2.result w (λ v u. composition_back (document_in c.args.self.now) (composition_row_is (terms_before c.args.self.now c.args.top) (row_of c.args.row) k) l x u)
+    made c.select_back-in-Some-Composition-2.result w (λ v u. composition_back (document_in c.args.self.now)
+    (composition_row_is (terms_before c.args.self.now c.args.top) (row_of c.args.row) k) l x u)
 
-pub select_row_back-returns-in_ok-holding-in-Some-Filter-clause-found : goal.select_row_back-returns-in_ok-holding-in-Some-Filter-clause-found
+pub select_row_back-returns-in_ok-holding-in-Some-Filter-clause-found :
+    goal.select_row_back-returns-in_ok-holding-in-Some-Filter-clause-found
 select_row_back-returns-in_ok-holding-in-Some-Filter-clause-found t c =
     let k = sym c.in-Some-Filter.ensures ∙ ap row_number c.in-Some-Filter.field-0-is in
     let l = c.requires.size ∙ sym (size _ _ _ _ c.args.self.now.columns.now.sound) in
     let y = rw c.from-b.ensures at c.in_ok-holding-in-Some-Filter.ensures.found in
     let w = rw (c.deref-in-Some-Filter.ensures.value, c.from-a.ensures) at c.select_back-in-Some-Filter.ensures.found in
-    made c.select_back-in-Some-Filter.result w (λ v u. filter_back (document_in c.args.self.now) (filter_row_is (terms_before c.args.self.now c.args.top) (row_of c.args.row) k) l y c.intersected-kept.ensures u)
+    made c.select_back-in-Some-Filter.result w (λ v u. filter_back (document_in c.args.self.now)
+    (filter_row_is (terms_before c.args.self.now c.args.top) (row_of c.args.row) k) l y c.intersected-kept.ensures
+    u)
 
 pub select_row_back-returns-in-Some-Step-clause-found : goal.select_row_back-returns-in-Some-Step-clause-found
 select_row_back-returns-in-Some-Step-clause-found t c =
     let k = sym c.in-Some-Step.ensures ∙ ap row_number c.in-Some-Step.field-0-is in
     let s = c.args.self.now in
     made _ c.step_back.ensures
-    (λ v u. subst (λ (p : Path). Image (λ x y. selects (document_in s) p y x) c.args.marks.now v.items) (sym (step_row_is (terms_before s c.args.top) (row_of c.args.row) k)) u)
+    (λ v u. subst (λ (p : Path). Image (λ x y. selects (document_in s) p y x) c.args.marks.now v.items)
+    (sym (step_row_is (terms_before s c.args.top) (row_of c.args.row) k)) u)
 
 pub select_row_back-returns-in-Some-Root-clause-found : goal.select_row_back-returns-in-Some-Root-clause-found
 select_row_back-returns-in-Some-Root-clause-found t c =
     let k = sym c.in-Some-Root.ensures ∙ ap row_number c.in-Some-Root.field-0-is in
     let s = c.args.self.now in
     made _ c.root_back.ensures
-    (λ v u. subst (λ (p : Path). Image (λ x y. selects (document_in s) p y x) c.args.marks.now v.items) (sym (root_row_is (terms_before s c.args.top) (row_of c.args.row) k)) u)
+    (λ v u. subst (λ (p : Path). Image (λ x y. selects (document_in s) p y x) c.args.marks.now v.items)
+    (sym (root_row_is (terms_before s c.args.top) (row_of c.args.row) k)) u)
 
 pub select_row_back-returns-in_default-clause-found : goal.select_row_back-returns-in_default-clause-found
 select_row_back-returns-in_default-clause-found t c =
     elim c.in_default.branch [
-      | goal.select_row_back-in_default-via-in-Some+in_default w ↦ made _ c.no_marks.ensures (λ v u. void_back _ (no_path_row (terms_before c.args.self.now c.args.top) (row_of c.args.row) (λ e. grind arith) (λ e. grind arith) (λ e. grind arith) (λ e. grind arith) (λ e. grind arith)) refl u)
-      | goal.select_row_back-in_default-via-in_default w ↦ made _ c.no_marks.ensures (λ v u. void_back _ (no_path_row (terms_before c.args.self.now c.args.top) (row_of c.args.row) (λ e. grind arith) (λ e. grind arith) (λ e. grind arith) (λ e. grind arith) (λ e. grind arith)) refl u)
+      | goal.select_row_back-in_default-via-in-Some+in_default w ↦ made _ c.no_marks.ensures
+          (λ v u. void_back _ (no_path_row (terms_before c.args.self.now c.args.top) (row_of c.args.row)
+          (λ e. grind arith) (λ e. grind arith) (λ e. grind arith) (λ e. grind arith) (λ e. grind arith)) refl u)
+      | goal.select_row_back-in_default-via-in_default w ↦ made _ c.no_marks.ensures
+          (λ v u. void_back _ (no_path_row (terms_before c.args.self.now c.args.top) (row_of c.args.row)
+          (λ e. grind arith) (λ e. grind arith) (λ e. grind arith) (λ e. grind arith) (λ e. grind arith)) refl u)
     ]

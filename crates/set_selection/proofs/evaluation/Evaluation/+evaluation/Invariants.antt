@@ -36,7 +36,8 @@ invariant-include-loop-x l =
     record {
       size : length l.out.items ≡ length l.self.columns.now.kinds.now;
       done : DoneBelow
-          (holds (document_in l.self) (In (path_in (terms_before l.self l.top) l.a) (path_in (terms_before l.self l.top) l.b)))
+          (holds (document_in l.self) (In (path_in (terms_before l.self l.top) l.a)
+          (path_in (terms_before l.self l.top) l.b)))
           l.x l.out.items;
       remembered : Remembered (rows_in l.self) (document_in l.self) l.memories;
     }

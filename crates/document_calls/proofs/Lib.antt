@@ -1,0 +1,2 @@
+pub mod Selected
+pub mod Takes
