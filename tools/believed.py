@@ -18,6 +18,7 @@ USE = re.compile(r'^use Rattle\.(\w+)\.specs\.([\w.]+?)(?:\.\{[^}]*\})?(?: as [\
 DECIDED = {
     'crates/matching/specs/private/RowYields.antt': 'the theorem matcher_decides',
     'crates/selector_grammar/specs/private/ReaderAnswer.antt': 'the theorem answers_as_defined',
+    'crates/reversing/specs/private/RowsBack.antt': 'the theorem way_back_guarantee',
     'crates/rules/specs/private/RuleFits.antt': 'the type of yields_dec',
 }
 

@@ -190,7 +190,8 @@ ORDERS = [('term', 'calls/specs/TermCall', 'term_answer'), ('step', 'calls/specs
           ('return', 'calls/specs/PointCall', 'return_answer'), ('record', 'records/specs/Records', 'record_answer'),
           ('release', 'records/specs/Releases', 'release_answer'),
           ('replace', 'replacement/specs/ReplaceCall', 'replace_answer'),
-          ('order', 'term_order/specs/OrderCall', 'order_answer')]
+          ('order', 'term_order/specs/OrderCall', 'order_answer'),
+          ('way-back', 'reversing/specs/private/RowsBack', 'row_reply')]
 
 
 # refusals whose definitions have no order: of a line, of a list of files, and of a return that a register bars

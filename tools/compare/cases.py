@@ -39,7 +39,7 @@ ODD_LINES = [b"", b"fresh", b"document", b"document ", b"document" + b" 0" * MOS
              b"record", b"record 7 1 0", b"record 7 1 0 0", b"record 7 1 0 0 0", b"record 65536 1 0 0",
              b"record 7 1 0 65536", b"current", b"current 7", b"current 65536", b"current 7 7", b"release",
              b"release 0", b"release 1", b"release 65536", b"records", b"records 1", b"released", b"released 0",
-             b"crew-current", b"crew-current 7",
+             b"crew-current", b"crew-current 7", b"way-back", b"way-back 0", b"way-back 0 0", b"way-back 65536",
              *(word + b" 1" * count for word in (b"old", b"new", b"replace")
                for count in (MOST_LISTED, MOST_LISTED + 1))]
 # Words that are names, and lines that are none; a text's names are among the first, so some of them aren't listed.
@@ -417,6 +417,15 @@ class Session:
         del self.calls[calls:]
         return True
 
+    def reverse(self):
+        """The way back of a row, mostly of a path that has one; a qualifier and a row that isn't held among them."""
+        book, rng = self.book, self.rng
+        row = self.hold(self.reversible(rng.choice([0, 1, 2, 3]))) if rng.random() < 0.7 else None
+        if row is None:
+            row = min(rng.choice([rng.randrange(len(book.rows) + 2), rng.choice(EDGES)]), 65535)
+        is_path = row < len(book.rows) and book.terms[row].is_path()
+        return self.call("way-back", (row,), is_path and self.hold_all(way_back(book.terms[row])))
+
     # Documents and selects
 
     def document(self, damage=0.3):
@@ -521,6 +530,8 @@ class Session:
             return self.replace()
         if self.rng.random() < 0.15:
             return self.selector()
+        if self.rng.random() < 0.06:
+            return self.reverse()
         if n < 0.5:
             self.derive()
         elif n < 0.6:
@@ -697,7 +708,7 @@ def resized(rng, text):
     """The text made as long as the longest input, or a byte or more longer, by its last term or step over and over."""
     size = MOST_BYTES + rng.choice([0, 0, 1, 1, 2, 5000])
     others = (b"select", b"document", b"old", b"new", b"replace", b"write", b"names", b"text", b"other", b"order",
-              b"bundle-order", b"record", b"current", b"release", b"crew-current")
+              b"bundle-order", b"record", b"current", b"release", b"crew-current", b"way-back")
     line = next((line for line in reversed(text.splitlines(True)) if not line.startswith(others)), b"\n")
     return (text + line * (size // len(line) + 1))[:size - 1] + rng.choice([b"\n", b"0"])
 

@@ -74,7 +74,7 @@ class Tally:
     def report(self, seed):
         print(f"seed {seed}: {sum(self.cases.values())} cases ran, no difference "
               f"({', '.join(f'{count} {program}' for program, count in sorted(self.cases.items()))})")
-        for call in ("term", "step", "text", "point", "return", "record", "current", "release", "records",
+        for call in ("term", "step", "text", "way-back", "point", "return", "record", "current", "release", "records",
                      "released", "crew-current", "select", "replace", "order",
                      "bundle-order", "write", "line", "read"):
             numbers = sorted((number, count) for (word, number), count in self.answers.items() if word == call)

@@ -53,7 +53,7 @@ row_accepted rs r (ok, new) room =
     }))
 
 -- rows that keep a table accepted, added one after the other
-rows_accepted : (rs new : List Row) (ps : List Step) (points : List Point) → Built (rs ++ new)
+pub rows_accepted : (rs new : List Row) (ps : List Step) (points : List Point) → Built (rs ++ new)
     → length (rs ++ new) ≤ max_rows
     → Every (λ (o : CallSeen). o.answer.number ≡ 0) (shown plain_book (pointed_book rs ps points) (map term new))
     × (final plain_book (pointed_book rs ps points) (map term new) ≡ pointed_book (rs ++ new) ps points)

@@ -4,7 +4,7 @@ mod Agreement
 pub mod Letters
 mod RowForms
 pub mod RowWayBack
-mod WayBackRows
+pub mod WayBackRows
 pub mod RowYields
 pub mod ListOfTwo
 mod Matching

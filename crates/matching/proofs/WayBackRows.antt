@@ -49,30 +49,30 @@ module _ {rs : List Row} (built : Built rs) where
 
   -- The term of a row whose kind is known, and the kind of a row whose term is.
   module _ (i : ℕ) (h : i < length rs) where
-    term_of_kind : (k : ℕ) → (row_at rs i).kind ≡ k →
+    pub term_of_kind : (k : ℕ) → (row_at rs i).kind ≡ k →
         term_at rs i ≡ term_by (terms rs) (row k (row_at rs i).a (row_at rs i).b (row_at rs i).c)
     term_of_kind k e =
         built_term built i h ∙ ap (λ k. term_by (terms rs) (row k (row_at rs i).a (row_at rs i).b (row_at rs i).c)) e
 
-    void_at : (row_at rs i).kind ≡ void_row → path_at rs i ≡ Void
+    pub void_at : (row_at rs i).kind ≡ void_row → path_at rs i ≡ Void
     unfolding term_by as_path term_at
     void_at e = ap as_path (term_of_kind void_row e)
 
-    root_at : (row_at rs i).kind ≡ root_row → path_at rs i ≡ Root
+    pub root_at : (row_at rs i).kind ≡ root_row → path_at rs i ≡ Root
     unfolding term_by as_path term_at
     root_at e = ap as_path (term_of_kind root_row e)
 
-    union_at : (row_at rs i).kind ≡ union_row → path_at rs i
+    pub union_at : (row_at rs i).kind ≡ union_row → path_at rs i
         ≡ Union (path_at rs (row_at rs i).a) (path_at rs (row_at rs i).b)
     unfolding term_by as_path term_at
     union_at e = ap as_path (term_of_kind union_row e)
 
-    composition_at : (row_at rs i).kind ≡ composition_row →
+    pub composition_at : (row_at rs i).kind ≡ composition_row →
         path_at rs i ≡ Composition (path_at rs (row_at rs i).a) (path_at rs (row_at rs i).b)
     unfolding term_by as_path term_at
     composition_at e = ap as_path (term_of_kind composition_row e)
 
-    filter_at : (row_at rs i).kind ≡ filter_row → path_at rs i ≡ Filter (path_at rs (row_at rs i).a)
+    pub filter_at : (row_at rs i).kind ≡ filter_row → path_at rs i ≡ Filter (path_at rs (row_at rs i).a)
         (qualifier_at rs (row_at rs i).b)
     unfolding term_by as_path term_at
     filter_at e = ap as_path (term_of_kind filter_row e)
@@ -86,7 +86,7 @@ module _ {rs : List Row} (built : Built rs) where
     unfolding term_by as_qualifier term_at
     inclusion_at e = ap as_qualifier (term_of_kind inclusion_row e)
 
-    fields_of_kind : (k : ℕ) → (row_at rs i).kind ≡ k →
+    pub fields_of_kind : (k : ℕ) → (row_at rs i).kind ≡ k →
         FieldLaw rs i (fields_of k).a (row_at rs i).a (row_at rs i).b × FieldLaw rs i (fields_of k).b (row_at rs i).b
         (row_at rs i).b
     fields_of_kind k e = let b = built_row built i h in (rw e at b.a, rw e at b.b)

@@ -18,8 +18,8 @@ pub use matcher::Sides;
 use matcher::forms_of;
 pub use order::{axis_below, test_below};
 use terms::MAX_ROWS;
-pub use way_back::WAY_BACK_RULE;
 use way_back::is_with_back;
+pub use way_back::{WAY_BACK_RULE, opposite_axis};
 
 /// The last rule.
 pub const MAX_RULE: u16 = WAY_BACK_RULE;

@@ -3,10 +3,10 @@ ghost use Rattle.std.specs.Prelude.{◌≡◌};
 ghost use Rattle.terms.specs.Row.{table_of};
 ghost use Rattle.terms.specs.represent.RowTypes.{row_of};
 ghost use Rattle.rules.specs.Order.{is_pair};
-ghost use Rattle.rules.specs.WayBack.{opposites};
+ghost use Rattle.rules.specs.WayBack.{opposites, opposite};
 ghost use Rattle.matching.specs.private.RowWayBack.{is_step, is_step_back, is_filter_back, is_with_back, Noted};
 ghost use Rattle.matching.specs.private.RowWayBack.{BackFound};
-ghost use Rattle.matching.specs.private.MatchTypes.{Reverses};
+ghost use Rattle.matching.specs.private.MatchTypes.{axis_given, Reverses};
 
 use crate::matcher::Sides;
 use crate::order::is_pair;
@@ -34,6 +34,23 @@ enum Reversal {
     Never,
     Always,
     Operands(Sides, Sides),
+}
+
+// The opposite of an axis, where it has one. By a match, as `RowKind` is read: `find` in the table above would give the
+// pair.
+#[tactic(auto, unfolding(rules::specs::WayBack::opposite, rules::specs::WayBack::opposites, rules::specs::WayBack::lookup))]
+pub fn opposite_axis(a: u16) -> Option<u16>
+    ensures { axis_given result ≡ opposite a }
+{
+    match a {
+        axis::SELF => Some(axis::SELF),
+        axis::CHILD => Some(axis::PARENT),
+        axis::DESCENDANT => Some(axis::ANCESTOR),
+        axis::DESCENDANT_OR_SELF => Some(axis::ANCESTOR_OR_SELF),
+        axis::FOLLOWING_SIBLING => Some(axis::PRECEDING_SIBLING),
+        axis::PRECEDING_SIBLING => Some(axis::FOLLOWING_SIBLING),
+        _ => None,
+    }
 }
 
 #[tactic(auto, unfolding(rules::specs::WayBack::opposites))]

@@ -1,10 +1,11 @@
--- Releasing a record again.
+-- Calls that are not barred, and releasing a record again.
 use Prim.Native.Nat.{ℕ, ◌+◌, ◌<◌}
 use mathlib.Core.Path.{◌≡◌, refl, sym, ap, ◌∙◌}
-use mathlib.Core.Bool.{cond}
+use mathlib.Core.Bool.{false, cond, ◌&&◌, and-false}
 use native.Mathlib.Omega.{arith}
 use lib.ListN.{length}
 use Rattle.register.specs.declared.Register.{Register}
+use Rattle.common.specs.Refusals.{full_or_in_use, no_record}
 use Rattle.calls.specs.Book.{Answer, answer, accepted}
 use Rattle.calls.specs.Above.{own}
 use Rattle.records.specs.Releases.{IsReleased}
@@ -14,7 +15,16 @@ use Rattle.records.proofs.Released.{of_a_record}
 use Rattle.records.proofs.Crew.{release_again}
 use Rattle.register.specs.Promises.{register, RegisterMet}
 
--- it is accepted, and all is as it was
+-- what is not barred answers as the session does
+pub not_barred : (t barred : Answer) → t ≡ cond (accepted t && false) barred t
+not_barred t barred = rw (and-false (accepted t)) refl
+
+-- a release bars none of the register's calls
+pub not_barred_twice : (t : Answer) → t ≡ cond (accepted (cond (accepted t && false) (answer full_or_in_use 0) t) && false)
+    (answer no_record 0) (cond (accepted t && false) (answer full_or_in_use 0) t)
+not_barred_twice t = not_barred t (answer full_or_in_use 0) ∙ not_barred _ (answer no_record 0)
+
+-- a release of a record that is released is accepted, and all is as it was
 pub again_made : (r : Register) (i : ℕ) (a : Answer) (t : Register) → i < length (records_in r.records)
     → IsReleased r.releases.flags i → RegisterMet r (own (i + 1)) a t → (a ≡ answer 0 0) × (t ≡ r)
 again_made r i a t h is m =

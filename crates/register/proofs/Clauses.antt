@@ -1,28 +1,36 @@
--- Each clause of what is guaranteed of record, replace and the orders on registers, written out once more: without one
--- of them this fails.
+-- Each clause of what is guaranteed of record, replace, way-back and the orders on registers, written out once more:
+-- without one of them this fails.
 use Prim.Native.Nat.{ℕ, ◌+◌, ◌≤◌, ◌<◌}
 use mathlib.Core.Path.{◌≡◌}
-use mathlib.Core.List.{List}
+use mathlib.Core.List.{List, ◌++◌, map}
 use mathlib.Core.Logic.{◌↔◌}
+use mathlib.Core.Option.{none}
 use lib.Dec.{T}
 use lib.ListN.{length}
 use Rattle.terms.specs.Fields.{held_path}
-use Rattle.terms.specs.Terms.{path_at}
+use Rattle.terms.specs.Row.{Row}
+use Rattle.terms.specs.Terms.{of_path, term_at, path_at}
+use Rattle.xpath.specs.Term.{Path}
+use Rattle.common.specs.Lists.{Every}
+use Rattle.rules.specs.WayBack.{way_back}
+use Rattle.reversing.specs.WayBackCall.{way_back_reply, HasWayBack}
 use Rattle.rules.specs.Claim.{Containment}
-use Rattle.calls.specs.Book.{Book, Answer}
+use Rattle.calls.specs.Book.{Book, Answer, answer}
 use Rattle.calls.specs.StepCall.{step_numbered, claim_of}
 use Rattle.calls.specs.Runs.{Run, final}
+use Rattle.calls.specs.Calls.{term}
 use Rattle.calls.specs.Above.{passed, own}
 use Rattle.records.specs.declared.Record.{Record}
 use Rattle.records.specs.Records.{current, row_of, is_fit_step}
 use Rattle.records.specs.Releases.{OfficeCall, OfficeSeen, plain_office, empty_office}
+use Rattle.session.specs.View.{view}
 use Rattle.session.specs.ReplaceGuarantee.{SetsReplaced}
 use Rattle.session.specs.OrderGuarantee.{ArchivesOrdered}
 use Rattle.register.specs.declared.Register.{Register}
 use Rattle.register.specs.Promises.{holdings}
-use Rattle.register.specs.RecordGuarantee.{RecordsJudged}
+use Rattle.register.specs.RecordGuarantee.{RecordsJudged, RegisterWaysBack}
 use Rattle.register.proofs.Source.{New, Called, Replaced, Ordered, BundleOrdered, record_guarantee, replace_guarantee}
-use Rattle.register.proofs.Source.{order_guarantee}
+use Rattle.register.proofs.Source.{Reversed, way_back_guarantee, order_guarantee}
 
 module _ (r₀ r : Register) (cs : List OfficeCall) (os : List OfficeSeen) (is-new : New r₀)
     (run : Run holdings Called r₀ cs os r) where
@@ -62,6 +70,33 @@ module _ (r₀ r : Register) (cs : List OfficeCall) (os : List OfficeSeen) (is-n
 
   pub replaced : SetsReplaced Replaced r book
   replaced = replace_guarantee r₀ r cs os is-new run
+
+  ways_back : RegisterWaysBack Called Reversed r book
+  ways_back = way_back_guarantee r₀ r cs os is-new run
+
+  -- a way-back call
+  module _ (row : ℕ) (a : Answer) (t : Register) (reversed : Reversed r row a t) where
+    pub back_answered : a ≡ answer (way_back_reply book.rows row).number (way_back_reply book.rows row).value
+    back_answered = ways_back.answers row a t reversed
+
+    pub back_left : ¬ (a.number ≡ 0) → t ≡ r
+    back_left = ways_back.refused row a t reversed
+
+    pub back_accepts : (a.number ≡ 0) ↔ ((w : Path) × HasWayBack book.rows row w)
+    back_accepts = ways_back.accepts row a t reversed
+
+    pub has_none : (a.number ≡ 7) ↔ (T (held_path book.rows row) × (way_back (path_at book.rows row) ≡ none))
+    has_none = ways_back.has_none row a t reversed
+
+    -- what term calls of the new rows leave, each of them accepted
+    pub back_as_term_calls : a.number ≡ 0 → (w : Path) × HasWayBack book.rows row w
+        × (term_at (view t.session).rows a.value ≡ of_path w)
+        × ((new : List Row) × (us : List OfficeSeen) × ((view t.session).rows ≡ book.rows ++ new)
+        × Run holdings Called r (map (λ (row : Row). passed (passed (term row))) new) us t
+        × Every (λ (o : OfficeSeen). o.answer.number ≡ 0) us)
+    back_as_term_calls z =
+        let h = ways_back.held row a t reversed z in
+        (h.path, h.has, h.is_term, (h.new, h.calls.seen, h.rows, h.calls.run, h.calls.accepted))
 
   -- another register
   pub ordered : (q₀ q : Register) (ds : List OfficeCall) (us : List OfficeSeen) → New q₀

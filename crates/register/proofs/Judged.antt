@@ -37,8 +37,10 @@ use Rattle.session.proofs.ArchivesOrdered.{OrdersKept, BundleOrdersKept, ordered
 use Rattle.register.specs.declared.Register.{Register}
 use Rattle.register.specs.Promises.{fresh_register, RegisterRelation, RegisterMet, holdings}
 use Rattle.register.specs.RecordGuarantee.{AcceptableRecord, RecordGuarantee, RegisterReplaceGuarantee}
-use Rattle.register.specs.RecordGuarantee.{RegisterOrderGuarantee}
+use Rattle.register.specs.RecordGuarantee.{RegisterWayBackGuarantee, RegisterOrderGuarantee}
+use Rattle.session.specs.WayBackGuarantee.{WayBackRelation}
 use Rattle.register.proofs.Simulation.{RegisterLaws, register_laws}
+use Rattle.register.proofs.WaysBack.{WaysBackKept, register_ways_back}
 
 -- a later edition's step, by row numbers and by terms
 module _ (b : Book) (laws : HeldLaws b.rows b.steps) (previous : ℕ) (g : Record) (later : ¬ (g.edition ≡ 1))
@@ -169,6 +171,13 @@ module _ (New : Register → Type 0) (new_tied : (r : Register) → New r → r 
   replace_guarantee_by Replaced replace_tied r₀ r cs os new run =
       let w = led r₀ r cs os new run in
       sets_replaced (λ r. r.session) Replaced replace_tied r _ (ap (λ h. h.below.below) w.held) w.laws.held
+
+  pub way_back_guarantee_by : ((r : Register) (c : OfficeCall) (a : Answer) (t : Register) → RegisterMet r c a t
+      → Called r c a t) → (Reversed : WayBackRelation Register) → WaysBackKept Reversed
+      → RegisterWayBackGuarantee New Called Reversed
+  way_back_guarantee_by met_called Reversed reversed_tied r₀ r cs os new run =
+      let w = led r₀ r cs os new run in
+      register_ways_back Called met_called r Reversed reversed_tied _ w.session (ap (λ h. h.below.below) w.held)
 
   pub order_guarantee_by : (Ordered : OrderRelation Register) → OrdersKept (λ r. r.session) Ordered
       → (BundleOrdered : BundleOrderRelation Register) → BundleOrdersKept (λ r. r.session) BundleOrdered

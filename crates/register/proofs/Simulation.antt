@@ -31,6 +31,7 @@ use Rattle.session.specs.declared.session.Session.{Session}
 use Rattle.session.specs.View.{view}
 use Rattle.session.specs.Promises.{SelectRelation, SelectMet}
 use Rattle.session.proofs.Views.{fresh_view}
+use Rattle.session.proofs.Simulation as sessions
 use Rattle.session.proofs.Simulation.{Whole, session_as_book, fresh_kept}
 use Rattle.session.proofs.FollowsBook.{SelectsKept, upheld}
 use Rattle.register.specs.Promises.{fresh_register, records, releases, apart, together, register}
@@ -109,8 +110,14 @@ module _ (cs : List OfficeCall) (os : List OfficeSeen) (r : Register) (run : Run
     register_reached : Reached plain_register empty_register (holdings r).below
     register_reached = reached_below plain_register plain_releases (λ z. omega arith) followed.3
 
+    book_reached : Reached plain_book empty_book (holdings r).below.below
+    book_reached = reached_below plain_book plain_records (λ z. omega arith) register_reached
+
     laws : BookLaws (holdings r).below.below
-    laws = reachable_laws (reached_below plain_book plain_records (λ z. omega arith) register_reached)
+    laws = reachable_laws book_reached
+
+    kept_session : sessions.Kept r.session
+    kept_session = record { whole = followed.2.0.0; reachable = book_reached }
 
     editions : EditionsContained (holdings r).below.below.rows (holdings r).below.beside
     editions = editions_contained register_reached
@@ -127,6 +134,7 @@ module _ (cs : List OfficeCall) (os : List OfficeSeen) (r : Register) (run : Run
 pub record RegisterLaws (cs : List OfficeCall) (r : Register) : Type 0 where
   pub held : holdings r ≡ office_after cs
   pub laws : BookLaws (office_after cs).below.below
+  pub session : sessions.Kept r.session
   pub editions : EditionsContained (office_after cs).below.below.rows (office_after cs).below.beside
 
 pub register_laws : (cs : List OfficeCall) (os : List OfficeSeen) (r : Register)
@@ -136,6 +144,7 @@ register_laws cs os r run =
     record {
       held = is;
       laws = subst (λ b. BookLaws b.below.below) is (laws cs os r run);
+      session = kept_session cs os r run;
       editions = subst (λ b. EditionsContained b.below.below.rows b.below.beside) is (editions cs os r run);
     }
 

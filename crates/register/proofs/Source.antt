@@ -43,17 +43,19 @@ use Rattle.session.proofs.ReadCalls.{refused_fresh}
 use Rattle.session.specs.Promises.{SelectMet}
 use Rattle.session.specs.ReplaceGuarantee.{ReplaceMet}
 use Rattle.session.specs.OrderGuarantee.{OrderMet, BundleOrderMet}
+use Rattle.session.specs.WayBackGuarantee.{way_back_calls, WayBackMet}
 use Rattle.session.specs.WriteCall.{WriteMet}
 use Rattle.session.proofs.FollowsBook.{SelectsKept}
 use Rattle.session.proofs.Source as below
 use Rattle.session.proofs.Source.{given_row, given_step}
 use Rattle.register.specs.Promises.{fresh_register, register, RegisterMet, holdings, released_in}
-use Rattle.register.specs.Promises.{RegisterReadMet}
+use Rattle.register.specs.Promises.{RegisterWayBackMet, RegisterReadMet}
 use Rattle.register.specs.FollowsRegister.{RegisterGuarantee, ReleasesKept, ReleasedAgain, CrewIsolated}
-use Rattle.register.proofs.Calls.{again_made}
-use Rattle.register.specs.RecordGuarantee.{RecordGuarantee, RegisterReplaceGuarantee, RegisterOrderGuarantee}
+use Rattle.register.proofs.Calls.{not_barred, not_barred_twice, again_made}
+use Rattle.register.specs.RecordGuarantee.{RecordGuarantee, RegisterReplaceGuarantee, RegisterWayBackGuarantee}
+use Rattle.register.specs.RecordGuarantee.{RegisterOrderGuarantee}
 use Rattle.register.proofs.Simulation.{register_guarantee_by, kept_by}
-use Rattle.register.proofs.Judged.{replace_guarantee_by, order_guarantee_by, record_guarantee_by}
+use Rattle.register.proofs.Judged.{replace_guarantee_by, way_back_guarantee_by, order_guarantee_by, record_guarantee_by}
 use Rattle.register.proofs.Register.new.Reads as new-reads
 use Rattle.register.proofs.Register.term.Reads as term-reads
 use Rattle.register.proofs.Register.step.Reads as step-reads
@@ -67,6 +69,7 @@ use Rattle.register.proofs.Register.listing.Reads as listing-reads
 use Rattle.register.proofs.Register.crew_listing.Reads as crew-listing-reads
 use Rattle.register.proofs.Register.crew_current.Reads as crew-current-reads
 use Rattle.register.proofs.Register.select.Reads as select-reads
+use Rattle.register.proofs.Register.way_back.Reads as way-back-reads
 use Rattle.register.proofs.Register.replace.Reads as replace-reads
 use Rattle.register.proofs.Register.order.Reads as order-reads
 use Rattle.register.proofs.Register.bundle_order.Reads as bundle-order-reads
@@ -116,6 +119,11 @@ pub data Selected : Session → (row : ℕ) → List ℕ → (x limit : ℕ) →
   select_called : (κs : _) (a : _) (r : _) (x : _) → select-reads.Post κs a r x
       → Selected a.0.now.session a.1.0 a.1.1.0.now a.1.1.1.0 a.1.1.1.1.0
       a.1.1.1.1.1.0.now r x.1.1.1.1.1.0.now
+
+-- `Register::way_back` on a register with a row has an answer and leaves a register
+pub data Reversed : Register → (row : ℕ) → Answer → Register → Type 0 where
+  way_back_called : (κs : _) (a : _) (r : _) (x : _) → way-back-reads.Post κs a r x
+      → Reversed a.0.now a.1.0 (answer_of r) x.0.now
 
 -- `Register::replace` on a register with old rows, new rows and steps has the answer r
 pub data Replaced : Register → (old new by : List ℕ) → DoneOrRefusal → Type 0 where
@@ -174,6 +182,10 @@ crew_current_tied r series e (crew_current_called κs a s x m) = m
 pub select_tied : SelectsKept Selected SelectMet
 select_tied s row xs x limit buffer t left (select_called κs a r y m) = m
 
+pub reversed_tied : (r : Register) (row : ℕ) (a : Answer) (t : Register) → Reversed r row a t
+    → RegisterWayBackMet r row a t
+reversed_tied r row a t (way_back_called κs args s x m) = m.0
+
 pub replace_tied : (r : Register) (old new by : List ℕ) (t : DoneOrRefusal) → Replaced r old new by t
     → ReplaceMet r.session old new by t
 replace_tied r old new by t (replace_called κs a s x m) = m
@@ -217,15 +229,6 @@ unfolding release_answer
 release_case rs place =
     either_case done_answer_of (leb 1 place && leb place (length rs)) _ _ (Ok tt, refl)
     (Err (Refused.NoRecord place), refl)
-
--- what is not barred answers as the session does
-not_barred : (t barred : Answer) → t ≡ cond (accepted t && false) barred t
-not_barred t barred = rw (and-false (accepted t)) refl
-
--- a release bars none of the register's calls
-not_barred_twice : (t : Answer) → t ≡ cond (accepted (cond (accepted t && false) (answer full_or_in_use 0) t) && false)
-    (answer no_record 0) (cond (accepted t && false) (answer full_or_in_use 0) t)
-not_barred_twice t = not_barred t (answer full_or_in_use 0) ∙ not_barred _ (answer no_record 0)
 
 -- what a call with the case o of an answer promises, where it meets what the specifications say
 module _ {r : Register} {c : OfficeCall} {a : Answer} {t : Register} {A : Type 0} (f : A → ℕ) (o : Result A Refusal)
@@ -328,8 +331,8 @@ calls_exist =
           (made register r c),
     ))
 
--- and so can every current, every listing, every select, every replace, every order, every bundle order, every write
--- and every read
+-- and so can every current, every listing, every select, every way-back, every replace, every order, every bundle
+-- order, every write and every read
 pub currents_exist : (r : Register) (series : ℕ) → (e : ℕ) × Current r series e
 currents_exist r series =
     let e = current (records_in r.records) series in
@@ -358,6 +361,24 @@ selects_exist s row xs x limit buffer =
           (lent r, (row, (lent xs, (x, (limit, (lent_to_write left, tt))))))
           (below.select_tied s row xs x limit buffer t left m),
     )
+
+pub ways_back_exist : (r : Register) (row : ℕ) → (a : Answer) × (t : Register) × Reversed r row a t
+ways_back_exist r row =
+    let (o, e) = below.way_back_case (view r.session).rows row in
+    let t : Register =
+    record { session = next way_back_calls r.session row; records = r.records; releases = r.releases } in
+    let made : WayBackMet r.session row (answer_of o) t.session = record { answer = e; left = refl } in
+    let met : RegisterWayBackMet r row (answer_of o) t = record { made = made; records = refl; releases = refl } in (
+      answer_of o,
+      t,
+      way_back_called ([], tt) (lent_to_write r, (row, tt)) o (lent_to_write t, (row, tt))
+          (met, kept_register o (refused_kept way_back_calls r.session row t.session (λ n. n) o made)),
+    )
+  where
+    kept_register : {s : Session} (o : NumberOrRefusal) → OnErr o (s ≡ r.session)
+        → OnErr o (record { session = s; records = r.records; releases = r.releases } ≡ r)
+    kept_register (Ok n) is = tt
+    kept_register (Err e) is = ap (λ s. record { session = s; records = r.records; releases = r.releases }) is
 
 pub replaces_exist : (r : Register) (old new by : List ℕ) → (t : DoneOrRefusal) × Replaced r old new by t
 replaces_exist r old new by =
@@ -403,6 +424,9 @@ reads_exist q bytes =
 -- replace, the orders and record after every list of calls
 pub replace_guarantee : RegisterReplaceGuarantee New Called Replaced
 replace_guarantee = replace_guarantee_by New new_tied Called call_tied Replaced replace_tied
+
+pub way_back_guarantee : RegisterWayBackGuarantee New Called Reversed
+way_back_guarantee = way_back_guarantee_by New new_tied Called call_tied met_called Reversed reversed_tied
 
 pub order_guarantee : RegisterOrderGuarantee New Called Ordered BundleOrdered
 order_guarantee = order_guarantee_by New new_tied Called call_tied Ordered order_tied BundleOrdered bundle_order_tied

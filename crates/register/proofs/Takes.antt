@@ -14,6 +14,7 @@ use Rattle.register.proofs.Register.crew_current.Reads as crew-current-reads
 use Rattle.register.proofs.Register.select.Reads as select-reads
 use Rattle.register.proofs.Register.read.Reads as read-reads
 use Rattle.register.proofs.Register.write.Reads as write-reads
+use Rattle.register.proofs.Register.way_back.Reads as way-back-reads
 use Rattle.register.proofs.Register.replace.Reads as replace-reads
 use Rattle.register.proofs.Register.order.Reads as order-reads
 use Rattle.register.proofs.Register.bundle_order.Reads as bundle-order-reads
@@ -34,6 +35,7 @@ pub record Takes : Type 0 where
   pub select_takes : (κs : _) (a : _) → select-reads.Pre κs a
   pub read_takes : (κs : _) (a : _) → read-reads.Pre κs a
   pub write_takes : (κs : _) (a : _) → write-reads.Pre κs a
+  pub way_back_takes : (κs : _) (a : _) → way-back-reads.Pre κs a
   pub replace_takes : (κs : _) (a : _) → replace-reads.Pre κs a
   pub order_takes : (κs : _) (a : _) → order-reads.Pre κs a
   pub bundle_order_takes : (κs : _) (a : _) → bundle-order-reads.Pre κs a
@@ -56,6 +58,7 @@ takes =
       select_takes = λ κs a. tt;
       read_takes = λ κs a. tt;
       write_takes = λ κs a. tt;
+      way_back_takes = λ κs a. tt;
       replace_takes = λ κs a. tt;
       order_takes = λ κs a. tt;
       bundle_order_takes = λ κs a. tt;

@@ -19,6 +19,7 @@ use Rattle.records.specs.represent.Listed.{flagged, no_releases}
 use Rattle.session.specs.View.{view, fresh_session}
 use Rattle.session.specs.Promises.{session}
 use Rattle.session.specs.ReadCall.{ReadMet}
+use Rattle.session.specs.WayBackGuarantee.{WayBackMet}
 
 abbrev pub fresh_register : Register
 fresh_register = record { session = fresh_session; records = no_records; releases = no_releases }
@@ -67,6 +68,12 @@ holdings r = both (both (view r.session) (records_in r.records)) r.releases.flag
 -- the released records of a register
 abbrev pub released_in : Register → List Record
 released_in r = released (records_in r.records) r.releases.flags
+
+-- `Register::way_back` on r: what the session's does, with the same records and releases
+pub record RegisterWayBackMet (r : Register) (row : ℕ) (a : Answer) (t : Register) : Type 0 where
+  pub made : WayBackMet r.session row a t.session
+  pub records : t.records ≡ r.records
+  pub releases : t.releases ≡ r.releases
 
 -- `Register::read` on the bytes: what the session's does, without records and releases
 pub record RegisterReadMet (bytes : List ℕ) (t : ReadResult) : Type 0 where

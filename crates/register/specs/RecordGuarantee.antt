@@ -1,16 +1,20 @@
--- What the call record accepts on every register that calls lead to, its step judged as terms; and replace and the
--- orders there.
+-- What the call record accepts on every register that calls lead to, its step judged as terms; and replace, way-back
+-- and the orders there.
 use Rattle.std.specs.Prelude.{ℕ, ◌+◌, ◌<◌, ◌≡◌, List, ◌↔◌, T, length}
+use Rattle.terms.specs.Row.{Row}
 use Rattle.terms.specs.Fields.{held_path}
 use Rattle.terms.specs.Terms.{path_at}
 use Rattle.calls.specs.Book.{Book, Answer, IsAccepted}
 use Rattle.calls.specs.Runs.{Run}
+use Rattle.calls.specs.Calls.{term}
 use Rattle.calls.specs.Above.{passed, own}
 use Rattle.replacement.specs.NoneLost.{StepSays}
 use Rattle.records.specs.declared.Record.{Record}
 use Rattle.records.specs.Records.{max_records, current, row_of, is_fit_step}
 use Rattle.records.specs.Releases.{OfficeCall, OfficeSeen, office_after}
 use Rattle.session.specs.ReplaceGuarantee.{ReplaceRelation, SetsReplaced}
+use Rattle.session.specs.View.{view}
+use Rattle.session.specs.WayBackGuarantee.{WayBackRelation, WaysBack}
 use Rattle.session.specs.OrderGuarantee.{OrderRelation, BundleOrderRelation, ArchivesOrdered}
 use Rattle.register.specs.declared.Register.{Register}
 use Rattle.register.specs.Promises.{RegisterRelation, holdings}
@@ -35,6 +39,11 @@ pub record RecordsJudged (Called : RegisterRelation) (r : Register) (b : Book) (
   pub accepts : (g : Record) (a : Answer) (t : Register) → Called r (passed (own g)) a t
       → IsAccepted a ↔ AcceptableRecord b rs g
 
+-- what is asked of way-back on the register r that calls left
+abbrev pub RegisterWaysBack : RegisterRelation → WayBackRelation Register → Register → Book → Type 0
+RegisterWaysBack Called Reversed r b =
+    WaysBack (λ (r : Register). view r.session) holdings (λ (row : Row). passed (passed (term row))) Called Reversed r b
+
 -- the guarantees: every list of calls, run from what `Register::new` gives, refused ones included
 module _ (New : Register → Type 0) (Called : RegisterRelation) where
   abbrev pub RecordGuarantee : Type 0
@@ -46,6 +55,12 @@ module _ (New : Register → Type 0) (Called : RegisterRelation) where
   abbrev pub RegisterReplaceGuarantee : ReplaceRelation Register → Type 0
   RegisterReplaceGuarantee Replaced = (r₀ r : Register) (cs : List OfficeCall) (os : List OfficeSeen)
       → New r₀ → Run holdings Called r₀ cs os r → SetsReplaced Replaced r (office_after cs).below.below
+
+  -- and of way-back; what it leaves, term calls of the register leave
+  abbrev pub RegisterWayBackGuarantee : WayBackRelation Register → Type 0
+  RegisterWayBackGuarantee Reversed = (r₀ r : Register) (cs : List OfficeCall) (os : List OfficeSeen)
+      → New r₀ → Run holdings Called r₀ cs os r
+      → RegisterWaysBack Called Reversed r (office_after cs).below.below
 
   abbrev pub RegisterOrderGuarantee : OrderRelation Register → BundleOrderRelation Register → Type 0
   RegisterOrderGuarantee Ordered BundleOrdered = (q₀ r₀ q r : Register) (cs ds : List OfficeCall) (os us : List OfficeSeen)

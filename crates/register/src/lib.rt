@@ -17,7 +17,7 @@ ghost use Rattle.session.specs.WriteCall.{WriteMet};
 ghost use Rattle.records.specs.Releases.{crew_listing, crew_current};
 ghost use Rattle.records.specs.represent.Listed.{listed};
 ghost use Rattle.register.specs.Promises.{fresh_register, released_in, RegisterMet};
-ghost use Rattle.register.specs.Promises.{RegisterReadMet};
+ghost use Rattle.register.specs.Promises.{RegisterWayBackMet, RegisterReadMet};
 ghost use Rattle.register.specs.represent.Results.{read_result};
 
 use records::Releases;
@@ -138,6 +138,13 @@ impl Register {
         ensures refused { OnErr result (self.new ≡ self.old) }
     {
         self.session.point(name)
+    }
+
+    pub fn way_back(&mut self, row: u16) -> Result<u16, Refusal>
+        ensures met { RegisterWayBackMet self.old row (answer_of result) self.new }
+        ensures refused { OnErr result (self.new ≡ self.old) }
+    {
+        self.session.way_back(row)
     }
 
     /// With the parameters of `Session::select`.

@@ -21,6 +21,7 @@ use Rattle.script.specs.declared.words.Word.{Word}
 use Rattle.script.specs.declared.words.Word.TheVariants.{Term, Step, Select, Document, Fresh, Old, New, Replace}
 use Rattle.script.specs.declared.words.Word.TheVariants.{Write, Point, Return, Other, Order, BundleOrder, Names, Text}
 use Rattle.script.specs.declared.words.Word.TheVariants.{Record, Current, Release, Records, Released, CrewCurrent}
+use Rattle.script.specs.declared.words.Word.TheVariants.{WayBack}
 use Rattle.script.specs.Words.{shape_of}
 use Rattle.script.specs.declared.Command.{Command as Given}
 use Rattle.script.specs.declared.CallLine.{CallLine}
@@ -55,6 +56,7 @@ other_alone Release _ _ _ _ _ _ _ _ _ _ _ = refl
 other_alone Records _ _ _ _ _ _ _ _ _ f _ = absurd (f refl)
 other_alone Released _ _ _ _ _ _ _ _ _ _ f = absurd (f refl)
 other_alone CrewCurrent _ _ _ _ _ _ _ _ _ _ _ = refl
+other_alone WayBack _ _ _ _ _ _ _ _ _ _ _ = refl
 
 -- a word without numbers has none behind a space either
 pub no_numbers_behind : (w : Word)

@@ -7,7 +7,7 @@ use Rattle.script.specs.declared.words.Word.{Word}
 use Rattle.script.specs.declared.words.Word.TheVariants.{Term, Step, Select, Document, Fresh, Old, New, Replace}
 use Rattle.script.specs.declared.words.Word.TheVariants.{Write, Point, Return, Other, Order, BundleOrder, Names}
 use Rattle.script.specs.declared.words.Word.TheVariants.{Text, Record, Current, Release, Records, Released}
-use Rattle.script.specs.declared.words.Word.TheVariants.{CrewCurrent}
+use Rattle.script.specs.declared.words.Word.TheVariants.{CrewCurrent, WayBack}
 
 -- one node more than a select takes, three numbers a node
 abbrev pub max_numbers : ℕ
@@ -42,6 +42,7 @@ words =
     ∷ (ascii "records", Records)
     ∷ (ascii "released", Released)
     ∷ (ascii "crew-current", CrewCurrent)
+    ∷ (ascii "way-back", WayBack)
     ∷ []
 
 -- what may stand after a word: so many numbers of 16 bits, a list of up to so many, the numbers of a select, the length
@@ -77,3 +78,4 @@ shape_of Release = Counted 1
 shape_of Records = Counted 0
 shape_of Released = Counted 0
 shape_of CrewCurrent = Counted 1
+shape_of WayBack = Counted 1

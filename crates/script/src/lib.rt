@@ -54,6 +54,7 @@ pub enum Command {
     Records,
     Released,
     CrewCurrent(u16),
+    WayBack(u16),
 }
 
 /// The command of a line, and the position of the next line.
@@ -190,6 +191,7 @@ fn behind_word(bytes: &[u8], at: usize, word: Word) -> Option<CallLine>
         Word::CrewCurrent => counted::<1, _>(bytes, at, |series, _, _, _, _| {
             Command::CrewCurrent(series)
         }),
+        Word::WayBack => counted::<1, _>(bytes, at, |row, _, _, _, _| Command::WayBack(row)),
         Word::Fresh | Word::Other | Word::BundleOrder | Word::Records | Word::Released => None,
     }
 }

@@ -32,10 +32,11 @@ pub enum Word {
     Records,
     Released,
     CrewCurrent,
+    WayBack,
 }
 
 /// The words, in the order in which they are tried.
-pub const WORDS: [Word; 22] = [
+pub const WORDS: [Word; 23] = [
     Word::Term,
     Word::Step,
     Word::Select,
@@ -58,6 +59,7 @@ pub const WORDS: [Word; 22] = [
     Word::Records,
     Word::Released,
     Word::CrewCurrent,
+    Word::WayBack,
 ];
 
 impl Word {
@@ -89,6 +91,7 @@ impl Word {
             Word::Records => b"records",
             Word::Released => b"released",
             Word::CrewCurrent => b"crew-current",
+            Word::WayBack => b"way-back",
         }
     }
 }

@@ -19,6 +19,7 @@ use Rattle.script.specs.declared.words.Word.{Word}
 use Rattle.script.specs.declared.words.Word.TheVariants.{Term, Step, Select, Document, Fresh, Old, New, Replace}
 use Rattle.script.specs.declared.words.Word.TheVariants.{Write, Point, Return, Other, Order, BundleOrder, Names, Text}
 use Rattle.script.specs.declared.words.Word.TheVariants.{Record, Current, Release, Records, Released, CrewCurrent}
+use Rattle.script.specs.declared.words.Word.TheVariants.{WayBack}
 use Rattle.script.specs.Command.{numbers_in, named, word_for, word_command, command_by}
 use Rattle.script.specs.Words.{words, shape_of}
 use Rattle.script.specs.Rest.{rest_of, names_of}
@@ -94,6 +95,7 @@ action_fits Release ws ns e names rest = tt
 action_fits Records ws ns e names rest = tt
 action_fits Released ws ns e names rest = tt
 action_fits CrewCurrent ws ns e names rest = tt
+action_fits WayBack ws ns e names rest = tt
 
 module _ (names rest : Bytes) where
   named_fits : (w : Word) (ws : List (List ℕ)) (o : Option (List ℕ)) → numbers_in (shape_of w) ws ≡ o

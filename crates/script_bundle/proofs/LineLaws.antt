@@ -60,3 +60,4 @@ other_command (given.Release p) _ _ _ _ _ _ names rest = refl
 other_command given.Records _ _ _ _ _ _ names rest = refl
 other_command given.Released _ _ _ _ _ _ names rest = refl
 other_command (given.CrewCurrent s) _ _ _ _ _ _ names rest = refl
+other_command (given.WayBack r) _ _ _ _ _ _ names rest = refl

@@ -18,6 +18,7 @@ use Rattle.script.specs.declared.words.Word.{Word}
 use Rattle.script.specs.declared.words.Word.TheVariants.{Term, Step, Select, Document, Fresh, Old, New, Replace}
 use Rattle.script.specs.declared.words.Word.TheVariants.{Write, Point, Return, Other, Order, BundleOrder, Names, Text}
 use Rattle.script.specs.declared.words.Word.TheVariants.{Record, Current, Release, Records, Released, CrewCurrent}
+use Rattle.script.specs.declared.words.Word.TheVariants.{WayBack}
 use Rattle.script.specs.Command.{command_of}
 use Rattle.script.specs.Rest.{rest_of, names_of}
 
@@ -54,6 +55,7 @@ action_of Release ns names rest = none
 action_of Records ns names rest = none
 action_of Released ns names rest = none
 action_of CrewCurrent ns names rest = none
+action_of WayBack ns names rest = none
 
 -- what a line does
 unfoldable pub line_action : (names : Bytes) → Line → Option Action

@@ -6,6 +6,7 @@ use Rattle.script.specs.declared.words.Word.{Word}
 use Rattle.script.specs.declared.words.Word.TheVariants.{Term, Step, Select, Document, Fresh, Old, New, Replace, Write}
 use Rattle.script.specs.declared.words.Word.TheVariants.{Point, Return, Other, Order, BundleOrder, Names, Text}
 use Rattle.script.specs.declared.words.Word.TheVariants.{Record, Current, Release, Records, Released, CrewCurrent}
+use Rattle.script.specs.declared.words.Word.TheVariants.{WayBack}
 use Rattle.script.specs.Command.{Command, command_of}
 use Rattle.script_replay.specs.declared.Style.{Style}
 use Rattle.script_replay.specs.declared.Style.TheVariants.{Answers, Nodes}
@@ -43,6 +44,7 @@ word_taken s Release = true
 word_taken s Records = prints_answers s
 word_taken s Released = prints_answers s
 word_taken s CrewCurrent = true
+word_taken s WayBack = true
 
 -- a line that is no command is never taken
 abbrev pub is_taken : Style → Option Command → Bool

@@ -175,6 +175,7 @@ impl<'a> State<'a> {
             Command::Point(name) => print(style, self.register.point(name)),
             Command::Return(name) => print(style, self.register.return_to(name)),
             Command::Text => self.text(rest),
+            Command::WayBack(row) => print(style, self.register.way_back(row)),
             Command::Record(record) => print(style, self.register.record(record)),
             Command::Release(place) => print(style, self.register.release(place)),
             Command::Document(document) => self.document = document,

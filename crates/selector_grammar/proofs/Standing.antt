@@ -12,7 +12,7 @@ use Rattle.selector_grammar.specs.Words.{number_of}
 use Rattle.selector_grammar.specs.Grammar.{Union, Spells}
 use Rattle.selector_grammar.specs.Denotes.{union_of, nest_path}
 use Rattle.selector_grammar.specs.Answer.{Answers, outside, unnumbered, deep, full, held}
-use Rattle.selector_grammar.proofs.Stands.{Stands, path_stands}
+use Rattle.selector_grammar.proofs.Stands.{StepFits, Stands, path_stands}
 use Rattle.selector_grammar.proofs.Fitting.{union_fits}
 use Rattle.selector_grammar.proofs.Numbered.{NameFits, number_fits, path_numbered}
 
@@ -23,7 +23,7 @@ module _ (list t : Bytes) (rs : List Row) (b : Built rs) where
   answer_built n v ss (deep s e h) = b
   answer_built n v ss (full s e h i) = b
   answer_built n v ss (held u s e h i) =
-      (path_stands (union_of (number_of list) u) rs b (union_fits (number_of list) (number_fits list) u 32 0 s.fine e)
+      (path_stands StepFits (λ a t c f. f.0) (union_of (number_of list) u) rs b (union_fits (number_of list) (number_fits list) u 32 0 s.fine e)
       h).built
 
 -- and their names have 16 bits
@@ -52,6 +52,6 @@ module _ (list t : Bytes) (rs : List Row) (b : Built rs) where
       record {
         tree = u;
         spells = s;
-        stands = path_stands (union_of (number_of list) u) rs b (union_fits (number_of list) (number_fits list) u 32 0
+        stands = path_stands StepFits (λ a t c f. f.0) (union_of (number_of list) u) rs b (union_fits (number_of list) (number_fits list) u 32 0
             s.fine e) h;
       }

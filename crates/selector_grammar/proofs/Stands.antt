@@ -67,7 +67,7 @@ operand_same rs i name x t h = refl
 operand_same rs i path x t h = rw (nestings_take i rs) (get_or-take i (nestings rs) x 0 h.0)
 operand_same rs i qualifier x t h = rw (nestings_take i rs) (get_or-take i (nestings rs) x 0 h.0)
 
-built_nesting : {rs : List Row} → Built rs → (i : ℕ) → i < length rs
+pub built_nesting : {rs : List Row} → Built rs → (i : ℕ) → i < length rs
     → get_or (nestings rs) i 0 ≡ nesting rs (row_at rs i)
 unfolding nesting nesting_by
 built_nesting {rs} b i h =
@@ -186,23 +186,31 @@ well_formed_lem rs k x y z h a b c n =
 abbrev pub StepFits : (a t c : ℕ) → Type 0
 StepFits a t c = ((rs : List Row) → T (is_well_formed rs (row step_row a t c))) × (c ≤ max_number)
 
--- so are those of all steps of a term
-abbrev mutual
-  pub PathFits : term.Path → Type 0
-  PathFits term.Void = Unit {0}
-  PathFits term.Root = Unit {0}
-  PathFits (term.AxisStep a t c) = StepFits a t c
-  PathFits (term.Union p q) = PathFits p × PathFits q
-  PathFits (term.Composition p q) = PathFits p × PathFits q
-  PathFits (term.Filter p f) = PathFits p × QualifierFits f
+-- what P says of a step holds of all steps of a term
+module _ (P : (a t c : ℕ) → Type 0) where
+  abbrev mutual
+    pub EachStep : term.Path → Type 0
+    EachStep term.Void = Unit {0}
+    EachStep term.Root = Unit {0}
+    EachStep (term.AxisStep a t c) = P a t c
+    EachStep (term.Union p q) = EachStep p × EachStep q
+    EachStep (term.Composition p q) = EachStep p × EachStep q
+    EachStep (term.Filter p f) = EachStep p × EachStepWithin f
 
-  pub QualifierFits : term.Qualifier → Type 0
-  QualifierFits term.True = Unit {0}
-  QualifierFits term.False = Unit {0}
-  QualifierFits (term.Not f) = QualifierFits f
-  QualifierFits (term.And f g) = QualifierFits f × QualifierFits g
-  QualifierFits (term.Or f g) = QualifierFits f × QualifierFits g
-  QualifierFits (term.In p q) = PathFits p × PathFits q
+    pub EachStepWithin : term.Qualifier → Type 0
+    EachStepWithin term.True = Unit {0}
+    EachStepWithin term.False = Unit {0}
+    EachStepWithin (term.Not f) = EachStepWithin f
+    EachStepWithin (term.And f g) = EachStepWithin f × EachStepWithin g
+    EachStepWithin (term.Or f g) = EachStepWithin f × EachStepWithin g
+    EachStepWithin (term.In p q) = EachStep p × EachStep q
+
+-- so are those of all steps of a term
+abbrev pub PathFits : term.Path → Type 0
+PathFits p = EachStep StepFits p
+
+abbrev pub QualifierFits : term.Qualifier → Type 0
+QualifierFits f = EachStepWithin StepFits f
 
 -- a row of kind k without operands
 leaf_stands : (rs : List Row) (k : ℕ) (t : Term) → Built rs → T (is_well_formed rs (row k 0 0 0))
@@ -229,98 +237,100 @@ PathStands p rs = Stands (put_path p rs).rows (put_path p rs).at (of_path p) (ne
 abbrev QualifierStands : term.Qualifier → List Row → Type 0
 QualifierStands f rs = Stands (put_qual f rs).rows (put_qual f rs).at (of_qualifier f) (nest_qual f)
 
--- two operands, the second put after the first, and the row over both
-mutual
-  unfolding put_path put_qual nest_path nest_qual fields_of field_ok nesting nesting_by operand_nesting term_by
-      term_at as_path
-      as_qualifier
+-- two operands, the second put after the first, and the row over both; a step's row is well formed after any rows
+module _ (P : (a t c : ℕ) → Type 0)
+    (fine : (a t c : ℕ) → P a t c → (rs : List Row) → T (is_well_formed rs (row step_row a t c))) where
+  mutual
+    unfolding put_path put_qual nest_path nest_qual fields_of field_ok nesting nesting_by operand_nesting term_by
+        term_at as_path
+        as_qualifier
 
-  pub path_stands : (p : term.Path) (rs : List Row) → Built rs → PathFits p → nest_path p ≤ max_nesting
-      → PathStands p rs
-  path_stands term.Void rs b h l =
-      leaf_stands rs void_row (of_path term.Void) b
-      (well_formed_lem rs void_row 0 0 0 (omega arith) refl refl refl (omega arith))
-      refl
-      refl
-  path_stands term.Root rs b h l =
-      leaf_stands rs root_row (of_path term.Root) b
-      (well_formed_lem rs root_row 0 0 0 (omega arith) refl refl refl (omega arith))
-      refl
-      refl
-  path_stands (term.AxisStep a t c) rs b h l =
-      let s = row_stands rs (row step_row a t c) b (h.0 rs) in
-      record { built = s.built; held = s.held; term = s.term; nest = s.nest }
-  path_stands (term.Union p q) rs b h l =
-      let x = path_stands p rs b h.0 (omega arith) in
-      let y = path_stands q (put_path p rs).rows x.built h.1 (omega arith) in
-      let z = stands_on x (path_longer q (put_path p rs).rows) y.built in
-      over_stands _ union_row _ _ (nest_path p) (nest_path q) (of_path p) (of_path q) (of_path (term.Union p q)) z y
-      (omega arith)
-      (is_held_path z) (is_held_path y) refl (omega (arith, z.nest, y.nest)) (omega arith)
-      (rw (z.term, y.term) refl)
-  path_stands (term.Composition p q) rs b h l =
-      let x = path_stands p rs b h.0 (omega arith) in
-      let y = path_stands q (put_path p rs).rows x.built h.1 (omega arith) in
-      let z = stands_on x (path_longer q (put_path p rs).rows) y.built in
-      over_stands _ composition_row _ _ (nest_path p) (nest_path q) (of_path p) (of_path q)
-      (of_path (term.Composition p q)) z y
-      (omega arith) (is_held_path z) (is_held_path y) refl (omega (arith, z.nest, y.nest)) (omega arith)
-      (rw (z.term, y.term) refl)
-  path_stands (term.Filter p f) rs b h l =
-      let x = path_stands p rs b h.0 (omega arith) in
-      let y = qualifier_stands f (put_path p rs).rows x.built h.1 (omega arith) in
-      let z = stands_on x (qualifier_longer f (put_path p rs).rows) y.built in
-      over_stands _ filter_row _ _ (nest_path p) (nest_qual f) (of_path p) (of_qualifier f)
-      (of_path (term.Filter p f)) z y
-      (omega arith) (is_held_path z) (is_held_qualifier y) refl (omega (arith, z.nest, y.nest)) (omega arith)
-      (rw (z.term, y.term) refl)
+    pub path_stands : (p : term.Path) (rs : List Row) → Built rs → EachStep P p → nest_path p ≤ max_nesting
+        → PathStands p rs
+    path_stands term.Void rs b h l =
+        leaf_stands rs void_row (of_path term.Void) b
+        (well_formed_lem rs void_row 0 0 0 (omega arith) refl refl refl (omega arith))
+        refl
+        refl
+    path_stands term.Root rs b h l =
+        leaf_stands rs root_row (of_path term.Root) b
+        (well_formed_lem rs root_row 0 0 0 (omega arith) refl refl refl (omega arith))
+        refl
+        refl
+    path_stands (term.AxisStep a t c) rs b h l =
+        let s = row_stands rs (row step_row a t c) b (fine a t c h rs) in
+        record { built = s.built; held = s.held; term = s.term; nest = s.nest }
+    path_stands (term.Union p q) rs b h l =
+        let x = path_stands p rs b h.0 (omega arith) in
+        let y = path_stands q (put_path p rs).rows x.built h.1 (omega arith) in
+        let z = stands_on x (path_longer q (put_path p rs).rows) y.built in
+        over_stands _ union_row _ _ (nest_path p) (nest_path q) (of_path p) (of_path q) (of_path (term.Union p q)) z y
+        (omega arith)
+        (is_held_path z) (is_held_path y) refl (omega (arith, z.nest, y.nest)) (omega arith)
+        (rw (z.term, y.term) refl)
+    path_stands (term.Composition p q) rs b h l =
+        let x = path_stands p rs b h.0 (omega arith) in
+        let y = path_stands q (put_path p rs).rows x.built h.1 (omega arith) in
+        let z = stands_on x (path_longer q (put_path p rs).rows) y.built in
+        over_stands _ composition_row _ _ (nest_path p) (nest_path q) (of_path p) (of_path q)
+        (of_path (term.Composition p q)) z y
+        (omega arith) (is_held_path z) (is_held_path y) refl (omega (arith, z.nest, y.nest)) (omega arith)
+        (rw (z.term, y.term) refl)
+    path_stands (term.Filter p f) rs b h l =
+        let x = path_stands p rs b h.0 (omega arith) in
+        let y = qualifier_stands f (put_path p rs).rows x.built h.1 (omega arith) in
+        let z = stands_on x (qualifier_longer f (put_path p rs).rows) y.built in
+        over_stands _ filter_row _ _ (nest_path p) (nest_qual f) (of_path p) (of_qualifier f)
+        (of_path (term.Filter p f)) z y
+        (omega arith) (is_held_path z) (is_held_qualifier y) refl (omega (arith, z.nest, y.nest)) (omega arith)
+        (rw (z.term, y.term) refl)
 
-  pub qualifier_stands : (f : term.Qualifier) (rs : List Row) → Built rs → QualifierFits f → nest_qual f ≤ max_nesting
-      → QualifierStands f rs
-  qualifier_stands term.True rs b h l =
-      leaf_stands rs true_row (of_qualifier term.True) b
-      (well_formed_lem rs true_row 0 0 0 (omega arith) refl refl refl (omega arith))
-      refl
-      refl
-  qualifier_stands term.False rs b h l =
-      leaf_stands rs false_row (of_qualifier term.False) b
-      (well_formed_lem rs false_row 0 0 0 (omega arith) refl refl refl (omega arith))
-      refl
-      refl
-  qualifier_stands (term.Not f) rs b h l =
-      let x = qualifier_stands f rs b h (omega arith) in
-      let ok = well_formed_lem _ not_row _ 0 0 (omega arith) (is_held_qualifier x) refl refl (omega (arith, x.nest)) in
-      let s = row_stands (put_qual f rs).rows (row not_row (put_qual f rs).at 0 0) x.built ok in
-      record {
-        built = s.built;
-        held = s.held;
-        term = s.term ∙ rw x.term refl;
-        nest = s.nest ∙ omega (arith, x.nest);
-      }
-  qualifier_stands (term.And f g) rs b h l =
-      let x = qualifier_stands f rs b h.0 (omega arith) in
-      let y = qualifier_stands g (put_qual f rs).rows x.built h.1 (omega arith) in
-      let z = stands_on x (qualifier_longer g (put_qual f rs).rows) y.built in
-      over_stands _ and_row _ _ (nest_qual f) (nest_qual g) (of_qualifier f) (of_qualifier g)
-      (of_qualifier (term.And f g))
-      z y
-      (omega arith) (is_held_qualifier z) (is_held_qualifier y) refl (omega (arith, z.nest, y.nest)) (omega arith)
-      (rw (z.term, y.term) refl)
-  qualifier_stands (term.Or f g) rs b h l =
-      let x = qualifier_stands f rs b h.0 (omega arith) in
-      let y = qualifier_stands g (put_qual f rs).rows x.built h.1 (omega arith) in
-      let z = stands_on x (qualifier_longer g (put_qual f rs).rows) y.built in
-      over_stands _ or_row _ _ (nest_qual f) (nest_qual g) (of_qualifier f) (of_qualifier g)
-      (of_qualifier (term.Or f g))
-      z y
-      (omega arith) (is_held_qualifier z) (is_held_qualifier y) refl (omega (arith, z.nest, y.nest)) (omega arith)
-      (rw (z.term, y.term) refl)
-  qualifier_stands (term.In p q) rs b h l =
-      let x = path_stands p rs b h.0 (omega arith) in
-      let y = path_stands q (put_path p rs).rows x.built h.1 (omega arith) in
-      let z = stands_on x (path_longer q (put_path p rs).rows) y.built in
-      over_stands _ inclusion_row _ _ (nest_path p) (nest_path q) (of_path p) (of_path q)
-      (of_qualifier (term.In p q)) z y
-      (omega arith)
-      (is_held_path z) (is_held_path y) refl (omega (arith, z.nest, y.nest)) (omega arith)
-      (rw (z.term, y.term) refl)
+    pub qualifier_stands : (f : term.Qualifier) (rs : List Row) → Built rs → EachStepWithin P f → nest_qual f ≤ max_nesting
+        → QualifierStands f rs
+    qualifier_stands term.True rs b h l =
+        leaf_stands rs true_row (of_qualifier term.True) b
+        (well_formed_lem rs true_row 0 0 0 (omega arith) refl refl refl (omega arith))
+        refl
+        refl
+    qualifier_stands term.False rs b h l =
+        leaf_stands rs false_row (of_qualifier term.False) b
+        (well_formed_lem rs false_row 0 0 0 (omega arith) refl refl refl (omega arith))
+        refl
+        refl
+    qualifier_stands (term.Not f) rs b h l =
+        let x = qualifier_stands f rs b h (omega arith) in
+        let ok = well_formed_lem _ not_row _ 0 0 (omega arith) (is_held_qualifier x) refl refl (omega (arith, x.nest)) in
+        let s = row_stands (put_qual f rs).rows (row not_row (put_qual f rs).at 0 0) x.built ok in
+        record {
+          built = s.built;
+          held = s.held;
+          term = s.term ∙ rw x.term refl;
+          nest = s.nest ∙ omega (arith, x.nest);
+        }
+    qualifier_stands (term.And f g) rs b h l =
+        let x = qualifier_stands f rs b h.0 (omega arith) in
+        let y = qualifier_stands g (put_qual f rs).rows x.built h.1 (omega arith) in
+        let z = stands_on x (qualifier_longer g (put_qual f rs).rows) y.built in
+        over_stands _ and_row _ _ (nest_qual f) (nest_qual g) (of_qualifier f) (of_qualifier g)
+        (of_qualifier (term.And f g))
+        z y
+        (omega arith) (is_held_qualifier z) (is_held_qualifier y) refl (omega (arith, z.nest, y.nest)) (omega arith)
+        (rw (z.term, y.term) refl)
+    qualifier_stands (term.Or f g) rs b h l =
+        let x = qualifier_stands f rs b h.0 (omega arith) in
+        let y = qualifier_stands g (put_qual f rs).rows x.built h.1 (omega arith) in
+        let z = stands_on x (qualifier_longer g (put_qual f rs).rows) y.built in
+        over_stands _ or_row _ _ (nest_qual f) (nest_qual g) (of_qualifier f) (of_qualifier g)
+        (of_qualifier (term.Or f g))
+        z y
+        (omega arith) (is_held_qualifier z) (is_held_qualifier y) refl (omega (arith, z.nest, y.nest)) (omega arith)
+        (rw (z.term, y.term) refl)
+    qualifier_stands (term.In p q) rs b h l =
+        let x = path_stands p rs b h.0 (omega arith) in
+        let y = path_stands q (put_path p rs).rows x.built h.1 (omega arith) in
+        let z = stands_on x (path_longer q (put_path p rs).rows) y.built in
+        over_stands _ inclusion_row _ _ (nest_path p) (nest_path q) (of_path p) (of_path q)
+        (of_qualifier (term.In p q)) z y
+        (omega arith)
+        (is_held_path z) (is_held_path y) refl (omega (arith, z.nest, y.nest)) (omega arith)
+        (rw (z.term, y.term) refl)

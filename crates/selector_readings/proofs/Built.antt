@@ -34,15 +34,15 @@ put_more rs r = go (ltb (find rs r) (length rs))
     go false = omega (arith, length-append rs (r ∷ []))
 
 -- a row that is held, and one that is not
-put_held : (rs : List Row) (r : Row) → find rs r < length rs → (put rs r).rows ≡ rs
+pub put_held : (rs : List Row) (r : Row) → find rs r < length rs → (put rs r).rows ≡ rs
 unfolding put
 put_held rs r h = rw (lt-ltb (find rs r) (length rs) h) refl
 
-put_new : (rs : List Row) (r : Row) → length rs ≤ find rs r → (put rs r).rows ≡ rs ++ (r ∷ [])
+pub put_new : (rs : List Row) (r : Row) → length rs ≤ find rs r → (put rs r).rows ≡ rs ++ (r ∷ [])
 unfolding put
 put_new rs r h = rw (le-ltb (find rs r) (length rs) h) refl
 
-put_at : (rs : List Row) (r : Row) → (put rs r).at ≡ find rs r
+pub put_at : (rs : List Row) (r : Row) → (put rs r).at ≡ find rs r
 unfolding put
 put_at rs r = refl
 
@@ -56,10 +56,10 @@ table_count xs count z =
     ∙ rw (length-take-le (row_width * count) xs (omega (arith, z.size, z.bound))) (omega arith)
 
 -- what stands past the rows stays, from one table to the next
-none_put : (xs : List ℕ) (n : ℕ) → Beyond xs n xs n
+pub none_put : (xs : List ℕ) (n : ℕ) → Beyond xs n xs n
 none_put xs n = record { more = omega arith; rest = refl }
 
-then_beyond : (xs ys zs : List ℕ) (m n k : ℕ) → Beyond xs m ys n → Beyond ys n zs k → Beyond xs m zs k
+pub then_beyond : (xs ys zs : List ℕ) (m n k : ℕ) → Beyond xs m ys n → Beyond ys n zs k → Beyond xs m zs k
 then_beyond xs ys zs m n k a b =
     let g = k - n in
     let e : row_width * n + row_width * g ≡ row_width * k = omega (arith, b.more) in
@@ -70,7 +70,7 @@ then_beyond xs ys zs m n k a b =
       rest = b.rest ∙ past ys ∙ ap (drop (row_width * g)) a.rest ∙ sym (past xs);
     }
 
-row_beyond : (xs ys : List ℕ) (n : ℕ) (r : Row) → ys ≡ sets xs (row_width * n) (row_numbers r)
+pub row_beyond : (xs ys : List ℕ) (n : ℕ) (r : Row) → ys ≡ sets xs (row_width * n) (row_numbers r)
     → Beyond xs n ys (n + 1)
 row_beyond xs ys n r e =
     let i = row_width * n in

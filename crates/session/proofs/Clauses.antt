@@ -3,6 +3,7 @@
 pub mod AcceptClauses
 pub mod ReadClauses
 pub mod ReplaceClauses
+pub mod WayBackClauses
 pub mod PointClauses
 pub mod OrderClauses
 use Rattle.calls.specs.represent.Answers.{NumberOrRefusal, answer_of}

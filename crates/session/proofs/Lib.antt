@@ -9,6 +9,7 @@ pub mod Simulation
 pub mod FollowsBook
 pub mod AcceptsExactly
 pub mod SetsReplaced
+pub mod WaysBack
 pub mod Restored
 pub mod ArchivesOrdered
 pub mod ReadByRows

@@ -5,9 +5,14 @@ use Rattle.calls.specs.represent.Answers.{answer_with, refusal_answer}
 use Prim.Native.Nat.{ℕ}
 use mathlib.Core.Path.{◌≡◌, refl, sym, subst, ◌∙◌}
 use mathlib.Core.List.{List, []}
-use lib.Dec.{leb}
+use mathlib.Core.Bool.{Bool, true, false, cond, not}
+use lib.Dec.{leb, ltb, eqb}
 use lib.ListN.{length}
-use Rattle.terms.specs.Row.{Row}
+use Rattle.terms.specs.Row.{Row, max_rows}
+use Rattle.terms.specs.Fields.{held_path}
+use Rattle.terms.specs.Nesting.{max_nesting}
+use Rattle.selector_grammar.specs.Answer.{Reply}
+use Rattle.reversing.specs.private.RowsBack.{back_nesting, back_put, row_reply}
 use Rattle.terms.specs.declared.Row.{Row as CodeRow}
 use Rattle.terms.specs.represent.RowTypes.{row_of}
 use Rattle.session.specs.declared.session.Session.{Session}
@@ -25,13 +30,14 @@ use Rattle.session.specs.FollowsBook.{BookGuarantee}
 use Rattle.session.specs.SessionLaws.{WholeSession, NoPointLeft, SessionRestored}
 use Rattle.std.specs.Prelude.{Result, Ok, Err, OnErr}
 use Rattle.common.specs.declared.refusal.Refusal.{Refusal}
-use Rattle.common.specs.declared.refusal.Refusal.TheVariants.{ShortBuffer}
+use Rattle.common.specs.declared.refusal.Refusal.TheVariants.{TooDeep, BadSide, NotYielded, TermsFull, ShortBuffer}
 use Rattle.common.proofs.Lent.{lent, lent_to_write}
 use Rattle.session.specs.Reading.{reading}
 use Rattle.session.specs.ReadCall.{ReadMet}
 use Rattle.session.specs.WriteCall.{session_text, write_answer, write_buffer, WriteMet}
 use Rattle.session.specs.ReadGuarantee.{ReadGuarantee}
 use Rattle.session.specs.ReplaceGuarantee.{ReplaceGuarantee}
+use Rattle.session.specs.WayBackGuarantee.{replied, way_back_calls, WayBackMet, WayBackGuarantee}
 use Rattle.session.specs.OrderGuarantee.{OrderGuarantee}
 use Rattle.session.specs.AcceptGuarantee.{AcceptGuarantee}
 use Rattle.replacement.proofs.Judged.{replace_case}
@@ -48,6 +54,7 @@ use Rattle.session.proofs.ReadCases.{reading_case}
 use Rattle.session.proofs.Bundles.{read_guarantee_by}
 use Rattle.session.proofs.AcceptsExactly.{accept_guarantee_by}
 use Rattle.session.proofs.SetsReplaced.{ReplacesKept, replace_guarantee_by}
+use Rattle.session.proofs.WaysBack.{WaysBackKept, way_back_guarantee_by}
 use Rattle.session.proofs.ArchivesOrdered.{OrdersKept, BundleOrdersKept, order_guarantee_by}
 use Rattle.session.proofs.session.Session.new.Reads as new-reads
 use Rattle.session.proofs.session.Session.term.Reads as term-reads
@@ -61,6 +68,7 @@ use Rattle.session.proofs.session.Session.replace.Reads as replace-reads
 use Rattle.session.proofs.session.Session.order.Reads as order-reads
 use Rattle.session.proofs.session.Session.bundle_order.Reads as bundle-order-reads
 use Rattle.session.proofs.session.Session.write.Reads as write-reads
+use Rattle.session.proofs.session.Session.way_back.Reads as way-back-reads
 
 -- `Session::new` gives the session r
 pub data New : Session → Type 0 where
@@ -95,6 +103,11 @@ pub data ReadOn : Session → List ℕ → ReadResult → Type 0 where
 -- the same, whichever session it is called on
 abbrev pub Read : List ℕ → ReadResult → Type 0
 Read bytes t = (s : Session) × ReadOn s bytes t
+
+-- `Session::way_back` on a session with a row has an answer and leaves a session
+pub data Reversed : Session → (row : ℕ) → Answer → Session → Type 0 where
+  way_back_called : (κs : _) (a : _) (r : _) (x : _) → way-back-reads.Post κs a r x
+      → Reversed a.0.now a.1.0 (answer_of r) x.0.now
 
 -- `Session::replace` on a session with old rows, new rows and steps has the answer r
 pub data Replaced : Session → (old new by : List ℕ) → DoneOrRefusal → Type 0 where
@@ -132,6 +145,9 @@ select_tied s row xs x limit buffer t left (select_called κs a r y m) = m
 
 pub read_tied : (bytes : List ℕ) (t : ReadResult) → Read bytes t → ReadMet bytes t
 read_tied bytes t (s, read_called κs a r x m) = m.0
+
+pub reversed_tied : WaysBackKept Reversed WayBackMet
+reversed_tied s row a t (way_back_called κs args r x m) = m.0
 
 pub replace_tied : ReplacesKept (λ s. s) Replaced
 replace_tied s old new by t (replace_called κs a r x m) = m
@@ -213,7 +229,7 @@ pub calls_exist : (s : Session) (cs : List Call) → (os : List CallSeen) × (t 
 calls_exist =
     run_exists view Called (λ s c. (session_answer s c, next session s c, met_called s c _ _ (made session s c)))
 
--- and so can every select, every read, every replace, every order, every bundle order and every write
+-- and so can every select, every read, every way-back, every replace, every order, every bundle order and every write
 pub selects_exist : (s : Session) (row : ℕ) (xs : List ℕ) (x limit : ℕ) (buffer : List ℕ)
     → (t : NumberOrRefusal) × (left : List ℕ) × Selected s row xs x limit buffer t left
 selects_exist s row xs x limit buffer =
@@ -235,6 +251,33 @@ reads_exist s bytes =
           (lent_to_write t.session, (lent bytes, tt))
           (met, refused_fresh bytes t met),
     )
+
+pub way_back_case : (rs : List Row) (i : ℕ) → HasCase answer_of (replied (row_reply rs i))
+unfolding row_reply
+way_back_case rs i =
+    by (not (held_path rs i)) _ _ (Err (BadSide 1), refl)
+    (by (eqb (back_nesting rs i) 0) _ _ (Err NotYielded, refl)
+    (by (ltb max_nesting (back_nesting rs i)) _ _ (Err TooDeep, refl)
+    (by (ltb max_rows (length (back_put rs i rs).rows)) _ _ (Err TermsFull, refl) (Ok _, refl))))
+  where
+    by : (b : Bool) (r q : Reply) → HasCase answer_of (replied r) → HasCase answer_of (replied q)
+        → HasCase answer_of (replied (cond b r q))
+    by true r q x y = x
+    by false r q x y = y
+
+pub ways_back_exist : (s : Session) (row : ℕ) → (a : Answer) × (t : Session) × Reversed s row a t
+ways_back_exist s row =
+    let (o, e) = way_back_case (view s).rows row in
+    let t = next way_back_calls s row in
+    let met : WayBackMet s row (answer_of o) t = record { answer = e; left = refl } in (
+      answer_of o,
+      t,
+      way_back_called ([], tt) (lent_to_write s, (row, tt)) o (lent_to_write t, (row, tt))
+          (met, refused_kept way_back_calls s row t (λ n. n) o met),
+    )
+
+pub way_back_guarantee : WayBackGuarantee Reversed Called New
+way_back_guarantee = way_back_guarantee_by Called met_called Reversed reversed_tied New new_tied call_tied
 
 pub replaces_exist : (s : Session) (old new by : List ℕ) → (t : DoneOrRefusal) × Replaced s old new by t
 replaces_exist s old new by =

@@ -8,6 +8,7 @@ use Rattle.session.proofs.session.Session.return_to.Reads as return-to-reads
 use Rattle.session.proofs.session.Session.select.Reads as select-reads
 use Rattle.session.proofs.session.Session.read.Reads as read-reads
 use Rattle.session.proofs.session.Session.write.Reads as write-reads
+use Rattle.session.proofs.session.Session.way_back.Reads as way-back-reads
 use Rattle.session.proofs.session.Session.replace.Reads as replace-reads
 use Rattle.session.proofs.session.Session.step_saying.Reads as step-saying-reads
 use Rattle.session.proofs.session.Session.order.Reads as order-reads
@@ -29,6 +30,7 @@ pub record Takes : Type 0 where
   pub select_takes : (κs : _) (a : _) → select-reads.Pre κs a
   pub read_takes : (κs : _) (a : _) → read-reads.Pre κs a
   pub write_takes : (κs : _) (a : _) → write-reads.Pre κs a
+  pub way_back_takes : (κs : _) (a : _) → way-back-reads.Pre κs a
   pub replace_takes : (κs : _) (a : _) → replace-reads.Pre κs a
   pub step_saying_takes : (κs : _) (a : _) → step-saying-reads.Pre κs a
   pub order_takes : (κs : _) (a : _) → order-reads.Pre κs a
@@ -52,6 +54,7 @@ takes =
       select_takes = λ κs a. tt;
       read_takes = λ κs a. tt;
       write_takes = λ κs a. tt;
+      way_back_takes = λ κs a. tt;
       replace_takes = λ κs a. tt;
       step_saying_takes = λ κs a. tt;
       order_takes = λ κs a. tt;

@@ -214,7 +214,7 @@ module _ (b : Book) (fits : Fits b) where
       }
 
   -- the rows ss are those held and new ones, and there is room for them
-  with_rows_of : (ss new : List Row) → ss ≡ b.rows ++ new → length ss ≤ max_rows
+  pub with_rows_of : (ss new : List Row) → ss ≡ b.rows ++ new → length ss ≤ max_rows
       → with_rows (session_of b) ss ≡ session_of (pointed_book ss b.steps b.points)
   unfolding with_rows table_with session_of
   with_rows_of ss new e few =

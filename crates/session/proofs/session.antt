@@ -3,3 +3,4 @@ pub mod TermMade
 pub mod TextMade
 pub mod StepMade
 pub mod PointMade
+pub mod BackMade

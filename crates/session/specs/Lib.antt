@@ -10,6 +10,7 @@ pub mod ReadGuarantee
 pub mod AcceptGuarantee
 pub mod ReplaceGuarantee
 pub mod OrderGuarantee
+pub mod WayBackGuarantee
 pub mod represent
 pub mod private
 pub mod values

@@ -9,6 +9,7 @@ ghost use Rattle.calls.specs.represent.Points.{first_point_numbers};
 ghost use Rattle.calls.specs.represent.Tables.{step_width, first_row_numbers, first_step_numbers};
 ghost use Rattle.session.specs.View.{rows_held, steps_held, points_held, fresh_session};
 ghost use Rattle.session.specs.Promises.{Met, SelectMet};
+ghost use Rattle.session.specs.WayBackGuarantee.{WayBackMet};
 
 use calls::{Held, PointCounts, Step};
 use common::Refusal;
@@ -199,6 +200,18 @@ impl Session {
         let held = selector_reader::read_text(selector, names, &mut self.rows, self.row_count)?;
         self.row_count = held.count;
         Ok(held.row)
+    }
+
+    /// Holds the rows that the way back of the path in row `row` needs.
+    pub fn way_back(&mut self, row: u16) -> Result<u16, Refusal>
+        ensures met { WayBackMet self.old row (answer_of result) self.new }
+        ensures refused { OnErr result (self.new ≡ self.old) }
+    {
+        let n = self.rows_counted();
+        call_answers::term::keep_first(&mut self.rows, n);
+        let number = reversing::way_back(&mut self.rows, row)?;
+        self.row_count = self.rows.count;
+        Ok(number)
     }
 
     /// Marks the nodes that the path in row `row` selects from the context node, in bytes, as C lends them.

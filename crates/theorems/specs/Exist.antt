@@ -33,6 +33,7 @@ pub record SessionCalls : Type 0 where
   pub selects_exist : (s : Session) (row : ℕ) (xs : List ℕ) (x limit : ℕ) (buffer : List ℕ)
       → (t : NumberOrRefusal) × (left : List ℕ) × session.Selected s row xs x limit buffer t left
   pub reads_exist : (s : Session) (bytes : List ℕ) → (t : ReadResult) × session.ReadOn s bytes t
+  pub ways_back_exist : (s : Session) (row : ℕ) → (a : Answer) × (t : Session) × session.Reversed s row a t
   pub replaces_exist : (s : Session) (old new by : List ℕ) → (t : DoneOrRefusal) × session.Replaced s old new by t
   pub orders_exist : (s : Session) (i : ℕ) (t : Session) (j : ℕ) → (r : OrderOrRefusal) × session.Ordered s i t j r
   pub bundle_orders_exist : (s t : Session) → (r : OrderOrRefusal) × session.BundleOrdered s t r
@@ -51,6 +52,7 @@ pub record RegisterCalls : Type 0 where
   pub crew_currents_exist : (r : Register) (series : ℕ) → (e : ℕ) × register.CrewCurrent r series e
   pub selects_exist : (s : Session) (row : ℕ) (xs : List ℕ) (x limit : ℕ) (buffer : List ℕ)
       → (t : NumberOrRefusal) × (left : List ℕ) × register.Selected s row xs x limit buffer t left
+  pub ways_back_exist : (r : Register) (row : ℕ) → (a : Answer) × (t : Register) × register.Reversed r row a t
   pub replaces_exist : (r : Register) (old new by : List ℕ) → (t : DoneOrRefusal) × register.Replaced r old new by t
   pub orders_exist : (q : Register) (i : ℕ) (r : Register) (j : ℕ) → (t : OrderOrRefusal) × register.Ordered q i r j t
   pub bundle_orders_exist : (q r : Register) → (t : OrderOrRefusal) × register.BundleOrdered q r t

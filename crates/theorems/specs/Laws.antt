@@ -27,8 +27,9 @@ use Rattle.records.specs.declared.Records.{Records}
 use Rattle.records.specs.represent.Held.{records_in}
 use Rattle.records.specs.represent.Listed.{listed}
 use Rattle.register.specs.FollowsRegister.{ReleasedAgain}
-use Rattle.register.specs.Promises.{RegisterReadMet, released_in}
-use Rattle.register.specs.RecordGuarantee.{RegisterReplaceGuarantee, RegisterOrderGuarantee}
+use Rattle.register.specs.Promises.{RegisterWayBackMet, RegisterReadMet, released_in}
+use Rattle.register.specs.RecordGuarantee.{RegisterReplaceGuarantee, RegisterWayBackGuarantee}
+use Rattle.register.specs.RecordGuarantee.{RegisterOrderGuarantee}
 use Rattle.register.specs.declared.Register.{Register}
 use Rattle.register.specs.represent.Results as register-read
 use Rattle.replacement.specs.Covered.{step_saying}
@@ -38,6 +39,7 @@ use Rattle.session.specs.OrderGuarantee.{OrderMet, BundleOrderMet, OrderGuarante
 use Rattle.session.specs.Promises.{SelectMet}
 use Rattle.session.specs.Reading.{reading}
 use Rattle.session.specs.ReplaceGuarantee.{ReplaceMet, ReplaceGuarantee}
+use Rattle.session.specs.WayBackGuarantee.{WayBackMet, WayBackGuarantee}
 use Rattle.session.specs.SessionLaws.{WholeSession, NoPointLeft, SessionRestored}
 use Rattle.session.specs.View.{view}
 use Rattle.session.specs.WriteCall.{WriteMet}
@@ -118,6 +120,8 @@ pub record SessionLaws : Type 0 where
   -- what a leading `/`, a predicate and its parts mean on a document
   pub expanded : Expanded
   pub meant : Meant
+  -- way-back, by row numbers, answers the first refusal that applies, or 0 and leaves the rows that the way back needs
+  pub reversed : (s : Session) (row : ℕ) (a : Answer) (t : Session) → session.Reversed s row a t → WayBackMet s row a t
   -- replace answers the first refusal that applies, or accepts
   pub replace : (s : Session) (old new by : List ℕ) (t : DoneOrRefusal)
       → session.Replaced s old new by t → ReplaceMet s old new by t
@@ -141,6 +145,10 @@ pub record SessionLaws : Type 0 where
   pub no_point_left : NoPointLeft session.New session.Called
   pub session_restored : SessionRestored session.New session.Called
   pub return_restores : ReturnRestores
+  -- the way back of a row, after every list of calls from a fresh session: way-back answers what is defined by the way
+  -- back of the row's path and by the rows that this needs; an accepted call leaves, as a whole session, what accepted
+  -- term calls of the new rows leave, and the row that it answers is the way back; a refused one leaves the session
+  pub way_back_guarantee : WayBackGuarantee session.Reversed session.Called session.New
   -- a whole set replaced: after every list of calls from a fresh session, each node that any path of a covered list
   -- selects is selected by some new one, from the same node of every document; an accepted replace is a case of it
   pub replace_guarantee : ReplaceGuarantee session.Replaced session.New session.Called
@@ -168,6 +176,9 @@ pub record RegisterLaws : Type 0 where
       ≡ listed (crew_listing (released_in r))
   pub crew_current_is : (r : Register) (series e : ℕ) → register.CrewCurrent r series e
       → e ≡ crew_current (released_in r) series
+  -- way-back is that of the register's session, beside the same records and releases
+  pub reversed : (r : Register) (row : ℕ) (a : Answer) (t : Register) → register.Reversed r row a t
+      → RegisterWayBackMet r row a t
   -- select, replace, order, bundle order and write are those of the register's session
   pub select : (s : Session) (row : ℕ) (xs : List ℕ) (x limit : ℕ) (buffer : List ℕ) (t : NumberOrRefusal)
       (left : List ℕ) → register.Selected s row xs x limit buffer t left → SelectMet s row xs x limit buffer t left
@@ -184,6 +195,7 @@ pub record RegisterLaws : Type 0 where
   -- after every list of calls from a fresh register, record, release and refused returns among them: replace and the
   -- orders keep what they promise on a session
   pub replace_guarantee : RegisterReplaceGuarantee register.New register.Called register.Replaced
+  pub way_back_guarantee : RegisterWayBackGuarantee register.New register.Called register.Reversed
   pub order_guarantee : RegisterOrderGuarantee register.New register.Called register.Ordered register.BundleOrdered
   -- what a crew gets is in the register's order, each place once
   pub shows_in_order : (rs : List Record) (fs : List ℕ) → ShowsInOrder rs fs

@@ -4,7 +4,7 @@
 use crate::document::document;
 use crate::rules;
 use crate::selection::Evaluation;
-use crate::term::{Comparison, Term, Test, AXES};
+use crate::term::{Comparison, Field, Term, Test, AXES};
 use crate::Answer;
 use std::cmp::Ordering;
 use std::collections::HashMap;
@@ -100,6 +100,33 @@ impl Book {
         }
         self.steps.push(step);
         (0, self.steps.len() as u64)
+    }
+
+    /// Holds the rows that the way back of a row's path needs: operands first, the left one first.
+    pub fn way_back(&mut self, row: u16) -> Answer {
+        if !self.is_held_path(row) {
+            return (5, 1);
+        }
+        let Some(back) = rules::path_back(&self.terms[row as usize]) else { return (7, 0) };
+        if nesting_of(&back, &mut HashMap::new()) > DEEPEST {
+            return (3, 0);
+        }
+        let mut new = NewRows {
+            held: &self.numbers,
+            count: self.count(),
+            rows: HashMap::new(),
+            order: Vec::new(),
+            put: HashMap::new(),
+        };
+        let at = new.put(&back);
+        let rows = new.order;
+        if self.count() + rows.len() > MOST_ROWS {
+            return (11, 0);
+        }
+        for row in rows {
+            assert_eq!(self.term(row).0, 0, "a row of a way back");
+        }
+        (0, at as u64)
     }
 
     pub fn point(&mut self, name: u16) -> Answer {
@@ -251,6 +278,55 @@ impl Book {
             _ => unreachable!("a kind above 11"),
         }
     }
+}
+
+/// The rows that a term needs, beside those that are held; a term that stands in it many times is put once.
+struct NewRows<'a> {
+    held: &'a HashMap<Row, usize>,
+    count: usize,
+    rows: HashMap<Row, usize>,
+    order: Vec<Row>,
+    put: HashMap<*const Term, usize>,
+}
+
+impl NewRows<'_> {
+    fn put(&mut self, term: &Rc<Term>) -> usize {
+        if let Some(&at) = self.put.get(&Rc::as_ptr(term)) {
+            return at;
+        }
+        let (kind, fields) = term.row();
+        let mut row = [kind, 0, 0, 0];
+        for (place, field) in fields.iter().enumerate() {
+            row[place + 1] = match field {
+                Field::Number(n) => *n,
+                Field::Operand(operand) => self.put(operand) as u16,
+            };
+        }
+        let known = self.held.get(&row).or(self.rows.get(&row)).copied();
+        let at = known.unwrap_or_else(|| {
+            let at = self.count + self.order.len();
+            self.rows.insert(row, at);
+            self.order.push(row);
+            at
+        });
+        self.put.insert(Rc::as_ptr(term), at);
+        at
+    }
+}
+
+/// The nesting of a term, by the nestings of the terms that were met.
+fn nesting_of(term: &Rc<Term>, met: &mut HashMap<*const Term, u32>) -> u32 {
+    if let Some(&nesting) = met.get(&Rc::as_ptr(term)) {
+        return nesting;
+    }
+    let (_, fields) = term.row();
+    let deepest = fields.iter().map(|field| match field {
+        Field::Number(_) => 0,
+        Field::Operand(operand) => nesting_of(operand, met),
+    });
+    let nesting = 1 + deepest.max().unwrap_or(0);
+    met.insert(Rc::as_ptr(term), nesting);
+    nesting
 }
 
 fn order_value(order: Ordering) -> u64 {

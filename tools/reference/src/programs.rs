@@ -66,6 +66,7 @@ impl Run {
                 book.step([small(rule)?, small(left)?, small(right)?, small(first)?, small(second)?])
             }
             [b"point", name] => book.point(small(name)?),
+            [b"way-back", row] => book.way_back(small(row)?),
             [b"return", name] => self.register.return_to(small(name)?),
             [b"record", series, edition, row, step] => {
                 self.register.record([small(series)?, small(edition)?, small(row)?, small(step)?])

@@ -181,6 +181,11 @@ fn same(x: &Rc<Term>, y: &Rc<Term>, equal: &mut HashSet<(*const Term, *const Ter
     is_same
 }
 
+/// The way back of a path that may hold a term many times.
+pub fn path_back(path: &Rc<Term>) -> Option<Rc<Term>> {
+    way_back(path, &mut Made::new())
+}
+
 /// Whether the step says r <= r[some w], w being r's way back.
 fn says_way_back((left, right): Says) -> bool {
     let Some(back) = way_back(left, &mut Made::new()) else { return false };

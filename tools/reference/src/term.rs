@@ -49,7 +49,7 @@ pub enum Test {
 }
 
 /// What a term's row has at a place: a number, or the operand's term.
-enum Field<'a> {
+pub enum Field<'a> {
     Number(u16),
     Operand(&'a Rc<Term>),
 }
@@ -78,7 +78,7 @@ impl Term {
     }
 
     /// The kind, and the fields from the left.
-    fn row(&self) -> (u16, Vec<Field<'_>>) {
+    pub fn row(&self) -> (u16, Vec<Field<'_>>) {
         use Field::{Number, Operand};
         use Term::*;
         match self {

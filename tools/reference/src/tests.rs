@@ -580,3 +580,20 @@ fn rows_of_texts() {
     assert_eq!(last("text\n"), "18 0");
     assert_eq!(last("text a\n"), "19 0");
 }
+
+#[test]
+fn rows_of_ways_back() {
+    let path = "term 2 1 0 3\nterm 2 3 0 2\nterm 4 0 1 0\n";
+    let answers = replayed(&format!("{path}way-back 2\nway-back 2\nterm 4 5 8 0\nway-back 3\nway-back 99\n"));
+    assert_eq!(answers[3..], ["0 9", "0 9", "12 9", "0 11", "5 1"]);
+    let none = replayed("term 7 0 0 0\nterm 1 0 0 0\nterm 2 9 2 0\nway-back 0\nway-back 1\nway-back 2\n");
+    assert_eq!(none[3..], ["5 1", "7 0", "7 0"]);
+    let deep = |n: usize| {
+        let unions: String = (0..n).map(|i| format!("term 3 {i} {i} 0\n")).collect();
+        last(&format!("term 2 1 0 1\n{unions}way-back {n}\n"))
+    };
+    assert_eq!(deep(30), "0 63");
+    assert_eq!(deep(31), "3 0");
+    let full: String = (1..=1022).map(|n| format!("term 2 1 0 {n}\n")).collect();
+    assert_eq!(last(&format!("{full}way-back 0\n")), "11 0");
+}

@@ -1,5 +1,7 @@
 -- The code's types as the definitions have them.
 use Rattle.std.specs.Prelude.{ℕ, ◌≡◌, Bool, true, false, ◌&&◌, List, map, Option, None, Some}
+use Rattle.std.proofs.Math.Option as math
+use Rattle.std.proofs.Math.Option.{none, some}
 use Rattle.common.specs.Lists.{all_of}
 use Rattle.rules.specs.Order.{is_pair}
 use Rattle.terms.specs.declared.Row.{Row as CodeRow}
@@ -32,6 +34,11 @@ matched l = record { fits = true; known = map has_value l.values; value = values
 abbrev pub KindRowIs : Option CodeRow → List Row → (kind v : ℕ) → Type 0
 KindRowIs None rs kind v = is_row rs kind v ≡ false
 KindRowIs (Some r) rs kind v = (is_row rs kind v ≡ true) × (row_of r ≡ row_at rs v)
+
+-- an axis that is given, or none
+abbrev pub axis_given : Option ℕ → math.Option ℕ
+axis_given None = none
+axis_given (Some a) = some a
 
 -- the answer of a comparison, and the letters after it, which don't matter where it doesn't fit
 pub record Matches (fits : Bool) (l : Letters) (m : Match) : Type 0 where

@@ -2,7 +2,7 @@
 use mathlib.Core.Path.{refl}
 use Rattle.std.proofs.Common.{rules}
 use Rattle.script.specs.declared.words.Word.TheVariants.{Term, Step, Document, Old, New, Replace, Point, Return, Order}
-use Rattle.script.specs.declared.words.Word.TheVariants.{Names, Text, Record, Current, Release, CrewCurrent}
+use Rattle.script.specs.declared.words.Word.TheVariants.{Names, Text, Record, Current, Release, CrewCurrent, WayBack}
 use Rattle.script.specs.Words.{shape_of}
 use Rattle.script.proofs.WordLists.{no_numbers_behind}
 use Rattle.script.proofs.behind_word.Goals as goal
@@ -68,6 +68,10 @@ unfolding shape_of
 returns-in-CrewCurrent c =
     rw c.in-CrewCurrent.is
     (c.counted-in-CrewCurrent.ensures CrewCurrent refl (λ a b c d e k p. search rules))
+
+pub returns-in-WayBack : goal.returns-in-WayBack
+unfolding shape_of
+returns-in-WayBack c = rw c.in-WayBack.is (c.counted-in-WayBack.ensures WayBack refl (λ a b c d e k p. search rules))
 
 pub returns-in-Fresh : goal.returns-in-Fresh
 returns-in-Fresh c = no_numbers_behind _ c.in-Fresh.is _

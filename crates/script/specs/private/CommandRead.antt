@@ -12,6 +12,7 @@ use Rattle.script.specs.declared.words.Word.{Word}
 use Rattle.script.specs.declared.words.Word.TheVariants.{Term, Step, Select, Document, Fresh, Old, New, Replace}
 use Rattle.script.specs.declared.words.Word.TheVariants.{Write, Point, Return, Other, Order, BundleOrder, Names, Text}
 use Rattle.script.specs.declared.words.Word.TheVariants.{Record, Current, Release, Records, Released, CrewCurrent}
+use Rattle.script.specs.declared.words.Word.TheVariants.{WayBack}
 use Rattle.script.specs.Words.{Counted, Listed, Rest}
 use Rattle.script.specs.Words.{shape_of}
 use Rattle.script.specs.declared.Command.{Command as Given}
@@ -48,6 +49,7 @@ written_command (given.Release p) = command Release (p ∷ [])
 written_command given.Records = command Records []
 written_command given.Released = command Released []
 written_command (given.CrewCurrent s) = command CrewCurrent (s ∷ [])
+written_command (given.WayBack r) = command WayBack (r ∷ [])
 
 -- the line that starts at `at` of the text xs, read by its parts, is this call, and where the next line starts
 pub record CallMet (read : List (List ℕ) → Option Command) (xs : List ℕ) (at : ℕ) (r : CallLine) : Type 0 where

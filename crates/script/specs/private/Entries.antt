@@ -5,7 +5,7 @@ use Rattle.script.specs.declared.words.Word.{Word}
 use Rattle.script.specs.declared.words.Word.TheVariants.{Term, Step, Select, Document, Fresh, Old, New, Replace}
 use Rattle.script.specs.declared.words.Word.TheVariants.{Write, Point, Return, Other, Order, BundleOrder, Names}
 use Rattle.script.specs.declared.words.Word.TheVariants.{Text, Record, Current, Release, Records, Released}
-use Rattle.script.specs.declared.words.Word.TheVariants.{CrewCurrent}
+use Rattle.script.specs.declared.words.Word.TheVariants.{CrewCurrent, WayBack}
 
 -- the bytes of a word
 unfoldable pub text_of : Word → List ℕ
@@ -31,6 +31,7 @@ text_of Release = ascii "release"
 text_of Records = ascii "records"
 text_of Released = ascii "released"
 text_of CrewCurrent = ascii "crew-current"
+text_of WayBack = ascii "way-back"
 
 -- the entry of a word in the table of words
 abbrev pub entry_of : Word → List ℕ × Word

@@ -11,6 +11,7 @@ use Rattle.lines.specs.private.NumbersRead.{first_parts}
 use Rattle.script.specs.declared.words.Word.TheVariants.{Term, Step, Select, Document, Fresh, Old, New, Replace}
 use Rattle.script.specs.declared.words.Word.TheVariants.{Write, Point, Return, Other, Order, BundleOrder, Names, Text}
 use Rattle.script.specs.declared.words.Word.TheVariants.{Record, Current, Release, Records, Released, CrewCurrent}
+use Rattle.script.specs.declared.words.Word.TheVariants.{WayBack}
 use Rattle.script.specs.Command.{Command, command, at_most, named, word_for, command_by, command_of}
 use Rattle.script.specs.Words.{words, shape_of}
 
@@ -52,6 +53,7 @@ pub commands :
     ∷ first "records\n" is some (command Records [])
     ∷ first "released\n" is some (command Released [])
     ∷ first "crew-current 7\n" is some (command CrewCurrent (7 ∷ []))
+    ∷ first "way-back 65535\n" is some (command WayBack (65535 ∷ []))
     ∷ [])
 unfolding ascii words word_for shape_of command_by named at_most first_parts lines in_first_line parts in_first_part
     same_bytes
@@ -117,6 +119,11 @@ pub no_commands :
     ∷ first "bundle-order 0\n" is none
     ∷ first "bundle\n" is none
     ∷ first "bundle order\n" is none
+    -- a way back alone, of two rows, of 65536; another word
+    ∷ first "way-back\n" is none
+    ∷ first "way-back 1 1\n" is none
+    ∷ first "way-back 65536\n" is none
+    ∷ first "wayback 1\n" is none
     -- other words, and a text without its newline
     ∷ first "name a\n" is none
     ∷ first "texts a\n" is none

@@ -48,6 +48,9 @@ pub endings :
     -- records and current editions, in both styles
     ∷ ends Answers "record 7 1 0 0\ncurrent 7\nrecord 7 1 0\n" is 3
     ∷ ends Nodes "record 7 1 0 0\ncurrent 7\ncurrent\n" is 3
+    -- ways back, in both styles
+    ∷ ends Answers "way-back 0\nway-back\n" is 2
+    ∷ ends Nodes "way-back 0\nway-back 1 1\n" is 2
     -- releases and a crew's current edition in both, listings where answers are printed
     ∷ ends Answers "release 1\nrecords\nreleased\ncrew-current 7\nrelease\n" is 5
     ∷ ends Nodes "release 1\ncrew-current 7\nrecords\n" is 3

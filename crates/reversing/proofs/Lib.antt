@@ -1,0 +1,5 @@
+pub mod HeldAgain
+pub mod ByTerms
+pub mod Replies
+pub mod RowsPut
+pub mod Made

@@ -1,0 +1,2 @@
+pub mod WayBackCall
+pub mod private

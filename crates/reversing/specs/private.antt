@@ -1,0 +1,2 @@
+pub mod RowsBack
+pub mod RowsPut
