@@ -178,6 +178,7 @@ LIMITS = [('rows held', 'terms/specs/Row', 'max_rows'), ('nesting of a row', 'te
           ('records held', 'records/specs/Records', 'max_records'),
           ('old rows', 'replacement/specs/ReplaceCall', 'max_list'),
           ('new rows', 'replacement/specs/ReplaceCall', 'max_list'),
+          ('rows', 'documents/specs/Documents', 'most_rows'),
           ('file names', 'tallies/specs/NameList', 'max_files'),
           ('bytes of a file', 'common/specs/Limits', 'max_bytes'),
           ('bytes', 'common/specs/Limits', 'max_bytes')]

@@ -113,6 +113,13 @@ class Words:
         return f"{self.expression(depth + 1)} {'and' if kind == 8 else 'or'} {self.expression(depth + 1)}"
 
 
+def libxml2_errs(selector, from_attribute, first_child_errs):
+    """Whether a known defect may show, by the context node and by the first child of the document."""
+    attribute = "@" in selector or "attribute" in selector or from_attribute
+    axis = lambda name: re.search(rf"(?<!-){name} ?::", selector) is not None
+    return (axis("following") and attribute) or (axis("preceding") and first_child_errs)
+
+
 # The two commands
 
 class Document:
@@ -140,10 +147,7 @@ class Document:
         return len(top) > 1 and any(row[1] == top[0] for row in self.rows)
 
     def libxml2_errs(self, selector, context):
-        """Whether a known defect may show."""
-        attribute = "@" in selector or "attribute" in selector or self.rows[context][0] == ATTRIBUTE_KIND
-        axis = lambda name: re.search(rf"(?<!-){name} ?::", selector) is not None
-        return (axis("following") and attribute) or (axis("preceding") and self.first_child_errs())
+        return libxml2_errs(selector, self.rows[context][0] == ATTRIBUTE_KIND, self.first_child_errs())
 
     def count(self, expressions):
         """How many nodes xmllint finds for each expression."""

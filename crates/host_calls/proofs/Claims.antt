@@ -38,7 +38,7 @@ use Rattle.session.proofs.Source.{Read, call_tied, read_tied, reads_exist, read_
 use Rattle.host_calls.specs.ClaimCall.{Claimed, claimed, the_claim, the_bundle, old_selector, new_selector}
 use Rattle.host_calls.specs.ClaimCall.{said_answer, new_claimed, old_claimed, claim_answer}
 use Rattle.host_calls.proofs.Saying.{saying_found, saying_none, says_iff}
-use Rattle.host_calls.proofs.Texts.{TextHeld, text_held}
+use Rattle.session.proofs.Texts.{TextHeld, text_held}
 use Rattle.host_calls.specs.ClaimGuarantee.{ClaimRelation, BundleSays, IsContained, ClaimGuarantee}
 
 -- what is asked after w answers 0 only where w accepts

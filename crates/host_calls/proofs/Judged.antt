@@ -31,7 +31,8 @@ use Rattle.host_calls.specs.ClaimCall.{said_answer, new_claimed, old_claimed, cl
 use Rattle.host_calls.specs.private.ClaimTypes.{claimed_of}
 use Rattle.host_calls.specs.declared.claim.ClaimRefusal.{ClaimRefusal}
 use Rattle.host_calls.specs.declared.claim.ClaimRefusal.TheVariants.{Bundle, OldSelector, NewSelector, Claim}
-use Rattle.host_calls.specs.TextSelect.{read_answer, read_rows, text_select_answer, text_select_buffer, TextSelectMade}
+use Rattle.session.specs.TextRead.{read_answer, read_rows}
+use Rattle.host_calls.specs.TextSelect.{text_select_answer, text_select_buffer, TextSelectMade}
 
 -- a call c on s that is answered so and leaves u
 module _ (s : Session) (c : Call) (r : NumberOrRefusal) (u : Session) (m : Met s c (answer_of r) u) where

@@ -1,6 +1,5 @@
 pub mod Judged
 pub mod Saying
-pub mod Texts
 pub mod Claims
 pub mod Selects
 pub mod ReadBack

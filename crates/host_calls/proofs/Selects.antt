@@ -22,10 +22,11 @@ use Rattle.calls.proofs.Marked.{select_leaves, select_takes, select_well_formed,
 use Rattle.calls.proofs.Marked.{select_stays}
 use Rattle.session.specs.View.{fresh_session}
 use Rattle.session.proofs.Simulation.{fresh_kept}
-use Rattle.host_calls.specs.TextSelect.{read_answer, read_rows, text_select_answer, text_select_buffer}
+use Rattle.session.specs.TextRead.{read_answer, read_rows}
+use Rattle.host_calls.specs.TextSelect.{text_select_answer, text_select_buffer}
 use Rattle.host_calls.specs.TextSelect.{TextSelectMade}
 use Rattle.host_calls.specs.SelectGuarantee.{TextSelectRelation, TextSelected, SelectGuarantee}
-use Rattle.host_calls.proofs.Texts.{TextHeld, text_held}
+use Rattle.session.proofs.Texts.{TextHeld, text_held}
 
 -- an answer that comes after another one: both accept, or the first refuses
 pub record Both (r s a : Answer) (c d e : List ℕ) : Type 0 where

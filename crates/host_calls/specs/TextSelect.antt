@@ -1,19 +1,9 @@
 -- A select by a selector as text: the text call on a fresh session, and then the select of the row that it answers.
 use Rattle.std.specs.Prelude.{ℕ, ◌≡◌, cond, List, length}
 use Rattle.selector_grammar.specs.Bytes.{Bytes}
-use Rattle.terms.specs.Row.{Row}
 use Rattle.calls.specs.Book.{Answer, accepted}
-use Rattle.calls.specs.Calls.{text}
 use Rattle.calls.specs.SelectCall.{select_answer, select_buffer}
-use Rattle.session.specs.View.{view, fresh_session}
-use Rattle.session.specs.Promises.{session_answer, session_with}
-
--- the answer to the text t, and the rows that it leaves where it is accepted
-unfoldable pub read_answer : (names t : Bytes) → Answer
-read_answer names t = session_answer fresh_session (text names t)
-
-unfoldable pub read_rows : (names t : Bytes) → List Row
-read_rows names t = (view (session_with fresh_session (text names t))).rows
+use Rattle.session.specs.TextRead.{read_answer, read_rows}
 
 -- the refusal of the text; else the answer of the select on the lent numbers xs from node x, with a buffer of `room`
 -- bytes

@@ -12,6 +12,7 @@ pub mod SetsReplaced
 pub mod WaysBack
 pub mod Restored
 pub mod ArchivesOrdered
+pub mod Texts
 pub mod ReadByRows
 pub mod LinesRead
 pub mod LineCalls

@@ -5,6 +5,7 @@ use Rattle.session.proofs.session.Session.step.Reads as step-reads
 use Rattle.session.proofs.session.Session.text.Reads as text-reads
 use Rattle.session.proofs.session.Session.point.Reads as point-reads
 use Rattle.session.proofs.session.Session.return_to.Reads as return-to-reads
+use Rattle.session.proofs.session.Session.held_rows.Reads as held-rows-reads
 use Rattle.session.proofs.session.Session.select.Reads as select-reads
 use Rattle.session.proofs.session.Session.read.Reads as read-reads
 use Rattle.session.proofs.session.Session.write.Reads as write-reads
@@ -27,6 +28,7 @@ pub record Takes : Type 0 where
   pub text_takes : (κs : _) (a : _) → text-reads.Pre κs a
   pub point_takes : (κs : _) (a : _) → point-reads.Pre κs a
   pub return_to_takes : (κs : _) (a : _) → return-to-reads.Pre κs a
+  pub held_rows_takes : (κs : _) (a : _) → held-rows-reads.Pre κs a
   pub select_takes : (κs : _) (a : _) → select-reads.Pre κs a
   pub read_takes : (κs : _) (a : _) → read-reads.Pre κs a
   pub write_takes : (κs : _) (a : _) → write-reads.Pre κs a
@@ -51,6 +53,7 @@ takes =
       text_takes = λ κs a. tt;
       point_takes = λ κs a. tt;
       return_to_takes = λ κs a. tt;
+      held_rows_takes = λ κs a. tt;
       select_takes = λ κs a. tt;
       read_takes = λ κs a. tt;
       write_takes = λ κs a. tt;

@@ -1,6 +1,7 @@
 pub mod SessionTables
 pub mod View
 pub mod Promises
+pub mod TextRead
 pub mod Reading
 pub mod ReadCall
 pub mod WriteCall

@@ -99,8 +99,8 @@ impl Session {
         whole_tables(&self.rows.numbers, &self.steps);
     }
 
-    // The numbers of the rows held.
-    pub(crate) fn held_rows(&self) -> &[u16]
+    /// The numbers of the rows held, four a row.
+    pub fn held_rows(&self) -> &[u16]
         ensures { result.now ≡ first_row_numbers self.now.row_count self.now.rows }
     {
         calls::first_rows(&self.rows.numbers, self.row_count)

@@ -18,7 +18,7 @@ pub const SLOTS: usize = 8192;
 pub struct KeptRows {
     pub numbers: [u16; TABLE_NUMBERS],
     pub count: usize,
-    nestings: [u16; MAX_ROWS],
+    pub nestings: [u16; MAX_ROWS],
     filter: [bool; SLOTS],
     pub ghost few: { count ≤ max_rows },
     pub ghost kept: { Kept (rows_in numbers count) nestings filter },

@@ -34,9 +34,12 @@ use Rattle.theorems.specs.Rules.{Rules}
 use Rattle.theorems.specs.Book.{Book}
 use Rattle.theorems.specs.Bundles.{Bundles}
 use Rattle.theorems.specs.Editions.{Editions}
-use Rattle.theorems.specs.Laws.{MeaningLaws, SessionLaws, RegisterLaws, HostLaws, ProgramLaws, Laws}
+use Rattle.theorems.specs.Laws.{MeaningLaws, SessionLaws, RegisterLaws, HostLaws, ProgramLaws, Laws, DocumentLaws}
 use Rattle.theorems.specs.Exist.{SessionCalls, RegisterCalls, HostCalls, ProgramCalls, Exist}
 use Rattle.theorems.specs.Theorems.{Theorems}
+use Rattle.documents.proofs.LentRows.{refused_alike}
+use Rattle.session_documents.proofs.Takes as documents-takes
+use Rattle.session_documents.proofs.Source as documents
 
 calls : Calls
 calls =
@@ -185,6 +188,20 @@ program_laws =
       tally = tallies.tally_promise;
     }
 
+document_laws : DocumentLaws
+document_laws =
+    record {
+      takes = documents-takes.takes;
+      check = λ κs a r x m. m;
+      refused_alike = refused_alike;
+      nodes = documents.nodes_tied;
+      from = documents.from_tied;
+      text = documents.text_tied;
+      text_nodes_meant = documents.text_nodes_meant;
+      nodes_alike = documents.nodes_alike;
+      nodes_contained = documents.nodes_contained;
+    }
+
 laws : Laws
 laws =
     record {
@@ -193,6 +210,7 @@ laws =
       register = register_laws;
       host = host_laws;
       programs = program_laws;
+      documents = document_laws;
     }
 
 session_calls : SessionCalls

@@ -67,6 +67,16 @@ use Rattle.session.proofs.session.Session.rule_uses.Reads as rule-uses-reads
 use Rattle.session.proofs.session.Session.last_step.Reads as last-step-reads
 use Rattle.tallies.proofs.Source as tallies
 use Rattle.xpath.proofs.Source as xpath
+use Rattle.documents.specs.Documents.{rows_in, doc, refused_row, ChecksTo}
+use Rattle.documents.specs.declared.document.Document.{Document as CheckedDocument}
+use Rattle.documents.proofs.document.Document.check.Reads as check-reads
+use Rattle.document_calls.specs.Selections.{NodesSelected, NodesSelectedFrom}
+use Rattle.document_calls.specs.declared.selection_error.SelectionError.{SelectionError}
+use Rattle.session_documents.specs.TextNodes.{TextNodesSelected}
+use Rattle.session_documents.specs.NodesGuarantee.{NodesAlike, NodesContained, TextNodesMeant}
+use Rattle.session_documents.proofs.Takes as documents-takes
+use Rattle.session_documents.proofs.Source as documents
+use Rattle.std.specs.Global.{Vec}
 
 -- of documents, axes, rules and selectors
 pub record MeaningLaws : Type 0 where
@@ -224,9 +234,36 @@ pub record ProgramLaws : Type 0 where
   -- bundles, and they add up to the total
   pub tally : TallyPromise tallies.New tallies.Added tallies.Lines
 
+-- the calls on documents of any size
+pub record DocumentLaws : Type 0 where
+  -- every call takes every input: the contracts in the source ask nothing
+  pub takes : documents-takes.Takes
+  -- the check answers refusal 8 for rows of any number, or is the document of the rows; whole lent rows, at most 512 of
+  -- them, are refused alike by `select`
+  pub check : (κs : _) (a : _) (r : _) (x : _) → check-reads.Post κs a r x → ChecksTo (rows_in a.0) r
+  pub refused_alike : (xs : List ℕ) → length xs ≡ 3 * length (document_of xs) → length (document_of xs) ≤ 512
+      → document_refusal xs ≡ refused_row (document_of xs)
+  -- a select answers the first refusal that applies, or marks the nodes that the path selects from the node, or from
+  -- some marked node; or memory ran out
+  pub nodes : (s : Session) (row : ℕ) (d : CheckedDocument) (x : ℕ) (r : Result (Vec Bool) SelectionError)
+      → documents.NodesMarked s row d x r → NodesSelected (view s).rows row (doc d) x r
+  pub from : (s : Session) (row : ℕ) (d : CheckedDocument) (context : List Bool)
+      (r : Result (Vec Bool) SelectionError) → documents.NodesMarkedFrom s row d context r
+      → NodesSelectedFrom (view s).rows row (doc d) context r
+  -- by a text it is the text call on a fresh session and the select of its row; it marks what the text's path selects
+  pub text : (names t : Bytes) (d : CheckedDocument) (x : ℕ) (r : Result (Vec Bool) SelectionError)
+      → documents.TextNodesMarked names t d x r → TextNodesSelected names t (doc d) x r
+  pub text_nodes_meant : TextNodesMeant documents.TextNodesMarked
+  -- where `select` accepts, a select on the document of the same rows marks the same nodes
+  pub nodes_alike : NodesAlike session.Selected documents.NodesMarked
+  -- after every list of calls from a fresh session, of a held step that says that p is contained in q: on every
+  -- document, from every node, each node that is marked for p is marked for q
+  pub nodes_contained : NodesContained session.New session.Called documents.NodesMarked
+
 pub record Laws : Type 0 where
   pub meaning : MeaningLaws
   pub session : SessionLaws
   pub register : RegisterLaws
   pub host : HostLaws
   pub programs : ProgramLaws
+  pub documents : DocumentLaws

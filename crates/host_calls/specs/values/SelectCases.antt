@@ -42,8 +42,9 @@ use Rattle.selector_grammar.specs.private.ReaderAnswer.{reply_to, reply_to_readi
 use Rattle.calls.specs.SelectCall.{select_answer, select_buffer}
 use Rattle.calls.specs.TextCall.{text_reply, text_answer}
 use Rattle.session.specs.View.{view, fresh_session, with_rows}
-use Rattle.host_calls.specs.TextSelect as text-select
-use Rattle.host_calls.specs.TextSelect.{read_rows, text_select_answer, text_select_buffer}
+use Rattle.session.specs.TextRead as text-read
+use Rattle.session.specs.TextRead.{read_rows}
+use Rattle.host_calls.specs.TextSelect.{text_select_answer, text_select_buffer}
 
 -- number and value, and then the bytes left, with the names a and b
 abbrev selected : (t : String) → List ℕ → (x limit : ℕ) → List ℕ → List ℕ
@@ -73,7 +74,7 @@ selects_made :
     ∷ selected "a]" [] 0 1 buffer is (18 ∷ 1 ∷ 7 ∷ 7 ∷ 7 ∷ [])
     ∷ [])
 unfolding
-    text_select_answer text_select_buffer text-select.read_answer read_rows with_rows table_with joined text_answer
+    text_select_answer text_select_buffer text-read.read_answer read_rows with_rows table_with joined text_answer
     text_reply run outcome follow step finish need_byte after_byte path_byte union_byte unary_byte shut group_byte
     lead_byte
     call_byte paren_byte_next colon_byte_next keyword_byte lead_end at_top room room_of prefix_of join with_prefix

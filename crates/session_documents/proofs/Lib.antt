@@ -1,0 +1,4 @@
+mod TextNodes
+pub mod Nodes
+pub mod Takes
+pub mod Source

@@ -1,0 +1,2 @@
+pub mod TextNodes
+pub mod NodesGuarantee
