@@ -9,7 +9,7 @@ command for sh, run at the repository's root, with the next line where it ends i
 where it ends in <<'END'; the lines up to the next command are what it prints, messages too. `..` stands for any
 lines. A block without `$ ` is no example.
 
-It needs spinebriar in PATH (make -C host), the programs audit, replay, tally and limits in target/bin
+It needs spinebriar in PATH (make -C host), the programs audit, prove, replay, tally and limits in target/bin
 (tools/programs.sh), cc and python3, and installs nothing.
 """
 import os, re, subprocess, sys

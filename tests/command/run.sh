@@ -12,7 +12,7 @@ cd "$(dirname "$0")/../.."
 . tools/need.sh
 need cc=gcc /usr/include/stdio.h=libc6-dev make=make python3=python3 /usr/include/expat.h=libexpat1-dev \
     xml2-config=libxml2-dev xmllint=libxml2-utils
-programs='audit replay tally limits'
+programs='audit prove replay tally limits'
 for program in $programs; do
     # shellcheck disable=SC2086
     [ -x target/bin/$program ] || tools/programs.sh $programs

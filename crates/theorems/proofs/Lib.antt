@@ -1,2 +1,4 @@
+mod TwoTexts
+mod Derivations
 pub mod Proved
 pub mod Clauses

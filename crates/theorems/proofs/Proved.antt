@@ -35,11 +35,13 @@ use Rattle.theorems.specs.Book.{Book}
 use Rattle.theorems.specs.Bundles.{Bundles}
 use Rattle.theorems.specs.Editions.{Editions}
 use Rattle.theorems.specs.Laws.{MeaningLaws, SessionLaws, RegisterLaws, HostLaws, ProgramLaws, Laws, DocumentLaws}
+use Rattle.theorems.specs.Laws.{SearchLaws}
 use Rattle.theorems.specs.Exist.{SessionCalls, RegisterCalls, HostCalls, ProgramCalls, Exist}
 use Rattle.theorems.specs.Theorems.{Theorems}
 use Rattle.documents.proofs.LentRows.{refused_alike}
 use Rattle.session_documents.proofs.Takes as documents-takes
 use Rattle.session_documents.proofs.Source as documents
+use Rattle.theorems.proofs.Derivations.{derived_guarantee}
 
 calls : Calls
 calls =
@@ -202,6 +204,13 @@ document_laws =
       nodes_contained = documents.nodes_contained;
     }
 
+search_laws : SearchLaws
+search_laws =
+    record {
+      derive = λ κs a r x m. m;
+      derived = derived_guarantee;
+    }
+
 laws : Laws
 laws =
     record {
@@ -211,6 +220,7 @@ laws =
       host = host_laws;
       programs = program_laws;
       documents = document_laws;
+      search = search_laws;
     }
 
 session_calls : SessionCalls

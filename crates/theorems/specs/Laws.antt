@@ -77,6 +77,10 @@ use Rattle.session_documents.specs.NodesGuarantee.{NodesAlike, NodesContained, T
 use Rattle.session_documents.proofs.Takes as documents-takes
 use Rattle.session_documents.proofs.Source as documents
 use Rattle.std.specs.Global.{Vec}
+use Rattle.std.specs.Prelude.{IfOk}
+use Rattle.derivations.specs.Derived.{Derived}
+use Rattle.derivations.specs.Meant.{DerivedGuarantee}
+use Rattle.derivations.proofs.derivation.derive.Reads as derive-reads
 
 -- of documents, axes, rules and selectors
 pub record MeaningLaws : Type 0 where
@@ -260,6 +264,16 @@ pub record DocumentLaws : Type 0 where
   -- document, from every node, each node that is marked for p is marked for q
   pub nodes_contained : NodesContained session.New session.Called documents.NodesMarked
 
+-- the search for a derivation
+pub record SearchLaws : Type 0 where
+  -- where `derive` has an answer, calls from a fresh session lead to its session, and its step says of the rows of both
+  -- texts that the old one is contained in the new one
+  pub derive : (κs : _) (a : _) (r : _) (x : _) → derive-reads.Post κs a r x
+      → IfOk r (λ d. Derived a.1.0.now a.1.1.0.now a.1.1.1.0.now d.session d.step)
+  -- and so it is: on every document of any size, from every node, each node that the old selector selects, the new one
+  -- selects
+  pub derived : DerivedGuarantee
+
 pub record Laws : Type 0 where
   pub meaning : MeaningLaws
   pub session : SessionLaws
@@ -267,3 +281,4 @@ pub record Laws : Type 0 where
   pub host : HostLaws
   pub programs : ProgramLaws
   pub documents : DocumentLaws
+  pub search : SearchLaws
