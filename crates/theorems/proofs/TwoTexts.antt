@@ -20,7 +20,7 @@ use Rattle.session.specs.declared.session.Session.{Session}
 use Rattle.session.specs.View.{view}
 use Rattle.session.specs.Promises.{session, session_answer, session_with, Met}
 use Rattle.session.proofs.Simulation.{Kept, fresh_kept, kept_on}
-use Rattle.host_calls.proofs.Texts.{TextHeld, text_held}
+use Rattle.session.proofs.Texts.{TextHeld, text_held}
 use Rattle.derivations.specs.Derived.{IsMade}
 
 pub made_kept : (s : Session) → IsMade s → Kept s
