@@ -9,6 +9,7 @@ use native.Mathlib.Omega.{arith}
 use lib.Dec.{T, eqb, leb, leb→le}
 use lib.ListN.{length, get_or, take}
 use lib.Seq.{get_or-take}
+use borrow.Author.Tests.{ne_eqb}
 use Rattle.std.specs.Prelude.{min}
 use Rattle.std.proofs.lemmas.Bool.{le-leb}
 use Rattle.common.proofs.Entries.{◌&◌}
@@ -56,14 +57,15 @@ nest_least (Union p q) = omega arith
 nest_least (Composition p q) = omega arith
 nest_least (Filter p f) = omega arith
 
+either : (b : Bool) (n : ℕ) → ◌≡◌ {A = ℕ} (cond (b || true) 0 n) 0
+either true n = refl
+either false n = refl
+
 over_zero : (n : ℕ) → over n 0 ≡ 0
-over_zero zero = refl
-over_zero (suc n) = refl
+over_zero n = either (eqb n 0) (above n 0)
 
 over_there : (m n : ℕ) → 1 ≤ m → 1 ≤ n → over m n ≡ above m n
-over_there zero n h k = absurd (omega arith)
-over_there (suc m) zero h k = absurd (omega arith)
-over_there (suc m) (suc n) h k = refl
+over_there m n h k = rw (ne_eqb m 0 (λ e. omega arith), ne_eqb n 0 (λ e. omega arith)) refl
 
 over_given : (make : Path → Path → Path) → ((p q : Path) → nest_path (make p q) ≡ suc (max (nest_path p) (nest_path q)))
     → (o q : Option Path) → over (nest_given o) (nest_given q) ≡ nest_given (joined make o q)
@@ -194,8 +196,8 @@ module _ {rs : List Row} (built : Built rs) where
     filter_part f l m n =
         let q = qualifier_again built rs (none_new rs) f l m n in
         let filtered : Path = Filter (AxisStep 0 2 0) (qualifier_at rs f) in
-        let n = nest_qual (qualifier_at rs f) in
-        let more : above 1 n ≡ capped (suc (max 1 n)) = omega arith in
+        let nested = nest_qual (qualifier_at rs f) in
+        let more : above 1 nested ≡ capped (suc (max 1 nested)) = omega arith in
         record {
           nest = ap (λ (n : ℕ). above 1 n) (sym q.nest) ∙ more;
           puts = λ ts longer w e.

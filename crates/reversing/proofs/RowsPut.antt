@@ -8,7 +8,7 @@ use mathlib.Core.Option as math
 use mathlib.Core.Option.{none, some}
 use Rattle.std.proofs.Common.{Option, Some, None}
 use native.Mathlib.Omega.{arith}
-use lib.ListN.{length, get_or, set, take, length-append, length-take, get_or-append, get_or-eq_default}
+use lib.ListN.{length, get_or, set, take, replicate, length-append, length-take, get_or-append, get_or-eq_default}
 use lib.Seq.{sets, get_or_at, get_or-take}
 use Rattle.common.proofs.Reflect.{le_or_lt}
 use Rattle.common.specs.RowKinds.{step_row, filter_row}
@@ -17,7 +17,7 @@ use Rattle.terms.specs.private.Kept.{rows_in}
 use Rattle.terms.proofs.Entries.{entries_take, entry_at_lem, entry_past}
 use Rattle.terms.proofs.Find.{find_le, find_first, find_there}
 use Rattle.terms.proofs.LentRows.{row_put}
-use Rattle.terms.proofs.Noted.{noted_more}
+use Rattle.terms.proofs.Noted.{nothing_noted, noted_more}
 use Rattle.selector_grammar.specs.Denotes.{Put, put}
 use Rattle.selector_grammar.proofs.Longer.{Longer, none_new, then_longer, put_longer}
 use Rattle.selector_readings.specs.private.Build.{Beyond}
@@ -382,3 +382,7 @@ module _ (rs : List Row) where
                 noted = subst (Noted rs (rows_of w)) (sym z)
                     (noted_more (λ i j. back_put rs i (rows_of w) ≡ stays_at (rows_of w) j) ys i j earlier held);
               }
+
+pub none_noted : (rs ss : List Row) (k : ℕ) → Noted rs ss (replicate k None)
+unfolding Noted
+none_noted rs ss k i j q = nothing_noted k i j q

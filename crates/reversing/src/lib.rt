@@ -3,8 +3,8 @@
 // recognises one.
 #![tactic(auto)]
 
-ghost use Rattle.std.specs.Prelude.{◌≡◌, ◌≤◌, None, length, get_or, take};
-ghost use Rattle.terms.specs.Row.{row, table_of, max_rows};
+ghost use Rattle.std.specs.Prelude.{◌≡◌, ◌≤◌, ◌*◌, None, length, get_or, take};
+ghost use Rattle.terms.specs.Row.{row, row_width, table_of, max_rows};
 ghost use Rattle.terms.specs.Nesting.{nestings};
 ghost use Rattle.terms.specs.represent.RowTypes.{row_of};
 ghost use Rattle.selector_grammar.specs.Denotes.{put};
@@ -13,11 +13,11 @@ ghost use Rattle.reversing.specs.private.RowsBack.{reversal_of, above, part_nest
 ghost use Rattle.reversing.specs.private.RowsBack.{filter_put};
 ghost use Rattle.reversing.specs.private.RowsBack.{back_puts, back_put};
 ghost use Rattle.reversing.specs.private.RowsPut.{part_of, reversal_in, PutMet, Noted, BackPut, BackNestings};
-ghost use Rattle.reversing.specs.private.RowsPut.{rows_of, WayBackMade};
+ghost use Rattle.reversing.specs.private.RowsPut.{rows_of, NothingNoted, WayBackMade};
 
 use common::row_kind::RowKind;
 use common::{Refusal, axis, node_test, row_kind};
-use terms::{KeptRows, MAX_NESTING, MAX_ROWS, ROW_WIDTH, Row};
+use terms::{KeptRows, MAX_NESTING, MAX_ROWS, ROW_WIDTH, Row, TABLE_NUMBERS};
 
 // A part of a way back: that of an earlier row, a step, or `.[f]` with the qualifier of row f.
 #[derive(Clone, Copy)]
@@ -158,6 +158,18 @@ fn put_filter(held: &mut KeptRows, f: u16) -> Option<u16>
     )
 }
 
+// What a proof knows of an array that is lent by itself, and not of one within another type.
+fn whole_numbers(numbers: &[u16; TABLE_NUMBERS])
+    ensures { length numbers.now ≡ row_width * max_rows }
+{}
+
+// Before any way back is noted.
+fn no_notes() -> [Option<u16>; MAX_ROWS]
+    ensures { NothingNoted result }
+{
+    [None; MAX_ROWS]
+}
+
 // What is noted for row i.
 fn noted_at(noted: &[Option<u16>], i: u16) -> Option<u16>
     ensures { result ≡ get_or noted.now i None }
@@ -234,8 +246,12 @@ pub fn way_back(held: &mut KeptRows, i: u16) -> Result<u16, Refusal>
     if MAX_NESTING < nesting {
         return Err(Refusal::TooDeep);
     }
-    match put_back(held, rows, i, &mut [None; MAX_ROWS]) {
-        Some(row) => Ok(row),
+    let mut noted = no_notes();
+    match put_back(held, rows, i, &mut noted) {
+        Some(row) => {
+            whole_numbers(&held.numbers);
+            Ok(row)
+        }
         None => {
             held.count = 0;
             held.numbers = before;

@@ -43,6 +43,10 @@ PutMet f t u (Some v) = (rows_of u ≡ (f (rows_of t)).rows) × (v ≡ (f (rows_
 unfoldable pub Noted : (before held : List Row) → List (Option ℕ) → Type 0
 Noted rs ss xs = (i j : ℕ) → get_or xs i None ≡ Some j → back_put rs i ss ≡ record { rows = ss; at = j }
 
+-- nothing is
+abbrev pub NothingNoted : List (Option ℕ) → Type 0
+NothingNoted xs = (rs ss : List Row) → Noted rs ss xs
+
 -- where the rows fit, it is so of the table that is left
 abbrev pub NotedIn : List Row → Table → Option ℕ → List (Option ℕ) → Type 0
 NotedIn rs u None xs = Unit {0}
