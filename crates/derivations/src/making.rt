@@ -18,7 +18,6 @@ fn fresh() -> Session
 }
 
 // Holds the row, and gives its number.
-#[tactic(auto, using(crate::proofs::Made::made_more))]
 fn hold_row(session: &mut Session, row: Row) -> Result<u16, Refusal>
     requires { IsMade session.old }
     ensures { IsMade session.new }
@@ -26,7 +25,6 @@ fn hold_row(session: &mut Session, row: Row) -> Result<u16, Refusal>
     session.term(row)
 }
 
-#[tactic(auto, using(crate::proofs::Made::made_more))]
 fn hold_step(session: &mut Session, step: Step) -> Result<u16, Refusal>
     requires { IsMade session.old }
     ensures { IsMade session.new }

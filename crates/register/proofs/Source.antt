@@ -372,13 +372,13 @@ ways_back_exist r row =
       answer_of o,
       t,
       way_back_called ([], tt) (lent_to_write r, (row, tt)) o (lent_to_write t, (row, tt))
-          (met, kept_register o (refused_kept way_back_calls r.session row t.session (λ n. n) o made)),
+          (met, kept_register t.session o (refused_kept way_back_calls r.session row t.session (λ n. n) o made)),
     )
   where
-    kept_register : {s : Session} (o : NumberOrRefusal) → OnErr o (s ≡ r.session)
+    kept_register : (s : Session) (o : NumberOrRefusal) → OnErr o (s ≡ r.session)
         → OnErr o (record { session = s; records = r.records; releases = r.releases } ≡ r)
-    kept_register (Ok n) is = tt
-    kept_register (Err e) is = ap (λ s. record { session = s; records = r.records; releases = r.releases }) is
+    kept_register s (Ok n) is = tt
+    kept_register s (Err e) is = ap (λ s. record { session = s; records = r.records; releases = r.releases }) is
 
 pub replaces_exist : (r : Register) (old new by : List ℕ) → (t : DoneOrRefusal) × Replaced r old new by t
 replaces_exist r old new by =
