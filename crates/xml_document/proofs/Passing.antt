@@ -6,29 +6,30 @@ use lib.Dec.{T, le→leb}
 use Rattle.common.specs.Bounded.{all_below, sum_below}
 use Rattle.xpath.specs.Document.{Document, kind_at, parent_at, name_at, row_ok, row_ok_by, well_formed}
 use Rattle.xpath.specs.Document.{kind_and_name_ok, is_attribute, attribute_placed}
-use Rattle.xml_document.specs.Columns.{rows_of, Renumbered, Renumbers}
+use Rattle.documents.specs.Columns.{rows_of}
+use Rattle.documents.proofs.Fields.{rows_kind, rows_parent, rows_name, rows_length}
+use Rattle.xml_document.specs.Renumbering.{Renumbered, Renumbers}
 use Rattle.xml_document.specs.Xml.{IsXml, AreXml, text_inside, texts_apart, inside_by, apart_by, document_element_by}
 use Rattle.xml_document.specs.Xml.{document_elements}
 use Rattle.xml_document.specs.private.Checks.{Passes, RowsOk, Counts, reaches, placed_by}
 use Rattle.xml_document.specs.declared.columns.Columns.{Columns}
 use Rattle.xml_document.proofs.Climb.{true_or, and_true, true_and, up}
-use Rattle.xml_document.proofs.Look.{kind_at-rows, parent_at-rows, name_at-rows, length-rows}
 
 module _ (c : Columns) (ms : List ℕ) (r : Renumbers c.names.now ms) where
   abbrev pub d : Document
   d = rows_of c.kinds.now c.parents.now ms
 
   kind_look : (i : ℕ) → kind_at d i ≡ get_or c.kinds.now i 0
-  kind_look i = kind_at-rows c.kinds.now c.parents.now ms i c.even.parents_size (r.size ∙ c.even.names_size)
+  kind_look i = rows_kind c.kinds.now c.parents.now ms c.even.parents_size (r.size ∙ c.even.names_size) i
 
   parent_look : (i : ℕ) → parent_at d i ≡ get_or c.parents.now i 0
-  parent_look i = parent_at-rows c.kinds.now c.parents.now ms i c.even.parents_size (r.size ∙ c.even.names_size)
+  parent_look i = rows_parent c.kinds.now c.parents.now ms c.even.parents_size (r.size ∙ c.even.names_size) i
 
   name_look : (i : ℕ) → name_at d i ≡ get_or ms i 0
-  name_look i = name_at-rows c.kinds.now c.parents.now ms i c.even.parents_size (r.size ∙ c.even.names_size)
+  name_look i = rows_name c.kinds.now c.parents.now ms c.even.parents_size (r.size ∙ c.even.names_size) i
 
   length_look : length d ≡ length c.kinds.now
-  length_look = length-rows c.kinds.now c.parents.now ms c.even.parents_size (r.size ∙ c.even.names_size)
+  length_look = rows_length c.kinds.now c.parents.now ms c.even.parents_size (r.size ∙ c.even.names_size)
 
 -- The climb from a row toward a parent: what it has left to show where it is at `at`.
 pub record Carries (c : Columns) (p n at : ℕ) : Type 0 where

@@ -1,4 +1,4 @@
-pub mod Columns
+pub mod Renumbering
 pub mod Xml
 pub mod Names
 pub mod private

@@ -3,7 +3,8 @@ use Rattle.std.specs.Prelude.{ℕ, suc, ◌≡◌, ◌≤◌, ◌-◌, Bool, tru
 use Rattle.common.specs.Bounded.{all_below, sum_below}
 use Rattle.common.specs.NodeKinds.{element_kind, text_kind}
 use Rattle.xpath.specs.Document.{Document, kind_at, parent_at, well_formed}
-use Rattle.xml_document.specs.Columns.{rows_of, Even, Renumbers}
+use Rattle.documents.specs.Columns.{rows_of, Even}
+use Rattle.xml_document.specs.Renumbering.{Renumbers}
 
 -- a row, if it is a text, stands in an element: the root has none
 unfoldable pub inside_by : (kind parent : ℕ) → Bool

@@ -1,7 +1,7 @@
 // The check of columns, row by row. The number of a name is any number but 0: a document has as many names as it has.
 ghost use Rattle.std.specs.Prelude.{◌≡◌, ℕ, true, suc, ◌<◌, length, get_or};
 ghost use Rattle.xpath.specs.Document.{kind_and_name_ok, row_ok};
-ghost use Rattle.xml_document.specs.Columns.{Renumbered};
+ghost use Rattle.xml_document.specs.Renumbering.{Renumbered};
 ghost use Rattle.xml_document.specs.Xml.{AreXml, text_inside, texts_apart, inside_by, apart_by, document_element_by};
 ghost use Rattle.xml_document.specs.private.Checks.{Passes, Counts, AllOk, reaches, placed_by};
 

@@ -1,5 +1,5 @@
 // Columns that were not checked.
-ghost use Rattle.xml_document.specs.Columns.{Even};
+ghost use Rattle.documents.specs.Columns.{Even};
 
 /// The kinds, the parents and the names of the rows.
 #[derive(Clone, Copy, Debug)]

@@ -1,5 +1,6 @@
 // A document that was checked.
-ghost use Rattle.std.specs.Prelude.{IsTrue, vec_len};
+ghost use Rattle.std.specs.Prelude.{IsTrue, ◌≤◌, vec_len};
+ghost use Rattle.documents.specs.Documents.{most_rows};
 ghost use Rattle.xml_document.specs.Names.{name_count};
 ghost use Rattle.xml_document.specs.Xml.{AreXml, IsColumn};
 
@@ -20,6 +21,7 @@ pub struct Document {
     pub name_table: Names,
     pub namespace_table: Names,
     pub ghost xml: { AreXml kinds.items parents.items names.items },
+    pub ghost few: { vec_len kinds ≤ most_rows },
     pub ghost named: { IsColumn (vec_len kinds) (name_count name_table) names.items },
     pub ghost spaced: { IsColumn (vec_len kinds) (name_count namespace_table) namespaces.items },
     pub ghost lined: { IsColumn (vec_len kinds) line_count lines.items },
@@ -48,6 +50,9 @@ impl Document {
             lines,
         } = rows;
         let count = kinds.len();
+        if count > u32::MAX as usize {
+            return None;
+        }
         if parents.len() != count || !is_column(names.as_slice(), count, name_table.len()) {
             return None;
         }

@@ -129,11 +129,29 @@ impl Names {
         self.spans.is_empty()
     }
 
+    ghost use Rattle.xml_document.specs.Names.{nth_name};
+
+    /// The name whose number is that after `index`; an empty one where there is none.
+    pub fn nth(&self, index: usize) -> &[u8]
+        ensures { result.now ≡ nth_name self.now index }
+    {
+        let Some(span) = self.spans.get(index).copied() else {
+            return b"";
+        };
+        match self.pool.as_slice().get(span.start..span.end) {
+            Some(name) => name,
+            None => b"",
+        }
+    }
+
     /// The name that a number is of.
     pub fn get(&self, number: u32) -> Option<&[u8]> {
-        let index = number.checked_sub(1)?;
-        let span = self.spans.get(index as usize)?;
-        self.pool.as_slice().get(span.start..span.end)
+        let index = number.checked_sub(1)? as usize;
+        if index < self.spans.len() {
+            Some(self.nth(index))
+        } else {
+            None
+        }
     }
 
     /// Whether a number is that of a name.

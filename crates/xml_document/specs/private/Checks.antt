@@ -3,7 +3,8 @@ use Rattle.std.specs.Prelude.{ℕ, suc, ◌≡◌, ◌-◌, ◌≤◌, Bool, tru
 use Rattle.common.specs.Bounded.{all_below}
 use Rattle.common.specs.NodeKinds.{element_kind, attribute_kind}
 use Rattle.xpath.specs.Document.{Document, is_ancestor, row_ok}
-use Rattle.xml_document.specs.Columns.{rows_of, Renumbers}
+use Rattle.documents.specs.Columns.{rows_of}
+use Rattle.xml_document.specs.Renumbering.{Renumbers}
 use Rattle.xml_document.specs.Xml.{document_elements, text_inside, texts_apart}
 use Rattle.xml_document.specs.declared.columns.Columns.{Columns}
 
