@@ -80,7 +80,7 @@ use Rattle.std.specs.Global.{Vec}
 use Rattle.std.specs.Prelude.{IfOk}
 use Rattle.derivations.specs.Derived.{Derived}
 use Rattle.derivations.specs.Meant.{DerivedGuarantee}
-use Rattle.derivations.proofs.derivation.derive.Reads as derive-reads
+use Rattle.derivations.proofs.derive.Reads as derive-reads
 
 -- of documents, axes, rules and selectors
 pub record MeaningLaws : Type 0 where
