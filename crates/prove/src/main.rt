@@ -1,6 +1,6 @@
 // Looks for a derivation that OLD is contained in NEW: `prove OLD NEW`, with the list of names on standard input.
-// Prints the verdict, and then the bundle. The status is 0 for a derivation, 2 for a wrong use, 3 for a selector that
-// is refused, 4 where none was found.
+// Prints the verdict, and then the bundle. The status is 0 for a derivation, 2 for a wrong use or a list that is too
+// long, 3 for a selector that is refused, 4 where none was found.
 #![tactic(auto)]
 
 use std::io;
@@ -14,6 +14,10 @@ fn main(rt: HostRuntime) -> io::Result<ExitCode> {
         eprintln!(rt; "use: prove OLD NEW < NAMES")?;
         return Ok(ExitCode::from(WRONG_USE));
     };
-    let names = inputs::read_up_to(rt.alloc(), rt.stdin(), common::MAX_BYTES)?;
+    let names = inputs::read_bundle(rt.alloc(), rt.stdin())?;
+    if common::MAX_BYTES < names.len() {
+        eprintln!(rt; "prove: the list of names is longer than {} bytes", common::MAX_BYTES)?;
+        return Ok(ExitCode::from(WRONG_USE));
+    }
     prove_reports::print_answer(&rt, names.as_slice(), old.as_str(), new.as_str())
 }
