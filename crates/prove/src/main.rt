@@ -16,7 +16,10 @@ fn main(rt: HostRuntime) -> io::Result<ExitCode> {
     };
     let names = inputs::read_bundle(rt.alloc(), rt.stdin())?;
     if common::MAX_BYTES < names.len() {
-        eprintln!(rt; "prove: the list of names is longer than {} bytes", common::MAX_BYTES)?;
+        eprintln!(rt;
+            "prove: the list of names is longer than {} bytes",
+            common::MAX_BYTES
+        )?;
         return Ok(ExitCode::from(WRONG_USE));
     }
     prove_reports::print_answer(&rt, names.as_slice(), old.as_str(), new.as_str())
