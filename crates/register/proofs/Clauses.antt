@@ -88,6 +88,10 @@ module _ (r₀ r : Register) (cs : List OfficeCall) (os : List OfficeSeen) (is-n
     pub has_none : (a.number ≡ 7) ↔ (T (held_path book.rows row) × (way_back (path_at book.rows row) ≡ none))
     has_none = ways_back.has_none row a t reversed
 
+    -- the rows that the path needs are held, and no others beside those before
+    pub back_needed : a.number ≡ 0 → (view t.session).rows ≡ (way_back_reply book.rows row).rows
+    back_needed z = (ways_back.held row a t reversed z).needed
+
     -- what term calls of the new rows leave, each of them accepted
     pub back_as_term_calls : a.number ≡ 0 → (w : Path) × HasWayBack book.rows row w
         × (term_at (view t.session).rows a.value ≡ of_path w)

@@ -80,6 +80,7 @@ module _ (Called : RegisterRelation)
                 is_term = h.is_term;
                 new = h.new;
                 rows = h.rows;
+                needed = h.needed;
                 calls = subst (TermCalls (λ (r : Register). view r.session) holdings term_call Called r h.new)
                     (sym (same_rest met)) calls;
               };

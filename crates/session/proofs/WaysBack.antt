@@ -102,6 +102,7 @@ module _ (Called : CallRelation) (met_called : CallsKept Met Called) (Reversed :
           is_term = ap₂ term_at (after ∙ sym all) value ∙ stands.term;
           new = new;
           rows = after;
+          needed = after ∙ sym grown;
           calls = subst (TermCalls view view term Called s new) (sym is_left) calls;
         }
 

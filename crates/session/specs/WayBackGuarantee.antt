@@ -54,6 +54,8 @@ module _ {S C H : Type 0} (book : S → Book) (view : S → H) (term : Row → C
     pub is_term : term_at (book t).rows a.value ≡ of_path path
     pub new : List Row
     pub rows : (book t).rows ≡ b.rows ++ new
+    -- these are the rows that the path needs, operands first, left first
+    pub needed : (book t).rows ≡ (way_back_reply b.rows row).rows
     pub calls : TermCalls s new t
 
   -- what is asked of the session, or the register, s that calls left; b is the plain book fed the same calls

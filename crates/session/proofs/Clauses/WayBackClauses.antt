@@ -64,6 +64,10 @@ module _ (s₀ s : Session) (cs : List Call) (os : List CallSeen) (is-new : New 
         pub is_way_back : (w : Path) × Has row w × (term_at (view t).rows a.value ≡ of_path w)
         is_way_back = (made.path, has row made.path made.has, made.is_term)
 
+        -- the rows that the path needs are held, and no others beside those before
+        pub rows_needed : (view t).rows ≡ (way_back_reply held.rows row).rows
+        rows_needed = made.needed
+
         -- what term calls of the new rows leave, each of them accepted
         pub as_term_calls : (new : List Row) × (os : List CallSeen) × ((view t).rows ≡ held.rows ++ new)
             × Run view Called s (map term new) os t × Every (λ (o : CallSeen). o.answer.number ≡ 0) os
