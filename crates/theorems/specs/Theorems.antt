@@ -1,4 +1,5 @@
--- Every theorem: the six sentences that README.md names, a file each; the laws; that calls exist. `session.Called`,
+-- All that is promised of calls on sessions, registers, documents of any size and by a host, of audit, tally and derive:
+-- the six sentences that README.md names, a file each; the laws; that calls exist. `session.Called`,
 -- `register.Selected`, `exports.Claims`, `tallies.Added` and so on (proofs/Source.antt of these crates) say of a call
 -- what its contract in the source does; proofs/Proved.antt has the proofs.
 use Rattle.theorems.specs.Calls.{Calls}
