@@ -59,6 +59,8 @@ RULES = [
     (LIBXML2, False, "the bytes are no character of the encoding", None,
      "4.3.3: it is a fatal error if an XML entity is determined to be in a certain encoding but contains byte sequences "
      "that are not legal in that encoding"),
+    (EXPAT, False, "the bytes are no character of the encoding", None,
+     "4.3.3, the same sentence; expat takes a first surrogate of UTF-16 that no second one follows"),
     (LIBXML2, False, "the entity is not declared", None,
      "4.1, Entity Declared: with an external subset or a parameter entity this is a constraint of validity; a reference "
      "that we can't replace is refused here"),
