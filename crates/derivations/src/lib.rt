@@ -11,5 +11,4 @@ mod unknown;
 
 pub use derivation::{Derivation, derive};
 pub use limits::{Limits, USUAL_LIMITS};
-pub use rows::selectors;
 pub use unknown::Unknown;

@@ -50,8 +50,8 @@ fn terms_of(store: &Store, rows: &[u16], count: usize) -> Result<Vec<TermId>, Al
     Ok(ids)
 }
 
-/// The terms of two selectors, put into the store.
-pub fn selectors(
+// The terms of two selectors, put into the store.
+pub(crate) fn selectors(
     store: &Store,
     names: &[u8],
     old: &[u8],

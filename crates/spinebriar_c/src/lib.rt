@@ -1,5 +1,5 @@
-// The archive for a host in C: each call is that of crate host_calls, with its name, its clauses and its parameters. They
-// stand twice, since no crate can depend on a static library, and theorems speaks of the calls.
+// The archive for a host in C: each call is that of crate host_calls, with its name, its clauses and its parameters.
+// They stand twice, since no crate can depend on a static library, and theorems speaks of the calls.
 #![tactic(auto)]
 
 ghost use Rattle.std.specs.Prelude.{◌≡◌};
