@@ -24,11 +24,11 @@ pub record Marks (d : Document) (s : ℕ → Bool) (marks : List Bool) : Type 0 
   pub size : length marks ≡ length d
   pub each : (y : ℕ) → y < length d → marked marks y ≡ s y
 
--- where no refusal applies, the marks are as s has them; else the answer is the refusal; or memory runs out
+-- where no refusal applies, the marks are as s has them, or memory runs out; else the answer is the refusal
 abbrev pub MarksOr : Option Refusal → (d : Document) → (ℕ → Bool) → Result (Vec Bool) SelectionError → Type 0
 MarksOr o d s (Ok v) = (none ≡ o) × Marks d s v.items
 MarksOr o d s (Err (Refused e)) = some e ≡ o
-MarksOr o d s (Err OutOfMemory) = Unit {0}
+MarksOr o d s (Err OutOfMemory) = none ≡ o
 
 -- from the node x
 abbrev pub NodesSelected : List Row → (row : ℕ) → Document → (x : ℕ) → Result (Vec Bool) SelectionError → Type 0
