@@ -17,7 +17,7 @@ use Rattle.terms.specs.Terms.{path_at}
 use Rattle.set_selection.specs.Sets.{Image}
 use Rattle.set_selection.specs.Evaluations.{Only}
 use Rattle.set_selection.proofs.Evaluating.{image_of_only}
-use Rattle.document_calls.specs.declared.selection_error.SelectionError.TheVariants.{Refused, OutOfMemory}
+use Rattle.document_calls.specs.declared.selection_error.SelectionError.TheVariants.{Refused}
 use Rattle.document_calls.specs.Selections.{NodesSelected, NodesSelectedFrom}
 
 module _ (rs : List Row) (row : ℕ) (d : Document) where
@@ -27,9 +27,6 @@ module _ (rs : List Row) (row : ℕ) (d : Document) where
     node_outside h = rw (le-leb (length d) x h) refl
 
     module _ (inside : x < length d) where
-      pub no_memory : held_path rs row ≡ true → NodesSelected rs row d x (Err OutOfMemory)
-      no_memory h = rw (lt-leb (length d) x inside, h) refl
-
       pub no_path_there : held_path rs row ≡ false → NodesSelected rs row d x (Err (Refused (BadArgument 2)))
       no_path_there h = rw (lt-leb (length d) x inside, h) refl
 
@@ -50,9 +47,6 @@ module _ (rs : List Row) (row : ℕ) (d : Document) where
     marks_of_another h = rw (ne_eqb (length context) (length d) h) refl
 
     module _ (size : length context ≡ length d) where
-      pub no_memory_from : held_path rs row ≡ true → NodesSelectedFrom rs row d context (Err OutOfMemory)
-      no_memory_from h = rw (eq-eqb (length context) (length d) size, h) refl
-
       pub no_path_from : held_path rs row ≡ false → NodesSelectedFrom rs row d context (Err (Refused (BadArgument 2)))
       no_path_from h = rw (eq-eqb (length context) (length d) size, h) refl
 
