@@ -6,10 +6,11 @@ ghost use Rattle.terms.specs.represent.RowTypes.{row_of, FoundIs};
 ghost use Rattle.calls.specs.TermCall.{term_answer};
 ghost use Rattle.calls.specs.represent.Answers.{answer_of};
 ghost use Rattle.calls.specs.represent.Points.{cleared};
-ghost use Rattle.call_answers.specs.private.Placed.{TermKept};
+ghost use Rattle.call_answers.specs.private.Placed.{TermPlaced, TermKept};
 
+use calls::first_rows;
 use common::Refusal;
-use terms::{KeptRows, Row};
+use terms::{KeptRows, Row, TABLE_NUMBERS};
 
 // The answer of a term call on the rows, by the row's nesting and the search for an equal row: the first refusal that
 // applies, or the new row's number.
@@ -32,6 +33,28 @@ fn term_answer(rows: &[u16], depth: u16, found: Option<usize>, row: Row) -> Resu
         return Err(Refusal::TermsFull);
     }
     Ok(count as u16)
+}
+
+// The same on rows of which nothing is kept.
+fn judge_term(rows: &[u16], row: Row) -> Result<u16, Refusal>
+    requires { length (table_of rows.now) ≤ max_rows }
+    ensures { answer_of result ≡ term_answer (table_of rows.now) (row_of row) }
+{
+    // The rows are no more than `nesting_of` takes.
+    let depth = terms::nesting_of(rows, row).unwrap();
+    let found = terms::find_row(rows, row);
+    term_answer(rows, depth, found, row)
+}
+
+/// A term call on the first n rows of a table, of which nothing is kept: the answer; where the row is held, it is put
+/// after them.
+#[tactic(auto, using(calls::proofs::Tables::few_rows))]
+pub fn term_in_place(rows: &mut [u16; TABLE_NUMBERS], n: usize, row: Row) -> Result<u16, Refusal>
+    ensures { TermPlaced rows.old n (row_of row) rows.new result }
+{
+    let number = judge_term(first_rows(rows, n), row)?;
+    common::put_record(rows, n, row.into());
+    Ok(number)
 }
 
 /// A term call on rows of which their nestings and a filter are kept: the answer; where the row is held, it is put

@@ -24,6 +24,15 @@ module _ (xs : List ℕ) (n : ℕ) (few : n ≤ max_rows) (size : length xs ≡ 
   pub rows_held_lem : length (table_of (take (row_width * n) xs)) ≡ n
   rows_held_lem = rows_lent (take (row_width * n) xs) ∙ rw row_numbers_held (omega arith)
 
+-- the first rows are no more than the limit
+pub few_rows : (n : ℕ) (xs ys : List ℕ) → ys ≡ first_row_numbers n xs → length (table_of ys) ≤ max_rows
+few_rows n xs ys e =
+    let count : length (first_row_numbers n xs) ≤ row_width * max_rows = omega (
+      arith,
+      length-take (row_width * min n max_rows) xs,
+    ) in
+    rw e (omega (arith, rows_lent (first_row_numbers n xs)))
+
 -- a list has a first step where it has five numbers
 one_step : (xs : List ℕ) → steps_of xs
     ≡ cond (leb 5 (length xs)) (step_of_numbers (take 5 xs) ∷ steps_of (drop 5 xs)) []

@@ -14,31 +14,30 @@ use Rattle.marking.specs.private.Added.{Added}
 
 module _ {n : ℕ} {old new : List ℕ} {s : ℕ → Bool} where
   pub added_cong : (t : ℕ → Bool) → Added n old new s → ((y : ℕ) → y < n → t y ≡ s y) → Added n old new t
-  added_cong t u e = record { size = u.size; marks = λ y h m. u.marks y h m ∙ rw (e y h) }
+  added_cong t u e = record { size = u.size; marks = λ y h. u.marks y h ∙ rw (e y h) }
 
   -- node k gets the mark v
   added_put : (t : ℕ → Bool) (k v : ℕ) → Added n old new s → k < length new →
-      (k < n → get_or old k 0 ≤ 1 → v ≡ cond (t k) 1 (get_or old k 0)) → ((y : ℕ) → y < n → y ≢ k → t y ≡ s y) →
+      (k < n → v ≡ cond (t k) 1 (get_or old k 0)) → ((y : ℕ) → y < n → y ≢ k → t y ≡ s y) →
       Added n old (set new k v) t
   added_put t k v u l e f =
       record {
         size = length-set new k v ∙ u.size;
-        marks = λ y h m. ⊎_elim
+        marks = λ y h. ⊎_elim
             (λ q. let put : get_or (set new k v) y 0 ≡ v =
             ap (λ (i : ℕ). get_or (set new k v) i 0) q ∙ get_or-set_same new k v 0 l in
-            put ∙ subst (λ (i : ℕ). v ≡ cond (t i) 1 (get_or old i 0)) (sym q)
-            (e (subst (λ (i : ℕ). i < n) q h) (subst (λ (i : ℕ). get_or old i 0 ≤ 1) q m)))
-            (λ ne. rw (get_or-set_other new k y v 0 ne, f y h ne) (u.marks y h m))
+            put ∙ subst (λ (i : ℕ). v ≡ cond (t i) 1 (get_or old i 0)) (sym q) (e (subst (λ (i : ℕ). i < n) q h)))
+            (λ ne. rw (get_or-set_other new k y v 0 ne, f y h ne) (u.marks y h))
             (eq_or_ne y k);
       }
 
   pub added_set : (t : ℕ → Bool) (k : ℕ) → Added n old new s → k < length new → t k ≡ true →
       ((y : ℕ) → y < n → y ≢ k → t y ≡ s y) →
       Added n old (set new k 1) t
-  added_set t k u l e f = added_put t k 1 u l (λ _ _. rw e) f
+  added_set t k u l e f = added_put t k 1 u l (λ _. rw e) f
 
 pub nothing_added : {n : ℕ} {old : List ℕ} (s : ℕ → Bool) → ((y : ℕ) → y < n → s y ≡ false) → Added n old old s
-nothing_added s e = record { size = refl; marks = λ y h _. rw (e y h) }
+nothing_added s e = record { size = refl; marks = λ y h. rw (e y h) }
 
 -- one walk after the other
 pub added_twice : {n : ℕ} {old mid new : List ℕ} (s t u : ℕ → Bool) → Added n old mid s →
@@ -46,14 +45,9 @@ pub added_twice : {n : ℕ} {old mid new : List ℕ} (s t u : ℕ → Bool) → 
 added_twice {old = old} s t u a b e =
     record {
       size = b.size ∙ a.size;
-      marks = λ y h m. b.marks y h (rw (a.marks y h m) (few (s y) (get_or old y 0) m))
-          ∙ rw (a.marks y h m, e y h) (twice (s y) (t y) (get_or old y 0));
+      marks = λ y h. b.marks y h ∙ rw (a.marks y h, e y h) (twice (s y) (t y) (get_or old y 0));
     }
   where
-    few : (b : Bool) (v : ℕ) → v ≤ 1 → cond b 1 v ≤ 1
-    few true v m = omega arith
-    few false v m = m
-
     twice : (b c : Bool) (v : ℕ) → cond c 1 (cond b 1 v) ≡ cond (b || c) 1 v
     twice true true v = refl
     twice true false v = refl
@@ -84,15 +78,6 @@ module _ {n : ℕ} {old : List ℕ} (f : ℕ → Bool) (lo : ℕ) where
     -- node k is passed, and is in f
     pub up_marked : k < length new → f k ≡ true → Added n old (set new k 1) (between lo e f)
     up_marked m t = added_set (between lo e f) k u m (rw (le-leb lo k h, lt-ltb k e l, t)) same_elsewhere
-
-    -- node k is passed, and v is its mark from then on
-    pub up_met : (v : ℕ) → k < length new → (get_or new k 0 ≤ 1 → v ≡ cond (f k) 1 (get_or new k 0)) →
-        Added n old (set new k v) (between lo e f)
-    up_met v m w =
-        added_put (between lo e f) k v u m
-        (λ q z. let same : get_or new k 0 ≡ get_or old k 0 = u.marks k q z ∙ rw (le-ltb k k (omega arith), and-false) in
-        rw (le-leb lo k h, lt-ltb k e l)
-        (subst (λ (i : ℕ). v ≡ cond (f k) 1 i) same (w (subst (λ (i : ℕ). i ≤ 1) (sym same) z)))) same_elsewhere
 
     -- node k is passed, and is not in f
     pub up_left : f k ≡ false → Added n old new (between lo e f)

@@ -65,7 +65,8 @@ impl<T: NodeSet> AxisStep<'_, T> {
     {
         for y in lo..hi {
             // Each is written: a branch, or a choice between 1 and what was there, takes longer.
-            out[y] = out[y].max(u8::from(self.is_candidate(y)));
+            let mark = u8::from(self.is_candidate(y));
+            out[y] = out[y] * (1 - mark) + mark;
         }
     }
 

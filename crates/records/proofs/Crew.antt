@@ -1,19 +1,21 @@
 -- What a crew sees: released records are held ones, so the laws of editions are theirs; and they stay released.
-use Prim.Native.Nat.{ℕ, zero, suc, ◌+◌, ◌-◌, ◌<◌}
+use Prim.Native.Nat.{ℕ, zero, suc, ◌+◌, ◌-◌, ◌≤◌, ◌<◌}
 use mathlib.Core.Path.{◌≡◌, refl, sym, ap, subst, ◌∙◌}
 use mathlib.Core.Bool.{Bool, true, false, cond}
 use mathlib.Core.List.{List, [], ◌∷◌}
 use native.Mathlib.Omega.{arith}
 use lib.Dec.{T, eqb}
 use borrow.Author.Tests.{eq-eqb, eqb-true}
-use lib.ListN.{length, get_or, set, length-append, get_or-append}
+use lib.ListN.{length, get_or, set, length-append, length-take, get_or-append}
 use Rattle.terms.specs.Row.{Row}
 use Rattle.terms.specs.Fields.{held_path}
 use Rattle.records.specs.declared.Record.{Record}
+use Rattle.records.specs.declared.Records.{Records}
 use Rattle.calls.specs.Runs.{next, final}
 use Rattle.calls.specs.Above.{passed, own}
 use Rattle.calls.proofs.Accepted.{by_accepted}
-use Rattle.records.specs.Records.{empty_record}
+use Rattle.records.specs.Records.{empty_record, max_records}
+use Rattle.records.specs.represent.Held.{size_of, records_in}
 use Rattle.records.specs.Register.{Within, EditionsContained}
 use Rattle.records.specs.Releases.{released, with_release, IsReleased, OfficeCall, OfficeHoldings, plain_office}
 use Rattle.records.specs.Releases.{ShowsReleased, StillReleased, ReleasesStay}
@@ -54,6 +56,21 @@ at_released (r ∷ rs) (f ∷ fs) (suc i) h is = by_test (eqb f 1) (at_released 
 
 pub shows_released : (rs : List Record) (fs : List ℕ) → ShowsReleased rs fs
 shows_released rs fs = record { each = at_released rs fs; no_other = released_at rs fs }
+
+-- a listing of them has room for all
+pub released_few : (rs : List Record) (fs : List ℕ) → length (released rs fs) ≤ length rs
+unfolding released
+released_few [] fs = omega arith
+released_few (r ∷ rs) [] = omega arith
+released_few (r ∷ rs) (f ∷ fs) = by_test (eqb f 1) (released_few rs fs)
+  where
+    by_test : (b : Bool) → length (released rs fs) ≤ length rs
+        → length (cond b (r ∷ released rs fs) (released rs fs)) ≤ length (r ∷ rs)
+    by_test true h = omega arith
+    by_test false h = omega arith
+
+pub released_fit : (e : Records) (fs : List ℕ) → length (released (records_in e) fs) ≤ max_records
+released_fit e fs = omega (arith, released_few (records_in e) fs, length-take (size_of e) e.held)
 
 -- containment between editions a crew sees
 module _ (rows : List Row) (rs : List Record) (fs : List ℕ) (w : EditionsContained rows rs) where

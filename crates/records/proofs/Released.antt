@@ -6,15 +6,15 @@ use mathlib.Core.List.{List, [], ◌∷◌, ◌++◌, append-nil}
 use native.Mathlib.Omega.{arith}
 use native.Mathlib.Numerals.{add-one}
 use lib.Dec.{eqb}
-use lib.ListN.{length, get_or, drop, set, replicate, length-append, drop_of_length-le}
-use lib.Seq.{drop-cons, append_snoc, set-append_seam}
+use lib.ListN.{length, get_or, take, drop, set, replicate, length-append, drop_of_length-le}
+use lib.Seq.{drop-cons, append_snoc, set-append_seam, take-append_seam}
 use borrow.Author.Tests.{le-leb, lt-leb, eq-eqb, ne_eqb}
 use Rattle.calls.specs.Book.{answer}
 use Rattle.common.specs.Refusals.{no_record}
 use Rattle.records.specs.declared.Record.{Record}
 use Rattle.records.specs.declared.Records.{Records}
 use Rattle.records.specs.Records.{empty_record, max_records}
-use Rattle.records.specs.represent.Held.{no_records, with_record}
+use Rattle.records.specs.represent.Held.{records_in, no_records, with_record}
 use Rattle.records.specs.Releases.{release_answer, released}
 use Rattle.records.specs.represent.Listed.{listed}
 
@@ -31,6 +31,12 @@ module _ (rs : List Record) (n : ℕ) (is-n : n ≡ length rs) (place : ℕ) whe
   pub of_a_record : ¬ (place ≡ 0) → place ≤ n → answer 0 0 ≡ release_answer rs place
   unfolding release_answer
   of_a_record f h = rw (le-leb 1 place (omega arith), le-leb place (length rs) (omega arith))
+
+-- the records of a listing
+pub in_listing : (xs : List Record) → length xs ≤ max_records → records_in (listed xs) ≡ xs
+in_listing xs h =
+    let few : min (length xs) max_records ≡ length xs = omega arith in
+    ap (λ k. take k (xs ++ replicate (max_records - length xs) empty_record)) few ∙ take-append_seam xs _
 
 -- a listing with one record more
 module _ (xs : List Record) (r : Record) (h : length xs < max_records) where

@@ -26,7 +26,7 @@ clear = record { size = length-replicate {A = ℕ} max_nodes 0; zeros = zeros_at
 -- marks that were added to none
 module _ {n : ℕ} {s : ℕ → Bool} (new : List ℕ) (a : Added n (replicate max_nodes 0) new s) where
   pub fresh_marks : Marks n new s
-  fresh_marks y h = a.marks y h (rw (clear.zeros y) (omega arith)) ∙ rw (clear.zeros y)
+  fresh_marks y h = a.marks y h ∙ rw (clear.zeros y)
 
   pub fresh_marked : (y : ℕ) → y < n → marked new y ≡ s y
   fresh_marked y h = rw (fresh_marks y h) (told (s y))

@@ -304,7 +304,8 @@ pub fn read_text(
     table: &mut KeptRows,
     count: usize,
 ) -> Result<TextHeld, Refusal>
-    ensures { TextRead names.now s.now table.old.numbers (min count max_rows) table.new.numbers result }
+    ensures read { TextRead names.now s.now table.old.numbers (min count max_rows) table.new.numbers result }
+    ensures nothing_kept { table.new.count ≡ 0 }
 {
     let held = count.min(terms::MAX_ROWS);
     let before = table.numbers;

@@ -293,7 +293,7 @@ pub fn some_of(rows: &mut [u16], paths: Reading) -> Reading
 }
 
 /// The row of `not` over the expression in `not ( )`; a group is what it holds. `opens` is no switch that the caller
-/// sets: it is what the text has there, and crate text reads what either holds in one place.
+/// sets: it is what the text has there, and crate selector_reader reads what either holds in one place.
 pub fn negate_if(rows: &mut [u16], opens: Opens, r: Reading) -> Reading
     requires { Sized rows.old r.count }
     ensures { NegatePut opens rows.old (stands r) rows.new (stands result) }

@@ -21,7 +21,7 @@ use Rattle.selector_grammar.specs.Words.{find, next, bytes_of, numbered, number_
 use Rattle.selector_words.specs.private.Scan.{byte_at}
 use Rattle.selector_words.specs.private.Names.{first_line_is, numbered_from, LinesPassed, Sought, Searched}
 use Rattle.selector_words.specs.private.Index.{ended}
-use Rattle.selector_words.proofs.Named.{line_is}
+use Rattle.selector_words.proofs.Named.{line_is, starts_byte, word_there}
 
 -- the lines after the first, one byte on
 pub after_byte_lem : (b : ℕ) (t : Bytes) → eqb b 10 ≡ false → drop 1 (lines (b ∷ t)) ≡ drop 1 (lines t)
@@ -56,20 +56,6 @@ pub next_from : (k : ℕ) (o : Option ℕ) → numbered_from k (next o) ≡ numb
 unfolding numbered_from next
 next_from k none = refl
 next_from k (some i) = let e : k + suc i ≡ k + 1 + i = omega arith in rw e refl
-
--- the bytes of what a text starts with
-starts_byte : (n t : Bytes) (j : ℕ) → starts_with n t ≡ true → j < length n → eqb (get_or t j 0) (get_or n j 0) ≡ true
-unfolding starts_with
-starts_byte [] t j h i = absurd (omega (arith, i))
-starts_byte (c ∷ n) [] j h i = absurd (false≢true h)
-starts_byte (c ∷ n) (x ∷ t) zero h i = (and_parts (eqb x c) (starts_with n t) h).0
-starts_byte (c ∷ n) (x ∷ t) (suc j) h i =
-    starts_byte n t j (and_parts (eqb x c) (starts_with n t) h).1 (omega (arith, i))
-
-pub word_there : (n : Bytes) → is_word n ≡ true → 0 < length n
-unfolding is_word
-word_there [] h = absurd (false≢true h)
-word_there (b ∷ n) h = omega arith
 
 -- a search that ends in an Err
 pub missed : (P Q : ℕ → Type 0) (r : Result ℕ ℕ) → MatchResult r P Q → result_ok r ≡ None → (n : ℕ) × Q n

@@ -1,5 +1,5 @@
 -- Words, and the lines of the lent list.
-use Prim.Native.Nat.{ℕ, zero, suc, ◌+◌, ◌<◌, ◌≤◌}
+use Prim.Native.Nat.{ℕ, zero, suc, ◌+◌, ◌-◌, ◌<◌, ◌≤◌}
 use mathlib.Core.Path.{◌≡◌, refl, sym, ap, ◌∙◌}
 use mathlib.Core.Bool.{Bool, true, false, cond, ◌&&◌}
 use mathlib.Core.List.{List, [], ◌∷◌}
@@ -7,7 +7,7 @@ use native.Mathlib.Omega.{arith}
 use Rattle.std.proofs.lemmas.Bool.{and_parts, eqb-true, false_from_ne_true, false≢true}
 use lib.Dec.{eqb}
 use lib.ListN.{length, get_or, drop, length-drop}
-use lib.Seq.{drop-drop}
+use lib.Seq.{drop-drop, get_or-drop}
 use Rattle.std.specs.Borrow.{Bor}
 use Rattle.std.specs.Prelude.{Option as Maybe, Some, None, MatchOption, option_map, map}
 use Rattle.std.specs.List.{AllWithin, HoldsAt, range_with_len}
@@ -87,6 +87,20 @@ starts_length [] t h = omega arith
 starts_length (c ∷ n) [] h = absurd (false≢true h)
 starts_length (c ∷ n) (x ∷ t) h = omega (arith, starts_length n t (and_parts (eqb x c) (starts_with n t) h).1)
 
+-- the bytes of what a text starts with
+pub starts_byte : (n t : Bytes) (j : ℕ) → starts_with n t ≡ true → j < length n → eqb (get_or t j 0) (get_or n j 0) ≡ true
+unfolding starts_with
+starts_byte [] t j h i = absurd (omega (arith, i))
+starts_byte (c ∷ n) [] j h i = absurd (false≢true h)
+starts_byte (c ∷ n) (x ∷ t) zero h i = (and_parts (eqb x c) (starts_with n t) h).0
+starts_byte (c ∷ n) (x ∷ t) (suc j) h i =
+    starts_byte n t j (and_parts (eqb x c) (starts_with n t) h).1 (omega (arith, i))
+
+pub word_there : (n : Bytes) → is_word n ≡ true → 0 < length n
+unfolding is_word
+word_there [] h = absurd (false≢true h)
+word_there (b ∷ n) h = omega arith
+
 -- is_name_line
 module _ (n list : Bytes) (at : ℕ) (h : is_word n ≡ true) where
   pub line_is : first_line_is n (lines (drop at list))
@@ -97,18 +111,34 @@ module _ (n list : Bytes) (at : ℕ) (h : is_word n ≡ true) where
   pub line_other : starts_with n (drop at list) ≡ false → false ≡ first_line_is n (lines (drop at list))
   line_other e = sym (line_is ∙ rw e refl)
 
+  -- where there is no room for the word, no line is the word
+  pub line_short : length list < at + length n → false ≡ first_line_is n (lines (drop at list))
+  line_short l =
+      line_other
+      (false_from_ne_true (starts_with n (drop at list))
+      (λ s. absurd (omega (arith, starts_length n (drop at list) s, length-drop at list, word_there n h))))
+
+  -- a line that has another byte than the word is not the word
+  line_differs : (j k : ℕ) → k ≡ at + j → j < length n → eqb (get_or list k 0) (get_or n j 0) ≡ false
+      → false ≡ first_line_is n (lines (drop at list))
+  line_differs j k p l e =
+      line_other
+      (false_from_ne_true (starts_with n (drop at list))
+      (λ s. false≢true (sym e ∙ ap (λ i. eqb (get_or list i 0) (get_or n j 0)) p
+      ∙ ap (λ b. eqb b (get_or n j 0)) (sym (get_or-drop at list j 0)) ∙ starts_byte n (drop at list) j s l)))
+
+  pub line_begins : eqb (get_or list at 0) (get_or n 0 0) ≡ false → false ≡ first_line_is n (lines (drop at list))
+  line_begins = line_differs 0 at (omega arith) (word_there n h)
+
+  pub line_closes : eqb (get_or list (at + length n - 1) 0) (get_or n (length n - 1) 0) ≡ false
+      → false ≡ first_line_is n (lines (drop at list))
+  line_closes =
+      line_differs (length n - 1) (at + length n - 1) (omega (arith, word_there n h)) (omega (arith, word_there n h))
+
   -- where the word stands, its line is the word if it ends there
   module _ (e : starts_with n (drop at list) ≡ true) where
     pub line_ends : ended (drop (at + length n) list) ≡ first_line_is n (lines (drop at list))
     line_ends = sym (line_is ∙ rw (e, drop-drop (length n) at list) refl)
-
-    pub word_fits : at + length n ≤ length list
-    unfolding is_word
-    word_fits = go n h e
-      where
-        go : (m : Bytes) → is_word m ≡ true → starts_with m (drop at list) ≡ true → at + length m ≤ length list
-        go [] w x = absurd (false≢true w)
-        go (b ∷ m) w x = omega (arith, starts_length (b ∷ m) (drop at list) x, length-drop at list)
 
 -- find
 pub same_of : (t u : Bytes) → t ≡ u → same_bytes t u ≡ true

@@ -5,6 +5,7 @@ ghost use Rattle.std.specs.Prelude.{◌≡◌, map};
 ghost use Rattle.calls.specs.represent.Answers.{done_answer_of};
 ghost use Rattle.session.specs.View.{view};
 ghost use Rattle.tallies.specs.NameList.{is_bad_name, list_answer};
+ghost use Rattle.tallies.specs.Count.{entry};
 ghost use Rattle.tallies.specs.represent.Tally.{plus_each, column_of, fresh_tally, file_read, with_file};
 ghost use Rattle.tallies.specs.represent.Tally.{entries_of, entry_of, LineIs};
 
@@ -34,13 +35,23 @@ pub enum TallyLine {
     Total(u64),
 }
 
-// As it is printed: the rule and its uses, or 0 and the total.
+impl TallyLine {
+    /// The two numbers of the line: the rule and its uses, or 0 and the total.
+    pub fn numbers(self) -> (u16, u64)
+        ensures { entry result.0 result.1 ≡ entry_of self }
+    {
+        match self {
+            TallyLine::Rule { rule, uses } => (rule, uses),
+            TallyLine::Total(total) => (0, total),
+        }
+    }
+}
+
+// As it is printed: its two numbers.
 impl fmt::Display for TallyLine {
     fn fmt<W: fmt::Write>(&self, f: &mut fmt::Formatter<W>) -> fmt::Result {
-        match self {
-            TallyLine::Rule { rule, uses } => write!(f, "{rule} {uses}"),
-            TallyLine::Total(total) => write!(f, "0 {total}"),
-        }
+        let (rule, count) = self.numbers();
+        write!(f, "{rule} {count}")
     }
 }
 

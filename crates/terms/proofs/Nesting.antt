@@ -4,9 +4,11 @@ use mathlib.Core.Path.{◌≡◌}
 use mathlib.Core.List.{List, [], ◌∷◌, ◌++◌}
 use mathlib.Core.Logic.{⊎_elim}
 use native.Mathlib.Omega.{arith}
-use lib.ListN.{length, get_or, take, length-take}
+use native.Mathlib.Numerals.{add-one}
+use lib.ListN.{length, get_or, take, set, length-take}
+use lib.Seq.{take-suc, take-suc-set}
 use Rattle.common.proofs.Reflect.{le_or_lt}
-use Rattle.terms.specs.Row.{Row, row_at}
+use Rattle.terms.specs.Row.{Row, no_row, row_at}
 use Rattle.terms.specs.Fields.{Field, unused, axis, test, name, path, qualifier, fields_of}
 use Rattle.terms.specs.Nesting.{operand_nesting, nesting_by, nestings, nesting}
 use Rattle.terms.proofs.Entries.{entries_snoc, entry_at_lem, entry_past}
@@ -69,3 +71,10 @@ module _ (qs : List Row) (ns : List ℕ) (r s : Row) (d : ℕ) (f : ns ≡ nesti
 
   pub deeper_le : d ≤ length qs
   deeper_le = omega (arith, nesting_from, nesting_le qs r)
+
+-- a table t that holds the nestings of the first i rows, with that of row i put behind them
+pub nestings_put : (rs : List Row) (t : List ℕ) (i d : ℕ) → i < length rs → i < length t →
+    take i t ≡ nestings (take i rs)
+    → d + 1 ≡ nesting (take i rs) (row_at rs i) → take (i + 1) (set t i (d + 1)) ≡ nestings (take (i + 1) rs)
+nestings_put rs t i d h l f e =
+    rw (add-one i, take-suc-set t i (d + 1) l, take-suc rs i no_row h, nestings_snoc (take i rs) (row_at rs i), f, e)

@@ -240,6 +240,33 @@ pub(crate) fn deeper_operand(nestings: &[u16], row: Row) -> u16
     x.max(y)
 }
 
+// The nestings of the rows, in order, each by those before it, from the start of a table.
+#[tactic(auto, unfolding(crate::specs::Nesting::nestings, crate::specs::Row::entries_from))]
+fn nestings(rows: &[u16]) -> [u16; MAX_ROWS]
+    requires { length (table_of rows.now) ≤ max_rows }
+    ensures { Nestings (table_of rows.now) result }
+{
+    let mut table = [0; MAX_ROWS];
+    // By index: each nesting is made of those before it in the same array.
+    for i in 0..row_count(rows) {
+        table[i] = deeper_operand(&table[..i], row_at(rows, i)) + 1;
+    }
+    table
+}
+
+/// The nesting of a row whose operands are among the rows, of which nothing is kept; none where these are more than
+/// `MAX_ROWS`.
+pub fn nesting_of(rows: &[u16], row: Row) -> Option<u16>
+    ensures { result ≡ cond (leb (length (table_of rows.now)) max_rows)
+        (Some (nesting (table_of rows.now) (row_of row))) None }
+{
+    if MAX_ROWS < row_count(rows) {
+        None
+    } else {
+        Some(nesting_kept(rows, &nestings(rows), row))
+    }
+}
+
 /// Whether it is noted that a search found row j for row i: at i stands j. That notes are true of the rows stands in
 /// the contracts (`Noted` of matching).
 pub fn is_noted(noted: &[Option<u16>], i: u16, j: u16) -> bool

@@ -106,8 +106,9 @@ pub record MeaningLaws : Type 0 where
   pub count_least : CountLeast
   pub answers_alike : AnswersAlike
   pub refuses_alike : RefusesAlike
-  -- the check of a document, and the ancestor test that it runs for each row, as the source has them: the test's count
-  -- of parents is the least that ends the climb so, and its answer is that of the climb to the root
+  -- the check of a document, and the ancestor test that it runs for each row whose parent isn't the row before it, as
+  -- the source has them: the test's count of parents is the least that ends the climb so, and its answer is that of the
+  -- climb to the root
   pub document_checked : (xs : List ℕ) (r : Result (List ℕ) ℕ) → xpath.Checked xs r → DocumentChecked xs r
   pub climb_made : (xs : List ℕ) (x y e : ℕ) (es : List ℕ) (r : Climb) (left : List ℕ)
       → xpath.Climbed xs x y e es r left → ClimbMade (document_of xs) x y e es r.met r.parents left

@@ -22,4 +22,4 @@ returns c =
     let read = c.read_text-read in
     c.number.ensures
     ∙ number_kept _ read.result c.map.result c.map.ensures.variant c.map.ensures.cases
-    ∙ ap (λ q. q.number) ((answers_as_defined _ _ _ _ _ _).0 read.ensures.answers)
+    ∙ ap (λ q. q.number) ((answers_as_defined _ _ _ _ _ _).0 read.ensures.read.answers)

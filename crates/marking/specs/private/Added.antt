@@ -8,10 +8,10 @@ use Rattle.xpath.specs.private.Tests.{picks}
 abbrev pub marked : List ℕ → ℕ → Bool
 marked m y = eqb (get_or m y 0) 1
 
--- of the first n nodes, each that has 1 or 0 in `old` has 1 in `new` if it is of the set s, and else what it had
+-- of the first n nodes, those of the set s have 1 in `new`, and the others what they had in `old`
 pub record Added (n : ℕ) (old new : List ℕ) (s : ℕ → Bool) : Type 0 where
   pub size : length new ≡ length old
-  pub marks : (y : ℕ) → y < n → get_or old y 0 ≤ 1 → get_or new y 0 ≡ cond (s y) 1 (get_or old y 0)
+  pub marks : (y : ℕ) → y < n → get_or new y 0 ≡ cond (s y) 1 (get_or old y 0)
 
 -- y is a node that axis a, one of child, descendant, the siblings, following, preceding and attribute, may hold: an
 -- attribute on axis 11, another node on any other

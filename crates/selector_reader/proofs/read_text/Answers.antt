@@ -18,15 +18,15 @@ invariant_of-table-in-Err c =
     let k = c.args.table.now.kept in
     record { few = omega arith; kept = none_kept _ _ k.nested.size k.filtered.size }
 
-pub returns-in-Err : goal.returns-in-Err
-returns-in-Err c =
+pub returns-in-Err-clause-read : goal.returns-in-Err-clause-read
+returns-in-Err-clause-read c =
     let a = c.args in
     read_refused a.s.now a.names.now a.table.now.numbers a.count c.min-held.result (omega (arith, c.min-held.ensures))
     (record { size = search rules; bound = omega (arith, c.min-held.ensures) })
     _ c.read_listed.result c.read_listed.ensures _ c.in-Err.is
 
-pub returns-in-Ok : goal.returns-in-Ok
-returns-in-Ok c =
+pub returns-in-Ok-clause-read : goal.returns-in-Ok-clause-read
+returns-in-Ok-clause-read c =
     let a = c.args in
     read_accepted a.s.now a.names.now a.table.now.numbers a.count c.min-held.result (omega (arith, c.min-held.ensures))
     (record { size = search rules; bound = omega (arith, c.min-held.ensures) })

@@ -11,18 +11,18 @@ pub returns-in_err-held-clause-met : goal.returns-in_err-held-clause-met
 returns-in_err-held-clause-met c =
     let a = c.args in
     rw (err_is c.from_residual.result c.from_residual.ensures.1, ← c.self.view_is)
-    (text_made_refused (tables_in c.self.inside) a.names.now a.selector.now c.in_err-held.field-0.0 _ c.in_err-held.ensures)
+    (text_made_refused (tables_in c.self.inside) a.names.now a.selector.now c.in_err-held.field-0.0 _ c.in_err-held.ensures.read)
 
 pub returns-clause-met : goal.returns-clause-met
 returns-clause-met c =
     let a = c.args in
     rw (← c.self.view_is)
-    (text_made_held (tables_in c.self.inside) a.names.now a.selector.now c.in_ok-held.held _ c.in_ok-held.ensures)
+    (text_made_held (tables_in c.self.inside) a.names.now a.selector.now c.in_ok-held.held _ c.in_ok-held.ensures.read)
 
 pub returns-in_err-held-clause-refused : goal.returns-in_err-held-clause-refused
 returns-in_err-held-clause-refused c =
     let a = c.args in
     let made = text_made_refused (tables_in c.self.inside) a.names.now a.selector.now c.in_err-held.field-0.0 _
-    c.in_err-held.ensures in
+    c.in_err-held.ensures.read in
     let exit = c.from_residual in
     rw (err_is exit.result exit.ensures.1, ← c.self.view_is) (refused_kept session _ _ _ (λ n. n) (Err _) made)
