@@ -264,10 +264,9 @@ pub fn put_names(bytes: &[u8], out: &mut [u8]) -> usize
         × (length out.new ≡ length out.old) }
 {
     let size = bytes.len().min(out.len());
-    let names = &mut out[..size];
-    names.copy_from_slice(&bytes[..size]);
-    for b in names.iter_mut() {
-        *b = newline_for_space(*b);
+    // By index, byte by byte: a copy of all bytes would need the C library's `memmove` of a host in C.
+    for i in 0..size {
+        out[i] = newline_for_space(bytes[i]);
     }
     size
 }

@@ -1,10 +1,8 @@
--- `put_names` meets its contract: the first bytes are written, and the others copied.
+-- `put_names` meets its contract: the first i bytes are written.
 use mathlib.Core.Path.{◌≡◌}
-use mathlib.Core.List.{◌++◌, map}
-use lib.ListN.{take, drop}
-use Rattle.script.specs.Rest.{newline_for_space}
+use lib.ListN.{length, take}
+use Rattle.script.specs.Rest.{names_of}
 use Rattle.script.proofs.put_names.Given as goal
 
-abbrev pub invariant-loop-b : goal.invariant-loop-b
-invariant-loop-b l =
-    l.names ≡ map newline_for_space (take l.b-index l.initial.names) ++ drop l.b-index l.initial.names
+abbrev pub invariant-loop-i : goal.invariant-loop-i
+invariant-loop-i l = (take l.i l.out ≡ take l.i (names_of l.bytes)) × (length l.out ≡ length l.initial.out)
