@@ -2,14 +2,14 @@
 // thing a parameter, as C has them.
 #![tactic(auto)]
 
-ghost use Rattle.std.specs.Prelude.{◌≡◌, cond, [], ◌++◌, leb, length, drop};
+ghost use Rattle.std.specs.Prelude.{◌≡◌, [], length};
 ghost use Rattle.terms.specs.Row.{table_of};
 ghost use Rattle.calls.specs.SelectCall.{select_answer, select_buffer};
 ghost use Rattle.calls.specs.Book.{book};
-ghost use Rattle.calls.specs.represent.Tables.{first_rows, first_steps, steps_of};
+ghost use Rattle.calls.specs.represent.Tables.{steps_of};
 ghost use Rattle.term_order.specs.OrderCall.{order_answer, bundle_order_answer};
 ghost use Rattle.calls.specs.TextCall.{text_reply};
-ghost use Rattle.bundles.specs.Bundle.{bundle_text};
+ghost use Rattle.bundles.specs.private.TablesPut.{first_tables_text, TextWritten};
 
 use calls::{Answer, Held};
 
@@ -32,7 +32,8 @@ pub extern "C" fn bench_select(
     answer.number()
 }
 
-/// The length of the bundle of the first n rows and m steps; its bytes are written as `Session::write` writes them.
+/// The length of the bundle of the numbers of the first n rows and m steps, an incomplete last one's too; its bytes
+/// are written from byte 0 on, where there is room for all of them.
 #[unsafe(no_mangle)]
 pub extern "C" fn bench_write<'a>(
     out: &mut [u8],
@@ -41,16 +42,10 @@ pub extern "C" fn bench_write<'a>(
     steps: &'a [u16],
     m: usize,
 ) -> usize
-    ensures value { result ≡ length (bundle_text (first_rows n rows.now) (first_steps m steps.now)) }
-    ensures bytes { out.new ≡ cond (leb result (length out.old))
-        (bundle_text (first_rows n rows.now) (first_steps m steps.now) ++ drop result out.old) out.old }
+    ensures { TextWritten out.old 0 (first_tables_text n rows.now m steps.now) result
+        out.new }
 {
-    let held = Held::first(rows, n, steps, m);
-    let size = bundles::bundle_length(held);
-    if size <= out.len() {
-        bundles::write_bundle(out, held);
-    }
-    size
+    bundles::write_tables(out, 0, Held::first(rows, n, steps, m))
 }
 
 /// The value of the answer for row i of the left rows and row j of the right ones, compared as `Session::order`

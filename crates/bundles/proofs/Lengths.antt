@@ -19,14 +19,11 @@ use Rattle.calls.specs.Book.{Step, max_steps}
 use Rattle.bundles.specs.Bundle.{row_text, step_text, rows_text, steps_text}
 use Rattle.terms.specs.Row.{row_numbers}
 use Rattle.bundles.specs.Bundle.{bundle_text}
+use Rattle.bundles.specs.private.TablesPut.{numbers_length}
 use Rattle.bundles.proofs.Decimals.{digits_few}
 use Rattle.bundles.proofs.Tables.{bundle_length_lem}
 
--- the length of a line of numbers: each has one byte behind it
-unfoldable pub numbers_length : List ℕ → ℕ
-numbers_length [] = 0
-numbers_length (n ∷ ns) = length (decimal n) + 1 + numbers_length ns
-
+-- each number of a line has one byte behind it
 pub line_length : (n : ℕ) (ns : List ℕ) → length (line_text (n ∷ ns)) ≡ numbers_length (n ∷ ns)
 unfolding line_text numbers_length
 line_length n [] = length-append (decimal n) (newline ∷ []) ∙ omega arith

@@ -1,5 +1,6 @@
 pub mod Decimals
 pub mod Putting
 pub mod Tables
+pub mod LentTables
 pub mod Lengths
 pub mod Spelling

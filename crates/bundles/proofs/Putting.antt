@@ -80,7 +80,7 @@ module _ {xs whole : List ℕ} {at : ℕ} where
   all_rest h = record { size = refl; room = h; then = λ r zs p. p }
 
   -- the first of it is put
-  rest_further : {ys zs us vs : List ℕ} {end n : ℕ} → Rest xs at whole ys end (us ++ vs) → Put ys end us n zs
+  pub rest_further : {ys zs us vs : List ℕ} {end n : ℕ} → Rest xs at whole ys end (us ++ vs) → Put ys end us n zs
       → Rest xs at whole zs n vs
   rest_further {us = us} {vs = vs} rest p =
       record {
@@ -89,7 +89,7 @@ module _ {xs whole : List ℕ} {at : ℕ} where
         then = λ r ws q. rest.then r ws (put_both p q);
       }
 
-  rest_done : {ys : List ℕ} {end : ℕ} → Rest xs at whole ys end [] → Put xs at whole end ys
+  pub rest_done : {ys : List ℕ} {end : ℕ} → Rest xs at whole ys end [] → Put xs at whole end ys
   rest_done {ys} {end} rest = rest.then end ys (put_none ys end)
 
   -- texts of a list, one behind the other, of which those from place i on are left

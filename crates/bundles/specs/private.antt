@@ -1,1 +1,2 @@
 pub mod TextPut
+pub mod TablesPut

@@ -1,6 +1,7 @@
 // The text of a bundle, written from lent rows and steps.
 #![tactic(auto)]
 
+mod lent_tables;
 mod writer;
 
 ghost use Rattle.std.specs.Prelude.{◌≡◌, ◌++◌, ◌*◌, ◌≤◌, length, drop};
@@ -14,6 +15,7 @@ ghost use Rattle.bundles.specs.Bundle.{row_text, step_text, rows_text, steps_tex
 ghost use Rattle.bundles.specs.private.TextPut.{held_text};
 
 use calls::{Held, Step};
+pub use lent_tables::write_tables;
 use terms::Row;
 use writer::Writer;
 

@@ -35,7 +35,7 @@ fn put_text(out: &mut [u8], at: usize, text: &[u8]) -> usize
     end
 }
 
-fn put_byte(out: &mut [u8], at: usize, b: u8) -> usize
+pub(crate) fn put_byte(out: &mut [u8], at: usize, b: u8) -> usize
     requires { at < length out.old }
     ensures { Put out.old at (b ∷ []) result out.new }
 {
@@ -43,7 +43,7 @@ fn put_byte(out: &mut [u8], at: usize, b: u8) -> usize
     at + 1
 }
 
-fn put_number(out: &mut [u8], at: usize, n: u16) -> usize
+pub(crate) fn put_number(out: &mut [u8], at: usize, n: u16) -> usize
     requires { at + length (decimal n) ≤ length out.old }
     ensures { Put out.old at (decimal n) result out.new }
 {
@@ -53,7 +53,7 @@ fn put_number(out: &mut [u8], at: usize, n: u16) -> usize
 }
 
 // Puts a names line.
-fn put_names(out: &mut [u8], at: usize, names: &[u8]) -> usize
+pub(crate) fn put_names(out: &mut [u8], at: usize, names: &[u8]) -> usize
     requires { at + length names.now + 1 ≤ length out.old }
     ensures { Put out.old at (names.now ++ newline ∷ []) result out.new }
 {
@@ -62,7 +62,7 @@ fn put_names(out: &mut [u8], at: usize, names: &[u8]) -> usize
 }
 
 // What stands behind number i of a line of n numbers.
-fn byte_behind(i: usize, n: usize) -> u8
+pub(crate) fn byte_behind(i: usize, n: usize) -> u8
     requires { i < n }
     ensures { result ≡ cond (ltb (i + 1) n) space newline }
 {

@@ -1,11 +1,8 @@
--- `bench_write` meets its contract.
-use native.Mathlib.Omega.{arith}
-use Rattle.bundles.proofs.Tables.{few_row_numbers, few_step_numbers}
+-- `bench_write` meets its contract: the first of the first rows and steps are these.
+use Rattle.bundles.proofs.LentTables.{first_again}
 use Rattle.bench_select.proofs.bench_write.Goals as goal
 
-pub bundle_length-size-requires : goal.bundle_length-size-requires
-bundle_length-size-requires c =
-    (few_row_numbers _ _ c.first-held.ensures.0, few_step_numbers _ _ c.first-held.ensures.1)
-
-pub write_bundle-requires : goal.write_bundle-requires
-write_bundle-requires c = omega (arith, c.bundle_length-size.ensures, c.if-size-out.true)
+pub returns : goal.returns
+returns c =
+    let a = c.args in
+    rw (← first_again a.n a.m a.rows.now a.steps.now c.first.ensures.0 c.first.ensures.1) c.write_tables.ensures

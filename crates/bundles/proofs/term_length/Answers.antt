@@ -1,7 +1,8 @@
 -- `term_length` meets its contract.
 use mathlib.Core.List.{[], ◌∷◌}
 use native.Mathlib.Omega.{arith}
-use Rattle.bundles.proofs.Lengths.{numbers_length, line_length}
+use Rattle.bundles.specs.private.TablesPut.{numbers_length}
+use Rattle.bundles.proofs.Lengths.{line_length}
 use Rattle.bundles.proofs.term_length.Goals as goal
 
 pub returns : goal.returns

@@ -6,6 +6,7 @@ use Rattle.lines.specs.Ascii.{ascii}
 use Rattle.lines.specs.Written.{digits_of, decimal, line_text}
 use Rattle.calls.specs.Book.{step}
 use Rattle.bundles.specs.Bundle.{row_names, step_names, rows_text, steps_text, bundle_text}
+use Rattle.bundles.specs.private.TablesPut.{byte_after, left_next, numbers_text, tables_text, first_tables_text}
 
 -- the example of Specification, Bundles; no row and no step; rows of numbers of one to five digits, without steps; and
 -- such steps, without rows
@@ -21,3 +22,20 @@ texts :
     ∷ [])
 unfolding bundle_text row_names step_names rows_text steps_text line_text decimal digits_of ascii
 texts = refl
+
+-- numbers of tables: whole rows and steps; an incomplete last row and an incomplete last step, which end with a space;
+-- rows and steps past those counted
+tables :
+    AllRight
+    (tables_text (2 ∷ 1 ∷ 0 ∷ 2 ∷ 2 ∷ 3 ∷ 1 ∷ 0 ∷ []) (8 ∷ 0 ∷ 1 ∷ 0 ∷ 0 ∷ []) is
+    bundle_text (row 2 1 0 2 ∷ row 2 3 1 0 ∷ []) (step 8 0 1 0 0 ∷ [])
+    ∷ tables_text (2 ∷ 1 ∷ 0 ∷ []) (8 ∷ 0 ∷ 1 ∷ []) is
+    ascii "kind a b c\n2 1 0 rule left right first second\n8 0 1 "
+    ∷ tables_text (2 ∷ 1 ∷ 0 ∷ 2 ∷ 65535 ∷ []) [] is
+    ascii "kind a b c\n2 1 0 2\n65535 rule left right first second\n"
+    ∷ first_tables_text 1 (2 ∷ 1 ∷ 0 ∷ 2 ∷ 2 ∷ 3 ∷ []) 0 (8 ∷ 0 ∷ 1 ∷ 0 ∷ 0 ∷ []) is
+    ascii "kind a b c\n2 1 0 2\nrule left right first second\n"
+    ∷ [])
+unfolding bundle_text row_names step_names rows_text steps_text line_text decimal digits_of ascii tables_text
+    numbers_text byte_after left_next
+tables = refl
