@@ -3,5 +3,5 @@
 #![tactic(auto)]
 
 fn main(rt: HostRuntime) {
-    reports::print_report(rt.alloc(), rt.stdin());
+    reports::print_report(rt.stdin());
 }

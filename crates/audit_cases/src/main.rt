@@ -1,14 +1,13 @@
 // Prints of each bundle in data/ what audit prints of it. The last one is a folder, whose reading fails.
 #![tactic(auto)]
 
-use std::alloc::Global;
 use std::fs::File;
 use std::io;
 use std::rt::Files;
 
-fn print_case(rt: &(impl Files<File = File> + Alloc<A = Global>), name: &str) -> io::Result<()> {
+fn print_case(rt: &impl Files<File = File>, name: &str) -> io::Result<()> {
     let file = File::open(rt, name)?;
-    reports::print_report(rt.alloc(), file);
+    reports::print_report(file);
     Ok(())
 }
 

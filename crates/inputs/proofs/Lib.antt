@@ -1,1 +1,2 @@
+pub mod Filled
 pub mod Taken

@@ -1,5 +1,5 @@
 // Readers that no file is: one that fails in the middle, and one that gives a byte at a time.
-use crate::read_bundle;
+use crate::{fill, read_bundle};
 use std::io::{self, ErrorKind, Read};
 use std::test::Fail;
 
@@ -33,8 +33,12 @@ impl Read for Slow<'_> {
 }
 
 fn make_slow(most: usize, fails: bool) -> Slow<'static> {
+    make_slow_of(BYTES, most, fails)
+}
+
+fn make_slow_of(left: &'static [u8], most: usize, fails: bool) -> Slow<'static> {
     Slow {
-        left: BYTES,
+        left,
         most,
         fails,
         interrupted: false,
@@ -53,5 +57,46 @@ fn a_byte_at_a_time(rt: HostRuntime) -> Result<(), Fail> {
 #[test]
 fn a_read_that_fails(rt: HostRuntime) -> Result<(), Fail> {
     assert!(rt; read_bundle(rt.alloc(), make_slow(7, true)).is_err());
+    Ok(())
+}
+
+#[test]
+fn a_buffer_that_is_long_enough(rt: HostRuntime) -> Result<(), Fail> {
+    for most in [1, 7, 100] {
+        let mut buffer = [0; BYTES.len()];
+        assert_eq!(rt; fill(make_slow(most, false), &mut buffer)?, BYTES.len());
+        assert_eq!(rt; &buffer[..], BYTES);
+        let mut longer = [0; BYTES.len() + 9];
+        let length = fill(make_slow(most, false), &mut longer)?;
+        assert_eq!(rt; &longer[..length], BYTES);
+    }
+    Ok(())
+}
+
+#[test]
+fn a_buffer_that_is_too_short(rt: HostRuntime) -> Result<(), Fail> {
+    for most in [1, 7, 100] {
+        let mut buffer = [0; 10];
+        assert_eq!(rt; fill(make_slow(most, false), &mut buffer)?, 10);
+        assert_eq!(rt; &buffer[..], &BYTES[..10]);
+    }
+    Ok(())
+}
+
+#[test]
+fn a_buffer_and_no_bytes(rt: HostRuntime) -> Result<(), Fail> {
+    assert_eq!(rt; fill(make_slow_of(b"", 7, false), &mut [0; 10])?, 0);
+    assert_eq!(rt; fill(make_slow(7, false), &mut [])?, 0);
+    Ok(())
+}
+
+// Where the buffer is full first, the read that would fail isn't made.
+#[test]
+fn a_buffer_and_a_read_that_fails(rt: HostRuntime) -> Result<(), Fail> {
+    let mut longer = [0; BYTES.len() + 1];
+    let read = fill(make_slow(7, true), &mut longer);
+    assert!(rt; read.is_err_and(|e| e.kind() == ErrorKind::Other));
+    let mut buffer = [0; BYTES.len()];
+    assert_eq!(rt; fill(make_slow(7, true), &mut buffer)?, BYTES.len());
     Ok(())
 }

@@ -3,5 +3,5 @@
 #![tactic(auto)]
 
 fn main(rt: HostRuntime) {
-    script_replay::print_answers(rt.alloc(), rt.stdin());
+    script_replay::print_answers(rt.stdin());
 }

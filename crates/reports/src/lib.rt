@@ -6,7 +6,6 @@ ghost use Rattle.auditing.specs.Audit.{report, unread};
 
 use arrayvec::ArrayString;
 use auditing::Report;
-use std::alloc::Global;
 use std::fmt::Write;
 use std::io::Read;
 
@@ -21,17 +20,19 @@ fn print(report: Report) {
 }
 
 /// The report of the bundle that the reader gives. A reading that fails, also in the middle, has that of no bundle.
-pub fn report_of<R: Read + Drop>(alloc: Global, reader: R) -> Report
+pub fn report_of<R: Read + Drop>(reader: R) -> Report
     ensures { IfSome (R.remaining reader) (λ xs. (result ≡ report xs) ⊎ (result ≡ unread)) }
 {
-    match inputs::read_bundle(alloc, reader) {
-        Ok(bytes) => auditing::audit(&bytes),
+    // One byte more than a bundle may have, so that a longer one shows.
+    let mut bytes = [0u8; common::MAX_BYTES + 1];
+    match inputs::fill(reader, &mut bytes) {
+        Ok(length) => auditing::audit(&bytes[..length]),
         Err(_) => auditing::unread(),
     }
 }
 
 /// Reads a bundle and prints the report of it. No contract can speak of what is printed; the report is that of
 /// `report_of`.
-pub fn print_report<R: Read + Drop>(alloc: Global, reader: R) {
-    print(report_of(alloc, reader));
+pub fn print_report<R: Read + Drop>(reader: R) {
+    print(report_of(reader));
 }

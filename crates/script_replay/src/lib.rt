@@ -14,12 +14,11 @@ use calls::{Answer, LineRefusal};
 use common::Refusal;
 use register::{Records, Register};
 use script::{Command, NumberList};
-use std::alloc::Global;
 use std::fmt::Write;
 use std::io::Read;
 
-// What the lent marks hold before a select, and a lent buffer before a write. Buffers are arrays, here and in the other
-// programs: fixed memory without a heap.
+// What the lent marks hold before a select, and a lent buffer before a write. Buffers are arrays, here, in reports and
+// in tally_reports: fixed memory without a heap.
 const FILL: u8 = 7;
 
 // Longer than the longest line: two numbers, and 256 records of four numbers of at most five digits.
@@ -266,22 +265,24 @@ pub fn run(input: &[u8], style: Style) -> Result<(), usize>
 
 // The same of a script that is read. A line that is not taken is printed as refusal 10; so is input that is too long,
 // or whose reading fails, with line 0.
-fn run_input<R: Read + Drop>(alloc: Global, reader: R, style: Style) {
-    let input = match inputs::read_bundle(alloc, reader) {
-        Ok(input) if input.len() <= common::MAX_BYTES => input,
+fn run_input<R: Read + Drop>(reader: R, style: Style) {
+    // One byte more than is taken, so that longer input shows.
+    let mut input = [0u8; common::MAX_BYTES + 1];
+    let length = match inputs::fill(reader, &mut input) {
+        Ok(length) if length <= common::MAX_BYTES => length,
         _ => return print_wrong_form(style, 0),
     };
-    if let Err(line) = run(&input, style) {
+    if let Err(line) = run(&input[..length], style) {
         print_wrong_form(style, line);
     }
 }
 
 /// What the program replay does with a script. Nothing is promised, since no contract can speak of what is printed.
-pub fn print_answers<R: Read + Drop>(alloc: Global, reader: R) {
-    run_input(alloc, reader, Style::Answers)
+pub fn print_answers<R: Read + Drop>(reader: R) {
+    run_input(reader, Style::Answers)
 }
 
 /// What the programs engine_cases and text_cases do with one; as `print_answers`.
-pub fn print_nodes<R: Read + Drop>(alloc: Global, reader: R) {
-    run_input(alloc, reader, Style::Nodes)
+pub fn print_nodes<R: Read + Drop>(reader: R) {
+    run_input(reader, Style::Nodes)
 }

@@ -5,7 +5,8 @@
 use std::io;
 
 fn main(rt: HostRuntime) -> io::Result<()> {
-    let list = inputs::read_up_to(rt.alloc(), rt.stdin(), tally_reports::LONGEST_LIST)?;
-    tally_reports::print_list(&rt, &list);
+    let mut list = [0u8; tally_reports::LONGEST_LIST];
+    let length = inputs::fill(rt.stdin(), &mut list)?;
+    tally_reports::print_list(&rt, &list[..length]);
     Ok(())
 }

@@ -18,7 +18,8 @@ fn main(rt: HostRuntime) -> io::Result<()> {
     tally_reports::print_list(&rt, b"one\nrefused\nmissing\nmissing\n");
     tally_reports::print_list(&rt, b"one\n\none\n");
     tally_reports::print_list(&rt, b"one\none\0e\n");
-    let list = inputs::read_up_to(rt.alloc(), rt.stdin(), tally_reports::LONGEST_LIST)?;
-    tally_reports::print_list(&rt, &list);
+    let mut list = [0u8; tally_reports::LONGEST_LIST];
+    let length = inputs::fill(rt.stdin(), &mut list)?;
+    tally_reports::print_list(&rt, &list[..length]);
     Ok(())
 }

@@ -10,7 +10,6 @@ ghost use Rattle.tallies.specs.represent.Tally.{with_file};
 use arrayvec::ArrayString;
 use calls::answer_line::AnswerLine;
 use judged::JudgedFiles;
-use std::alloc::Global;
 use std::fmt::{Display, Write};
 use std::fs::File;
 use std::io::Read;
@@ -28,22 +27,25 @@ pub const LONGEST_LIST: usize = tallies::MAX_FILES * (LONGEST_NAME + 1) + 1;
 const LONGEST_LINE: usize = 64;
 
 /// The tally with the bundle that the reader gives; one whose reading fails, also in the middle, counts nowhere.
-pub fn with_bundle<R: Read + Drop>(alloc: Global, tally: Tally, reader: R) -> Tally
+pub fn with_bundle<R: Read + Drop>(tally: Tally, reader: R) -> Tally
     ensures { IfSome (R.remaining reader)
         (λ xs. (result ≡ with_file tally (file false xs)) ⊎ (result ≡ with_file tally (file true []))) }
 {
-    match inputs::read_bundle(alloc, reader) {
-        Ok(bytes) => tally.add(Some(&bytes)),
+    // One byte more than a bundle may have, so that a longer one shows.
+    let mut bytes = [0u8; common::MAX_BYTES + 1];
+    match inputs::fill(reader, &mut bytes) {
+        Ok(length) => tally.add(Some(&bytes[..length])),
         Err(_) => tally.add(None),
     }
 }
 
 // Reads the files of a list that was judged.
-fn add_all(alloc: Global, files: JudgedFiles) -> Tally {
-    files.into_files().into_iter().flatten().fold(
-        Tally::new(),
-        |tally, file| with_bundle(alloc, tally, file),
-    )
+fn add_all(files: JudgedFiles) -> Tally {
+    files
+        .into_files()
+        .into_iter()
+        .flatten()
+        .fold(Tally::new(), |tally, file| with_bundle(tally, file))
 }
 
 fn print_line<T: Display + Drop>(line: T) {
@@ -62,9 +64,9 @@ fn print_tally(tally: Tally) {
 /// Prints the tally of the bundles in the files that the list names: under the heading `rule uses` a line for each rule
 /// from 1 up, and a last line with 0 and the total; of a list that is refused, `17 LINE` alone, and then no file is
 /// read. No contract can speak of what is opened, read or printed; the numbers are those of crate tallies.
-pub fn print_list(rt: &(impl Files<File = File> + Alloc<A = Global>), list: &[u8]) {
+pub fn print_list(rt: &impl Files<File = File>, list: &[u8]) {
     match JudgedFiles::open(rt, list) {
-        Ok(files) => print_tally(add_all(rt.alloc(), files)),
+        Ok(files) => print_tally(add_all(files)),
         Err(refused) => print_line(AnswerLine::from(refused)),
     }
 }

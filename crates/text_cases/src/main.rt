@@ -5,5 +5,5 @@
 #![tactic(auto)]
 
 fn main(rt: HostRuntime) {
-    script_replay::print_nodes(rt.alloc(), rt.stdin());
+    script_replay::print_nodes(rt.stdin());
 }

@@ -1,15 +1,16 @@
--- The tally with the bytes that `read_bundle` gives, or with none.
-use Rattle.std.proofs.Common.{ℕ, ◌+◌, false, List, ap, ◌∙◌, lit<}
-use Rattle.common.specs.Limits.{max_bytes}
-use Rattle.tallies.specs.Count.{file}
-use Rattle.tallies.specs.represent.Tally.{with_file}
+-- The tally with the bytes that `fill` puts at the buffer's start, or with none.
+use Rattle.std.proofs.Common.{◌≡◌, IfSome, length, take, sym, subst, rules}
 use Rattle.tally_reports.proofs.Bundles.{tallied, failed_tallied}
 use Rattle.tally_reports.proofs.with_bundle.Goals as goal
 
 pub returns-in-Ok : goal.returns-in-Ok
 returns-in-Ok g c =
-    tallied (max_bytes + 1) (lit< tt) (g.R.Read.remaining c.args.reader) _ _ _ c.in-Ok.ensures.bytes
-    (c.add.ensures ∙ ap (λ (bytes : List ℕ). with_file c.args.tally (file false bytes)) c.deref.ensures.value)
+    let bytes = c.fill.new.buffer in
+    let known = g.R.Read.remaining c.args.reader in
+    tallied (length bytes) (search rules) known _ _ _
+    (subst (λ most. IfSome known (λ xs. take c.in-Ok.length bytes ≡ take most xs)) (sym c.in-Ok.ensures.len)
+    c.in-Ok.ensures.bytes)
+    c.add.ensures
 
 pub returns-in-Err : goal.returns-in-Err
 returns-in-Err g c = failed_tallied (g.R.Read.remaining c.args.reader) _ _ c.add-in-Err.ensures
