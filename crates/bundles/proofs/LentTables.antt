@@ -1,21 +1,15 @@
 -- The text of lent tables, number by number: its length, and what is left of it to put.
-use Prim.Native.Nat.{ℕ, zero, suc, ◌+◌, ◌-◌, ◌*◌, ◌%◌, ◌≤◌, ◌<◌}
-use mathlib.Core.Path.{◌≡◌, refl, sym, ap, ap₂, subst, ◌∙◌}
-use mathlib.Core.Bool.{cond}
+use Prim.Native.Nat.{ℕ, zero, suc, ◌+◌, ◌-◌, ◌*◌, ◌≤◌, ◌<◌}
+use mathlib.Core.Path.{◌≡◌, refl, ap, ap₂, subst, ◌∙◌}
 use mathlib.Core.List.{List, [], ◌∷◌, ◌++◌}
-use mathlib.Core.Logic.{◌⊎◌, inl, inr}
 use native.Mathlib.Numerals.{add-one}
 use native.Mathlib.Omega.{arith}
-use native.Mathlib.Decide.{dec_lt}
-use lib.Dec.{ltb}
 use lib.Seq.{sets, drop-cons}
 use lib.ListN.{length, get_or, drop, length-append, drop_of_length-le}
-use borrow.Author.Tests.{lt-ltb, le-ltb, le-leb, lt-leb}
+use borrow.Author.Tests.{le-leb, lt-leb}
 use Rattle.std.proofs.Common.{sum_by}
-use Rattle.std.proofs.Math.Nat.{mod-eq_of_lt, mod-lt, mod_self, suc-mod}
 use Rattle.std.proofs.lemmas.Grind.{common_steps}
 use Rattle.std.proofs.lemmas.List.{take_all}
-use Rattle.common.proofs.Reflect.{le_or_lt}
 use Rattle.terms.specs.Row.{max_rows}
 use Rattle.lines.specs.Ascii.{ascii}
 use Rattle.lines.specs.Line.{newline, space}
@@ -24,75 +18,41 @@ use Rattle.calls.specs.Book.{max_steps}
 use Rattle.calls.specs.represent.Tables.{row_width, step_width, first_row_numbers, first_step_numbers}
 use Rattle.bundles.specs.Bundle.{row_names, step_names}
 use Rattle.bundles.specs.private.TextPut.{Put}
-use Rattle.bundles.specs.private.TablesPut.{byte_after, left_next, left_at, numbers_text, lines_text, numbers_length}
+use Rattle.bundles.specs.private.TablesPut.{byte_after, left_next, numbers_text, lines_text, numbers_length}
 use Rattle.bundles.specs.private.TablesPut.{tables_text, first_tables_text, TextWritten}
 use Rattle.bundles.proofs.Decimals.{digits_few}
 use Rattle.bundles.proofs.Putting.{Rest, rest_further, rest_done, put_as}
 use Rattle.bundles.proofs.Tables.{few_row_numbers, few_step_numbers}
 
 -- the end of a line, and the others
-byte_last : (left : ℕ) → left ≡ 0 → newline ≡ byte_after left
+pub byte_last : (left : ℕ) → left ≡ 0 → newline ≡ byte_after left
 unfolding byte_after
 byte_last left e = rw e
 
-byte_other : (left : ℕ) → ¬ (left ≡ 0) → space ≡ byte_after left
+pub byte_other : (left : ℕ) → ¬ (left ≡ 0) → space ≡ byte_after left
 unfolding byte_after
 byte_other zero f = absurd (f refl)
 byte_other (suc left) f = refl
 
-byte_at : (width i : ℕ) → 0 < width → cond (ltb (i % width + 1) width) space newline ≡ byte_after (left_at width i)
-byte_at width i h = by_place (le_or_lt width (i % width + 1))
-  where
-    few : i % width < width
-    few = mod-lt i h
-
-    by_place : (width ≤ i % width + 1) ⊎ (i % width + 1 < width)
-        → cond (ltb (i % width + 1) width) space newline ≡ byte_after (left_at width i)
-    by_place (inl l) = rw (le-ltb (i % width + 1) width l) (byte_last (left_at width i) (omega arith))
-    by_place (inr l) = rw (lt-ltb (i % width + 1) width l) (byte_other (left_at width i) (λ e. omega arith))
-
--- the number after one, in its line or in the next
-next_line : (width left : ℕ) → left ≡ 0 → width - 1 ≡ left_next width left
+-- how many are left behind the next number, in the next line or in this one
+pub next_line : (width left : ℕ) → left ≡ 0 → width - 1 ≡ left_next width left
 unfolding left_next
 next_line width left e = rw e
 
-same_line : (width left : ℕ) → ¬ (left ≡ 0) → left - 1 ≡ left_next width left
+pub same_line : (width left : ℕ) → ¬ (left ≡ 0) → left - 1 ≡ left_next width left
 unfolding left_next
 same_line width zero f = absurd (f refl)
 same_line width (suc left) f = omega arith
 
-left_after : (width i : ℕ) → 0 < width → left_next width (left_at width i) ≡ left_at width (i + 1)
-left_after width i h = by_test (dec_lt (suc (i % width)) width)
-  where
-    next : (i + 1) % width ≡ suc (i % width) % width
-    next = rw add-one (suc-mod i width)
-
-    few : i % width < width
-    few = mod-lt i h
-
-    by_test : Dec (suc (i % width) < width) → left_next width (left_at width i) ≡ left_at width (i + 1)
-    by_test (yes g) =
-        sym (same_line width (left_at width i) (λ e. omega arith))
-        ∙ omega (arith, next, mod-eq_of_lt g)
-    by_test (no g) =
-        let e : suc (i % width) ≡ width = omega arith in
-        let f : suc (i % width) % width ≡ 0 = rw e (mod_self width) in
-        sym (next_line width (left_at width i) (omega arith)) ∙ omega (arith, next, f)
-
--- the first number of a table
-pub left_first : (width : ℕ) → 0 < width → width - 1 ≡ left_at width 0
-left_first width h = omega (arith, mod-eq_of_lt h)
-
 -- a number of a table and the byte behind it
-module _ {xs whole : List ℕ} {at : ℕ} (width : ℕ) (some : 0 < width) (ns : List ℕ) (i : ℕ) (h : i < length ns)
-    {ys : List ℕ} {end : ℕ} (rest : Rest xs at whole ys end (numbers_text width (left_at width i) (drop i ns))) where
-  lent_next : Rest xs at whole ys end (decimal (get_or ns i 0) ++ byte_after (left_at width i)
-      ∷ numbers_text width (left_at width (i + 1)) (drop (i + 1) ns))
+module _ {xs whole : List ℕ} {at : ℕ} (width left : ℕ) (ns : List ℕ) (i : ℕ) (h : i < length ns)
+    {ys : List ℕ} {end : ℕ} (rest : Rest xs at whole ys end (numbers_text width left (drop i ns))) where
+  lent_next : Rest xs at whole ys end (decimal (get_or ns i 0) ++ byte_after left
+      ∷ numbers_text width (left_next width left) (drop (i + 1) ns))
   unfolding numbers_text
   lent_next =
       let e : drop i ns ≡ get_or ns i 0 ∷ drop (i + 1) ns = drop-cons ns i 0 h ∙ rw add-one in
-      rw (← left_after width i some)
-      (subst (λ w. Rest xs at whole ys end (numbers_text width (left_at width i) w)) e rest)
+      subst (λ w. Rest xs at whole ys end (numbers_text width left w)) e rest
 
   pub lent_room : end + length (decimal (get_or ns i 0)) + 1 ≤ length ys
   lent_room =
@@ -100,15 +60,14 @@ module _ {xs whole : List ℕ} {at : ℕ} (width : ℕ) (some : 0 < width) (ns :
         arith,
         lent_next.room,
         lent_next.size,
-        length-append (decimal (get_or ns i 0)) (byte_after (left_at width i)
-            ∷ numbers_text width (left_at width (i + 1)) (drop (i + 1) ns)),
+        length-append (decimal (get_or ns i 0)) (byte_after left
+            ∷ numbers_text width (left_next width left) (drop (i + 1) ns)),
       )
 
   pub lent_put : {us zs : List ℕ} {n m b : ℕ} → Put ys end (decimal (get_or ns i 0)) n us
-      → b ≡ cond (ltb (i % width + 1) width) space newline → Put us n (b ∷ []) m zs
-      → Rest xs at whole zs m (numbers_text width (left_at width (i + 1)) (drop (i + 1) ns))
-  lent_put p e q =
-      rest_further (rest_further lent_next p) (put_as (ap (λ x. x ∷ []) (e ∙ byte_at width i some)) q)
+      → b ≡ byte_after left → Put us n (b ∷ []) m zs
+      → Rest xs at whole zs m (numbers_text width (left_next width left) (drop (i + 1) ns))
+  lent_put p e q = rest_further (rest_further lent_next p) (put_as (ap (λ x. x ∷ []) e) q)
 
 -- all numbers of a table are put
 pub lent_done : {xs whole ys : List ℕ} {at end : ℕ} (width left : ℕ) (ns : List ℕ) (i : ℕ) → length ns ≤ i

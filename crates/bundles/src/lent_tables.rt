@@ -4,10 +4,10 @@ ghost use Rattle.terms.specs.Row.{max_rows};
 ghost use Rattle.calls.specs.Book.{max_steps};
 ghost use Rattle.calls.specs.represent.Tables.{row_width, step_width};
 ghost use Rattle.bundles.specs.private.TextPut.{Put};
-ghost use Rattle.bundles.specs.private.TablesPut.{lines_text, numbers_length, tables_text, first_tables_text};
-ghost use Rattle.bundles.specs.private.TablesPut.{TextWritten};
+ghost use Rattle.bundles.specs.private.TablesPut.{byte_after, left_next, lines_text, numbers_length};
+ghost use Rattle.bundles.specs.private.TablesPut.{tables_text, first_tables_text, TextWritten};
 
-use crate::writer::{byte_behind, put_byte, put_names, put_number};
+use crate::writer::{put_byte, put_names, put_number};
 use crate::{ROW_NAMES, STEP_NAMES, digits};
 use calls::{Held, MAX_STEPS};
 use terms::MAX_ROWS;
@@ -28,16 +28,37 @@ fn tables_length(held: Held) -> usize
     names + lines_length(held.rows) + lines_length(held.steps)
 }
 
-// Puts the lines of a table, `width` numbers a line. By place, and not by `chunks`: behind the last number of an
+// What stands behind a number with `left` more in its line.
+fn byte_after(left: usize) -> u8
+    ensures { result ≡ byte_after left }
+{
+    if left == 0 {
+        lines::NEWLINE
+    } else {
+        lines::SPACE
+    }
+}
+
+// How many are left behind the next number, where a line has `width` numbers.
+fn left_next(width: usize, left: usize) -> usize
+    requires { 0 < width }
+    ensures { result ≡ left_next width left }
+{
+    if left == 0 { width - 1 } else { left - 1 }
+}
+
+// Puts the lines of a table, `width` numbers a line. By a count, and not by `chunks`: behind the last number of an
 // incomplete line a space stands, and no newline.
 fn put_lines(out: &mut [u8], at: usize, numbers: &[u16], width: usize) -> usize
     requires { (0 < width) × (at + length (lines_text width numbers.now) ≤ length out.old) }
     ensures { Put out.old at (lines_text width numbers.now) result out.new }
 {
     let mut end = at;
-    for (i, n) in numbers.iter().enumerate() {
+    let mut left = width - 1;
+    for n in numbers {
         let after = put_number(out, end, *n);
-        end = put_byte(out, after, byte_behind(i % width, width));
+        end = put_byte(out, after, byte_after(left));
+        left = left_next(width, left);
     }
     end
 }

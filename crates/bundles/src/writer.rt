@@ -62,7 +62,7 @@ pub(crate) fn put_names(out: &mut [u8], at: usize, names: &[u8]) -> usize
 }
 
 // What stands behind number i of a line of n numbers.
-pub(crate) fn byte_behind(i: usize, n: usize) -> u8
+fn byte_behind(i: usize, n: usize) -> u8
     requires { i < n }
     ensures { result ≡ cond (ltb (i + 1) n) space newline }
 {

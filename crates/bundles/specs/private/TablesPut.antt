@@ -1,5 +1,5 @@
 -- What the functions promise that write lent tables number by number.
-use Rattle.std.specs.Prelude.{ℕ, zero, suc, ◌+◌, ◌-◌, ◌%◌, ◌≡◌, cond, List, [], ◌∷◌, ◌++◌, leb, length}
+use Rattle.std.specs.Prelude.{ℕ, zero, suc, ◌+◌, ◌-◌, ◌≡◌, cond, List, [], ◌∷◌, ◌++◌, leb, length}
 use Rattle.std.proofs.lemmas.List.Edits.{sets}
 use Rattle.lines.specs.Line.{newline, space}
 use Rattle.lines.specs.Written.{decimal}
@@ -15,10 +15,6 @@ byte_after (suc left) = space
 unfoldable pub left_next : (width left : ℕ) → ℕ
 left_next width zero = width - 1
 left_next width (suc left) = left
-
--- how many are left in the line of the number at i
-abbrev pub left_at : (width i : ℕ) → ℕ
-left_at width i = width - 1 - i % width
 
 -- the numbers of a table from one on with `left` more in its line
 unfoldable pub numbers_text : (width left : ℕ) → List ℕ → List ℕ
