@@ -4,7 +4,8 @@
     python3 tools/names_check.py [PAGE ..]
     python3 tools/names_check.py --selftest
 
-Without pages it takes README.md and all of docs/. It needs Python 3 and git, and installs nothing.
+Without pages it takes README.md and all of docs/ but docs/LOOK-BACK.md, which names what older trees had. It needs
+Python 3 and git, and installs nothing.
 What must be there, of the text that is no block of code:
   - a path: a file with one of the endings below, or what begins with a folder of the repository; below crates/ where it
     isn't at the root; a file's name alone is that of some file;
@@ -218,7 +219,8 @@ def selftest():
 def main():
     if sys.argv[1:] == ['--selftest']:
         sys.exit(0 if selftest() else 1)
-    pages = sys.argv[1:] or ['README.md'] + sorted(glob.glob('docs/*.md') + glob.glob('docs/changes/*.md'))
+    all_pages = sorted(set(glob.glob('docs/*.md') + glob.glob('docs/changes/*.md')) - {'docs/LOOK-BACK.md'})
+    pages = sys.argv[1:] or ['README.md'] + all_pages
     wrong = 0
     for page in pages:
         found = sorted(set(problems(page, text_of(page))))
