@@ -1,6 +1,6 @@
 // The numbers that a lent list gives to names. The list is looked at in blocks. Most have no line that could be the
 // name, and a look at all bytes of a block, without an early end, is quick.
-ghost use Rattle.std.specs.Prelude.{◌≡◌, ℕ, true, false, cond, ◌+◌, ◌<◌, ◌≤◌, leb, length, drop};
+ghost use Rattle.std.specs.Prelude.{◌≡◌, ℕ, true, false, cond, ◌+◌, ◌-◌, ◌<◌, ◌≤◌, leb, length, drop};
 ghost use Rattle.std.specs.Prelude.{IsTrue, IfSome, MatchOption, MatchResult};
 ghost use Rattle.lines.specs.Line.{newline, lines};
 ghost use Rattle.lines.specs.Number.{max_number};
@@ -29,9 +29,24 @@ fn number_after(n: usize) -> Option<u16>
 struct Search<'a> {
     names: &'a [u8],
     word: Word<'a>,
+    // At how many places, from the first on, the list has room for the word.
+    places: usize,
+    ghost room: { places ≡ length names.now + 1 - length word.bytes.now },
 }
 
-impl Search<'_> {
+impl<'a> Search<'a> {
+    #[tactic(auto, using(crate::proofs::Named::word_there))]
+    fn new(names: &'a [u8], word: Word<'a>) -> Search<'a>
+        ensures { (result.names.now ≡ names.now) × (result.word.bytes.now ≡ word.entry.bytes.now) }
+    {
+        let places = names.len().saturating_sub(word.bytes.len() - 1);
+        Search {
+            names,
+            word,
+            places,
+        }
+    }
+
     // Whether the word may stand at `at`: its first and last bytes are there. It tells most lines apart, in less time
     // than a comparison of all bytes.
     #[inline(always)]
@@ -40,18 +55,16 @@ impl Search<'_> {
         ensures fits { result ≡ true → at + length self.entry.word.bytes.now ≤ length self.entry.names.now }
         ensures other { result ≡ false → false ≡ first_line_is self.entry.word.bytes.now (lines (drop at self.entry.names.now)) }
     {
-        let Search { names, word } = self;
+        let Search {
+            names,
+            word,
+            places,
+        } = self;
         let size = word.bytes.len();
-        if names.len() < at || names.len() - at < size {
-            return false;
-        }
-        if names[at] != word.bytes[0] {
-            return false;
-        }
-        names[at + size - 1] == word.bytes[size - 1]
+        at < places && names[at] == word.bytes[0] && names[at + size - 1] == word.bytes[size - 1]
     }
 
-    // Whether the line of the list that begins at `at` is the word. Out of line, lines of one signature take five times
+    // Whether the line of the list that begins at `at` is the word. Out of line, lines of one signature take 3.6 times
     // as long.
     #[inline(always)]
     #[tactic(auto, using(crate::proofs::Named::line_other, crate::proofs::Named::line_ends))]
@@ -72,7 +85,7 @@ impl Search<'_> {
         ensures { result ≡ false → byte_at self.entry.names.now i ≡ newline
             → first_line_is self.entry.word.bytes.now (lines (drop (i + 1) self.entry.names.now)) ≡ false }
     {
-        let Search { names, word } = self;
+        let Search { names, word, .. } = self;
         let size = word.bytes.len();
         let lined = (names[i] == lines::NEWLINE) & (names[i + size + 1] == lines::NEWLINE);
         let edged = (names[i + 1] == word.bytes[0]) & (names[i + size] == word.bytes[size - 1]);
@@ -174,17 +187,15 @@ impl Search<'_> {
     }
 }
 
-// The first indexed line that is the word.
+// The first indexed line that is the word. In line, lines of one signature take 1.5 times as long.
+#[inline(never)]
 #[tactic(auto, using(crate::proofs::Indexed::before_more, crate::proofs::Indexed::index_hit))]
 fn search_index(names: Names<'_>, word: Word<'_>) -> Option<usize>
     ensures { MatchOption result
         (LinesPassed names.entry.list.now word.entry.bytes.now names.entry.others (length names.entry.index.now))
         (λ k. number_of names.entry.list.now word.entry.bytes.now ≡ cond (leb (k + 1) max_number) (k + 1) 0) }
 {
-    let search = Search {
-        names: names.list,
-        word,
-    };
+    let search = Search::new(names.list, word);
     let sought = signature(word.bytes);
     // By `for`: with `position` the search alone takes 1.9 times as long.
     for (k, line) in names.index.iter().enumerate() {
@@ -202,9 +213,6 @@ pub fn number_of(names: Names<'_>, word: Word<'_>) -> Option<u16>
     if let Some(line) = search_index(names, word) {
         return number_after(line);
     }
-    let search = Search {
-        names: names.list,
-        word,
-    };
+    let search = Search::new(names.list, word);
     search.search_from(names.others, names.index.len())
 }
