@@ -111,12 +111,15 @@ module _ (n list : Bytes) (at : ℕ) (h : is_word n ≡ true) where
   pub line_other : starts_with n (drop at list) ≡ false → false ≡ first_line_is n (lines (drop at list))
   line_other e = sym (line_is ∙ rw e refl)
 
+  -- where the word stands, the list has room for it
+  pub word_fits : starts_with n (drop at list) ≡ true → at + length n ≤ length list
+  word_fits s = omega (arith, starts_length n (drop at list) s, length-drop at list, word_there n h)
+
   -- where there is no room for the word, no line is the word
   pub line_short : length list < at + length n → false ≡ first_line_is n (lines (drop at list))
   line_short l =
       line_other
-      (false_from_ne_true (starts_with n (drop at list))
-      (λ s. absurd (omega (arith, starts_length n (drop at list) s, length-drop at list, word_there n h))))
+      (false_from_ne_true (starts_with n (drop at list)) (λ s. absurd (omega (arith, word_fits s))))
 
   -- a line that has another byte than the word is not the word
   line_differs : (j k : ℕ) → k ≡ at + j → j < length n → eqb (get_or list k 0) (get_or n j 0) ≡ false
